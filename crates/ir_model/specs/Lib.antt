@@ -1,0 +1,6 @@
+pub mod Ty
+pub mod TypeView
+pub mod TypeFalls
+pub mod Names
+pub mod Layout
+pub mod Table

@@ -1,0 +1,14 @@
+//! Modules of the IR as data: types, instructions, blocks, functions, globals.
+#![tactic(auto)]
+
+mod instr;
+mod ir_type;
+mod module;
+mod operand;
+mod table;
+
+pub use instr::{Case, Incoming, Instr, Phi, Terminator};
+pub use ir_type::{IntWidth, IrType, Node};
+pub use module::{Block, Declaration, Frame, Function, GlobalItem, Module, Param, TypeItem};
+pub use operand::{Allocator, Arg, Callee, Intrinsic, Operand};
+pub use table::callee_of;
