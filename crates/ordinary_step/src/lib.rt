@@ -1,0 +1,7 @@
+//! The ordinary step: what one instruction does that is no coro intrinsic (LLVM Language Reference, "Instruction
+//! Reference"), in each of the three meanings.
+#![tactic(auto)]
+
+mod world;
+
+pub use world::{Slot, World};
