@@ -1,11 +1,12 @@
 -- What is seen of a run.
 use Rattle.std.specs.Prelude.{ℕ, zero, suc, List, map, slice_get, Some, None, Option}
+use Rattle.coro_base.specs.declared.name.Name.{Name}
 use Rattle.coro_base.specs.declared.outcome.Event.{Event}
 use Rattle.coro_base.specs.declared.outcome.Outcome.{Outcome}
 use Rattle.coro_base.specs.declared.outcome.Word.{Word}
-use Rattle.coro_base.specs.declared.name.Name.{Name}
 use Rattle.ir_model.specs.declared.module.Declaration.{Declaration}
 use Rattle.ir_model.specs.declared.module.Module.{Module}
+use Rattle.ordinary_step.specs.declared.world.World.{World}
 
 -- an observed call, by the function's name
 pub record SeenEvent : Type 0 where

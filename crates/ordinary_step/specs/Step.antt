@@ -1,31 +1,25 @@
 -- The ordinary step: what one instruction does that is no coro intrinsic, in each of the three meanings.
-use Rattle.std.specs.Prelude.{ℕ, pred, min, Bool, true, false, not, List, [], map, length, replicate, ℤ, pos, slice_get, slice_index_or, Some, None, Ok, Err, Option, Result, option_map, ◌+◌, ◌-◌, ◌^◌, ◌&&◌, ◌∷◌, ◌++◌, if◌then◌else◌, ◌==◌}
-use Rattle.block_memory.specs.Memory.{Rights, compare, copy, encode, end, fresh, kill, killed, load, start, store}
+use Rattle.std.specs.Prelude.{ℕ, pred, min, Bool, true, false, not, List, [], map, length, replicate, ℤ, pos, slice_get, Some, None, Ok, Err, Option, Result, unwrap_or, option_map, ◌+◌, ◌-◌, ◌^◌, ◌&&◌, ◌||◌, ◌∷◌, ◌++◌, if◌then◌else◌, ◌==◌}
+use Rattle.block_memory.specs.Memory.{Rights, access_bytes, compare, copy, encode, end, fresh, kill, killed, load, start, store}
 use Rattle.block_memory.specs.declared.block.Kind.{Kind}
 use Rattle.block_memory.specs.declared.block.Life.{Life}
 use Rattle.block_memory.specs.declared.block.MemoryBlock.{MemoryBlock}
 use Rattle.block_memory.specs.declared.pointer.Pointer.{Pointer}
 use Rattle.block_memory.specs.declared.pointer.Value.{Value}
-use Rattle.ordinary_step.specs.Values.{Env, access_of, arg_value, arg_values, distance, literal, moved, nth, num_of, operand_value, pointer_to, truth_value, value_in, value_of, with_result, with_value}
-use Rattle.ordinary_step.specs.declared.world.Slot.{Slot}
-use Rattle.ordinary_step.specs.declared.world.World.{World}
 use Rattle.coro_base.specs.declared.cause.Cause.{Cause}
+use Rattle.coro_base.specs.declared.ops.CastOp.{CastOp}
+use Rattle.coro_base.specs.declared.ops.Pred.{Pred}
 use Rattle.coro_base.specs.declared.outcome.Outcome.{Outcome}
 use Rattle.coro_base.specs.declared.outcome.Place.{Place}
 use Rattle.coro_base.specs.declared.outcome.Word.{Word}
-use Rattle.coro_base.specs.declared.ops.Pred.{Pred}
 use Rattle.ir_ints.specs.Numbers.{binary, cast, icmp}
+use Rattle.ir_ints.specs.declared.num.Num.{Num}
 use Rattle.ir_model.specs.Layout.{same_type, size_of}
 use Rattle.ir_model.specs.Names.{declaration_named, function_named, is_local}
 use Rattle.ir_model.specs.Ty.{Ty, int, ptr}
-use Rattle.ir_model.specs.declared.operand.Allocator.{Allocator}
-use Rattle.ir_model.specs.declared.operand.Arg.{Arg}
-use Rattle.ir_model.specs.declared.operand.Callee.{Callee}
 use Rattle.ir_model.specs.declared.instr.Case.{Case}
 use Rattle.ir_model.specs.declared.instr.Incoming.{Incoming}
 use Rattle.ir_model.specs.declared.instr.Instr.{Instr}
-use Rattle.ir_model.specs.declared.operand.Intrinsic.{Intrinsic}
-use Rattle.ir_model.specs.declared.operand.Operand.{Operand}
 use Rattle.ir_model.specs.declared.instr.Phi.{Phi}
 use Rattle.ir_model.specs.declared.instr.Terminator.{Terminator}
 use Rattle.ir_model.specs.declared.module.Block.{Block}
@@ -33,6 +27,15 @@ use Rattle.ir_model.specs.declared.module.Function.{Function}
 use Rattle.ir_model.specs.declared.module.GlobalItem.{GlobalItem}
 use Rattle.ir_model.specs.declared.module.Module.{Module}
 use Rattle.ir_model.specs.declared.module.Param.{Param}
+use Rattle.ir_model.specs.declared.operand.Allocator.{Allocator}
+use Rattle.ir_model.specs.declared.operand.Arg.{Arg}
+use Rattle.ir_model.specs.declared.operand.Callee.{Callee}
+use Rattle.ir_model.specs.declared.operand.Intrinsic.{Intrinsic}
+use Rattle.ir_model.specs.declared.operand.Operand.{Operand}
+use Rattle.ordinary_step.specs.Values.{Env, access_of, address, arg_value, arg_values, distance, element, indices_of, literal, nth, number_at, number_of_width, operand_value, pointer_to, stored, truth_value, value_in, value_of, with_result, with_value}
+use Rattle.ordinary_step.specs.declared.stack.Stack.{Stack}
+use Rattle.ordinary_step.specs.declared.world.Slot.{Slot}
+use Rattle.ordinary_step.specs.declared.world.World.{World}
 use Rattle.std.specs.List.{list_any}
 
 -- ---- what stands at a place

@@ -1,19 +1,22 @@
 -- Operands and their values.
-use Rattle.std.specs.Prelude.{ℕ, Bool, true, false, not, List, [], map, length, ℤ, pos, negsuc, slice_get, slice_index_or, slice_set, Some, None, Option, ◌+◌, ◌&&◌, ◌∷◌, ◌+ℤ◌, ◌*ℤ◌, if◌then◌else◌, ◌==◌}
+use Rattle.std.specs.Prelude.{ℕ, min, Bool, true, false, not, List, [], map, length, ℤ, nat_lt, slice_get, slice_set, Some, None, Option, unwrap_or, ◌+◌, ◌-◌, ◌*◌, ◌%◌, ◌^◌, ◌&&◌, ◌∷◌, if◌then◌else◌, ◌==◌}
 use Rattle.block_memory.specs.Memory.{is_within}
-use Rattle.block_memory.specs.declared.pointer.Access.{Access}
+use Rattle.block_memory.specs.Pointers.{moved, offset_of}
 use Rattle.block_memory.specs.declared.block.MemoryBlock.{MemoryBlock}
+use Rattle.block_memory.specs.declared.pointer.Access.{Access}
+use Rattle.block_memory.specs.declared.pointer.Offset.{Offset}
 use Rattle.block_memory.specs.declared.pointer.Pointer.{Pointer}
 use Rattle.block_memory.specs.declared.pointer.Value.{Value}
 use Rattle.coro_base.specs.declared.name.Name.{Name}
+use Rattle.coro_base.specs.declared.outcome.Word.{Word}
 use Rattle.ir_ints.specs.Numbers.{bits_of, signed_of, truth, word_of}
 use Rattle.ir_ints.specs.declared.num.Num.{Num}
 use Rattle.ir_model.specs.Layout.{field_offset, field_type, size_of, unnamed}
 use Rattle.ir_model.specs.Names.{declaration_named, function_named, global_named}
 use Rattle.ir_model.specs.Ty.{Ty, array, int, structure}
+use Rattle.ir_model.specs.declared.module.Module.{Module}
 use Rattle.ir_model.specs.declared.operand.Arg.{Arg}
 use Rattle.ir_model.specs.declared.operand.Operand.{Operand}
-use Rattle.ir_model.specs.declared.module.Module.{Module}
 
 -- the values of an activation, by the names of its function: none where a name has no value yet
 abbrev pub Env : Type 0

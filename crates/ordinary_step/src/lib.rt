@@ -2,6 +2,8 @@
 //! Reference"), in each of the three meanings.
 #![tactic(auto)]
 
+mod stack;
 mod world;
 
+pub use stack::Stack;
 pub use world::{Slot, World};

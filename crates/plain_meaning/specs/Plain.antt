@@ -1,22 +1,22 @@
 -- The meaning of a plain module, which has functions, bytes and calls alone.
-use Rattle.std.specs.Prelude.{ℕ, Bool, true, false, List, [], map, ℤ, slice_get, Some, None, Ok, Err, Option, Result, ◌+◌, ◌∷◌, ◌++◌, if◌then◌else◌}
+use Rattle.std.specs.Prelude.{ℕ, Bool, true, false, List, [], map, ℤ, slice_get, None, Ok, Err, Option, Result, unwrap_or, ◌+◌, ◌∷◌, ◌++◌, if◌then◌else◌}
 use Rattle.block_memory.specs.Memory.{owner_rights}
 use Rattle.block_memory.specs.declared.pointer.Value.{Value}
-use Rattle.ordinary_step.specs.Results.{and_then}
-use Rattle.ordinary_step.specs.Runs.{Seen, iterate, seen_of}
-use Rattle.ordinary_step.specs.Step.{Action, Context, Coro, Deallocate, Done, Enter, GoTo, NewSlot, Return, Stuck, Work, action_of, deallocated, entry_values, fetch, first_world, label_of, outcome_of, place_at, risen, set_memory, values_in, without_slots}
-use Rattle.ordinary_step.specs.Values.{with_result}
-use Rattle.ordinary_step.specs.declared.world.Slot.{Slot}
 use Rattle.coro_base.specs.declared.cause.Cause.{Cause}
 use Rattle.coro_base.specs.declared.outcome.Outcome.{Outcome}
 use Rattle.coro_base.specs.declared.outcome.Place.{Place}
 use Rattle.coro_base.specs.declared.outcome.Word.{Word}
 use Rattle.ir_model.specs.Names.{function_at, is_noalloc, position_of}
-use Rattle.ir_model.specs.declared.operand.Intrinsic.{Intrinsic}
 use Rattle.ir_model.specs.declared.module.Function.{Function}
 use Rattle.ir_model.specs.declared.module.Module.{Module}
-use Rattle.plain_meaning.specs.declared.PlainActivation.{PlainActivation}
-use Rattle.plain_meaning.specs.declared.PlainState.{PlainState}
+use Rattle.ir_model.specs.declared.operand.Intrinsic.{Intrinsic}
+use Rattle.ordinary_step.specs.Results.{and_then}
+use Rattle.ordinary_step.specs.Runs.{Seen, iterate, seen_of}
+use Rattle.ordinary_step.specs.Step.{Action, Context, Coro, Deallocate, Done, Enter, GoTo, NewSlot, Return, Stuck, Work, action_of, deallocated, entry_values, fetch, first_world, label_of, outcome_of, place_at, risen, set_memory, values_in, without_slots}
+use Rattle.ordinary_step.specs.Values.{with_result}
+use Rattle.ordinary_step.specs.declared.world.Slot.{Slot}
+use Rattle.plain_meaning.specs.declared.state.PlainActivation.{PlainActivation}
+use Rattle.plain_meaning.specs.declared.state.PlainState.{PlainState}
 
 -- the module and the answers
 pub record PlainGiven : Type 0 where
