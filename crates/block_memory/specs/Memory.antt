@@ -1,6 +1,7 @@
 -- What the operations of the memory do. A memory is the list of its blocks.
 use Rattle.std.specs.Prelude.{ℕ, zero, suc, Bool, true, false, not, List, [], length, take, drop, replicate, is_some, nat_lt, nat_le, slice_get, Some, None, Ok, Err, Option, Result, ◌+◌, ◌*◌, ◌/◌, ◌%◌, ◌&&◌, ◌||◌, ◌∷◌, ◌++◌, if◌then◌else◌, ◌==◌}
 use Rattle.block_memory.specs.declared.pointer.Access.{Access}
+use Rattle.block_memory.specs.declared.pointer.Spot.{Spot}
 use Rattle.block_memory.specs.declared.block.Byte.{Byte}
 use Rattle.block_memory.specs.declared.block.Kind.{Kind}
 use Rattle.block_memory.specs.declared.block.Life.{Life}
@@ -52,11 +53,6 @@ owner_rights = record {
   is_aligned = λ b x offset align. meets x offset align;
   is_comparable = λ b x offset. (offset == 0) || not (is_below offset x.owned);
 }
-
--- a byte of a block
-pub record Spot : Type 0 where
-  pub block : ℕ
-  pub offset : ℕ
 
 abbrev pub check : Bool → Cause → {A : Type 0} → Result A Cause → Result A Cause
 check true c r = r

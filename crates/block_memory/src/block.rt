@@ -1,5 +1,8 @@
 //! Blocks of memory.
 
+ghost use Rattle.std.specs.Prelude.{◌≡◌};
+ghost use Rattle.block_memory.specs.Memory.{is_live, is_killed, same_kind};
+
 use crate::contents::Contents;
 use crate::pointer::Pointer;
 
@@ -39,4 +42,48 @@ pub struct MemoryBlock {
     pub life: Life,
     pub owned: Option<u64>,
     pub bytes: Contents,
+}
+
+impl Default for Byte {
+    fn default() -> Self {
+        Byte::Undefined
+    }
+}
+
+impl Kind {
+    /// Whether both are the same kind.
+    pub fn is(self, other: Kind) -> bool
+        ensures { result ≡ same_kind self other }
+    {
+        match (self, other) {
+            (Kind::Allocator, Kind::Allocator) => true,
+            (Kind::Stack, Kind::Stack) => true,
+            (Kind::Slot, Kind::Slot) => true,
+            (Kind::Global, Kind::Global) => true,
+            (Kind::Constant, Kind::Constant) => true,
+            _ => false,
+        }
+    }
+}
+
+impl Life {
+    /// Whether the block may be accessed.
+    pub fn is_live(self) -> bool
+        ensures { result ≡ is_live self }
+    {
+        match self {
+            Life::Live => true,
+            _ => false,
+        }
+    }
+
+    /// Whether the block never lives again.
+    pub fn is_killed(self) -> bool
+        ensures { result ≡ is_killed self }
+    {
+        match self {
+            Life::Killed => true,
+            _ => false,
+        }
+    }
 }

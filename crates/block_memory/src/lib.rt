@@ -3,10 +3,13 @@
 
 mod block;
 mod contents;
-mod memory;
+mod decoded;
+mod encoded;
 mod pointer;
+mod rights;
+
 
 pub use block::{Byte, Kind, Life, MemoryBlock};
 pub use contents::Contents;
-pub use memory::Memory;
-pub use pointer::{Access, BlockId, Offset, Pointer, Value};
+pub use pointer::{Access, BlockId, Offset, Pointer, Spot, Value};
+pub use rights::{AccessRights, OwnerRights};
