@@ -256,9 +256,12 @@ is_owned (Some x) = is_some x.owned
 abbrev pub with_life : List MemoryBlock → ℕ → Life → List MemoryBlock
 with_life m b life = with_block m b (λ x. record x { life = life })
 
+abbrev pub killed_block : MemoryBlock → MemoryBlock
+killed_block x = record x { life = Life.Killed; owned = None; bytes = [] }
+
 -- a block killed, by its number
 abbrev pub killed : List MemoryBlock → ℕ → List MemoryBlock
-killed m b = with_block m b (λ x. record x { life = Life.Killed; owned = None; bytes = [] })
+killed m b = with_block m b killed_block
 
 abbrev pub kill : List MemoryBlock → Value → Kind → Result (List MemoryBlock) Cause
 kill m (Value.Ptr (Pointer.At b o)) kind =
@@ -284,13 +287,19 @@ abbrev pub may_be_owned : Kind → ℕ → Option MemoryBlock → Bool
 may_be_owned kind n None = false
 may_be_owned kind n (Some x) = is_live x.life && same_kind x.kind kind && not (is_some x.owned) && nat_le n x.size
 
+abbrev pub owned_to : ℕ → MemoryBlock → MemoryBlock
+owned_to n x = record x { owned = Some n }
+
 abbrev pub own : List MemoryBlock → Value → ℕ → Kind → Result (List MemoryBlock) Cause
 own m (Value.Ptr (Pointer.At b o)) n kind =
-    check ((o.bits == 0) && may_be_owned kind n (slice_get m b)) Cause.Begin (Ok (with_block m b (λ x. record x { owned = Some n })))
+    check ((o.bits == 0) && may_be_owned kind n (slice_get m b)) Cause.Begin (Ok (with_block m b (owned_to n)))
 own m _ n kind = Err Cause.Begin
 
+abbrev pub disowned : MemoryBlock → MemoryBlock
+disowned x = record x { owned = None }
+
 abbrev pub disown : List MemoryBlock → ℕ → List MemoryBlock
-disown m b = with_block m b (λ x. record x { owned = None })
+disown m b = with_block m b disowned
 
 -- a global becomes a constant
 abbrev pub sealed : MemoryBlock → MemoryBlock

@@ -64,6 +64,14 @@ impl Contents {
         self.bytes[from..from + new.len()].copy_from_slice(new);
     }
 
+    /// Gives all bytes up, with the room that they took.
+    pub fn clear(&mut self)
+        ensures { self.new ≡ [] }
+    {
+        let alloc = *self.bytes.allocator();
+        self.bytes = Vec::new(alloc);
+    }
+
     /// Makes all bytes undefined.
     pub fn forget(&mut self)
         ensures { self.new ≡ replicate (length self.old) Byte.Undefined }

@@ -5,11 +5,13 @@ mod block;
 mod contents;
 mod decoded;
 mod encoded;
+mod memory;
 mod pointer;
 mod rights;
 
 
 pub use block::{Byte, Kind, Life, MemoryBlock};
 pub use contents::Contents;
+pub use memory::Memory;
 pub use pointer::{Access, BlockId, Offset, Pointer, Spot, Value};
 pub use rights::{AccessRights, OwnerRights};

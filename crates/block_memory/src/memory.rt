@@ -1,0 +1,157 @@
+//! The list of all blocks.
+
+ghost use Rattle.std.specs.Prelude.{◌≡◌, ◌<◌, [], length, slice_get, MatchOption, None, Some, OnOk, OnErr, IfOk, IfErr, Ok, Err};
+ghost use Rattle.block_memory.specs.Memory.{fresh, start, end, disown, seal, killed, kill, own};
+
+use crate::block::{Kind, Life, MemoryBlock};
+use crate::contents::Contents;
+use crate::pointer::{BlockId, Pointer, Value};
+use coro_base::Cause;
+use std::alloc::{AllocError, Global};
+use std::marker::Model;
+
+/// The blocks, by their positions. A position is never used again.
+#[derive(Debug, Drop)]
+pub struct Memory {
+    blocks: Vec<MemoryBlock>,
+}
+
+impl Model for Memory {
+    ghost use Rattle.std.specs.Prelude.{List};
+    ghost use Rattle.block_memory.specs.declared.block.MemoryBlock.{MemoryBlock};
+    ghost use Rattle.block_memory.specs.Whole.{AreWhole};
+
+    ghost Value = { List MemoryBlock };
+
+    ghost view = { λ m. m.blocks.items };
+
+    ghost invariant = { λ m. AreWhole m.blocks.items };
+}
+
+impl Memory {
+    /// A memory without blocks.
+    pub fn new(alloc: Global) -> Self
+        ensures { result ≡ [] }
+    {
+        Memory {
+            blocks: Vec::new(alloc),
+        }
+    }
+
+    /// The number of blocks that were made.
+    pub fn len(&self) -> usize
+        ensures { result ≡ length self.now }
+    {
+        self.blocks.len()
+    }
+
+    /// The block at a position.
+    pub fn get(&self, block: BlockId) -> Option<&MemoryBlock>
+        ensures { MatchOption result (slice_get self.now block ≡ None) (λ x. slice_get self.now block ≡ Some x.now) }
+    {
+        self.blocks.get(block)
+    }
+
+    /// Makes a new live block of undefined bytes, and gives its position. A memory that finds no room stays as it was.
+    pub fn fresh(&mut self, alloc: Global, size: u64, align: u64, kind: Kind) -> Result<BlockId, AllocError>
+        ensures made { OnOk result (self.new ≡ fresh self.old size align kind) }
+        ensures position { IfOk result (λ b. b ≡ length self.old) }
+        ensures refused { OnErr result (self.new ≡ self.old) }
+    {
+        let block = MemoryBlock {
+            size,
+            align,
+            kind,
+            life: Life::Live,
+            owned: None,
+            bytes: Contents::undefined(alloc, size as usize)?,
+        };
+        let position = self.blocks.len();
+        self.blocks.push(block)?;
+        Ok(position)
+    }
+
+    /// Makes a block that isn't killed live, with undefined bytes.
+    pub fn start(&mut self, block: BlockId)
+        ensures { self.new ≡ start self.old block }
+    {
+        if block < self.blocks.len() {
+            let x = &mut self.blocks[block];
+            x.start();
+        }
+    }
+
+    /// Makes a block that isn't killed dead.
+    pub fn end(&mut self, block: BlockId)
+        ensures { self.new ≡ end self.old block }
+    {
+        if block < self.blocks.len() {
+            let x = &mut self.blocks[block];
+            x.end();
+        }
+    }
+
+    /// Makes a block one that isn't owned.
+    pub fn disown(&mut self, block: BlockId)
+        ensures { self.new ≡ disown self.old block }
+    {
+        if block < self.blocks.len() {
+            let x = &mut self.blocks[block];
+            x.disown();
+        }
+    }
+
+    /// Makes a global a constant, after its contents were stored.
+    pub fn seal(&mut self, block: BlockId)
+        ensures { self.new ≡ seal self.old block }
+    {
+        if block < self.blocks.len() {
+            let x = &mut self.blocks[block];
+            x.seal();
+        }
+    }
+
+    /// Kills a block.
+    fn kill_at(&mut self, block: BlockId)
+        ensures { self.new ≡ killed self.old block }
+    {
+        if block < self.blocks.len() {
+            let x = &mut self.blocks[block];
+            x.kill();
+        }
+    }
+
+    /// The block that a kill of a kind may kill.
+    fn killable(&self, p: Value, kind: Kind) -> Result<BlockId, Cause>
+        ensures found { IfOk result (λ b. kill self.now p kind ≡ Ok (killed self.now b)) }
+        ensures refused { IfErr result (λ c. kill self.now p kind ≡ Err c) }
+    {
+        let Value::Ptr(Pointer::At(block, offset)) = p else {
+            return Err(Cause::Free);
+        };
+        match self.blocks.get(block) {
+            Some(x) if offset.bits == 0 && x.is_unkilled(kind) => {
+                if x.owned.is_some() {
+                    Err(Cause::Owned)
+                } else {
+                    Ok(block)
+                }
+            }
+            _ => Err(Cause::Free),
+        }
+    }
+
+    /// Kills the block of a kind to whose start a pointer leads, and gives its room up.
+    ///
+    /// `Cause::Free`: it is no such block, or was killed before. `Cause::Owned`: it is owned. The memory stays as it was
+    /// then.
+    pub fn kill(&mut self, p: Value, kind: Kind) -> Result<(), Cause>
+        ensures killed { OnOk result (kill self.old p kind ≡ Ok self.new) }
+        ensures refused { IfErr result (λ c. kill self.old p kind ≡ Err c) }
+        ensures unchanged { OnErr result (self.new ≡ self.old) }
+    {
+        let block = self.killable(p, kind)?;
+        self.kill_at(block);
+        Ok(())
+    }
+}
