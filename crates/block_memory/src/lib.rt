@@ -7,6 +7,7 @@ mod decoded;
 mod encoded;
 mod memory;
 mod pointer;
+mod range;
 mod rights;
 
 

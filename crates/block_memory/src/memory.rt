@@ -1,7 +1,7 @@
 //! The list of all blocks.
 
 ghost use Rattle.std.specs.Prelude.{◌≡◌, ◌<◌, [], length, slice_get, MatchOption, None, Some, OnOk, OnErr, IfOk, IfErr, Ok, Err};
-ghost use Rattle.block_memory.specs.Memory.{fresh, start, end, disown, seal, killed, kill, own};
+ghost use Rattle.block_memory.specs.Memory.{fresh, start, end, disown, seal, killed, kill, own, owned_to, with_block};
 
 use crate::block::{Kind, Life, MemoryBlock};
 use crate::contents::Contents;
@@ -152,6 +152,42 @@ impl Memory {
     {
         let block = self.killable(p, kind)?;
         self.kill_at(block);
+        Ok(())
+    }
+
+    /// The block of a kind that may be owned to a number of bytes.
+    fn ownable(&self, p: Value, n: u64, kind: Kind) -> Result<BlockId, Cause>
+        ensures found { IfOk result (λ b. own self.now p n kind ≡ Ok (with_block self.now b (owned_to n))) }
+        ensures refused { IfErr result (λ c. own self.now p n kind ≡ Err c) }
+    {
+        let Value::Ptr(Pointer::At(block, offset)) = p else {
+            return Err(Cause::Begin);
+        };
+        match self.blocks.get(block) {
+            Some(x) if offset.bits == 0 && x.may_be_owned(kind, n) => Ok(block),
+            _ => Err(Cause::Begin),
+        }
+    }
+
+    fn own_at(&mut self, block: BlockId, n: u64)
+        ensures { self.new ≡ with_block self.old block (owned_to n) }
+    {
+        if block < self.blocks.len() {
+            let x = &mut self.blocks[block];
+            x.own(n);
+        }
+    }
+
+    /// Lets the block of a kind to whose start a pointer leads be owned to a number of bytes.
+    ///
+    /// `Cause::Begin`: it is no live block of the kind with so many bytes that isn't owned. The memory stays as it was then.
+    pub fn own(&mut self, p: Value, n: u64, kind: Kind) -> Result<(), Cause>
+        ensures owned { OnOk result (own self.old p n kind ≡ Ok self.new) }
+        ensures refused { IfErr result (λ c. own self.old p n kind ≡ Err c) }
+        ensures unchanged { OnErr result (self.new ≡ self.old) }
+    {
+        let block = self.ownable(p, n, kind)?;
+        self.own_at(block, n);
         Ok(())
     }
 }

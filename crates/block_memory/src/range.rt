@@ -1,0 +1,45 @@
+//! Ranges of blocks that accesses ask for.
+
+ghost use Rattle.std.specs.Prelude.{◌≡◌, ◌<◌, IfOk, Some};
+ghost use Rattle.block_memory.specs.Memory.{range_at, range};
+
+use crate::block::MemoryBlock;
+use crate::memory::Memory;
+use crate::pointer::{BlockId, Pointer, Spot, Value};
+use crate::rights::AccessRights;
+use coro_base::Cause;
+
+/// A range of a block, or the first cause against an access to it.
+fn range_at<R: AccessRights>(rights: &R, block: BlockId, x: &MemoryBlock, offset: u64, len: u64, align: u64) -> Result<Spot, Cause>
+    requires { 0 < align }
+    ensures { result ≡ range_at (R.rights rights.now) block (Some x.now) offset len align }
+{
+    if offset > x.size || len > x.size - offset {
+        Err(Cause::Bounds)
+    } else if !x.life.is_live() {
+        Err(Cause::Dead)
+    } else if rights.is_closed(block, x, offset, len) {
+        Err(Cause::Owned)
+    } else if rights.is_aligned(block, x, offset, align) {
+        Ok(Spot { block, offset })
+    } else {
+        Err(Cause::Align)
+    }
+}
+
+impl Memory {
+    /// The range that a pointer leads to, or the first cause against an access to it.
+    pub fn range<R: AccessRights>(&self, rights: &R, p: Value, len: u64, align: u64) -> Result<Spot, Cause>
+        requires { 0 < align }
+        ensures { result ≡ range (R.rights rights.now) self.now p len align }
+    {
+        match p {
+            Value::Poison => Err(Cause::Poison),
+            Value::Ptr(Pointer::At(block, offset)) => match self.get(block) {
+                Some(x) => range_at(rights, block, x, offset.bits, len, align),
+                None => Err(Cause::Bounds),
+            },
+            _ => Err(Cause::Bounds),
+        }
+    }
+}
