@@ -1,5 +1,5 @@
 -- What every block of a memory keeps.
-use Rattle.std.specs.Prelude.{◌≡◌, ℕ, List, length, All}
+use Rattle.std.specs.Prelude.{◌≡◌, ℕ, ◌+◌, ◌≤◌, List, length, All, Option, Some, None}
 use Rattle.block_memory.specs.declared.block.Life.{Life}
 use Rattle.block_memory.specs.declared.block.MemoryBlock.{MemoryBlock}
 
@@ -15,3 +15,8 @@ pub record IsWhole (x : MemoryBlock) : Type 0 where
 
 abbrev pub AreWhole : List MemoryBlock → Type 0
 AreWhole m = All IsWhole m
+
+-- there is a block with so many bytes from an offset on
+abbrev pub IsWithin : Option MemoryBlock → ℕ → ℕ → Type 0
+IsWithin None offset len = ⊥
+IsWithin (Some x) offset len = offset + len ≤ length x.bytes

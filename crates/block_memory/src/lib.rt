@@ -9,6 +9,7 @@ mod memory;
 mod pointer;
 mod range;
 mod rights;
+mod transfer;
 
 
 pub use block::{Byte, Kind, Life, MemoryBlock};

@@ -1,11 +1,14 @@
 //! The list of all blocks.
 
 ghost use Rattle.std.specs.Prelude.{◌≡◌, ◌<◌, [], length, slice_get, MatchOption, None, Some, OnOk, OnErr, IfOk, IfErr, Ok, Err};
-ghost use Rattle.block_memory.specs.Memory.{fresh, start, end, disown, seal, killed, kill, own, owned_to, with_block};
+ghost use Rattle.block_memory.specs.Memory.{fresh, start, end, disown, seal, killed, kill, own, owned_to, with_block, bytes_at, range};
+ghost use Rattle.block_memory.specs.Whole.{IsWithin};
 
-use crate::block::{Kind, Life, MemoryBlock};
+use crate::block::{Byte, Kind, Life, MemoryBlock};
 use crate::contents::Contents;
-use crate::pointer::{BlockId, Pointer, Value};
+use crate::pointer::{BlockId, Pointer, Spot, Value};
+use crate::range::range_at;
+use crate::rights::AccessRights;
 use coro_base::Cause;
 use std::alloc::{AllocError, Global};
 use std::marker::Model;
@@ -189,5 +192,30 @@ impl Memory {
         let block = self.ownable(p, n, kind)?;
         self.own_at(block, n);
         Ok(())
+    }
+
+    /// Bytes of a block.
+    pub fn part(&self, spot: Spot, len: usize) -> &[Byte]
+        requires { IsWithin (slice_get self.now spot.block) spot.offset len }
+        ensures { result.now ≡ bytes_at self.now spot len }
+    {
+        let x = &self.blocks[spot.block];
+        x.bytes.part(spot.offset as usize, len)
+    }
+
+    /// The range that a pointer leads to, or the first cause against an access to it.
+    pub fn range<R: AccessRights>(&self, rights: &R, p: Value, len: u64, align: u64) -> Result<Spot, Cause>
+        requires { 0 < align }
+        ensures value { result ≡ range (R.rights rights.now) self.now p len align }
+        ensures within { IfOk result (λ spot. IsWithin (slice_get self.now spot.block) spot.offset len) }
+    {
+        match p {
+            Value::Poison => Err(Cause::Poison),
+            Value::Ptr(Pointer::At(block, offset)) => match self.blocks.get(block) {
+                Some(x) => range_at(rights, block, x, offset.bits, len, align),
+                None => Err(Cause::Bounds),
+            },
+            _ => Err(Cause::Bounds),
+        }
     }
 }

@@ -1,16 +1,15 @@
 //! Ranges of blocks that accesses ask for.
 
-ghost use Rattle.std.specs.Prelude.{◌≡◌, ◌<◌, IfOk, Some};
-ghost use Rattle.block_memory.specs.Memory.{range_at, range};
+ghost use Rattle.std.specs.Prelude.{◌≡◌, ◌<◌, Some};
+ghost use Rattle.block_memory.specs.Memory.{range_at};
 
 use crate::block::MemoryBlock;
-use crate::memory::Memory;
-use crate::pointer::{BlockId, Pointer, Spot, Value};
+use crate::pointer::{BlockId, Spot};
 use crate::rights::AccessRights;
 use coro_base::Cause;
 
 /// A range of a block, or the first cause against an access to it.
-fn range_at<R: AccessRights>(rights: &R, block: BlockId, x: &MemoryBlock, offset: u64, len: u64, align: u64) -> Result<Spot, Cause>
+pub fn range_at<R: AccessRights>(rights: &R, block: BlockId, x: &MemoryBlock, offset: u64, len: u64, align: u64) -> Result<Spot, Cause>
     requires { 0 < align }
     ensures { result ≡ range_at (R.rights rights.now) block (Some x.now) offset len align }
 {
@@ -24,22 +23,5 @@ fn range_at<R: AccessRights>(rights: &R, block: BlockId, x: &MemoryBlock, offset
         Ok(Spot { block, offset })
     } else {
         Err(Cause::Align)
-    }
-}
-
-impl Memory {
-    /// The range that a pointer leads to, or the first cause against an access to it.
-    pub fn range<R: AccessRights>(&self, rights: &R, p: Value, len: u64, align: u64) -> Result<Spot, Cause>
-        requires { 0 < align }
-        ensures { result ≡ range (R.rights rights.now) self.now p len align }
-    {
-        match p {
-            Value::Poison => Err(Cause::Poison),
-            Value::Ptr(Pointer::At(block, offset)) => match self.get(block) {
-                Some(x) => range_at(rights, block, x, offset.bits, len, align),
-                None => Err(Cause::Bounds),
-            },
-            _ => Err(Cause::Bounds),
-        }
     }
 }
