@@ -2,3 +2,4 @@ pub mod Blocks
 pub mod Digits
 pub mod Found
 pub mod Reading
+pub mod Split

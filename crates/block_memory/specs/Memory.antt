@@ -93,8 +93,11 @@ with_block [] b f = []
 with_block (x ∷ m) zero f = f x ∷ m
 with_block (x ∷ m) (suc b) f = x ∷ with_block m b f
 
+abbrev pub with_bytes : ℕ → List Byte → MemoryBlock → MemoryBlock
+with_bytes offset new x = record x { bytes = written x.bytes offset new }
+
 abbrev pub write : List MemoryBlock → Spot → List Byte → List MemoryBlock
-write m spot new = with_block m spot.block (λ x. record x { bytes = written x.bytes spot.offset new })
+write m spot new = with_block m spot.block (with_bytes spot.offset new)
 
 abbrev pub width_bytes : ℕ → ℕ
 width_bytes w = (w + 7) / 8

@@ -1,6 +1,6 @@
 //! Blocks of memory.
 
-ghost use Rattle.std.specs.Prelude.{◌≡◌};
+ghost use Rattle.std.specs.Prelude.{◌≡◌, ◌+◌, ◌≤◌, length, take, drop, Some};
 ghost use Rattle.block_memory.specs.Memory.{is_live, is_killed, same_kind};
 
 use crate::contents::Contents;
@@ -45,7 +45,7 @@ pub struct MemoryBlock {
 }
 
 impl MemoryBlock {
-    ghost use Rattle.block_memory.specs.Memory.{started, ended, sealed, killed_block, owned_to, disowned, is_constant, is_unkilled, is_owned, may_be_owned};
+    ghost use Rattle.block_memory.specs.Memory.{with_bytes, started, ended, sealed, killed_block, owned_to, disowned, is_constant, is_unkilled, is_owned, may_be_owned};
     ghost use Rattle.block_memory.specs.Whole.{IsWhole};
 
     /// A block dies for good.
@@ -108,6 +108,27 @@ impl MemoryBlock {
         if self.kind.is(Kind::Global) {
             self.kind = Kind::Constant;
         }
+    }
+
+    /// Replaces bytes from a place on.
+    pub fn write(&mut self, from: usize, new: &[Byte])
+        requires whole { IsWhole self.old }
+        requires within { from + length new.now ≤ length self.old.bytes }
+        ensures value { self.new ≡ with_bytes from new.now self.old }
+        ensures whole { IsWhole self.new }
+    {
+        self.bytes.write(from, new);
+    }
+
+    /// Replaces bytes from a place on by those from another place on.
+    pub fn copy_within(&mut self, to: usize, from: usize, len: usize)
+        requires whole { IsWhole self.old }
+        requires to_within { to + len ≤ length self.old.bytes }
+        requires from_within { from + len ≤ length self.old.bytes }
+        ensures value { self.new ≡ with_bytes to (take len (drop from self.old.bytes)) self.old }
+        ensures whole { IsWhole self.new }
+    {
+        self.bytes.copy_within(to, from, len);
     }
 
     /// Whether it is a block of a kind that was never killed.

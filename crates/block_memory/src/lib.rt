@@ -1,7 +1,9 @@
 //! The memory of the modelled program: blocks of bytes, and pointers into them.
 #![tactic(auto)]
 
+mod between;
 mod block;
+mod comparison;
 mod contents;
 mod decoded;
 mod encoded;

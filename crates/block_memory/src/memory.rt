@@ -1,9 +1,10 @@
 //! The list of all blocks.
 
 ghost use Rattle.std.specs.Prelude.{◌≡◌, ◌<◌, [], length, slice_get, MatchOption, None, Some, OnOk, OnErr, IfOk, IfErr, Ok, Err};
-ghost use Rattle.block_memory.specs.Memory.{fresh, start, end, disown, seal, killed, kill, own, owned_to, with_block, bytes_at, range};
+ghost use Rattle.block_memory.specs.Memory.{fresh, start, end, disown, seal, killed, kill, own, owned_to, with_block, bytes_at, range, write, is_constant};
 ghost use Rattle.block_memory.specs.Whole.{IsWithin};
 
+use crate::between::{copy_down, copy_up};
 use crate::block::{Byte, Kind, Life, MemoryBlock};
 use crate::contents::Contents;
 use crate::pointer::{BlockId, Pointer, Spot, Value};
@@ -216,6 +217,41 @@ impl Memory {
                 None => Err(Cause::Bounds),
             },
             _ => Err(Cause::Bounds),
+        }
+    }
+
+    /// Whether a block is a constant.
+    pub fn is_constant(&self, block: BlockId) -> bool
+        ensures { result ≡ is_constant (slice_get self.now block) }
+    {
+        match self.blocks.get(block) {
+            Some(x) => x.kind.is(Kind::Constant),
+            None => false,
+        }
+    }
+
+    /// Replaces bytes of a block.
+    pub fn write(&mut self, spot: Spot, new: &[Byte])
+        requires { IsWithin (slice_get self.old spot.block) spot.offset (length new.now) }
+        ensures { self.new ≡ write self.old spot new.now }
+    {
+        let x = &mut self.blocks[spot.block];
+        x.write(spot.offset as usize, new);
+    }
+
+    /// Replaces bytes of a block by those of another place.
+    pub fn transfer(&mut self, to: Spot, from: Spot, len: usize)
+        requires to_within { IsWithin (slice_get self.old to.block) to.offset len }
+        requires from_within { IsWithin (slice_get self.old from.block) from.offset len }
+        ensures { self.new ≡ write self.old to (bytes_at self.old from len) }
+    {
+        if to.block == from.block {
+            let x = &mut self.blocks[to.block];
+            x.copy_within(to.offset as usize, from.offset as usize, len);
+        } else if to.block < from.block {
+            copy_down(self.blocks.as_mut_slice(), to, from, len);
+        } else {
+            copy_up(self.blocks.as_mut_slice(), to, from, len);
         }
     }
 }
