@@ -1,12 +1,10 @@
 -- Bytes read one after another.
-use Rattle.std.proofs.Common.{◌≡◌, ℕ, zero, suc, ◌+◌, ◌*◌, ◌%◌, ◌^◌, ◌≤◌, ◌<◌, ◌&&◌, ◌==◌, Bool, true, false, List, [], ◌∷◌, length, get_or, drop, Option, Some, None, refl, sym, ap, ◌∙◌, subst, arith}
+use Rattle.std.proofs.Common.{◌≡◌, ℕ, ◌+◌, ◌*◌, ◌%◌, ◌^◌, ◌≤◌, ◌<◌, List, ◌∷◌, length, get_or, drop, Option, Some, None, refl, sym, ap, ◌∙◌, arith}
 use Rattle.std.proofs.Math.Nat.{pow-le-pow_right, mul-le-mul_right, mod-eq_of_lt}
 use Rattle.std.proofs.lemmas.Nat.{pow-add, pow_pos}
 use Rattle.std.proofs.lemmas.List.{drop_more, drop_all}
-use Rattle.block_memory.specs.declared.pointer.Pointer.{Pointer}
 use Rattle.block_memory.specs.declared.block.Byte.{Byte}
-use Rattle.block_memory.specs.Memory.{onto, number_of, are_parts}
-use Rattle.block_memory.specs.Pointers.{same_pointer}
+use Rattle.block_memory.specs.Memory.{onto, number_of}
 
 -- the number whose k lowest bytes are n and whose others are those of a number, where that is one
 abbrev pub above : ℕ → ℕ → Option ℕ → Option ℕ

@@ -43,7 +43,14 @@ impl Memory {
     }
 
     /// Whether two pointers into blocks may be compared.
-    fn is_compared<R: AccessRights>(&self, rights: &R, b: BlockId, o: Offset, c: BlockId, p: Offset) -> bool
+    fn is_compared<R: AccessRights>(
+        &self,
+        rights: &R,
+        b: BlockId,
+        o: Offset,
+        c: BlockId,
+        p: Offset,
+    ) -> bool
         ensures { result ≡ is_compared (R.rights rights.now) b o c p (slice_get self.now b) (slice_get self.now c) }
     {
         match (self.get(b), self.get(c)) {
@@ -61,7 +68,12 @@ impl Memory {
     }
 
     /// Whether two pointers are equal, under some rights; otherwise as `compare`.
-    pub fn compare_with<R: AccessRights>(&self, rights: &R, a: Value, b: Value) -> Result<bool, Cause>
+    pub fn compare_with<R: AccessRights>(
+        &self,
+        rights: &R,
+        a: Value,
+        b: Value,
+    ) -> Result<bool, Cause>
         ensures { result ≡ compare (R.rights rights.now) self.now a b }
     {
         let (Value::Ptr(a), Value::Ptr(b)) = (a, b) else {

@@ -13,9 +13,11 @@ mod range;
 mod rights;
 mod transfer;
 
-
 pub use block::{Byte, Kind, Life, MemoryBlock};
 pub use contents::Contents;
 pub use memory::Memory;
 pub use pointer::{Access, BlockId, Offset, Pointer, Spot, Value};
 pub use rights::{AccessRights, OwnerRights};
+
+#[cfg(test)]
+mod tests;

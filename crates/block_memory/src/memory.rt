@@ -57,7 +57,13 @@ impl Memory {
     }
 
     /// Makes a new live block of undefined bytes, and gives its position. A memory that finds no room stays as it was.
-    pub fn fresh(&mut self, alloc: Global, size: u64, align: u64, kind: Kind) -> Result<BlockId, AllocError>
+    pub fn fresh(
+        &mut self,
+        alloc: Global,
+        size: u64,
+        align: u64,
+        kind: Kind,
+    ) -> Result<BlockId, AllocError>
         ensures made { OnOk result (self.new ≡ fresh self.old size align kind) }
         ensures position { IfOk result (λ b. b ≡ length self.old) }
         ensures refused { OnErr result (self.new ≡ self.old) }
@@ -205,7 +211,13 @@ impl Memory {
     }
 
     /// The range that a pointer leads to, or the first cause against an access to it.
-    pub fn range<R: AccessRights>(&self, rights: &R, p: Value, len: u64, align: u64) -> Result<Spot, Cause>
+    pub fn range<R: AccessRights>(
+        &self,
+        rights: &R,
+        p: Value,
+        len: u64,
+        align: u64,
+    ) -> Result<Spot, Cause>
         requires { 0 < align }
         ensures value { result ≡ range (R.rights rights.now) self.now p len align }
         ensures within { IfOk result (λ spot. IsWithin (slice_get self.now spot.block) spot.offset len) }

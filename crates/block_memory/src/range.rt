@@ -9,7 +9,14 @@ use crate::rights::AccessRights;
 use coro_base::Cause;
 
 /// A range of a block, or the first cause against an access to it.
-pub fn range_at<R: AccessRights>(rights: &R, block: BlockId, x: &MemoryBlock, offset: u64, len: u64, align: u64) -> Result<Spot, Cause>
+pub fn range_at<R: AccessRights>(
+    rights: &R,
+    block: BlockId,
+    x: &MemoryBlock,
+    offset: u64,
+    len: u64,
+    align: u64,
+) -> Result<Spot, Cause>
     requires { 0 < align }
     ensures { result ≡ range_at (R.rights rights.now) block (Some x.now) offset len align }
 {

@@ -61,7 +61,13 @@ fn overlap(a: Spot, b: Spot, len: u64) -> bool
 
 impl Memory {
     /// What a load under some rights finds; otherwise as `load`.
-    pub fn load_with<R: AccessRights>(&self, rights: &R, p: Value, what: Access, align: u64) -> Result<Value, Cause>
+    pub fn load_with<R: AccessRights>(
+        &self,
+        rights: &R,
+        p: Value,
+        what: Access,
+        align: u64,
+    ) -> Result<Value, Cause>
         requires aligned { 0 < align }
         requires short { access_bytes what ≤ 8 }
         ensures { result ≡ load (R.rights rights.now) self.now p what align }
@@ -85,7 +91,14 @@ impl Memory {
     }
 
     /// Stores a value under some rights; otherwise as `store`.
-    pub fn store_with<R: AccessRights>(&mut self, rights: &R, p: Value, v: Value, what: Access, align: u64) -> Result<(), Cause>
+    pub fn store_with<R: AccessRights>(
+        &mut self,
+        rights: &R,
+        p: Value,
+        v: Value,
+        what: Access,
+        align: u64,
+    ) -> Result<(), Cause>
         requires aligned { 0 < align }
         requires short { access_bytes what ≤ 8 }
         ensures stored { OnOk result (store (R.rights rights.now) self.old p v what align ≡ Ok self.new) }
@@ -116,14 +129,23 @@ impl Memory {
     }
 
     /// Both ranges of a copy that may be made.
-    fn copyable<R: AccessRights>(&self, rights: &R, to: Value, from: Value, len: u64) -> Result<Spots, Cause>
+    fn copyable<R: AccessRights>(
+        &self,
+        rights: &R,
+        to: Value,
+        from: Value,
+        len: u64,
+    ) -> Result<Spots, Cause>
         requires { 0 < len }
         ensures found { IfOk result (λ s. copy (R.rights rights.now) self.now to from len ≡ Ok (write self.now s.to (bytes_at self.now s.from len))) }
         ensures refused { IfErr result (λ c. copy (R.rights rights.now) self.now to from len ≡ Err c) }
         ensures to_within { IfOk result (λ s. IsWithin (slice_get self.now s.to.block) s.to.offset len) }
         ensures from_within { IfOk result (λ s. IsWithin (slice_get self.now s.from.block) s.from.offset len) }
     {
-        let spots = both(self.range(rights, to, len, 1), self.range(rights, from, len, 1))?;
+        let spots = both(
+            self.range(rights, to, len, 1),
+            self.range(rights, from, len, 1),
+        )?;
         if self.is_constant(spots.to.block) {
             Err(Cause::Constant)
         } else if overlap(spots.to, spots.from, len) {
@@ -134,7 +156,13 @@ impl Memory {
     }
 
     /// Copies bytes under some rights; otherwise as `copy`.
-    pub fn copy_with<R: AccessRights>(&mut self, rights: &R, to: Value, from: Value, len: u64) -> Result<(), Cause>
+    pub fn copy_with<R: AccessRights>(
+        &mut self,
+        rights: &R,
+        to: Value,
+        from: Value,
+        len: u64,
+    ) -> Result<(), Cause>
         ensures copied { OnOk result (copy (R.rights rights.now) self.old to from len ≡ Ok self.new) }
         ensures refused { IfErr result (λ c. copy (R.rights rights.now) self.old to from len ≡ Err c) }
         ensures unchanged { OnErr result (self.new ≡ self.old) }

@@ -1,6 +1,5 @@
-use Rattle.std.proofs.Common.{◌≡◌, ◌+◌, ◌*◌, ◌^◌, ◌%◌, ◌<◌, ◌≤◌, ◌∙◌, arith, rules, get_or, Fits, w64}
+use Rattle.std.proofs.Common.{◌<◌, ◌∙◌, arith, rules}
 use Rattle.block_memory.proofs.Reading.{number_more, digit_kept, number_below, place_below}
-use Rattle.block_memory.specs.declared.block.Byte.{Byte}
 use Rattle.block_memory.proofs.decoded.number_of.Goals as goal
 
 pub overflow_add-number : goal.overflow_add-number

@@ -1,5 +1,4 @@
-use Rattle.std.proofs.Common.{arith, length}
-use Rattle.std.specs.Prelude.{slice_get}
+use Rattle.std.proofs.Common.{length}
 use Rattle.block_memory.proofs.Blocks.{change_within}
 use Rattle.block_memory.specs.Memory.{with_bytes}
 use Rattle.block_memory.proofs.memory.Memory.write.Goals as goal
