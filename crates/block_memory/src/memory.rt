@@ -122,7 +122,7 @@ impl Memory {
     }
 
     /// Kills a block.
-    fn kill_at(&mut self, block: BlockId)
+    pub fn kill_at(&mut self, block: BlockId)
         ensures { self.new ≡ killed self.old block }
     {
         if block < self.blocks.len() {
