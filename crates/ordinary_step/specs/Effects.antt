@@ -1,6 +1,8 @@
 -- What the code of a step tells of an action.
-use Rattle.std.specs.Prelude.{List, ℤ, ◌≡◌}
+use Rattle.std.specs.Prelude.{List, [], ℤ, slice_set, Option, ◌≡◌, ◌∷◌}
 use Rattle.block_memory.specs.Memory.{Rights}
+use Rattle.block_memory.specs.declared.pointer.Value.{Value}
+use Rattle.ir_model.specs.declared.instr.Phi.{Phi}
 use Rattle.ir_model.specs.declared.module.Function.{Function}
 use Rattle.ir_model.specs.declared.module.Module.{Module}
 use Rattle.ordinary_step.specs.Step.{Action, Context, Coro, Deallocate, Done, Enter, GoTo, NewSlot, Return, Stuck, Work}
@@ -35,3 +37,9 @@ work world values = record { world = world; values = values }
 pub record IsEffect (e : Effect) (old new : Work) (a : Action) : Type 0 where
   pub effect : e ≡ effect_of a
   pub work : new ≡ work_after old a
+
+-- the values of phis set one after another
+abbrev pub with_taken : Env → List Phi → List (Option Value) → Env
+with_taken env [] vs = env
+with_taken env (p ∷ phis) [] = env
+with_taken env (p ∷ phis) (v ∷ vs) = with_taken (slice_set env p.result v) phis vs

@@ -1,13 +1,13 @@
 //! Calls.
 
 ghost use Rattle.std.specs.Prelude.{◌≡◌, ℕ, IfOk, OnErr, Some, Option};
-ghost use Rattle.block_memory.specs.Memory.{Rights};
+ghost use Rattle.block_memory.specs.Memory.{Rights, copy};
 ghost use Rattle.ir_model.specs.declared.operand.Callee.{Callee as TheCallee};
 ghost use Rattle.ordinary_step.specs.declared.effect.Effect.{Effect as TheEffect};
 ghost use Rattle.ordinary_step.specs.declared.world.World.{World as TheWorld};
 ghost use Rattle.ir_model.specs.declared.module.Function.{Function as TheFunction};
-ghost use Rattle.ordinary_step.specs.Values.{with_result as with_result_of, arg_values, value_in};
-ghost use Rattle.ordinary_step.specs.Step.{words_of as words_of_values, same_result as same_result_of, fits_params as fits_params_of, fits_function as fits_function_of, indirect_call as indirect_call_of, allocator_call as allocator_call_of, intrinsic_call as intrinsic_call_of, call as call_of, observed, with_length, allocated, Done};
+ghost use Rattle.ordinary_step.specs.Values.{with_result as with_result_of, arg_values, value_in, Env, address};
+ghost use Rattle.ordinary_step.specs.Step.{words_of as words_of_values, same_result as same_result_of, fits_params as fits_params_of, fits_function as fits_function_of, indirect_call as indirect_call_of, allocator_call as allocator_call_of, intrinsic_call as intrinsic_call_of, call as call_of, observed, with_length, allocated, Done, done, set_memory};
 ghost use Rattle.ordinary_step.specs.Effects.{IsEffect, context, work, effect_of};
 
 use crate::effect::Effect;
@@ -15,7 +15,7 @@ use crate::memory_step::risen;
 use crate::operand::{Values, literal, pointer_to, to_address, value_of_local};
 use crate::program::Program;
 use crate::world::World;
-use block_memory::{AccessRights, Kind, Memory, Pointer, Value};
+use block_memory::{AccessRights, Kind, Pointer, Value};
 use coro_base::{Cause, Data, Event, FuncId, Items, Name, ValueId, Word};
 use ir_model::{Allocator, Arg, Callee, Function, Intrinsic, IrType, Param};
 use std::alloc::{AllocError, Global};
@@ -214,15 +214,17 @@ fn call_allocator(
 /// A copy of bytes.
 fn copy_bytes<R: AccessRights>(
     rights: &R,
-    memory: &mut Memory,
+    world: &mut World,
     to: Value,
     from: Value,
     length: Value,
-) -> Effect {
+) -> Effect
+    ensures { (values : Env) → IsEffect result (work world.old values) (work world.new values) (with_length length (λ n. done (set_memory (work world.old values)) (copy (R.rights rights.now) world.old.memory (address to) (address from) n))) }
+{
     let Value::Int(word) = length else {
         return Effect::Stuck(Cause::Poison);
     };
-    match memory.copy_with(rights, to_address(to), to_address(from), word.bits) {
+    match world.memory.copy_with(rights, to_address(to), to_address(from), word.bits) {
         Ok(()) => Effect::Done,
         Err(cause) => Effect::Stuck(cause),
     }
@@ -256,7 +258,7 @@ fn call_intrinsic<R: AccessRights>(
             let to = program.nth_value(values, args, 0);
             let from = program.nth_value(values, args, 1);
             let length = program.nth_value(values, args, 2);
-            copy_bytes(rights, &mut world.memory, to, from, length)
+            copy_bytes(rights, world, to, from, length)
         }
         _ => Effect::Coro(intrinsic),
     }

@@ -7,14 +7,17 @@ ghost use Rattle.ir_model.specs.declared.instr.Instr.{Instr as TheInstr};
 ghost use Rattle.ordinary_step.specs.declared.world.World.{World as TheWorld};
 ghost use Rattle.ir_model.specs.declared.module.Function.{Function as TheFunction};
 ghost use Rattle.ordinary_step.specs.Step.{is_alignment as is_alignment_of, is_lifetime as is_lifetime_callee, is_marker_of as is_marker_of_name, has_markers as has_markers_of, instr_action, risen as risen_from, without_slots as without_slots_of, deallocated as deallocated_of, done, set_value};
+ghost use Rattle.ordinary_step.specs.Values.{value_of, with_value};
+ghost use Rattle.ordinary_step.specs.declared.effect.Effect.{Effect as TheEffect};
 ghost use Rattle.ordinary_step.specs.Effects.{IsEffect, context, work};
 
 use crate::effect::Effect;
-use crate::operand::{Values, access_of, pointer_to, to_address, to_stored};
+use crate::operand::{Values, access_of, from_number, pointer_to, to_address, to_stored};
 use crate::program::Program;
 use crate::world::{Slot, World};
 use block_memory::{AccessRights, Kind, Memory, Pointer, Value};
 use coro_base::{Cause, ValueId};
+use ir_ints::Num;
 use ir_model::{Arg, Callee, Function, Instr, Intrinsic, IrType, Operand};
 use std::alloc::{AllocError, Global};
 
@@ -106,6 +109,28 @@ pub fn settle(values: &mut Values, name: ValueId, outcome: Result<Value, Cause>)
         }
         Err(cause) => Effect::Stuck(cause),
     }
+}
+
+/// Sets the value of a name, where an operation gave a number.
+pub fn settle_number(values: &mut Values, name: ValueId, outcome: Result<Num, Cause>) -> Effect
+    ensures { (world : TheWorld) → IsEffect result (work world values.old) (work world values.new) (done (λ n. set_value (work world values.old) name (value_of n)) outcome) }
+{
+    match outcome {
+        Ok(number) => {
+            values.set(name, Some(from_number(number)));
+            Effect::Done
+        }
+        Err(cause) => Effect::Stuck(cause),
+    }
+}
+
+/// Sets the value of a name.
+pub fn give(values: &mut Values, name: ValueId, value: Value) -> Effect
+    ensures effect { result ≡ TheEffect.Done }
+    ensures values { values.new ≡ with_value values.old name value }
+{
+    values.set(name, Some(value));
+    Effect::Done
 }
 
 /// A load.

@@ -12,7 +12,7 @@ use crate::width::{bits, cut, greatest};
 use block_memory::{Access, BlockId, Offset, Pointer, Value};
 use coro_base::{Items, ValueId, Word};
 use ir_ints::Num;
-use ir_model::{Arg, IntWidth, IrType, Node, Operand};
+use ir_model::{Arg, GlobalItem, IntWidth, IrType, Node, Operand};
 use std::alloc::{AllocError, Global};
 
 /// The values of an activation, by the names of its function: none where a name has no value yet.
@@ -194,6 +194,22 @@ impl Program {
             Operand::Local(_) => Value::Poison,
             Operand::Global(name) => self.address_of(name),
             Operand::Number(z) => literal(&arg.ty, *z),
+            Operand::True => truth(true),
+            Operand::False => truth(false),
+            Operand::Null => Value::Ptr(Pointer::Null),
+            Operand::None => Value::Poison,
+            Operand::Poison => Value::Poison,
+        }
+    }
+
+    /// The initial value of a global.
+    pub fn initial_value(&self, global: &GlobalItem) -> Value
+        ensures { result ≡ operand_value self.now.«module» [] global.now.ty global.now.init }
+    {
+        match &global.init {
+            Operand::Local(_) => Value::Poison,
+            Operand::Global(name) => self.address_of(name),
+            Operand::Number(z) => literal(&global.ty, *z),
             Operand::True => truth(true),
             Operand::False => truth(false),
             Operand::Null => Value::Ptr(Pointer::Null),
