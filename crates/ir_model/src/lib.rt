@@ -1,12 +1,14 @@
 //! Modules of the IR as data: types, instructions, blocks, functions, globals.
 #![tactic(auto)]
 
+mod calls;
 mod instr;
 mod ir_type;
 mod module;
 mod operand;
 mod table;
 
+pub use calls::result_of_call;
 pub use instr::{Case, Incoming, Instr, Phi, Terminator};
 pub use ir_type::{IntWidth, IrType, Node};
 pub use module::{Block, Declaration, Frame, Function, GlobalItem, Module, Param, TypeItem};
