@@ -43,7 +43,7 @@ renamed_callee r (Callee.Local n) = Callee.Local (renamed_value r n)
 abbrev pub renamed_instr : Renaming → Instr → Instr
 renamed_instr r (Instr.Binary result op flags ty left right) = Instr.Binary result op flags ty (renamed r left) (renamed r right)
 renamed_instr r (Instr.Icmp result pred ty left right) = Instr.Icmp result pred ty (renamed r left) (renamed r right)
-renamed_instr r (Instr.Select result c yes no) = Instr.Select result (renamed r c) (renamed_arg r yes) (renamed_arg r no)
+renamed_instr r (Instr.Select result c a b) = Instr.Select result (renamed r c) (renamed_arg r a) (renamed_arg r b)
 renamed_instr r (Instr.Cast result op nneg arg to) = Instr.Cast result op nneg (renamed_arg r arg) to
 renamed_instr r (Instr.Alloca result ty align) = Instr.Alloca result ty align
 renamed_instr r (Instr.Load result ty address align) = Instr.Load result ty (renamed r address) align
@@ -64,7 +64,7 @@ renamed_return r (Some a) = Some (renamed_arg r a)
 -- the values of a switch's cases are literals
 abbrev pub renamed_term : Renaming → Terminator → Terminator
 renamed_term r (Terminator.Jump label) = Terminator.Jump label
-renamed_term r (Terminator.Branch c yes no) = Terminator.Branch (renamed r c) yes no
+renamed_term r (Terminator.Branch c a b) = Terminator.Branch (renamed r c) a b
 renamed_term r (Terminator.Switch arg default cases) = Terminator.Switch (renamed_arg r arg) default cases
 renamed_term r (Terminator.Ret value) = Terminator.Ret (renamed_return r value)
 renamed_term r Terminator.Unreachable = Terminator.Unreachable
