@@ -1,0 +1,6 @@
+//! The operations on integers, each given on whole numbers.
+#![tactic(auto)]
+
+mod num;
+
+pub use num::Num;

@@ -1,0 +1,8 @@
+//! Points, edges and paths of a function; the windows of its saves, and the slots that are its ramp's alone.
+#![tactic(auto)]
+
+mod law;
+mod point;
+
+pub use law::facts_are_right;
+pub use point::{Facts, Point, Window};
