@@ -1,5 +1,5 @@
 -- A raised count has risen.
-use Rattle.std.proofs.Common.{◌≡◌, ◌≤◌, ℕ, Result, Err, arith}
+use Rattle.std.proofs.Common.{◌≡◌, ◌≤◌, ℕ, Err, arith}
 use Rattle.coro_io.specs.Faults.{risen, Rose, HasCause}
 
 pub rises : (before now : ℕ) → now ≡ risen before → Rose before now

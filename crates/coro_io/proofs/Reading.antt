@@ -1,5 +1,5 @@
 -- What several reads together have taken.
-use Rattle.std.proofs.Common.{◌≡◌, ◌≤◌, ◌+◌, ◌-◌, ℕ, List, ◌++◌, Option, length, arith, length-append}
+use Rattle.std.proofs.Common.{◌≤◌, ◌+◌, ℕ, List, ◌++◌, Option, length, arith, length-append}
 use Rattle.std.specs.Io.KnownBytes.{Consumes}
 use Rattle.std.proofs.KnownBytes.{Consumes-trans}
 use Rattle.coro_io.specs.Parts.{ConsumesAtMost}

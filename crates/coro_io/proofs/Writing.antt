@@ -1,5 +1,5 @@
 -- What several writes together have done.
-use Rattle.std.proofs.Common.{◌≡◌, ◌≤◌, ◌<◌, ◌-◌, ℕ, List, [], ◌++◌, Option, Result, length, take, drop, sym, ap, ◌∙◌, subst, append_assoc, arith, take-append-drop, length-append, length-take, refl}
+use Rattle.std.proofs.Common.{◌≡◌, ◌≤◌, ◌-◌, ℕ, List, ◌++◌, Option, length, take, drop, sym, ap, ◌∙◌, subst, append_assoc, arith, take-append-drop, length-append, length-take}
 use Rattle.std.specs.Io.KnownBytes.{Appends, Keeps}
 use Rattle.std.proofs.KnownBytes.{Appends-trans, Appends-kept}
 use Rattle.coro_io.specs.Parts.{AppendsPrefix}

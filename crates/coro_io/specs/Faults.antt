@@ -1,5 +1,5 @@
 -- Counts of faults, and when a fault may be answered.
-use Rattle.std.specs.Prelude.{◌≡◌, ℕ, ◌+◌, ◌-◌, ◌^◌, ◌≤◌, min, OnErr, Result, IsOk, IsOkAnd}
+use Rattle.std.specs.Prelude.{◌≡◌, ℕ, ◌+◌, ◌-◌, ◌^◌, ◌≤◌, min, OnErr, Result, IsOkAnd}
 
 -- a count that was raised; at its type's end it stands still
 abbrev pub risen : ℕ → ℕ

@@ -1,4 +1,4 @@
-use Rattle.std.proofs.Common.{◌≡◌, ◌≤◌, ◌-◌, ℕ, length, take, drop, ◌++◌, subst, ◌∙◌, arith}
+use Rattle.std.proofs.Common.{◌≤◌, ◌-◌, length, take, ◌++◌, subst, ◌∙◌, arith}
 use Rattle.coro_io.proofs.Writing.{prefix_then, parts_then, room_then, left_fits}
 use Rattle.std.proofs.KnownBytes.{Appends-trans}
 use Rattle.coro_io.proofs.whole.write_all.Goals as goal

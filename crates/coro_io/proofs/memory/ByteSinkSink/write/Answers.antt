@@ -1,4 +1,4 @@
-use Rattle.std.proofs.Common.{◌≡◌, ap}
+use Rattle.std.proofs.Common.{ap}
 use Rattle.coro_io.specs.declared.calls.Calls.{Calls}
 use Rattle.coro_io.proofs.Counts.{raised_cause_later}
 use Rattle.coro_io.proofs.memory.ByteSinkSink.write.Goals as goal
