@@ -1,0 +1,4 @@
+pub mod Fronts
+pub mod OneKind
+pub mod Tokens
+pub mod FirstTokens
