@@ -1,5 +1,5 @@
 -- What a token says.
-use Rattle.std.specs.Prelude.{ℕ, Bool, true, false, List, [], ◌∷◌, Option, Some, None, if◌then◌else◌, ◌==◌}
+use Rattle.std.specs.Prelude.{ℕ, List, [], ◌∷◌, Option, Some, None, if◌then◌else◌, ◌==◌}
 use Rattle.ir_lexer.specs.declared.token.Kind.{Kind}
 use Rattle.ir_lexer.specs.declared.token.Kind.TheVariants as kinds
 use Rattle.ir_symbols.specs.declared.sym.Mark.{Mark}
@@ -42,13 +42,17 @@ abbrev pub mark_of : List ℕ → Mark
 mark_of [] = marks.Star
 mark_of (b ∷ bs) = mark_of_byte b
 
-abbrev pub literal_if : Bool → Option ℕ → Sym
-literal_if minus None = syms.LongInt
-literal_if minus (Some n) = syms.Int (record { minus = minus; magnitude = n })
+abbrev pub positive : Option ℕ → Sym
+positive None = syms.LongInt
+positive (Some n) = syms.Int n
 
-abbrev pub literal_of : List ℕ → Sym
-literal_of [] = literal_if false (fitting (value_of []))
-literal_of (b ∷ bs) = if b == 45 then literal_if true (fitting (value_of bs)) else literal_if false (fitting (value_of (b ∷ bs)))
+abbrev pub negative : Option ℕ → Sym
+negative None = syms.LongInt
+negative (Some n) = syms.Negative n
+
+abbrev pub integer_of : List ℕ → Sym
+integer_of [] = positive (fitting (value_of []))
+integer_of (b ∷ bs) = if b == 45 then negative (fitting (value_of bs)) else positive (fitting (value_of (b ∷ bs)))
 
 abbrev pub behind_first : List ℕ → List ℕ
 behind_first [] = []
@@ -58,7 +62,7 @@ behind_first (b ∷ bs) = bs
 unfoldable pub sym_of : Kind × List ℕ → Sym
 sym_of (kinds.Label, bs) = syms.Label (name_of (inside bs))
 sym_of (kinds.Word, bs) = syms.Word (word_of bs)
-sym_of (kinds.Int, bs) = literal_of bs
+sym_of (kinds.Int, bs) = integer_of bs
 sym_of (kinds.String, bs) = syms.Str
 sym_of (kinds.Local, bs) = syms.Local (name_of (behind_first bs))
 sym_of (kinds.Global, bs) = syms.Global (name_of (behind_first bs))

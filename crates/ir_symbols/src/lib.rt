@@ -10,5 +10,5 @@ mod word;
 
 pub use ident::Ident;
 pub use listing::{Symbols, symbols_of};
-pub use sym::{Literal, Mark, Sym, sym_of};
+pub use sym::{Mark, Sym, sym_of};
 pub use word::{Word, word_of};

@@ -3,7 +3,7 @@
 ghost use Rattle.std.specs.Prelude.{◌≡◌, IfOk};
 ghost use Rattle.ir_symbols.specs.Names.{name_of, inside};
 ghost use Rattle.ir_symbols.specs.Numbers.{without_zeros};
-ghost use Rattle.ir_symbols.specs.Sym.{mark_of, mark_number, literal_of, sym_of, behind_first};
+ghost use Rattle.ir_symbols.specs.Sym.{mark_of, mark_number, integer_of, sym_of, behind_first};
 
 use crate::ident::Ident;
 use crate::names::name_of;
@@ -29,19 +29,15 @@ pub enum Mark {
     Star,
 }
 
-/// An integer as it is written: `-0` isn't `0`.
-#[derive(Clone, Copy, Debug, PartialEq, Eq, Drop)]
-pub struct Literal {
-    pub minus: bool,
-    pub magnitude: u64,
-}
-
 /// What a token says.
 #[derive(Drop)]
 pub enum Sym {
     Label(Ident),
     Word(Word),
-    Int(Literal),
+    /// An integer without a minus.
+    Int(u64),
+    /// An integer with a minus, by its absolute value: `-0` isn't `0`.
+    Negative(u64),
     /// An integer whose absolute value is 2^64 or more.
     LongInt,
     Str,
@@ -79,16 +75,18 @@ fn mark_of(bytes: &[u8]) -> Mark
     }
 }
 
-fn literal_of(bytes: &[u8]) -> Sym
-    ensures { result ≡ literal_of bytes.now }
+fn integer_of(bytes: &[u8]) -> Sym
+    ensures { result ≡ integer_of bytes.now }
 {
-    let (minus, digits) = match bytes {
-        [b'-', digits @ ..] => (true, digits),
-        _ => (false, bytes),
-    };
-    match value_of(digits) {
-        None => Sym::LongInt,
-        Some(magnitude) => Sym::Int(Literal { minus, magnitude }),
+    match bytes {
+        [b'-', digits @ ..] => match value_of(digits) {
+            None => Sym::LongInt,
+            Some(n) => Sym::Negative(n),
+        },
+        _ => match value_of(bytes) {
+            None => Sym::LongInt,
+            Some(n) => Sym::Int(n),
+        },
     }
 }
 
@@ -131,7 +129,7 @@ pub fn sym_of(alloc: Global, kind: Kind, bytes: &[u8]) -> Result<Sym, AllocError
     match kind {
         Kind::Label => Ok(Sym::Label(ident_of(alloc, before_last(bytes))?)),
         Kind::Word => Ok(Sym::Word(word_of(bytes))),
-        Kind::Int => Ok(literal_of(bytes)),
+        Kind::Int => Ok(integer_of(bytes)),
         Kind::String => Ok(Sym::Str),
         Kind::Local => Ok(Sym::Local(ident_of(alloc, behind_first(bytes))?)),
         Kind::Global => Ok(Sym::Global(ident_of(alloc, behind_first(bytes))?)),
