@@ -1,0 +1,5 @@
+pub mod Shapes
+pub mod Lowered
+pub mod Pieces
+pub mod Reached
+pub mod Parts
