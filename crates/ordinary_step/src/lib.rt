@@ -2,8 +2,14 @@
 //! Reference"), in each of the three meanings.
 #![tactic(auto)]
 
+mod labels;
+mod names;
+mod operand;
+mod program;
 mod stack;
+mod width;
 mod world;
 
+pub use operand::{Values, literal, value_of_local, to_number, to_address, from_number};
 pub use stack::Stack;
 pub use world::{Slot, World};
