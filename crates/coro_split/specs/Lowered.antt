@@ -1,5 +1,5 @@
 -- What stands in the place of each coro intrinsic.
-use Rattle.std.specs.Prelude.{ℕ, zero, suc, Bool, true, false, List, [], slice_get, ℤ, pos, negsuc, Some, None, Option, ◌+◌, ◌*◌, ◌/◌, ◌∷◌, if◌then◌else◌, ◌==◌}
+use Rattle.std.specs.Prelude.{ℕ, Bool, true, false, List, [], slice_get, ℤ, pos, negsuc, Some, None, Option, ◌+◌, ◌*◌, ◌/◌, ◌∷◌, if◌then◌else◌, ◌==◌}
 use Rattle.coro_base.specs.declared.name.Name.{Name}
 use Rattle.coro_base.specs.declared.ops.BinOp.{BinOp}
 use Rattle.coro_base.specs.declared.ops.Flags.{Flags}
@@ -10,7 +10,8 @@ use Rattle.ir_model.specs.declared.operand.Arg.{Arg}
 use Rattle.ir_model.specs.declared.operand.Callee.{Callee}
 use Rattle.ir_model.specs.declared.operand.Intrinsic.{Intrinsic}
 use Rattle.ir_model.specs.declared.operand.Operand.{Operand}
-use Rattle.coro_split.specs.Shapes.{is_true}
+use Rattle.ir_model.specs.TypeView.{bits_of}
+use Rattle.coro_split.specs.Shapes.{index_bytes, is_true}
 use Rattle.coro_split.specs.declared.shape.Shape.{Shape}
 use Rattle.coro_split.specs.declared.shape.SuspendPoint.{SuspendPoint}
 
@@ -29,6 +30,10 @@ pointer_arg x = record { ty = ptr; value = x }
 abbrev pub set_number : Option ℕ → ℕ → ℕ → List Instr
 set_number None w k = []
 set_number (Some r) w k = Instr.Binary r BinOp.Add no_flags (int w) (Operand.Number (pos k)) (Operand.Number (pos 0)) ∷ []
+
+abbrev pub truth_of : Bool → Operand
+truth_of true = Operand.True
+truth_of false = Operand.False
 
 -- a name for a truth
 abbrev pub set_truth : Option ℕ → Operand → List Instr
@@ -52,11 +57,13 @@ load_pointer r p = Instr.Load r ptr p 8
 abbrev pub call_pointer : ℕ → Operand → Instr
 call_pointer f p = Instr.Call None false None (Callee.Local f) (pointer_arg p ∷ [])
 
+abbrev pub value_or_null : Option Arg → Operand
+value_or_null None = Operand.Null
+value_or_null (Some a) = a.value
+
 -- the operand at a position, null where there is none
 abbrev pub operand_at : List Arg → ℕ → Operand
-operand_at [] i = Operand.Null
-operand_at (a ∷ args) zero = a.value
-operand_at (a ∷ args) (suc i) = operand_at args i
+operand_at args i = value_or_null (slice_get args i)
 
 -- ---- the intrinsics; n is the next new name
 
@@ -82,7 +89,7 @@ is_final_at (Some p) = p.is_final
 abbrev pub save_stores : Shape → ℕ → ℕ → List Instr
 save_stores s n j =
     address n (Operand.Local s.begin) (pos s.index)
-    ∷ Instr.Store (number_arg s.width (pos j)) (Operand.Local n) (s.width / 8)
+    ∷ Instr.Store (number_arg (bits_of s.width) (pos j)) (Operand.Local n) (index_bytes s.width)
     ∷ store_pointer (resumed_by s (is_final_at (slice_get s.suspends j))) (Operand.Local s.begin)
     ∷ []
 
@@ -121,13 +128,13 @@ lowered_call s n i Intrinsic.CoroSizeI32 r args = set_number r 32 s.size
 lowered_call s n i Intrinsic.CoroSizeI64 r args = set_number r 64 s.size
 lowered_call s n i Intrinsic.CoroAlignI32 r args = set_number r 32 s.align
 lowered_call s n i Intrinsic.CoroAlignI64 r args = set_number r 64 s.align
-lowered_call s n i Intrinsic.CoroAlloc r args = set_truth r Operand.True
+lowered_call s n i Intrinsic.CoroAlloc r args = set_truth r (truth_of true)
 lowered_call s n i Intrinsic.CoroBegin r args = begin_stores s n (operand_at args 1)
 lowered_call s n i Intrinsic.CoroFree r args = set_address r (Operand.Local s.begin) (pos 0)
 lowered_call s n i Intrinsic.CoroFrame r args = set_address r (Operand.Local s.begin) (pos 0)
 lowered_call s n i Intrinsic.CoroSave r args = save_or_none s n (number_of_save s r)
 lowered_call s n i Intrinsic.CoroSuspend r args = []
-lowered_call s n i Intrinsic.CoroEnd r args = set_truth r Operand.False
+lowered_call s n i Intrinsic.CoroEnd r args = set_truth r (truth_of false)
 lowered_call s n i Intrinsic.CoroResume r args = resume_call n (operand_at args 0)
 lowered_call s n i Intrinsic.CoroDestroy r args = destroy_call n (operand_at args 0)
 lowered_call s n i Intrinsic.CoroDone r args = done_test n r (operand_at args 0)

@@ -15,10 +15,13 @@ use Rattle.ir_model.specs.declared.module.Module.{Module}
 use Rattle.ir_model.specs.declared.module.Param.{Param}
 use Rattle.ir_model.specs.declared.operand.Arg.{Arg}
 use Rattle.ir_model.specs.declared.operand.Operand.{Operand}
+use Rattle.ir_model.specs.TypeView.{bits_of}
+use Rattle.ir_model.specs.declared.ir_type.IntWidth.{IntWidth}
 use Rattle.coro_split.specs.Lowered.{address, number_arg}
+use Rattle.coro_split.specs.Cuts.{goes_on}
 use Rattle.coro_split.specs.Pieces.{going_on, next_after, origins_of, pieces_of, redirected}
 use Rattle.coro_split.specs.Reached.{pruned}
-use Rattle.coro_split.specs.Shapes.{back_label, done_label, entry_label, first_name, index_name, none_label, shape_of, slot_name}
+use Rattle.coro_split.specs.Shapes.{back_label, done_label, entry_label, first_name, index_bytes, index_name, none_label, shape_of, slot_name}
 use Rattle.coro_split.specs.declared.shape.Origin.{Origin}
 use Rattle.coro_split.specs.declared.shape.Part.{Part}
 use Rattle.coro_split.specs.declared.shape.Shape.{Shape}
@@ -41,26 +44,28 @@ is_entered Part.Resume p = if p.is_final then false else true
 is_entered _ p = true
 
 abbrev pub case_of : Shape → ℕ → Case
-case_of s j = record { arg = number_arg s.width (pos j); target = back_label s j }
+case_of s j = record { arg = number_arg (bits_of s.width) (pos j); target = back_label s j }
 
 -- the suspends from the j-th on at which a part may go on
 abbrev pub cases_from : Shape → Part → ℕ → List SuspendPoint → List Case
 cases_from s part j [] = []
 cases_from s part j (p ∷ ps) = (if is_entered part p then case_of s j ∷ [] else []) ++ cases_from s part (j + 1) ps
 
+-- the allocas again, and the index
+abbrev pub entry_instrs : Shape → List Block → List Instr
+entry_instrs s blocks =
+    allocas_of blocks
+    ++ address (slot_name s) (Operand.Local s.begin) (pos s.index)
+    ∷ Instr.Load (index_name s) (int (bits_of s.width)) (Operand.Local (slot_name s)) (index_bytes s.width)
+    ∷ []
+
+-- the index leads to where the part goes on
+abbrev pub entry_term : Shape → Part → Terminator
+entry_term s part =
+    Terminator.Switch (record { ty = int (bits_of s.width); value = Operand.Local (index_name s) }) (none_label s) (cases_from s part 0 s.suspends)
+
 abbrev pub entry_block : Shape → Part → List Block → Block
-entry_block s part blocks =
-    record {
-      label = entry_label s;
-      phis = [];
-      instrs =
-      allocas_of blocks
-      ++ address (slot_name s) (Operand.Local s.begin) (pos s.index)
-      ∷ Instr.Load (index_name s) (int s.width) (Operand.Local (slot_name s)) (s.width / 8)
-      ∷ [];
-      term =
-      Terminator.Switch (record { ty = int s.width; value = Operand.Local (index_name s) }) (none_label s) (cases_from s part 0 s.suspends);
-    }
+entry_block s part blocks = record { label = entry_label s; phis = []; instrs = entry_instrs s blocks; term = entry_term s part }
 
 abbrev pub none_block : Shape → Block
 none_block s = record { label = none_label s; phis = []; instrs = []; term = Terminator.Unreachable }
@@ -80,10 +85,11 @@ back_blocks s part j (p ∷ ps) = back_block s part j p ∷ back_blocks s part (
 abbrev pub done_block : Shape → Block
 done_block s = record { label = done_label s; phis = []; instrs = []; term = Terminator.Jump s.end }
 
+abbrev pub later_head : Shape → Part → List Block → List Block
+later_head s part blocks = entry_block s part blocks ∷ none_block s ∷ back_blocks s part 0 s.suspends
+
 abbrev pub head_blocks : Shape → Part → List Block → List Block
-head_blocks s Part.Ramp blocks = []
-head_blocks s Part.Resume blocks = entry_block s Part.Resume blocks ∷ none_block s ∷ back_blocks s Part.Resume 0 s.suspends
-head_blocks s Part.Destroy blocks = entry_block s Part.Destroy blocks ∷ none_block s ∷ back_blocks s Part.Destroy 0 s.suspends
+head_blocks s part blocks = if goes_on part then later_head s part blocks else []
 
 -- ---- names
 
@@ -110,6 +116,7 @@ names_of s names count =
 abbrev pub origins_for : Shape → Part → Function → List Origin
 origins_for s part f = origins_of s part (replicate (length f.names) Origin.Nowhere) f.blocks
 
+-- the pieces of blocks, and the next new name behind them
 abbrev pub part_blocks : Shape → Part → Function → List Origin → List Block
 part_blocks s part f origins = head_blocks s part f.blocks ++ pieces_of s part origins (first_name s) f.blocks ++ done_block s ∷ []
 
@@ -147,3 +154,61 @@ parts_of s f =
     ∷ pruned (later_part s Part.Resume s.resume_name f)
     ∷ pruned (later_part s Part.Destroy s.destroy_name f)
     ∷ []
+
+-- ---- functions that aren't coroutines
+
+abbrev pub plain_shape : Function → Shape
+plain_shape f =
+    let base = length f.names in
+    record {
+      begin = base;
+      end = base;
+      size = 0;
+      align = 0;
+      index = 0;
+      width = IntWidth.I8;
+      suspends = [];
+      saves = [];
+      base = base;
+      resume_name = Name.Text [];
+      destroy_name = Name.Text [];
+    }
+
+-- the resumes, destroys, tests and promises alone are turned
+abbrev pub plain_of : Shape → Function → Function
+plain_of s f =
+    record {
+      name = f.name;
+      result = f.result;
+      params = f.params;
+      coroutine = false;
+      blocks = pieces_of s Part.Ramp [] s.base f.blocks;
+      names = f.names ++ instr_names (next_after s Part.Ramp [] s.base f.blocks - s.base);
+    }
+
+-- ---- the module
+
+abbrev pub split_function : Layout → Function → List Function
+split_function l f = if f.coroutine then parts_of (shape_of f l) f else plain_of (plain_shape f) f ∷ []
+
+-- the first of the layouts, that of a frame of an index alone where there is none
+abbrev pub first_layout : List Layout → Layout
+first_layout [] = index_alone 0 0
+first_layout (l ∷ ls) = l
+
+abbrev pub other_layouts : List Layout → List Layout
+other_layouts [] = []
+other_layouts (l ∷ ls) = ls
+
+-- the layouts that are left for the functions behind one
+abbrev pub layouts_after : Function → List Layout → List Layout
+layouts_after f ls = if f.coroutine then other_layouts ls else ls
+
+-- the layouts are those of the coroutines in order
+abbrev pub split_functions : List Layout → List Function → List Function
+split_functions ls [] = []
+split_functions ls (f ∷ fs) = split_function (first_layout ls) f ++ split_functions (layouts_after f ls) fs
+
+abbrev pub split_module : Layouts → Module → Module
+split_module ls m =
+    record { types = m.types; globals = m.globals; declarations = m.declarations; functions = split_functions ls.coroutines m.functions }

@@ -6,75 +6,21 @@ use Rattle.ir_model.specs.declared.instr.Instr.{Instr}
 use Rattle.ir_model.specs.declared.instr.Phi.{Phi}
 use Rattle.ir_model.specs.declared.instr.Terminator.{Terminator}
 use Rattle.ir_model.specs.declared.module.Block.{Block}
-use Rattle.ir_model.specs.declared.operand.Arg.{Arg}
-use Rattle.ir_model.specs.declared.operand.Callee.{Callee}
-use Rattle.ir_model.specs.declared.operand.Intrinsic.{Intrinsic}
-use Rattle.coro_split.specs.Lowered.{lowered, names_taken, number_of_save}
-use Rattle.coro_split.specs.Shapes.{back_label, begun_label, done_label, is_end, pass_label, save_of, saved_label}
+use Rattle.coro_split.specs.Cuts.{cut_at}
+use Rattle.coro_split.specs.Lowered.{lowered, names_taken}
+use Rattle.coro_split.specs.Shapes.{back_label, done_label, pass_label}
+use Rattle.coro_split.specs.declared.cuts.Cut.{Cut}
 use Rattle.coro_split.specs.declared.piecing.Piecing.{Piecing}
 use Rattle.coro_split.specs.declared.shape.Origin.{Origin}
 use Rattle.coro_split.specs.declared.shape.Part.{Part}
 use Rattle.coro_split.specs.declared.shape.Shape.{Shape}
 use Rattle.coro_split.specs.declared.shape.SuspendPoint.{SuspendPoint}
 
--- ---- what an instruction does to its block
-
-pub data Cut : Type 0 where
-  -- nothing
-  Stays : Cut
-  -- behind it begins the piece of a label
-  Marks : ℕ → Cut
-  -- the block ends at a suspend
-  Suspends : Cut
-  -- the part returns
-  Returns : Cut
-  -- it is a resume right before the suspend of a number
-  Transfers : ℕ → Cut
-
-abbrev pub goes_on : Part → Bool
-goes_on Part.Ramp = false
-goes_on Part.Resume = true
-goes_on Part.Destroy = true
-
-abbrev pub marks_save : Shape → Option ℕ → Cut
-marks_save s None = Stays
-marks_save s (Some j) = Marks (saved_label s j)
-
--- the token of a suspend that an instruction is
-abbrev pub token_in : Instr → Option ℕ
-token_in (Instr.Call r must_tail ty (Callee.Intrinsic Intrinsic.CoroSuspend) args) = save_of args
-token_in i = None
-
--- the number of the suspend that stands next
-abbrev pub next_suspend : Shape → List Instr → Option ℕ
-next_suspend s [] = None
-next_suspend s (i ∷ is) = number_of_save s (token_in i)
-
-abbrev pub transfers : Option ℕ → Cut
-transfers None = Stays
-transfers (Some j) = Transfers j
-
-abbrev pub cut_call : Shape → Part → Option ℕ → List Instr → Intrinsic → Cut
-cut_call s part r after Intrinsic.CoroBegin = Marks (begun_label s)
-cut_call s part r after Intrinsic.CoroSave = marks_save s (number_of_save s r)
-cut_call s part r after Intrinsic.CoroSuspend = Suspends
-cut_call s part r after Intrinsic.CoroEnd = if goes_on part then Returns else Stays
-cut_call s part r after Intrinsic.CoroResume = if goes_on part then transfers (next_suspend s after) else Stays
-cut_call s part r after _ = Stays
-
--- after are the instructions behind it
-abbrev pub cut_at : Shape → Part → Instr → List Instr → Cut
-cut_at s part (Instr.Call r must_tail ty (Callee.Intrinsic x) args) after = cut_call s part r after x
-cut_at s part i after = Stays
-
 -- ---- the pieces
 
+-- the next piece, with these instructions
 abbrev pub piece : Piecing → List Instr → Terminator → Block
-piece p instrs term = record { label = p.label; phis = p.phis; instrs = p.instrs ++ instrs; term = term }
-
--- the block has ended, with these pieces behind the whole ones
-abbrev pub ended_with : Piecing → List Block → Piecing
-ended_with p pieces = record p { whole = p.whole ++ pieces; ended = true }
+piece p instrs term = record { label = p.label; phis = p.phis; instrs = instrs; term = term }
 
 -- the block that a resume right before its suspend stands in, and nothing follows
 abbrev pub pass_block : ℕ → List Instr → Block
@@ -85,22 +31,32 @@ abbrev pub stop_label : Terminator → ℕ
 stop_label (Terminator.Switch arg default cases) = default
 stop_label _ = 0
 
+-- the block has ended, with these pieces behind the whole ones
+abbrev pub ended_with : Piecing → List Block → ℕ → Piecing
+ended_with p pieces next = record { whole = p.whole ++ pieces; label = p.label; phis = []; instrs = []; ended = true; next = next }
+
+-- a piece has ended, and the next one begins
+abbrev pub begun_with : Piecing → Block → ℕ → ℕ → Piecing
+begun_with p whole label next = record { whole = p.whole ++ whole ∷ []; label = label; phis = []; instrs = []; ended = p.ended; next = next }
+
 abbrev pub pieced : Shape → Piecing → Instr → Terminator → Cut → Piecing
-pieced s p i term Stays = record p { instrs = p.instrs ++ lowered s p.next i; next = p.next + names_taken i }
-pieced s p i term (Marks label) =
-    record p {
-      whole = p.whole ++ piece p (lowered s p.next i) (Terminator.Jump label) ∷ [];
-      label = label;
-      phis = [];
-      instrs = [];
+pieced s p i term Cut.Stays =
+    record {
+      whole = p.whole;
+      label = p.label;
+      phis = p.phis;
+      instrs = p.instrs ++ lowered s p.next i;
+      ended = p.ended;
       next = p.next + names_taken i;
     }
-pieced s p i term Suspends = ended_with p (piece p [] (Terminator.Jump (stop_label term)) ∷ [])
-pieced s p i term Returns = ended_with p (piece p [] (Terminator.Ret None) ∷ [])
-pieced s p i term (Transfers j) =
-    record (ended_with p (piece p [] (Terminator.Jump (pass_label s j)) ∷ pass_block (pass_label s j) (lowered s p.next i) ∷ [])) {
-      next = p.next + names_taken i;
-    }
+pieced s p i term (Cut.Marks label) =
+    begun_with p (piece p (p.instrs ++ lowered s p.next i) (Terminator.Jump label)) label (p.next + names_taken i)
+pieced s p i term Cut.Suspends = ended_with p (piece p p.instrs (Terminator.Jump (stop_label term)) ∷ []) p.next
+pieced s p i term Cut.Returns = ended_with p (piece p p.instrs (Terminator.Ret None) ∷ []) p.next
+pieced s p i term (Cut.Transfers j) =
+    ended_with p
+    (piece p p.instrs (Terminator.Jump (pass_label s j)) ∷ pass_block (pass_label s j) (lowered s p.next i) ∷ [])
+    (p.next + names_taken i)
 
 -- one instruction more, with those behind it
 abbrev pub with_instr : Shape → Part → Terminator → Piecing → Instr → List Instr → Piecing
@@ -126,7 +82,7 @@ redirected_term s (Terminator.Ret value) = Terminator.Ret value
 redirected_term s Terminator.Unreachable = Terminator.Unreachable
 
 abbrev pub all_pieces : Shape → Piecing → Terminator → List Block
-all_pieces s p term = if p.ended then p.whole else p.whole ++ piece p [] (redirected_term s term) ∷ []
+all_pieces s p term = if p.ended then p.whole else p.whole ++ piece p p.instrs (redirected_term s term) ∷ []
 
 -- ---- phis: their labels become those of the pieces from which the edges come
 
@@ -181,11 +137,11 @@ next_after s part origins n (b ∷ bs) = next_after s part origins (piecing_of s
 -- ---- origins
 
 abbrev pub after_cut : Origin → Cut → Origin
-after_cut o Stays = o
-after_cut o (Marks label) = Origin.Piece label
-after_cut o Suspends = o
-after_cut o Returns = Origin.Nowhere
-after_cut o (Transfers j) = o
+after_cut o Cut.Stays = o
+after_cut o (Cut.Marks label) = Origin.Piece label
+after_cut o Cut.Suspends = o
+after_cut o Cut.Returns = Origin.Nowhere
+after_cut o (Cut.Transfers j) = o
 
 abbrev pub is_nowhere : Origin → Bool
 is_nowhere Origin.Nowhere = true

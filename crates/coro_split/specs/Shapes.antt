@@ -1,13 +1,13 @@
 -- What the parts of a coroutine are made by.
-use Rattle.std.specs.Prelude.{ℕ, suc, Bool, true, false, List, [], length, replicate, slice_get, slice_set, codes, ℤ, pos, negsuc, Some, None, Option, unwrap_or, ◌+◌, ◌*◌, ◌∷◌, ◌++◌, if◌then◌else◌, ◌==◌}
+use Rattle.std.specs.Prelude.{ℕ, suc, Bool, true, false, List, [], length, replicate, slice_get, slice_set, codes, ℤ, pos, negsuc, Some, None, Option, unwrap_or, nat_le, ◌+◌, ◌*◌, ◌∷◌, ◌++◌, if◌then◌else◌, ◌==◌}
 use Rattle.coro_base.specs.declared.name.Name.{Name}
-use Rattle.frame_layout.specs.Frames.{index_size}
 use Rattle.frame_layout.specs.declared.layout.Layout.{Layout}
 use Rattle.ir_model.specs.Calls.{first_result}
 use Rattle.ir_model.specs.Names.{spelling}
 use Rattle.ir_model.specs.declared.instr.Case.{Case}
 use Rattle.ir_model.specs.declared.instr.Instr.{Instr}
 use Rattle.ir_model.specs.declared.instr.Terminator.{Terminator}
+use Rattle.ir_model.specs.declared.ir_type.IntWidth.{IntWidth}
 use Rattle.ir_model.specs.declared.module.Block.{Block}
 use Rattle.ir_model.specs.declared.module.Function.{Function}
 use Rattle.ir_model.specs.declared.operand.Arg.{Arg}
@@ -93,6 +93,15 @@ abbrev pub end_label : List Block → Option ℕ
 end_label [] = None
 end_label (b ∷ bs) = if has_end b.instrs then Some b.label else end_label bs
 
+-- ---- the index
+
+abbrev pub index_width : ℕ → IntWidth
+index_width suspends = if nat_le suspends 256 then IntWidth.I8 else IntWidth.I16
+
+abbrev pub index_bytes : IntWidth → ℕ
+index_bytes IntWidth.I16 = 2
+index_bytes _ = 1
+
 -- ---- the shape
 
 -- the name of a part of a coroutine
@@ -108,7 +117,7 @@ shape_of f l =
       size = l.size;
       align = l.align;
       index = l.index;
-      width = 8 * index_size (length suspends);
+      width = index_width (length suspends);
       suspends = suspends;
       saves = saves_of f suspends;
       base = length f.names;

@@ -1,6 +1,7 @@
 //! What the parts of a coroutine are made by.
 
 use coro_base::{Items, Name, SuspendId, ValueId};
+use ir_model::IntWidth;
 
 /// A suspend: its save, the label of its block, and the labels of its switch.
 #[derive(Drop)]
@@ -41,11 +42,11 @@ pub struct Shape {
     pub begin: ValueId,
     /// The label of the end block.
     pub end: ValueId,
-    /// The size and alignment of the frame, and the offset and the width in bits of its index.
+    /// The size and alignment of the frame, and the offset and the width of its index.
     pub size: u64,
     pub align: u64,
     pub index: u64,
-    pub width: u64,
+    pub width: IntWidth,
     /// The suspends in order of the text.
     pub suspends: Items<SuspendPoint>,
     /// For each name the suspend whose save it is.
