@@ -1,6 +1,7 @@
 -- What the operations of the memory do. A memory is the list of its blocks.
 use Rattle.std.specs.Prelude.{ℕ, zero, suc, Bool, true, false, not, List, [], length, take, drop, replicate, is_some, nat_lt, nat_le, slice_get, Some, None, Ok, Err, Option, Result, ◌+◌, ◌*◌, ◌/◌, ◌%◌, ◌&&◌, ◌||◌, ◌∷◌, ◌++◌, if◌then◌else◌, ◌==◌}
 use Rattle.block_memory.specs.declared.pointer.Access.{Access}
+use Rattle.block_memory.specs.declared.pointer.Spot.{Spot}
 use Rattle.block_memory.specs.declared.block.Byte.{Byte}
 use Rattle.block_memory.specs.declared.block.Kind.{Kind}
 use Rattle.block_memory.specs.declared.block.Life.{Life}
@@ -53,11 +54,6 @@ owner_rights = record {
   is_comparable = λ b x offset. (offset == 0) || not (is_below offset x.owned);
 }
 
--- a byte of a block
-pub record Spot : Type 0 where
-  pub block : ℕ
-  pub offset : ℕ
-
 abbrev pub check : Bool → Cause → {A : Type 0} → Result A Cause → Result A Cause
 check true c r = r
 check false c r = Err c
@@ -97,8 +93,11 @@ with_block [] b f = []
 with_block (x ∷ m) zero f = f x ∷ m
 with_block (x ∷ m) (suc b) f = x ∷ with_block m b f
 
+abbrev pub with_bytes : ℕ → List Byte → MemoryBlock → MemoryBlock
+with_bytes offset new x = record x { bytes = written x.bytes offset new }
+
 abbrev pub write : List MemoryBlock → Spot → List Byte → List MemoryBlock
-write m spot new = with_block m spot.block (λ x. record x { bytes = written x.bytes spot.offset new })
+write m spot new = with_block m spot.block (with_bytes spot.offset new)
 
 abbrev pub width_bytes : ℕ → ℕ
 width_bytes w = (w + 7) / 8
@@ -260,9 +259,12 @@ is_owned (Some x) = is_some x.owned
 abbrev pub with_life : List MemoryBlock → ℕ → Life → List MemoryBlock
 with_life m b life = with_block m b (λ x. record x { life = life })
 
+abbrev pub killed_block : MemoryBlock → MemoryBlock
+killed_block x = record x { life = Life.Killed; owned = None; bytes = [] }
+
 -- a block killed, by its number
 abbrev pub killed : List MemoryBlock → ℕ → List MemoryBlock
-killed m b = with_block m b (λ x. record x { life = Life.Killed; owned = None; bytes = [] })
+killed m b = with_block m b killed_block
 
 abbrev pub kill : List MemoryBlock → Value → Kind → Result (List MemoryBlock) Cause
 kill m (Value.Ptr (Pointer.At b o)) kind =
@@ -288,13 +290,19 @@ abbrev pub may_be_owned : Kind → ℕ → Option MemoryBlock → Bool
 may_be_owned kind n None = false
 may_be_owned kind n (Some x) = is_live x.life && same_kind x.kind kind && not (is_some x.owned) && nat_le n x.size
 
+abbrev pub owned_to : ℕ → MemoryBlock → MemoryBlock
+owned_to n x = record x { owned = Some n }
+
 abbrev pub own : List MemoryBlock → Value → ℕ → Kind → Result (List MemoryBlock) Cause
 own m (Value.Ptr (Pointer.At b o)) n kind =
-    check ((o.bits == 0) && may_be_owned kind n (slice_get m b)) Cause.Begin (Ok (with_block m b (λ x. record x { owned = Some n })))
+    check ((o.bits == 0) && may_be_owned kind n (slice_get m b)) Cause.Begin (Ok (with_block m b (owned_to n)))
 own m _ n kind = Err Cause.Begin
 
+abbrev pub disowned : MemoryBlock → MemoryBlock
+disowned x = record x { owned = None }
+
 abbrev pub disown : List MemoryBlock → ℕ → List MemoryBlock
-disown m b = with_block m b (λ x. record x { owned = None })
+disown m b = with_block m b disowned
 
 -- a global becomes a constant
 abbrev pub sealed : MemoryBlock → MemoryBlock

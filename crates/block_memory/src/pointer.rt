@@ -1,8 +1,9 @@
 //! Pointers and values.
 
-ghost use Rattle.std.specs.Prelude.{◌≡◌, ◌<◌, ◌^◌};
+ghost use Rattle.std.specs.Prelude.{◌≡◌, ◌≤◌};
 ghost use Rattle.ir_ints.specs.Numbers.{signed_of};
-ghost use Rattle.block_memory.specs.Pointers.{moved};
+ghost use Rattle.block_memory.specs.Memory.{access_bytes};
+ghost use Rattle.block_memory.specs.Pointers.{moved, same_pointer};
 
 use coro_base::{FuncId, Word};
 
@@ -55,4 +56,38 @@ pub enum Value {
 pub enum Access {
     Int(u32),
     Ptr,
+}
+
+/// A byte of a block, by its place.
+#[derive(Clone, Copy, Debug, PartialEq, Eq, Drop)]
+pub struct Spot {
+    pub block: BlockId,
+    pub offset: u64,
+}
+
+impl Pointer {
+    /// Whether both lead to the same place.
+    pub fn is_same(self, other: Pointer) -> bool
+        ensures { result ≡ same_pointer self other }
+    {
+        match (self, other) {
+            (Pointer::Null, Pointer::Null) => true,
+            (Pointer::At(b, o), Pointer::At(c, p)) => b == c && o.bits == p.bits,
+            (Pointer::Func(f), Pointer::Func(g)) => f == g,
+            _ => false,
+        }
+    }
+}
+
+impl Access {
+    /// How many bytes the access takes.
+    pub fn bytes(self) -> usize
+        requires { access_bytes self ≤ 8 }
+        ensures { result ≡ access_bytes self }
+    {
+        match self {
+            Access::Int(width) => (width as usize + 7) / 8,
+            Access::Ptr => 8,
+        }
+    }
 }

@@ -1,6 +1,17 @@
-//! The operations on integers, each given on whole numbers.
+//! The operations on integers of a width, each given on whole numbers (LLVM Language Reference, "Binary Operations",
+//! "Bitwise Binary Operations", "Conversion Operations").
 #![tactic(auto)]
 
+mod casts;
+mod compare;
 mod num;
+mod operation;
+mod whole;
 
+pub use casts::cast;
+pub use compare::{icmp, select};
 pub use num::Num;
+pub use operation::binary;
+
+#[cfg(test)]
+mod tests;

@@ -1,14 +1,19 @@
 -- The first element that passes a test, one element further; names are told apart by their test.
-use Rattle.std.proofs.Common.{◌≡◌, ℕ, zero, suc, ◌+◌, ◌<◌, Bool, true, false, cond, ◌&&◌, List, [], ◌∷◌, length, take, get_or, refl, ap, sym, ◌∙◌, arith, Option, Some, None}
+use Rattle.std.proofs.Common.{◌≡◌, ℕ, zero, suc, ◌+◌, ◌<◌, Bool, true, false, cond, ◌&&◌, List, [], ◌∷◌, length, take, get_or, refl, ap, sym, ◌∙◌, arith, Option, Some, None, inl, inr}
 use Rattle.std.proofs.lemmas.Bool.{eqb-true, false≢true}
-use Rattle.std.specs.Prelude.{option_map, if◌then◌else◌, ◌==◌}
+use Rattle.std.specs.Prelude.{option_map, if◌then◌else◌, ◌==◌, slice_get, ◌++◌, ◌⊎◌}
 use Rattle.coro_base.specs.declared.name.Name.{Name}
 use Rattle.coro_base.specs.declared.name.Name.TheVariants.{Number, Text}
 use Rattle.coro_base.specs.contracts.name.NamePartialEq.TheImpl.{eq-value}
 use Rattle.std.specs.Map.{lookup}
 use Rattle.std.specs.Cmp.Lexicographic.{pointwise}
-use Rattle.ir_model.specs.Names.{first_where, same_name, same_text}
-use Rattle.ordinary_step.specs.Tables.{or_at}
+use Rattle.ir_model.specs.Names.{first_where, position_of, same_name, same_text}
+use Rattle.std.proofs.lemmas.Option.{slice_get-get_or}
+use Rattle.ir_model.specs.declared.module.Function.{Function}
+use Rattle.ir_model.specs.declared.module.TypeItem.{TypeItem}
+use Rattle.ir_model.specs.Ty.{Ty}
+use Rattle.ir_model.specs.Layout.{type_named}
+use Rattle.ordinary_step.specs.Tables.{or_at, HasPositions}
 
 or_at-suc : (o : Option ℕ) (b : Bool) (i : ℕ) → option_map suc (or_at o b i) ≡ or_at (option_map suc o) b (suc i)
 or_at-suc (Some k) b i = refl
@@ -109,3 +114,68 @@ first_where-next called n xs i x name lt e is old new h u =
     ∙ ap (λ (k : Name). or_at (first_where (λ y. same_name (called y) n) (take i xs)) (same_name k n) i) is
     ∙ sym (first_where-suc (λ y. same_name (called y) n) xs i x lt e)
     ∙ ap (λ (k : ℕ). first_where (λ y. same_name (called y) n) (take k xs)) one
+
+within-by : (b : Bool) (o : Option ℕ) (i n : ℕ) → ((k : ℕ) → Some k ≡ o → k < n) → Some i ≡ (if b then Some 0 else option_map suc o) → i < suc n
+within-by true o i n h e = let z : i ≡ 0 = cc in omega arith
+within-by false None i n h e = absurd cc
+within-by false (Some k) i n h e = let z : i ≡ suc k = cc in omega (arith, h k refl)
+
+-- a position lies within the list
+pub first_where-within : {A : Type 0} (test : A → Bool) (xs : List A) (i : ℕ) → Some i ≡ first_where test xs → i < length xs
+first_where-within test [] i e = absurd cc
+first_where-within test (x ∷ xs) i e = within-by (test x) (first_where test xs) i (length xs) (λ k h. first_where-within test xs k h) e
+
+some-same : {A : Type 0} {x y : A} → Some x ≡ Some y → x ≡ y
+some-same e = cc
+
+-- what the table of one function more has
+abbrev pub HasEach : List Function → List (List ℕ) → Type 0
+HasEach functions tables = (func : ℕ) (f : Function) (table : List ℕ) → slice_get functions func ≡ Some f → slice_get tables func ≡ Some table → (label block : ℕ) → slice_get table label ≡ Some block → block ≡ position_of f label
+
+slice_get-push : {A : Type 0} (xs : List A) (v : A) (i : ℕ) (w : A) → slice_get (xs ++ v ∷ []) i ≡ Some w → ((i ≡ length xs) × (w ≡ v)) ⊎ (slice_get xs i ≡ Some w)
+slice_get-push [] v zero w h = inl (refl, cc)
+slice_get-push [] v (suc i) w h = absurd cc
+slice_get-push (x ∷ xs) v zero w h = inr h
+slice_get-push (x ∷ xs) v (suc i) w h = elim (slice_get-push xs v i w h) [ inl p ↦ inl (ap suc p.0, p.1) | inr q ↦ inr q ]
+
+pub each-more : (functions : List Function) (at : ℕ) (tables next : List (List ℕ)) (function : Function) (table : List ℕ) → at < length functions → function ≡ get_or functions at function → length tables ≡ at → next ≡ tables ++ table ∷ [] → HasPositions function table → HasEach functions tables → HasEach functions next
+each-more functions at tables next function table lt is len e has h func f t gf gt label block gb =
+    let gt' : slice_get (tables ++ table ∷ []) func ≡ Some t = ap (λ (l : List (List ℕ)). slice_get l func) (sym e) ∙ gt in
+    elim (slice_get-push tables table func t gt') [
+      inl p ↦
+        let at-is : func ≡ at = p.0 ∙ len in
+        let got : slice_get functions func ≡ Some function = ap (slice_get functions) at-is ∙ slice_get-get_or functions at function lt ∙ ap Some (sym is) in
+        let same : function ≡ f = some-same (sym got ∙ gf) in
+        has.positions label block (ap (λ (l : List ℕ). slice_get l label) (sym p.1) ∙ gb) ∙ ap (λ (g : Function). position_of g label) same
+    | inr q ↦ h func f t gf q label block gb
+    ]
+
+-- the type of a name, by its position
+type-none-by : (b : Bool) (o : Option ℕ) (t : Ty) (rest : Option Ty) → (None ≡ o → None ≡ rest) → None ≡ (if b then Some 0 else option_map suc o) → None ≡ (if b then Some t else rest)
+type-none-by true o t rest h e = absurd cc
+type-none-by false None t rest h e = h refl
+type-none-by false (Some k) t rest h e = absurd cc
+
+pub type_named-none : (ts : List TypeItem) (n : Name) → None ≡ first_where (λ t. same_name t.name n) ts → None ≡ type_named ts n
+type_named-none [] n e = refl
+type_named-none (t ∷ ts) n e = type-none-by (same_name t.name n) (first_where (λ u. same_name u.name n) ts) t.ty (type_named ts n) (type_named-none ts n) e
+
+type-some-by : (b : Bool) (o : Option ℕ) (t : TypeItem) (ts : List TypeItem) (i : ℕ) (item : TypeItem) (rest : Option Ty) → ((k : ℕ) → Some k ≡ o → slice_get ts k ≡ Some item → Some item.ty ≡ rest) → Some i ≡ (if b then Some 0 else option_map suc o) → slice_get (t ∷ ts) i ≡ Some item → Some item.ty ≡ (if b then Some t.ty else rest)
+type-some-by true o t ts zero item rest h e g = let s : t ≡ item = some-same g in ap (λ (x : TypeItem). Some x.ty) (sym s)
+type-some-by true o t ts (suc i) item rest h e g = absurd cc
+type-some-by false None t ts i item rest h e g = absurd cc
+type-some-by false (Some k) t ts zero item rest h e g = absurd cc
+type-some-by false (Some k) t ts (suc i) item rest h e g = let z : Some i ≡ Some k = cc in h i z g
+
+pub type_named-some : (ts : List TypeItem) (n : Name) (i : ℕ) (item : TypeItem) → Some i ≡ first_where (λ t. same_name t.name n) ts → slice_get ts i ≡ Some item → Some item.ty ≡ type_named ts n
+type_named-some [] n i item e g = absurd cc
+type_named-some (t ∷ ts) n i item e g =
+    type-some-by (same_name t.name n) (first_where (λ u. same_name u.name n) ts) t ts i item (type_named ts n) (λ k f j. type_named-some ts n k item f j) e g
+
+there-by : {A : Type 0} (xs : List A) (i : ℕ) → i < length xs → None ≡ slice_get xs i → ⊥
+there-by [] i lt e = omega arith
+there-by (x ∷ xs) zero lt e = cc
+there-by (x ∷ xs) (suc i) lt e = there-by xs i (omega arith) e
+
+pub type_named-there : (ts : List TypeItem) (n : Name) (i : ℕ) → Some i ≡ first_where (λ t. same_name t.name n) ts → None ≡ slice_get ts i → ⊥
+type_named-there ts n i e g = let lt = first_where-within (λ t. same_name t.name n) ts i e in there-by ts i lt g

@@ -10,7 +10,7 @@ use ir_model::{Block, Function};
 use std::alloc::{AllocError, Global};
 
 /// The position of the first of the blocks that has a label, or, where none has it, the position behind the last.
-fn search(blocks: &[Block], label: ValueId) -> BlockId
+pub fn search(blocks: &[Block], label: ValueId) -> BlockId
     ensures { result ≡ unwrap_or (first_where (λ b. nat_eq b.label label) blocks.now) (length blocks.now) }
 {
     for at in 0..blocks.len() {

@@ -11,5 +11,6 @@ mod width;
 mod world;
 
 pub use operand::{Values, literal, value_of_local, to_number, to_address, from_number};
+pub use labels::{position, positions_of};
 pub use stack::Stack;
 pub use world::{Slot, World};

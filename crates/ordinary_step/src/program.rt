@@ -1,13 +1,13 @@
 //! A module as a machine runs it.
 
-ghost use Rattle.std.specs.Prelude.{◌≡◌, IfOk, Some, slice_get, ℕ, List, ◌+◌, length};
+ghost use Rattle.std.specs.Prelude.{◌≡◌, IfOk, Some, None, Option, slice_get, ℕ, List, ◌+◌, ◌<◌, length};
 ghost use Rattle.ordinary_step.specs.Tables.{FindsFirst, HaveAllPositions};
 
-use crate::labels::{position, positions_of};
+use crate::labels::{position, positions_of, search};
 use crate::names::{NameTable, find, table_of};
 use block_memory::{Offset, Pointer, Value};
 use coro_base::{BlockId, FuncId, Items, Name, ValueId};
-use ir_model::{Function, Module};
+use ir_model::{Function, IrType, Module};
 use std::alloc::{AllocError, Global};
 
 /// A module with the answers to its observed calls, and the tables by which names and labels are looked up.
@@ -27,8 +27,119 @@ pub struct Program {
     ghost labels_found: { HaveAllPositions module.functions labels },
 }
 
-fn sum_len(m: &Module) -> usize
-    ensures { result ≡ length m.now.functions + length m.now.declarations }
+impl Program {
+    ghost use Rattle.ir_model.specs.Names.{function_named, declaration_named, global_named, position_of, function_at};
+    ghost use Rattle.ir_model.specs.Layout.{type_named};
+    ghost use Rattle.std.specs.Option.{option_copied};
+    ghost use Rattle.ordinary_step.specs.Values.{address_of};
+
+    /// A module with its tables.
+    pub fn new(alloc: Global, code: Module, answers: &[i128]) -> Result<Self, AllocError>
+        ensures same_module { IfOk result (λ program. program.«module» ≡ code) }
+        ensures same_answers { IfOk result (λ program. program.answers ≡ answers.now) }
+    {
+        let functions = table_of(alloc, code.functions.as_slice())?;
+        let globals = table_of(alloc, code.globals.as_slice())?;
+        let declarations = table_of(alloc, code.declarations.as_slice())?;
+        let types = table_of(alloc, code.types.as_slice())?;
+        let labels = all_positions(alloc, code.functions.as_slice())?;
+        let answers = copied_answers(alloc, answers)?;
+        Ok(Program {
+            module: code,
+            answers,
+            functions,
+            globals,
+            declarations,
+            types,
+            labels,
+        })
+    }
+
+    /// The position of the defined function with a name.
+    pub fn function_named(&self, name: &Name) -> Option<FuncId>
+        ensures { result ≡ function_named self.now.module name.now }
+    {
+        find(&self.functions, name)
+    }
+
+    /// The position of the declaration with a name.
+    pub fn declaration_named(&self, name: &Name) -> Option<usize>
+        ensures position { result ≡ declaration_named self.now.module name.now }
+    {
+        find(&self.declarations, name)
+    }
+
+    /// The position of the global with a name.
+    pub fn global_named(&self, name: &Name) -> Option<usize>
+        ensures { result ≡ global_named self.now.module name.now }
+    {
+        find(&self.globals, name)
+    }
+
+    /// The type that a name stands for.
+    pub fn type_named(&self, name: &Name) -> Option<&IrType>
+        ensures { option_copied result ≡ type_named self.now.module.types name.now }
+    {
+        match find(&self.types, name) {
+            None => None,
+            Some(at) => match self.module.types.get(at) {
+                None => None,
+                Some(item) => Some(&item.ty),
+            },
+        }
+    }
+
+    /// The position of a label's block in the function at a position.
+    pub fn position(&self, func: FuncId, label: ValueId) -> BlockId
+        ensures { result ≡ position_of (function_at self.now.module func) label }
+    {
+        match self.module.functions.get(func) {
+            None => 0,
+            Some(function) => match self.labels.get(func) {
+                None => search(function.blocks.as_slice(), label),
+                Some(table) => position(function, table, label),
+            },
+        }
+    }
+
+    /// The address of what has a name.
+    pub fn address_of(&self, name: &Name) -> Value
+        ensures { result ≡ address_of self.now.module name.now }
+    {
+        if let Some(function) = self.function_named(name) {
+            return Value::Ptr(Pointer::Func(function));
+        }
+        if let Some(global) = self.global_named(name) {
+            return Value::Ptr(Pointer::At(global, Offset { bits: 0 }));
+        }
+        match self.declaration_named(name) {
+            Some(declaration) => {
+                let functions = self.module.functions.as_slice().len();
+                let declarations = self.module.declarations.as_slice().len();
+                prove!(declaration < declarations);
+                Value::Ptr(Pointer::Func(functions + declaration))
+            }
+            None => Value::Poison,
+        }
+    }
+}
+
+/// The tables of all functions.
+fn all_positions(
+    alloc: Global,
+    functions: &[Function],
+) -> Result<Items<Items<BlockId>>, AllocError>
+    ensures { IfOk result (λ tables. HaveAllPositions functions.now tables) }
 {
-    m.functions.as_slice().len() + m.declarations.as_slice().len()
+    let mut all = Items::new(alloc);
+    for function in functions {
+        all.push(positions_of(alloc, function)?)?;
+    }
+    Ok(all)
+}
+
+fn copied_answers(alloc: Global, answers: &[i128]) -> Result<Items<i128>, AllocError>
+    ensures { IfOk result (λ all. all ≡ answers.now) }
+{
+    Ok(Items::from_vec(answers.to_vec(alloc)?))
 }

@@ -1,0 +1,5 @@
+pub mod Blocks
+pub mod Digits
+pub mod Found
+pub mod Reading
+pub mod Split
