@@ -15,7 +15,8 @@ fn number_of(i: Intrinsic) -> u8
     i as u8
 }
 
-fn is_same_intrinsic(i: Intrinsic, j: Intrinsic) -> bool
+/// Whether both are the same intrinsic.
+pub fn is_same_intrinsic(i: Intrinsic, j: Intrinsic) -> bool
     ensures { result ≡ same_intrinsic i j }
 {
     number_of(i) == number_of(j)

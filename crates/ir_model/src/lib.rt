@@ -9,7 +9,7 @@ mod names;
 mod operand;
 mod table;
 
-pub use calls::result_of_call;
+pub use calls::{is_same_intrinsic, result_of_call};
 pub use instr::{Case, Incoming, Instr, Phi, Terminator};
 pub use ir_type::{IntWidth, IrType, Node};
 pub use module::{Block, Declaration, Frame, Function, GlobalItem, Module, Param, TypeItem};
