@@ -1,6 +1,6 @@
 //! The blocks that the entry reaches, and a function with these alone.
 
-ghost use Rattle.std.specs.Prelude.{◌≡◌, ◌+◌, IfOk, OnOk, map, filter, length, false, replicate, slice_set};
+ghost use Rattle.std.specs.Prelude.{◌≡◌, ◌+◌, IfOk, OnOk, map, filter, length, true, false, replicate, slice_set};
 ghost use Rattle.ordinary_step.specs.Tables.{HasPositions};
 ghost use Rattle.ir_paths.specs.Paths.{targets};
 ghost use Rattle.coro_split.specs.Reached.{is_flagged, targets_in, targets_at, piled, todo_after, flagged_within, edges_of, entry_of, reached, kept_phi, kept_block, kept_blocks, pruned};
