@@ -3,10 +3,10 @@ use Rattle.std.specs.Prelude.{◌≡◌, ℕ, ℤ, ◌^◌, Bool, true, false, �
 use Rattle.std.specs.List.{list_any}
 use Rattle.std.specs.Str.{bytes_eq}
 use Rattle.std.specs.Option.{option_map_or}
-use Rattle.std.specs.Str.Parse.{digits_value, without_leading_plus}
+use Rattle.std.specs.Str.Parse.{without_leading_plus}
 use Rattle.clap.specs.Words.{Kinds, Row, Text, fault_of, first_of, subcommand_of}
 use Rattle.coro_words.specs.App.{the_app}
-use Rattle.coro_words.specs.Lists.{is_numeral, list}
+use Rattle.coro_words.specs.Lists.{magnitude, list}
 use Rattle.coro_words.specs.declared.words.Form.{Form}
 use Rattle.coro_words.specs.declared.words.Words.{Words}
 use Rattle.coro_words.specs.declared.words.RunWords.{RunWords}
@@ -28,30 +28,32 @@ list_at name rows = option_map_or list (first_of name rows) (Some [])
 
 -- a number of steps, where the word is one
 abbrev pub steps_named : Text → ℕ
-steps_named t =
-    let digits = without_leading_plus t in
-    if is_numeral digits && nat_lt (digits_value 10 digits) (2 ^ 64) then digits_value 10 digits else 1000000
+steps_named t = unwrap_or (magnitude (without_leading_plus t)) 1000000
 
 abbrev pub steps : List Row → ℕ
 steps rows = option_map_or steps_named (first_of (codes "steps") rows) 1000000
 
--- where a list isn't one, its word; `--args` before `--answers`
-abbrev pub with_lists : Bool → Form → Text → ℕ → List Row → Option (List ℤ) → Option (List ℤ) → Reading
-with_lists plain form entry steps rows None answers = Reading.BadList (unwrap_or (first_of (codes "args") rows) [])
-with_lists plain form entry steps rows (Some args) None = Reading.BadList (unwrap_or (first_of (codes "answers") rows) [])
-with_lists plain form entry steps rows (Some args) (Some answers) = Reading.Read (Words.Run (record {
-  plain = plain;
+-- the word of an option
+abbrev pub word_at : Text → List Row → Text
+word_at name rows = unwrap_or (first_of name rows) []
+
+-- `run`, or the word of a list that isn't one; `--args` before `--answers`
+abbrev pub with_lists : Form → Text → List Row → Option (List ℤ) → Option (List ℤ) → Reading
+with_lists form entry rows None answers = Reading.BadList (word_at (codes "args") rows)
+with_lists form entry rows (Some args) None = Reading.BadList (word_at (codes "answers") rows)
+with_lists form entry rows (Some args) (Some answers) = Reading.Read (Words.Run (record {
+  plain = has_flag (codes "plain") rows;
   form = form;
   entry = entry;
   args = args;
   answers = answers;
-  steps = steps;
+  steps = steps rows;
 }))
 
--- `run`, with a form and an entry
+-- `run`, where it has a form and an entry
 abbrev pub run_named : List Row → Option Form → Option Text → Reading
 run_named rows (Some form) (Some entry) =
-    with_lists (has_flag (codes "plain") rows) form entry (steps rows) rows (list_at (codes "args") rows) (list_at (codes "answers") rows)
+    with_lists form entry rows (list_at (codes "args") rows) (list_at (codes "answers") rows)
 run_named rows _ _ = Reading.Refused
 
 abbrev pub run_read : List Row → Reading

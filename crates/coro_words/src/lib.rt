@@ -1,6 +1,7 @@
 //! The words of the command line: which are taken, and what they ask for.
 #![tactic(auto)]
 
+mod answer;
 mod command;
 mod list;
 mod matched;
@@ -9,4 +10,7 @@ mod taken;
 mod tests;
 mod words;
 
+pub use answer::Taken;
+pub use list::read_list;
+pub use taken::take_words;
 pub use words::{Form, Reading, RunWords, Words};
