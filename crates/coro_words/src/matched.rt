@@ -129,7 +129,12 @@ fn run_read(alloc: Global, matches: &ArgMatches<'_>) -> Result<Reading, AllocErr
     let Some(entry) = value_of(matches, "entry") else {
         return Ok(Reading::Refused);
     };
-    with_lists(alloc, matches, form, Text::from_bytes(alloc, entry.as_bytes())?)
+    with_lists(
+        alloc,
+        matches,
+        form,
+        Text::from_bytes(alloc, entry.as_bytes())?,
+    )
 }
 
 /// What a command line comes to that clap takes.

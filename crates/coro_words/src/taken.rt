@@ -64,7 +64,11 @@ pub fn take_words(alloc: Global, words: &[String]) -> Result<Taken, AllocError>
         Ok(Reading::BadList(word)) => Ok(Taken::BadList(word)),
         Ok(Reading::Refused) => {
             let message = "the form is 'lowered' or 'text'";
-            told(alloc, words, &command.error(ErrorKind::InvalidValue, message)?)
+            told(
+                alloc,
+                words,
+                &command.error(ErrorKind::InvalidValue, message)?,
+            )
         }
         Err(error) => {
             if error.kind() == ErrorKind::OutOfMemory {
