@@ -1,10 +1,10 @@
 -- What std reads of digits is what they write, and lists are read part by part.
-use Rattle.std.proofs.Common.{◌≡◌, ◌<◌, ◌≤◌, ℕ, ℤ, ◌^◌, Bool, true, false, ◌&&◌, ◌==◌, not, nat_lt, List, [], ◌∷◌, ◌++◌, length, Option, Some, None, option_map, Result, Ok, Err, refl, sym, ap, ◌∙◌, arith, rules, append_assoc}
+use Rattle.std.proofs.Common.{◌≡◌, ◌<◌, ℕ, ◌^◌, Bool, true, false, ◌&&◌, ◌==◌, not, nat_lt, List, length, Some, None, Result, Ok, Err, refl, ap, ◌∙◌, arith, rules}
 use Rattle.std.specs.Prelude.{IsUtf8}
 use Rattle.std.specs.List.{list_all}
 use Rattle.std.specs.Result.{result_ok, OkIff}
 use Rattle.std.specs.Str.Parse.{digits_value, IsNumeral, ParsesUnsigned}
-use Rattle.std.proofs.lemmas.Bool.{and_parts, and_from, lt-ltb, ltb-true, false≢true}
+use Rattle.std.proofs.lemmas.Bool.{and_parts, and_from, lt-ltb, ltb-true}
 use Rattle.std.proofs.lemmas.Fmt.{IsAscii-from_digits}
 use Rattle.std.proofs.lemmas.Str.{IsUtf8-from_ascii}
 use Rattle.std.proofs.lemmas.Str.Parse.{IsNumeralModel, numerals_by_value, parse_digits}

@@ -1,5 +1,5 @@
 -- Lists of numbers, as a word writes them.
-use Rattle.std.specs.Prelude.{◌≡◌, ℕ, ℤ, ◌^◌, pos, neg_ℤ, Bool, ◌&&◌, ◌==◌, not, nat_lt, nat_le, if◌then◌else◌, List, [], ◌∷◌, length, Option, Some, None, option_map, option_and_then}
+use Rattle.std.specs.Prelude.{ℕ, ℤ, ◌^◌, pos, neg_ℤ, Bool, ◌&&◌, ◌==◌, not, nat_lt, nat_le, if◌then◌else◌, List, [], ◌∷◌, length, Option, Some, None, option_map, option_and_then}
 use Rattle.std.specs.List.{list_all, slice_split}
 use Rattle.std.specs.Str.Parse.{digits_value}
 

@@ -1,4 +1,4 @@
-use Rattle.std.proofs.Common.{◌≡◌, sym, ◌∙◌}
+use Rattle.std.proofs.Common.{sym, ◌∙◌}
 use Rattle.coro_words.proofs.Numerals.{parsed_magnitude, digits_are_text}
 use Rattle.coro_words.proofs.list.magnitude.Goals as goal
 

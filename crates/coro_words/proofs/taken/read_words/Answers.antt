@@ -1,4 +1,4 @@
-use Rattle.std.proofs.Common.{◌≡◌, map, string_bytes}
+use Rattle.std.proofs.Common.{map, string_bytes}
 use Rattle.clap.specs.Words.{app_of}
 use Rattle.clap.proofs.TakesLemmas.{passed_up}
 use Rattle.coro_words.proofs.Refusals.{refused_words}

@@ -1,4 +1,4 @@
-use Rattle.std.proofs.Common.{◌≡◌, sym, ◌∙◌, string_bytes}
+use Rattle.std.proofs.Common.{sym, ◌∙◌, string_bytes}
 use Rattle.clap.proofs.WalkLemmas.{list_any-map}
 use Rattle.coro_words.specs.Asked.{asks_help}
 use Rattle.coro_words.proofs.taken.told.Goals as goal
