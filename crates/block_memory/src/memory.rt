@@ -121,8 +121,8 @@ impl Memory {
         }
     }
 
-    /// Kills a block.
-    fn kill_at(&mut self, block: BlockId)
+    /// Kills a block whatever its kind, and gives its room up.
+    pub fn kill_block(&mut self, block: BlockId)
         ensures { self.new ≡ killed self.old block }
     {
         if block < self.blocks.len() {
@@ -161,7 +161,7 @@ impl Memory {
         ensures unchanged { OnErr result (self.new ≡ self.old) }
     {
         let block = self.killable(p, kind)?;
-        self.kill_at(block);
+        self.kill_block(block);
         Ok(())
     }
 
