@@ -122,7 +122,7 @@ impl Memory {
     }
 
     /// Kills a block whatever its kind, and gives its room up.
-    pub fn kill_block(&mut self, block: BlockId)
+    pub fn kill_at(&mut self, block: BlockId)
         ensures { self.new ≡ killed self.old block }
     {
         if block < self.blocks.len() {
@@ -161,7 +161,7 @@ impl Memory {
         ensures unchanged { OnErr result (self.new ≡ self.old) }
     {
         let block = self.killable(p, kind)?;
-        self.kill_block(block);
+        self.kill_at(block);
         Ok(())
     }
 

@@ -1,7 +1,7 @@
 use Rattle.std.proofs.Common.{arith}
 use Rattle.block_memory.proofs.Blocks.{change_at, change_past}
 use Rattle.block_memory.specs.Memory.{killed_block}
-use Rattle.block_memory.proofs.memory.Memory.kill_block.Goals as goal
+use Rattle.block_memory.proofs.memory.Memory.kill_at.Goals as goal
 
 pub returns-then-block-len : goal.returns-then-block-len
 returns-then-block-len c =
