@@ -121,8 +121,8 @@ impl Memory {
         }
     }
 
-    /// Kills a block.
-    fn kill_at(&mut self, block: BlockId)
+    /// Kills a block whatever its kind, and gives its room up.
+    pub fn kill_at(&mut self, block: BlockId)
         ensures { self.new ≡ killed self.old block }
     {
         if block < self.blocks.len() {
