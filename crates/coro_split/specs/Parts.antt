@@ -93,23 +93,57 @@ head_blocks s part blocks = if goes_on part then later_head s part blocks else [
 
 -- ---- names
 
+unfoldable pub saved_name : ℕ → Name
+saved_name j = numbered (codes "$c.saved.") j
+
+unfoldable pub back_name : ℕ → Name
+back_name j = numbered (codes "$c.back.") j
+
+unfoldable pub pass_name : ℕ → Name
+pass_name j = numbered (codes "$c.pass.") j
+
+abbrev pub names_of_suspend : ℕ → List Name
+names_of_suspend j = saved_name j ∷ back_name j ∷ pass_name j ∷ []
+
 abbrev pub suspend_names : ℕ → List Name
 suspend_names zero = []
-suspend_names (suc j) =
-    suspend_names j ++ numbered (codes "$c.saved.") j ∷ numbered (codes "$c.back.") j ∷ numbered (codes "$c.pass.") j ∷ []
+suspend_names (suc j) = suspend_names j ++ names_of_suspend j
 
 abbrev pub instr_names : ℕ → List Name
 instr_names zero = []
 instr_names (suc k) = instr_names k ++ numbered (codes "$c.") k ∷ []
 
+unfoldable pub begun_mark : Name
+begun_mark = Name.Text (codes "$c.begun")
+
+unfoldable pub done_mark : Name
+done_mark = Name.Text (codes "$c.done")
+
+unfoldable pub entry_mark : Name
+entry_mark = Name.Text (codes "$c.entry")
+
+unfoldable pub none_mark : Name
+none_mark = Name.Text (codes "$c.none")
+
+unfoldable pub slot_mark : Name
+slot_mark = Name.Text (codes "$c.slot")
+
+unfoldable pub index_mark : Name
+index_mark = Name.Text (codes "$c.index")
+
+unfoldable pub frame_mark : Name
+frame_mark = Name.Text (codes "$c.frame")
+
+abbrev pub label_names : List Name
+label_names = begun_mark ∷ done_mark ∷ entry_mark ∷ none_mark ∷ []
+
 abbrev pub mark_names : List Name
-mark_names =
-    Name.Text (codes "$c.begun") ∷ Name.Text (codes "$c.done") ∷ Name.Text (codes "$c.entry") ∷ Name.Text (codes "$c.none") ∷ Name.Text (codes "$c.slot") ∷ Name.Text (codes "$c.index") ∷ []
+mark_names = label_names ++ slot_mark ∷ index_mark ∷ []
 
 -- the names of a coroutine's parts, with so many of instructions; begin's value is called `$c.frame`
 abbrev pub names_of : Shape → List Name → ℕ → List Name
 names_of s names count =
-    slice_set names s.begin (Name.Text (codes "$c.frame")) ++ mark_names ++ suspend_names (length s.suspends) ++ instr_names count
+    slice_set names s.begin frame_mark ++ mark_names ++ suspend_names (length s.suspends) ++ instr_names count
 
 -- ---- the parts
 

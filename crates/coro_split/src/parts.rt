@@ -4,7 +4,7 @@ ghost use Rattle.std.specs.Prelude.{◌≡◌, ◌+◌, ◌-◌, IfOk, OnOk, ◌
 ghost use Rattle.coro_base.specs.declared.name.Name.{Name as TheName};
 ghost use Rattle.ir_model.specs.Names.{numbered};
 ghost use Rattle.coro_split.specs.Pieces.{next_after, pieces_of, piecing_of, first_piecing, all_pieces};
-ghost use Rattle.coro_split.specs.Parts.{is_alloca, allocas_of, is_entered, case_of, cases_from, entry_instrs, entry_term, entry_block, none_block, back_block, back_blocks, done_block, head_blocks, suspend_names, instr_names, mark_names, names_of, origins_for, part_blocks, part_names, ramp_of, later_part, parts_of, plain_shape, plain_of};
+ghost use Rattle.coro_split.specs.Parts.{is_alloca, allocas_of, is_entered, case_of, cases_from, entry_instrs, entry_term, entry_block, none_block, back_block, back_blocks, done_block, head_blocks, saved_name, back_name, pass_name, names_of_suspend, begun_mark, done_mark, entry_mark, none_mark, slot_mark, index_mark, frame_mark, label_names, suspend_names, instr_names, mark_names, names_of, origins_for, part_blocks, part_names, ramp_of, later_part, parts_of, plain_shape, plain_of};
 
 use crate::cuts::goes_on;
 use crate::lowered::index_bytes;
@@ -269,16 +269,37 @@ fn push_pieces(
     Ok(next)
 }
 
+#[tactic(auto, unfolding(crate::specs::Parts::saved_name))]
+fn saved_name(alloc: Global, suspend: SuspendId) -> Result<Name, AllocError>
+    ensures { IfOk result (λ n. n ≡ saved_name suspend) }
+{
+    numbered_name(alloc, b"$c.saved.", suspend)
+}
+
+#[tactic(auto, unfolding(crate::specs::Parts::back_name))]
+fn back_name(alloc: Global, suspend: SuspendId) -> Result<Name, AllocError>
+    ensures { IfOk result (λ n. n ≡ back_name suspend) }
+{
+    numbered_name(alloc, b"$c.back.", suspend)
+}
+
+#[tactic(auto, unfolding(crate::specs::Parts::pass_name))]
+fn pass_name(alloc: Global, suspend: SuspendId) -> Result<Name, AllocError>
+    ensures { IfOk result (λ n. n ≡ pass_name suspend) }
+{
+    numbered_name(alloc, b"$c.pass.", suspend)
+}
+
 fn push_suspend_names(
     alloc: Global,
     names: &mut Items<Name>,
     suspend: SuspendId,
 ) -> Result<(), AllocError>
-    ensures { OnOk result (names.new ≡ names.old ++ numbered (codes "$c.saved.") suspend ∷ numbered (codes "$c.back.") suspend ∷ numbered (codes "$c.pass.") suspend ∷ []) }
+    ensures { OnOk result (names.new ≡ names.old ++ names_of_suspend suspend) }
 {
-    names.push(numbered_name(alloc, b"$c.saved.", suspend)?)?;
-    names.push(numbered_name(alloc, b"$c.back.", suspend)?)?;
-    names.push(numbered_name(alloc, b"$c.pass.", suspend)?)?;
+    names.push(saved_name(alloc, suspend)?)?;
+    names.push(back_name(alloc, suspend)?)?;
+    names.push(pass_name(alloc, suspend)?)?;
     Ok(())
 }
 
@@ -304,22 +325,72 @@ fn instr_names(alloc: Global, count: usize) -> Result<Items<Name>, AllocError>
     Ok(names)
 }
 
-fn push_text(alloc: Global, names: &mut Items<Name>, text: &[u8]) -> Result<(), AllocError>
-    ensures { OnOk result (names.new ≡ names.old ++ TheName.Text text.now ∷ []) }
+/// A name that is not numbered.
+fn mark_name(alloc: Global, text: &[u8]) -> Result<Name, AllocError>
+    ensures { IfOk result (λ n. n ≡ TheName.Text text.now) }
 {
-    names.push(Name::Text(Text::from_bytes(alloc, text)?))?;
-    Ok(())
+    Ok(Name::Text(Text::from_bytes(alloc, text)?))
+}
+
+#[tactic(auto, unfolding(crate::specs::Parts::begun_mark))]
+fn begun_mark(alloc: Global) -> Result<Name, AllocError>
+    ensures { IfOk result (λ n. n ≡ begun_mark) }
+{
+    mark_name(alloc, b"$c.begun")
+}
+
+#[tactic(auto, unfolding(crate::specs::Parts::done_mark))]
+fn done_mark(alloc: Global) -> Result<Name, AllocError>
+    ensures { IfOk result (λ n. n ≡ done_mark) }
+{
+    mark_name(alloc, b"$c.done")
+}
+
+#[tactic(auto, unfolding(crate::specs::Parts::entry_mark))]
+fn entry_mark(alloc: Global) -> Result<Name, AllocError>
+    ensures { IfOk result (λ n. n ≡ entry_mark) }
+{
+    mark_name(alloc, b"$c.entry")
+}
+
+#[tactic(auto, unfolding(crate::specs::Parts::none_mark))]
+fn none_mark(alloc: Global) -> Result<Name, AllocError>
+    ensures { IfOk result (λ n. n ≡ none_mark) }
+{
+    mark_name(alloc, b"$c.none")
+}
+
+#[tactic(auto, unfolding(crate::specs::Parts::slot_mark))]
+fn slot_mark(alloc: Global) -> Result<Name, AllocError>
+    ensures { IfOk result (λ n. n ≡ slot_mark) }
+{
+    mark_name(alloc, b"$c.slot")
+}
+
+#[tactic(auto, unfolding(crate::specs::Parts::index_mark))]
+fn index_mark(alloc: Global) -> Result<Name, AllocError>
+    ensures { IfOk result (λ n. n ≡ index_mark) }
+{
+    mark_name(alloc, b"$c.index")
 }
 
 fn push_mark_names(alloc: Global, names: &mut Items<Name>) -> Result<(), AllocError>
     ensures { OnOk result (names.new ≡ names.old ++ mark_names) }
 {
-    push_text(alloc, names, b"$c.begun")?;
-    push_text(alloc, names, b"$c.done")?;
-    push_text(alloc, names, b"$c.entry")?;
-    push_text(alloc, names, b"$c.none")?;
-    push_text(alloc, names, b"$c.slot")?;
-    push_text(alloc, names, b"$c.index")
+    push_labels(alloc, names)?;
+    names.push(slot_mark(alloc)?)?;
+    names.push(index_mark(alloc)?)?;
+    Ok(())
+}
+
+fn push_labels(alloc: Global, names: &mut Items<Name>) -> Result<(), AllocError>
+    ensures { OnOk result (names.new ≡ names.old ++ label_names) }
+{
+    names.push(begun_mark(alloc)?)?;
+    names.push(done_mark(alloc)?)?;
+    names.push(entry_mark(alloc)?)?;
+    names.push(none_mark(alloc)?)?;
+    Ok(())
 }
 
 fn push_names(names: &mut Items<Name>, more: Items<Name>) -> Result<(), AllocError>
@@ -329,6 +400,13 @@ fn push_names(names: &mut Items<Name>, more: Items<Name>) -> Result<(), AllocErr
         names.push(name)?;
     }
     Ok(())
+}
+
+#[tactic(auto, unfolding(crate::specs::Parts::frame_mark))]
+fn frame_mark(alloc: Global) -> Result<Name, AllocError>
+    ensures { IfOk result (λ n. n ≡ frame_mark) }
+{
+    mark_name(alloc, b"$c.frame")
 }
 
 /// The names of a coroutine's parts, with so many of instructions.

@@ -3,7 +3,7 @@ use Rattle.coro_split.specs.Pieces.{with_instrs}
 use Rattle.coro_split.proofs.pieces.with_instrs.Given as goal
 
 abbrev pub invariant-loop-instr : goal.invariant-loop-instr
-invariant-loop-instr l = with_instrs l.shape l.part l.term l.piecing l.rest ≡ with_instrs l.shape l.part l.term l.first l.instrs
+invariant-loop-instr l = with_instrs l.shape l.part l.term l.piecing l.rest ≡ with_instrs l.shape l.part l.term l.fn.first l.instrs
 
 abbrev pub decreases-loop-instr : goal.decreases-loop-instr
 decreases-loop-instr l = length l.rest
