@@ -1,3 +1,3 @@
-pub mod Signed
+pub mod Products
 pub mod Widths
 pub mod Wraps

@@ -12,6 +12,7 @@ pub use casts::cast;
 pub use compare::{icmp, select};
 pub use num::Num;
 pub use operation::binary;
+pub use whole::{cut_signed, signed};
 
 #[cfg(test)]
 mod tests;

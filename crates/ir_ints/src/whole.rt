@@ -66,7 +66,7 @@ pub fn is_signed(width: u32, z: i128) -> bool
 }
 
 /// The product of two numbers of at most 64 bits.
-#[tactic(auto, using(crate::proofs::Signed::product_fits))]
+#[tactic(auto, using(crate::proofs::Products::product_fits))]
 pub fn product(a: i128, b: i128) -> i128
     requires a_small { unsigned_abs a ≤ 2 ^ 63 }
     requires b_small { unsigned_abs b ≤ 2 ^ 63 }

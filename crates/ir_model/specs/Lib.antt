@@ -4,3 +4,4 @@ pub mod TypeFalls
 pub mod Names
 pub mod Layout
 pub mod Table
+pub mod Calls

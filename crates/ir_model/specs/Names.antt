@@ -91,3 +91,7 @@ spelling (Name.Text t) = t
 -- the name of the ramp that allocates no frame
 abbrev pub noalloc_of : Name → Name
 noalloc_of n = Name.Text (spelling n ++ codes ".noalloc")
+
+-- a name of a text and a number
+abbrev pub numbered : List ℕ → ℕ → Name
+numbered text n = Name.Text (text ++ decimal n)

@@ -1,4 +1,4 @@
-use Rattle.ir_ints.proofs.Signed.{product_is}
+use Rattle.ir_ints.proofs.Products.{product_is}
 use Rattle.ir_ints.proofs.whole.product.Goals as goal
 
 pub returns : goal.returns

@@ -1,0 +1,3 @@
+pub mod Compose
+pub mod Lockstep
+pub mod Runs

@@ -1,0 +1,6 @@
+//! The last pass of lowering: the calls of `coro.id` go, and the declarations of the coro intrinsics.
+#![tactic(auto)]
+
+mod pass;
+
+pub use pass::clean;

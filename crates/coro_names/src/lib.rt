@@ -1,0 +1,16 @@
+//! The canonical spelling of names: how a name is written, and which name a spelling stands for.
+//!
+//! A number is written in digits. A text is written bare where it is a letter, `$`, `.`, `_` or `-` and then letters, digits
+//! and these; else between quotes, as LLVM's Language Reference writes identifiers: `\\` stands for a backslash, and a
+//! backslash and two upper case hexadecimal digits stand for `"` and bytes outside 32 to 126.
+#![tactic(auto)]
+
+mod entry;
+mod escape;
+mod opened;
+mod spelling;
+#[cfg(test)]
+mod tests;
+
+pub use entry::entry_of;
+pub use spelling::print_name;

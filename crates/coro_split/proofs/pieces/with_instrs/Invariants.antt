@@ -1,0 +1,9 @@
+use Rattle.std.proofs.Common.{◌≡◌, ◌++◌, ◌∷◌, drop, take, map, filter, length, ◌-◌, ◌+◌}
+use Rattle.coro_split.specs.Pieces.{with_instrs}
+use Rattle.coro_split.proofs.pieces.with_instrs.Given as goal
+
+abbrev pub invariant-loop-instr : goal.invariant-loop-instr
+invariant-loop-instr l = with_instrs l.shape l.part l.term l.piecing l.rest ≡ with_instrs l.shape l.part l.term l.fn.first l.instrs
+
+abbrev pub decreases-loop-instr : goal.decreases-loop-instr
+decreases-loop-instr l = length l.rest

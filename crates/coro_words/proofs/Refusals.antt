@@ -1,0 +1,22 @@
+-- What clap refuses is refused.
+use Rattle.std.proofs.Common.{◌≡◌, ◌≢◌, inl, inr, refl, ap, subst, ◌∙◌, List, [], ◌∷◌, Option, true}
+use Rattle.clap.specs.Words.{App, HasKind, fault_of, Kinds, Row, Text, kind_of, is_simple_and_free}
+use Rattle.clap.specs.declared.error.Error.{Error}
+use Rattle.clap.specs.declared.error.kind.ErrorKind.{ErrorKind}
+use Rattle.coro_words.specs.App.{the_app}
+use Rattle.coro_words.specs.Asked.{asked, read_unless}
+use Rattle.coro_words.specs.declared.words.Reading.{Reading}
+
+pub simple_and_free : is_simple_and_free the_app ≡ true
+simple_and_free = refl
+
+pub refused_by : (kinds : Kinds) (found : Option (Text × List Row)) (e : Error) → HasKind kinds e → kind_of e ≢ ErrorKind.OutOfMemory → read_unless kinds found ≡ Reading.Refused
+refused_by [] found e (inl k) other = absurd (other k)
+refused_by [] found e (inr k) other = absurd k
+refused_by (k ∷ ks) found e has other = refl
+
+pub refused_words : (a : App) (words : List Text) (e : Error) → a ≡ the_app → (is_simple_and_free a ≡ true → HasKind (fault_of a words) e) → kind_of e ≢ ErrorKind.OutOfMemory
+    → asked words ≡ Reading.Refused
+refused_words a words e same kinds other =
+    let has = subst (λ (x : App). HasKind (fault_of x words) e) same (kinds (ap is_simple_and_free same ∙ simple_and_free)) in
+    refused_by (fault_of the_app words) _ e has other

@@ -1,0 +1,81 @@
+-- What the words ask for.
+use Rattle.std.specs.Prelude.{ℕ, ℤ, Bool, false, ◌||◌, if◌then◌else◌, List, [], ◌∷◌, take, Option, Some, None, codes, unwrap_or, option_and_then}
+use Rattle.std.specs.Str.{bytes_eq}
+use Rattle.std.specs.Option.{option_map_or}
+use Rattle.std.specs.Str.Parse.{without_leading_plus}
+use Rattle.clap.specs.Words.{Kinds, Row, Text, fault_of, first_of, subcommand_of}
+use Rattle.coro_words.specs.App.{the_app}
+use Rattle.coro_words.specs.Lists.{magnitude, list}
+use Rattle.coro_words.specs.declared.words.Form.{Form}
+use Rattle.coro_words.specs.declared.words.Words.{Words}
+use Rattle.coro_words.specs.declared.words.Reading.{Reading}
+
+-- the flag was given
+abbrev pub has_flag : Text → List Row → Bool
+has_flag name rows = option_map_or (λ t. bytes_eq t (codes "true")) (first_of name rows) false
+
+abbrev pub form_named : Text → Option Form
+form_named t = if bytes_eq t (codes "lowered") then Some Form.Lowered else (if bytes_eq t (codes "text") then Some Form.Text else None)
+
+abbrev pub form : List Row → Option Form
+form rows = option_and_then form_named (first_of (codes "form") rows)
+
+-- the list of an option; without the option it is empty
+abbrev pub list_at : Text → List Row → Option (List ℤ)
+list_at name rows = option_map_or list (first_of name rows) (Some [])
+
+-- a number of steps, where the word is one
+abbrev pub steps_named : Text → ℕ
+steps_named t = unwrap_or (magnitude (without_leading_plus t)) 1000000
+
+abbrev pub steps : List Row → ℕ
+steps rows = option_map_or steps_named (first_of (codes "steps") rows) 1000000
+
+-- the word of an option
+abbrev pub word_at : Text → List Row → Text
+word_at name rows = unwrap_or (first_of name rows) []
+
+-- `run`, or the word of a list that isn't one; `--args` before `--answers`
+abbrev pub with_lists : Form → Text → List Row → Option (List ℤ) → Option (List ℤ) → Reading
+with_lists form entry rows None answers = Reading.BadList (word_at (codes "args") rows)
+with_lists form entry rows (Some args) None = Reading.BadList (word_at (codes "answers") rows)
+with_lists form entry rows (Some args) (Some answers) = Reading.Read (Words.Run (record {
+  plain = has_flag (codes "plain") rows;
+  form = form;
+  entry = entry;
+  args = args;
+  answers = answers;
+  steps = steps rows;
+}))
+
+-- `run`, where it has a form and an entry
+abbrev pub run_named : List Row → Option Form → Option Text → Reading
+run_named rows (Some form) (Some entry) =
+    with_lists form entry rows (list_at (codes "args") rows) (list_at (codes "answers") rows)
+run_named rows _ _ = Reading.Refused
+
+abbrev pub run_read : List Row → Reading
+run_read rows = run_named rows (form rows) (first_of (codes "entry") rows)
+
+abbrev pub lower_read : List Row → Reading
+lower_read rows = Reading.Read (Words.Lower (has_flag (codes "plain") rows))
+
+-- a command with what was given to it
+abbrev pub command_read : Option (Text × List Row) → Reading
+command_read None = Reading.Refused
+command_read (Some p) =
+    if bytes_eq p.0 (codes "lower") then lower_read p.1
+    else (if bytes_eq p.0 (codes "run") then run_read p.1 else Reading.Refused)
+
+-- what clap finds at fault comes first
+abbrev pub read_unless : Kinds → Option (Text × List Row) → Reading
+read_unless [] found = command_read found
+read_unless (k ∷ ks) found = Reading.Refused
+
+-- the words after the program's name are words of the command set, or one of their lists isn't a list, or they are refused
+abbrev pub asked : List Text → Reading
+asked words = read_unless (fault_of the_app words) (subcommand_of the_app words)
+
+-- `help`, `--help`, or what begins with `-h`
+abbrev pub asks_help : Text → Bool
+asks_help t = bytes_eq t (codes "help") || bytes_eq t (codes "--help") || bytes_eq (take 2 t) (codes "-h")

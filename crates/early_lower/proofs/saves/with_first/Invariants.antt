@@ -1,0 +1,5 @@
+use Rattle.std.proofs.Common.{◌≡◌, ◌++◌, ◌∷◌, drop, take, map, replicate, length, ◌-◌, ◌+◌}
+use Rattle.early_lower.proofs.saves.with_first.Given as goal
+
+abbrev pub invariant-loop-arg : goal.invariant-loop-arg
+invariant-loop-arg l = l.all ++ drop l.arg-index l.others ≡ l.initial.all ++ l.others

@@ -1,0 +1,10 @@
+//! The first pass of lowering: saves are written out, and the uses of `coro.frame` become uses of begin's value.
+#![tactic(auto)]
+
+mod frames;
+mod pass;
+mod renaming;
+mod saves;
+
+pub use pass::early;
+pub use renaming::Renaming;

@@ -1,0 +1,73 @@
+//! Layouts of frames.
+
+ghost use Rattle.std.specs.Prelude.{◌≡◌, IfOk};
+ghost use Rattle.frame_layout.specs.Frames.{index_alone, index_size};
+
+use coro_base::{FuncId, Items, Name};
+use std::alloc::{AllocError, Global};
+
+/// What a field holds.
+#[derive(Clone, Copy, Debug, PartialEq, Eq, Drop)]
+pub enum FieldKind {
+    /// The promise, at 16.
+    Promise,
+    /// A value that crosses a suspend.
+    Value,
+    /// An alloca that lives in the frame.
+    Slot,
+    /// The number of the suspend at which the coroutine stands.
+    Index,
+}
+
+/// A field of a frame: its name, which the index has not, and its offset and size in bytes.
+#[derive(Drop)]
+pub struct PlacedField {
+    pub kind: FieldKind,
+    pub name: Option<Name>,
+    pub offset: u64,
+    pub size: u64,
+}
+
+/// The layout of a coroutine's frame: its size and alignment in bytes, the offset of its index, and its fields in order of
+/// offset. Bytes 0 to 7 hold the resume pointer, 8 to 15 the destroy pointer.
+#[derive(Drop)]
+pub struct Layout {
+    pub coroutine: FuncId,
+    pub size: u64,
+    pub align: u64,
+    pub index: u64,
+    pub fields: Items<PlacedField>,
+}
+
+/// The layouts of a module's coroutines, in order of the text.
+#[derive(Drop)]
+pub struct Layouts {
+    pub coroutines: Items<Layout>,
+}
+
+/// The size in bytes of the index of a coroutine with so many suspends: 1 for at most 256, else 2.
+pub fn index_size(suspends: usize) -> u64
+    ensures { result ≡ index_size suspends }
+{
+    if suspends <= 256 { 1 } else { 2 }
+}
+
+/// The layout of a frame that holds no field but the index.
+pub fn index_alone(alloc: Global, coroutine: FuncId, suspends: usize) -> Result<Layout, AllocError>
+    ensures { IfOk result (λ l. l ≡ index_alone coroutine suspends) }
+{
+    let mut fields = Items::new(alloc);
+    fields.push(PlacedField {
+        kind: FieldKind::Index,
+        name: None,
+        offset: 16,
+        size: index_size(suspends),
+    })?;
+    Ok(Layout {
+        coroutine,
+        size: 24,
+        align: 8,
+        index: 16,
+        fields,
+    })
+}

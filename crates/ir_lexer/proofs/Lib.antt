@@ -1,0 +1,5 @@
+pub mod Fronts
+pub mod ListSteps
+pub mod OneKind
+pub mod Tokens
+pub mod FirstTokens

@@ -1,0 +1,7 @@
+pub mod Bytes
+pub mod Scan
+pub mod Token
+pub mod Kinds
+pub mod Lists
+pub mod Next
+pub mod Tokens

@@ -1,0 +1,4 @@
+pub mod Values
+pub mod WordFound
+pub mod Unescaped
+pub mod Said

@@ -1,0 +1,5 @@
+pub mod Numbers
+pub mod Names
+pub mod Words
+pub mod Sym
+pub mod Listing
