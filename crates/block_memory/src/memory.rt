@@ -121,11 +121,7 @@ impl Memory {
         }
     }
 
-<<<<<<< HEAD
-    /// Kills a block.
-=======
     /// Kills a block whatever its kind, and gives its room up.
->>>>>>> 8123cef3e8df652b6f1462d042ce50e2aa8a333c
     pub fn kill_at(&mut self, block: BlockId)
         ensures { self.new ≡ killed self.old block }
     {
