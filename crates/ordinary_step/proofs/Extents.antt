@@ -4,11 +4,11 @@ use Rattle.std.specs.Prelude.{option_map, min, slice_get, ◌^◌, ◌⊎◌}
 use Rattle.std.specs.Option.{unwrap_or}
 use Rattle.std.proofs.Math.Nat.{suc-mul, zero-mul}
 use Rattle.coro_base.specs.declared.name.Name.{Name}
-use Rattle.ir_model.specs.Layout.{Extent, array_extent, extent_at, extent_in, extent_or, extent_then, fields_extent, field_offset_from, field_type, no_fields, of_type, padded, rounded_up, type_named, with_field, extent_of, align_of}
+use Rattle.ir_model.specs.Layout.{Extent, array_extent, extent_at, extent_in, extent_or, extent_then, fields_extent, field_offset_from, field_type, no_fields, of_type, padded, rounded_up, type_named, with_field, extent_of, align_of, size_of}
 use Rattle.ir_model.specs.Ty.{Ty, Tys, array, field, int, named, none, ptr, structure, to_tys}
 use Rattle.ir_model.specs.declared.module.TypeItem.{TypeItem}
 use Rattle.ir_model.specs.declared.module.Module.{Module}
-use Rattle.ordinary_step.specs.Values.{capped}
+use Rattle.ordinary_step.specs.Values.{capped, part_at, times}
 use Rattle.ordinary_step.specs.Effects.{capped_extent}
 use Rattle.ordinary_step.specs.declared.extent.Extent.{Extent as CodeExtent}
 use Rattle.ordinary_step.proofs.Lists.{drop-next, drop-end}
@@ -109,19 +109,19 @@ fields-some G types first e x y r lt is s g h =
 
 -- ---- the offset of a field
 
-pub offset-here : (m : Module) (types : List Ty) (i left : ℕ) (x : Ty) (e : Extent) (all r : ℕ) (next : CodeExtent) → i < length types → x ≡ get_or types i x → left ≡ 0 → all ≡ field_offset_from m e (to_tys (drop i types)) left → next ≡ capped_extent (extent_or (extent_of m.types x)) → r ≡ capped (rounded_up e.size next.align) → r ≡ capped all
-offset-here m types i left x e all r next lt is z h n s =
+pub offset-here : (m : Module) (types : List Ty) (i left : ℕ) (x : Ty) (e : Extent) (all r : ℕ) (now next : CodeExtent) → i < length types → x ≡ get_or types i x → left ≡ 0 → all ≡ field_offset_from m e (to_tys (drop i types)) left → now ≡ capped_extent e → next ≡ capped_extent (extent_or (extent_of m.types x)) → ((n : ℕ) → now.size ≡ capped n → r ≡ capped (rounded_up n next.align)) → r ≡ capped all
+offset-here m types i left x e all r now next lt is z h w n s =
     let a : next.align ≡ align_of m x = ap (λ (y : CodeExtent). y.align) n in
     let b : all ≡ rounded_up e.size (align_of m x) = h ∙ ap (λ k. field_offset_from m e (to_tys (drop i types)) k) z ∙ ap (λ l. field_offset_from m e (to_tys l) 0) (drop-next types i x lt is) in
-    s ∙ ap (λ k. capped (rounded_up e.size k)) a ∙ ap capped (sym b)
+    s e.size (ap (λ (y : CodeExtent). y.size) w) ∙ ap (λ k. capped (rounded_up e.size k)) a ∙ ap capped (sym b)
 
 pub offset-next : (m : Module) (types : List Ty) (i left : ℕ) (x : Ty) (e : Extent) (all : ℕ) → i < length types → x ≡ get_or types i x → (left ≡ 0 → ⊥) → all ≡ field_offset_from m e (to_tys (drop i types)) left → all ≡ field_offset_from m (with_field e (extent_or (extent_of m.types x))) (to_tys (drop (i + 1) types)) (left - 1)
 offset-next m types i left x e all lt is z h =
     let k : left ≡ suc (left - 1) = nonzero left z in
     h ∙ ap (λ n. field_offset_from m e (to_tys (drop i types)) n) k ∙ ap (λ l. field_offset_from m e (to_tys l) (suc (left - 1))) (drop-next types i x lt is)
 
-pub offset-end : (m : Module) (types : List Ty) (i left : ℕ) (e : Extent) (all : ℕ) → i ≡ length types → all ≡ field_offset_from m e (to_tys (drop i types)) left → capped e.size ≡ capped all
-offset-end m types i left e all is h = ap capped (sym (h ∙ ap (λ l. field_offset_from m e (to_tys l) left) (drop-end types i is)))
+pub offset-last : (m : Module) (types : List Ty) (i left : ℕ) (e : Extent) (now : CodeExtent) (all : ℕ) → i ≡ length types → now ≡ capped_extent e → all ≡ field_offset_from m e (to_tys (drop i types)) left → now.size ≡ capped all
+offset-last m types i left e now all is w h = ap (λ (y : CodeExtent). y.size) w ∙ ap capped (sym (h ∙ ap (λ l. field_offset_from m e (to_tys l) left) (drop-end types i is)))
 
 -- the type of a field
 pub field-there : (types : List Ty) (i : ℕ) (t : Ty) → slice_get types i ≡ Some t → t ≡ field_type (to_tys types) i
@@ -133,3 +133,17 @@ pub field-past : (types : List Ty) (i : ℕ) → slice_get types i ≡ None → 
 field-past [] i h = refl
 field-past (x ∷ types) zero h = absurd cc
 field-past (x ∷ types) (suc i) h = field-past types i h
+
+-- ---- where an index leads
+
+pub array-part : (m : Module) (t u v : Ty) (n s : ℕ) (i r : Option ℕ) → array n u ≡ t → r ≡ times s i → s ≡ capped (size_of m v) → v ≡ u → r ≡ (part_at m t i).0
+array-part m t u v n s i r is e f g =
+    e ∙ ap (λ k. times k i) f ∙ ap (λ w. times (capped (size_of m w)) i) g ∙ ap (λ w. (part_at m w i).0) is
+
+pub struct-some-type : (m : Module) (t f : Ty) (types got : List Ty) (i : Option ℕ) (k : ℕ) → structure (to_tys types) ≡ t → k ≡ unwrap_or i 0 → got ≡ types → Some f ≡ slice_get got k → f ≡ (part_at m t i).1
+struct-some-type m t f types got i k is e g h =
+    field-there types k f (sym (h ∙ ap (λ l. slice_get l k) g)) ∙ ap (λ j. field_type (to_tys types) j) e ∙ ap (λ w. (part_at m w i).1) is
+
+pub struct-none-type : (m : Module) (t f : Ty) (types got : List Ty) (i : Option ℕ) (k : ℕ) → structure (to_tys types) ≡ t → k ≡ unwrap_or i 0 → got ≡ types → f ≡ ptr → None ≡ slice_get got k → f ≡ (part_at m t i).1
+struct-none-type m t f types got i k is e g p h =
+    p ∙ field-past types k (sym (h ∙ ap (λ l. slice_get l k) g)) ∙ ap (λ j. field_type (to_tys types) j) e ∙ ap (λ w. (part_at m w i).1) is

@@ -5,3 +5,5 @@ pub mod Lists
 pub mod Types
 pub mod Words
 pub mod Extents
+pub mod Globals
+pub mod Parts

@@ -34,11 +34,11 @@ any-found test xs i x lt e h f = sym (h ∙ ap (list_any test) (drop-next xs i x
 pub any-end : {A : Type 0} (test : A → Bool) (xs : List A) (i : ℕ) → i ≡ length xs → list_any test xs ≡ list_any test (drop i xs) → false ≡ list_any test xs
 any-end test xs i e h = sym (h ∙ ap (list_any test) (drop-end xs i e))
 
-if-true : {B : Type 0} (b : Bool) (x y : B) → b ≡ true → (if b then x else y) ≡ x
+pub if-true : {B : Type 0} (b : Bool) (x y : B) → b ≡ true → (if b then x else y) ≡ x
 if-true true x y e = refl
 if-true false x y e = absurd (false≢true e)
 
-if-false : {B : Type 0} (b : Bool) (x y : B) → b ≡ false → (if b then x else y) ≡ y
+pub if-false : {B : Type 0} (b : Bool) (x y : B) → b ≡ false → (if b then x else y) ≡ y
 if-false false x y e = refl
 if-false true x y e = absurd (false≢true (sym e))
 

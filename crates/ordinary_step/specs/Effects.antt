@@ -1,6 +1,9 @@
 -- What the code of a step tells of an action.
 use Rattle.std.specs.Prelude.{ℕ, Bool, true, false, List, [], length, ℤ, slice_set, Some, None, Option, ◌≡◌, ◌∷◌, if◌then◌else◌}
 use Rattle.block_memory.specs.Memory.{Rights, end, fresh}
+use Rattle.block_memory.specs.declared.block.Byte.{Byte}
+use Rattle.block_memory.specs.declared.block.Kind.{Kind}
+use Rattle.block_memory.specs.declared.block.Life.{Life}
 use Rattle.block_memory.specs.declared.block.MemoryBlock.{MemoryBlock}
 use Rattle.block_memory.specs.declared.pointer.Value.{Value}
 use Rattle.coro_base.specs.declared.cause.Cause.{Cause}
@@ -77,3 +80,7 @@ capped_extent e = record { size = capped e.size; align = e.align }
 abbrev pub slot_memory : Function → List MemoryBlock → (name size align : ℕ) → List MemoryBlock
 slot_memory f memory name size align =
     let made = fresh memory size align (alloca_kind f) in if has_markers f name then end made (length memory) else made
+
+-- a live block that nobody owns
+abbrev pub made_block : ℕ → ℕ → Kind → List Byte → MemoryBlock
+made_block size align kind bytes = record { size = size; align = align; kind = kind; life = Life.Live; owned = None; bytes = bytes }

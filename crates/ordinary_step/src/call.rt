@@ -9,7 +9,7 @@ ghost use Rattle.ordinary_step.specs.declared.world.World.{World as TheWorld};
 ghost use Rattle.ir_model.specs.declared.module.Function.{Function as TheFunction};
 ghost use Rattle.ordinary_step.specs.Values.{with_result as with_result_of, arg_values, value_in};
 ghost use Rattle.ordinary_step.specs.Step.{words_of as words_of_values, same_result as same_result_of, fits_params as fits_params_of, fits_function as fits_function_of, indirect_call as indirect_call_of, allocator_call as allocator_call_of, intrinsic_call as intrinsic_call_of, call as call_of, observed, with_length, allocated, Done, copied_bytes};
-ghost use Rattle.ordinary_step.specs.Effects.{IsEffect, context, work, effect_of, is_new_slot, word_of as word_of_value};
+ghost use Rattle.ordinary_step.specs.Effects.{IsEffect, context, work, is_new_slot, word_of as word_of_value};
 
 use crate::effect::Effect;
 use crate::memory_step::risen;
@@ -82,16 +82,18 @@ fn fits_params(args: &[Arg], params: &[Param]) -> bool
     let mut given = args;
     let mut wanted = params;
     loop {
-        match (given, wanted) {
-            ([], []) => return true,
-            ([arg, more_given @ ..], [param, more_wanted @ ..]) => {
-                if !is_same_type(&arg.ty, &param.ty) {
-                    return false;
+        match given {
+            [] => return wanted.is_empty(),
+            [arg, more_given @ ..] => match wanted {
+                [] => return false,
+                [param, more_wanted @ ..] => {
+                    if !is_same_type(&arg.ty, &param.ty) {
+                        return false;
+                    }
+                    given = more_given;
+                    wanted = more_wanted;
                 }
-                given = more_given;
-                wanted = more_wanted;
-            }
-            _ => return false,
+            },
         }
     }
 }
@@ -302,7 +304,7 @@ fn call_through(
     args: &[Arg],
 ) -> Result<Effect, AllocError>
     ensures no_slot { IfOk result (λ e. IsFalse (is_new_slot e)) }
-    ensures done { (rights : Rights) (f : TheFunction) (world : TheWorld) → IfOk result (λ e. e ≡ effect_of (indirect_call_of (context program.now.«module» program.now.answers rights f) (value_in values.now name) ty.now result_name must_tail args.now (arg_values program.now.«module» values.now args.now))) }
+    ensures done { (rights : Rights) (f : TheFunction) (world : TheWorld) → IfOk result (λ e. IsEffect e (work world values.now) (work world values.now) (indirect_call_of (context program.now.«module» program.now.answers rights f) (value_in values.now name) ty.now result_name must_tail args.now (arg_values program.now.«module» values.now args.now))) }
 {
     let Value::Ptr(Pointer::Func(func)) = value_of_local(values, name) else {
         return Ok(Effect::Stuck(Cause::Call));

@@ -61,14 +61,16 @@ fn set_taken(values: &mut Values, phis: &[Phi], taken: &[Option<Value>])
     let mut left = phis;
     let mut given = taken;
     loop {
-        match (left, given) {
-            ([], _) => return,
-            (_, []) => return,
-            ([phi, more_left @ ..], [value, more_given @ ..]) => {
-                values.set(phi.result, *value);
-                left = more_left;
-                given = more_given;
-            }
+        match left {
+            [] => return,
+            [phi, more_left @ ..] => match given {
+                [] => return,
+                [value, more_given @ ..] => {
+                    values.set(phi.result, *value);
+                    left = more_left;
+                    given = more_given;
+                }
+            },
         }
     }
 }
@@ -106,14 +108,16 @@ fn set_params(values: &mut Values, params: &[Param], args: &[Value])
     let mut left = params;
     let mut given = args;
     loop {
-        match (left, given) {
-            ([], _) => return,
-            (_, []) => return,
-            ([param, more_left @ ..], [value, more_given @ ..]) => {
-                values.set(param.name, Some(*value));
-                left = more_left;
-                given = more_given;
-            }
+        match left {
+            [] => return,
+            [param, more_left @ ..] => match given {
+                [] => return,
+                [value, more_given @ ..] => {
+                    values.set(param.name, Some(*value));
+                    left = more_left;
+                    given = more_given;
+                }
+            },
         }
     }
 }

@@ -1,6 +1,6 @@
 //! Instructions that touch the memory.
 
-ghost use Rattle.std.specs.Prelude.{◌≡◌, IfOk, IfErr, IfSome, IfNone, OnOk, OnErr, Ok, Err, IsFalse, length, []};
+ghost use Rattle.std.specs.Prelude.{◌≡◌, IfOk, IfErr, IfSome, IfNone, OnOk, OnErr, Ok, Err, IsFalse, IsTrue, Some, length, []};
 ghost use Rattle.std.specs.List.{list_any};
 ghost use Rattle.block_memory.specs.Memory.{Rights};
 ghost use Rattle.ir_model.specs.Names.{is_local as is_local_of};
@@ -214,6 +214,34 @@ fn make_block(
     Ok(block)
 }
 
+/// The slot of an alloca.
+fn new_slot(
+    alloc: Global,
+    program: &Program,
+    function: &Function,
+    world: &mut World,
+    values: &mut Values,
+    name: ValueId,
+    ty: &IrType,
+    align: u64,
+) -> Result<Slot, AllocError>
+    requires { IsTrue (is_alignment_of align) }
+    ensures done { (rights : Rights) → IfOk result (λ slot. instr_action (context program.now.«module» program.now.answers rights function.now) (work world.old values.old) (TheInstr.Alloca name ty.now align) ≡ slot_action (Some slot) (work world.new values.new)) }
+    ensures slot { IfOk result (λ slot. slot ≡ record { alloca = name; block = length world.old.memory }) }
+    ensures kept { OnErr result (work world.new values.new ≡ work world.old values.old) }
+{
+    let size = program.size_of(ty);
+    if size == u64::MAX {
+        return Err(AllocError);
+    }
+    let block = make_block(alloc, function, &mut world.memory, name, size, align)?;
+    values.set(name, Some(pointer_to(block)));
+    Ok(Slot {
+        alloca: name,
+        block,
+    })
+}
+
 /// An alloca: its new slot, or none where it is aligned to a number that is no alignment. Where there is no memory for it
 /// all stays as it was.
 pub fn make_slot(
@@ -231,19 +259,13 @@ pub fn make_slot(
     ensures none { IfOk result (λ made. IfNone made (work world.new values.new ≡ work world.old values.old)) }
     ensures kept { OnErr result (work world.new values.new ≡ work world.old values.old) }
 {
-    if !is_alignment(align) {
-        return Ok(None);
+    if is_alignment(align) {
+        Ok(Some(new_slot(
+            alloc, program, function, world, values, name, ty, align,
+        )?))
+    } else {
+        Ok(None)
     }
-    let size = program.size_of(ty);
-    if size == u64::MAX {
-        return Err(AllocError);
-    }
-    let block = make_block(alloc, function, &mut world.memory, name, size, align)?;
-    values.set(name, Some(pointer_to(block)));
-    Ok(Some(Slot {
-        alloca: name,
-        block,
-    }))
 }
 
 /// Kills the blocks of slots, of which none is left.

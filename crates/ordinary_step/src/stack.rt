@@ -64,7 +64,7 @@ impl<T> Stack<T> {
 
     /// Takes the first value away.
     pub fn pop(&mut self) -> Option<T>
-        ensures { MatchOption result (self.old ≡ []) (λ x. self.old ≡ x ∷ self.new) }
+        ensures { MatchOption result ((self.old ≡ []) × (self.new ≡ [])) (λ x. self.old ≡ x ∷ self.new) }
     {
         self.values.pop()
     }
