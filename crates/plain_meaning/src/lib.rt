@@ -1,10 +1,10 @@
 //! The meaning of a plain module, which has functions, bytes and calls alone.
 #![tactic(auto)]
 
-mod act;
-mod machine;
+mod effects;
 mod state;
+mod stepping;
 
-pub use act::Stop;
-pub use machine::{PlainMachine, Progress};
+pub use effects::{Stop, act, called};
+pub use stepping::step;
 pub use state::{PlainActivation, PlainState};
