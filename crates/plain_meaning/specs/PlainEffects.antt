@@ -29,11 +29,6 @@ abbrev pub IsStop : Stop → Result PlainState Cause → Type 0
 IsStop Stop.NoMemory r = Unit {0}
 IsStop (Stop.Undefined cause) r = r ≡ Err cause
 
--- a machine as a run: what it is given, and its state
-pub record PlainRun : Type 0 where
-  pub given : PlainGiven
-  pub state : PlainState
-
 abbrev pub given_of : Program → PlainGiven
 given_of p = record { code = p.module; answers = p.answers }
 

@@ -2,9 +2,12 @@
 #![tactic(auto)]
 
 mod effects;
+mod machine;
+mod progress;
+mod starting;
 mod state;
 mod stepping;
 
-pub use effects::{Stop, act, called};
-pub use stepping::step;
+pub use machine::PlainMachine;
+pub use progress::Progress;
 pub use state::{PlainActivation, PlainState};

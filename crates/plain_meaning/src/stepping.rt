@@ -198,7 +198,11 @@ fn go(alloc: Global, program: &Program, state: &mut PlainState) -> Result<(), Al
 }
 
 /// One step; a run that is over stays as it is.
-pub fn step(alloc: Global, program: &Program, state: &mut PlainState) -> Result<(), AllocError>
+pub fn step_state(
+    alloc: Global,
+    program: &Program,
+    state: &mut PlainState,
+) -> Result<(), AllocError>
     ensures done { OnOk result (state.new ≡ plain_step (given_of program.now) state.old) }
     ensures kept { OnErr result (state.new ≡ state.old) }
 {
