@@ -4,6 +4,8 @@ use Rattle.coro_base.specs.declared.outcome.Outcome.{Outcome}
 use Rattle.coro_base.specs.declared.outcome.Word.{Word}
 use Rattle.ordinary_step.specs.Runs.{iterate}
 use Rattle.plain_meaning.specs.Plain.{PlainGiven, plain_state_at, plain_step}
+use Rattle.plain_meaning.specs.PlainEffects.{given_of}
+use Rattle.plain_meaning.specs.declared.machine.PlainMachine.{PlainMachine}
 use Rattle.plain_meaning.specs.declared.progress.Progress.{Progress}
 use Rattle.plain_meaning.specs.declared.state.PlainState.{PlainState}
 
@@ -11,6 +13,9 @@ use Rattle.plain_meaning.specs.declared.state.PlainState.{PlainState}
 pub record PlainRun : Type 0 where
   pub given : PlainGiven
   pub state : PlainState
+
+abbrev pub run_of : PlainMachine → PlainRun
+run_of m = record { given = given_of m.program; state = m.state }
 
 -- the machine of a run, after k steps
 abbrev pub machine_at : PlainGiven → ℕ → List Word → ℕ → PlainRun
@@ -25,10 +30,10 @@ progress_of Outcome.Running = Progress.Going
 progress_of (Outcome.Returned v) = Progress.Returned v
 progress_of (Outcome.Undefined cause place) = Progress.Undefined cause place
 
-abbrev pub is_running : Outcome → Bool
-is_running Outcome.Running = true
-is_running (Outcome.Returned v) = false
-is_running (Outcome.Undefined cause place) = false
+abbrev pub is_over : Outcome → Bool
+is_over Outcome.Running = false
+is_over (Outcome.Returned v) = true
+is_over (Outcome.Undefined cause place) = true
 
 -- some of n steps
 pub record RanSome (g : PlainGiven) (n : ℕ) (old new : PlainState) : Type 0 where

@@ -8,7 +8,6 @@ use coro_base::{Event, FuncId, Outcome, Word};
 use ir_model::Module;
 use ordinary_step::Program;
 use std::alloc::{AllocError, Global};
-use std::marker::Model;
 
 /// A run of a plain module. A step that finds no memory leaves it as it was; after it returned or was undefined, a step
 /// gives the same again.
@@ -19,21 +18,13 @@ pub struct PlainMachine {
     state: PlainState,
 }
 
-impl Model for PlainMachine {
-    ghost use Rattle.plain_meaning.specs.Machines.{PlainRun};
-    ghost use Rattle.plain_meaning.specs.PlainEffects.{given_of};
-
-    ghost Value = { PlainRun };
-
-    ghost view = { λ m. record { given = given_of m.program; state = m.state } };
-}
-
 impl PlainMachine {
-    ghost use Rattle.std.specs.Prelude.{◌≡◌, ◌+◌, ◌≤◌, ℕ, List, map, IfOk, OnOk, OnErr};
+    ghost use Rattle.std.specs.Prelude.{◌≡◌, ◌+◌, ℕ, List, map, IfOk, OnOk, OnErr};
     ghost use Rattle.coro_base.specs.declared.outcome.Word.{Word as TheWord};
     ghost use Rattle.ordinary_step.specs.Runs.{seen_event};
     ghost use Rattle.plain_meaning.specs.Plain.{PlainGiven, PlainAt};
-    ghost use Rattle.plain_meaning.specs.Machines.{machine_at, ran, progress_of};
+    ghost use Rattle.plain_meaning.specs.PlainEffects.{given_of};
+    ghost use Rattle.plain_meaning.specs.Machines.{machine_at, ran, run_of, progress_of, RanSome};
 
     /// A machine at the entry, before its first step.
     pub fn start(
@@ -43,7 +34,7 @@ impl PlainMachine {
         args: &[Word],
         answers: &[i128],
     ) -> Result<Self, AllocError>
-        ensures { IfOk result (λ machine. machine ≡ machine_at (record { code = code; answers = answers.now }) entry args.now 0) }
+        ensures { IfOk result (λ machine. run_of machine ≡ machine_at (record { code = code; answers = answers.now }) entry args.now 0) }
     {
         let program = Program::new(alloc, code, answers)?;
         let state = first_state(alloc, &program, entry, args)?;
@@ -56,7 +47,7 @@ impl PlainMachine {
 
     /// One step, and how far the run is then.
     pub fn step(&mut self) -> Result<Progress, AllocError>
-        ensures done { OnOk result (self.new ≡ ran 1 self.old) }
+        ensures done { OnOk result (run_of self.new ≡ ran 1 (run_of self.old)) }
         ensures answer { IfOk result (λ progress. progress ≡ progress_of self.new.state.outcome) }
         ensures kept { OnErr result (self.new ≡ self.old) }
     {
@@ -66,10 +57,10 @@ impl PlainMachine {
 
     /// So many steps, and how far the run is then. Where there is no memory for a step the machine stands before it.
     pub fn run(&mut self, n: u64) -> Result<Outcome, AllocError>
-        ensures done { OnOk result (self.new ≡ ran n self.old) }
+        ensures done { OnOk result (run_of self.new ≡ ran n (run_of self.old)) }
         ensures outcome { IfOk result (λ outcome. outcome ≡ self.new.state.outcome) }
-        ensures stopped { OnErr result ((k : ℕ) × (k ≤ n) × (self.new ≡ ran k self.old)) }
-        ensures seen { (g : PlainGiven) (entry : ℕ) (args : List TheWord) (k : ℕ) → self.old ≡ machine_at g entry args k → IfOk result (λ outcome. outcome ≡ (PlainAt g.code entry args g.answers (k + n)).outcome) }
+        ensures stopped { OnErr result (RanSome (given_of self.old.program) n self.old.state self.new.state) }
+        ensures seen { (g : PlainGiven) (entry : ℕ) (args : List TheWord) (k : ℕ) → run_of self.old ≡ machine_at g entry args k → IfOk result (λ outcome. outcome ≡ (PlainAt g.code entry args g.answers (k + n)).outcome) }
     {
         run_state(self.alloc, &self.program, &mut self.state, n)?;
         Ok(self.state.outcome)
@@ -78,7 +69,7 @@ impl PlainMachine {
     /// The events so far, by the positions of the declared functions.
     pub fn events(&self) -> &[Event]
         ensures events { result.now ≡ self.now.state.world.events }
-        ensures seen { (g : PlainGiven) (entry : ℕ) (args : List TheWord) (k : ℕ) → self.now ≡ machine_at g entry args k → map (seen_event g.code) result.now ≡ (PlainAt g.code entry args g.answers k).events }
+        ensures seen { (g : PlainGiven) (entry : ℕ) (args : List TheWord) (k : ℕ) → run_of self.now ≡ machine_at g entry args k → map (seen_event g.code) result.now ≡ (PlainAt g.code entry args g.answers k).events }
     {
         self.state.world.events.as_slice()
     }
@@ -86,7 +77,7 @@ impl PlainMachine {
     /// How many calls of `malloc` and `_Znwm` there were.
     pub fn allocs(&self) -> u128
         ensures allocs { result ≡ self.now.state.world.allocs }
-        ensures seen { (g : PlainGiven) (entry : ℕ) (args : List TheWord) (k : ℕ) → self.now ≡ machine_at g entry args k → result ≡ (PlainAt g.code entry args g.answers k).allocs }
+        ensures seen { (g : PlainGiven) (entry : ℕ) (args : List TheWord) (k : ℕ) → run_of self.now ≡ machine_at g entry args k → result ≡ (PlainAt g.code entry args g.answers k).allocs }
     {
         self.state.world.allocs
     }

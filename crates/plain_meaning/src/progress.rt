@@ -4,7 +4,7 @@ ghost use Rattle.std.specs.Prelude.{◌≡◌, OnOk, OnErr};
 ghost use Rattle.ordinary_step.specs.Runs.{iterate};
 ghost use Rattle.plain_meaning.specs.Plain.{plain_step};
 ghost use Rattle.plain_meaning.specs.PlainEffects.{given_of};
-ghost use Rattle.plain_meaning.specs.Machines.{progress_of, is_running as is_running_outcome, RanSome};
+ghost use Rattle.plain_meaning.specs.Machines.{progress_of, is_over as is_over_outcome, RanSome};
 
 use crate::state::PlainState;
 use crate::stepping::step_state;
@@ -34,12 +34,12 @@ pub fn outcome_progress(outcome: Outcome) -> Progress
     }
 }
 
-fn is_running(outcome: Outcome) -> bool
-    ensures { result ≡ is_running_outcome outcome }
+fn is_over(outcome: Outcome) -> bool
+    ensures { result ≡ is_over_outcome outcome }
 {
     match outcome {
-        Outcome::Running => true,
-        _ => false,
+        Outcome::Running => false,
+        _ => true,
     }
 }
 
@@ -54,7 +54,7 @@ pub fn run_state(
     ensures stopped { OnErr result (RanSome (given_of program.now) n state.old state.new) }
 {
     for made in 0..n {
-        if !is_running(state.outcome) {
+        if is_over(state.outcome) {
             return Ok(());
         }
         step_state(alloc, program, state)?;
