@@ -419,10 +419,7 @@ fn names_of(
     ensures { IfOk result (λ x. x ≡ names_of shape.now names.now count) }
 {
     let mut all = names.copied(alloc)?;
-    all.set(
-        shape.begin,
-        Name::Text(Text::from_bytes(alloc, b"$c.frame")?),
-    );
+    all.set(shape.begin, frame_mark(alloc)?);
     push_mark_names(alloc, &mut all)?;
     push_names(&mut all, suspend_names(alloc, shape.suspends.len())?)?;
     push_names(&mut all, instr_names(alloc, count)?)?;
