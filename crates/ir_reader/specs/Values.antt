@@ -23,12 +23,13 @@ word_value words.None = Some operands.None
 word_value words.Poison = Some operands.Poison
 word_value _ = None
 
-abbrev pub placed : List Name → Name → List Sym → Option (ℕ × List Name × List Sym)
-placed ns n ts = Some (place_of ns n, with_name ns n, ts)
+-- the position of the name that is written, and the names with it
+abbrev pub named_at : List Name → Option Name → Option (ℕ × List Name)
+named_at ns n = n >>= λ name. Some (place_of ns name, with_name ns name)
 
 -- a local's position among the names
 abbrev pub local_at : List Name → List Sym → Option (ℕ × List Name × List Sym)
-local_at ns (syms.Local n ∷ ts) = n >>= λ name. placed ns name ts
+local_at ns (syms.Local n ∷ ts) = named_at ns n >>= λ r. Some (r.0, r.1, ts)
 local_at ns _ = None
 
 abbrev pub global_at : List Sym → Option (Name × List Sym)
@@ -44,7 +45,7 @@ constant_at (syms.Word w ∷ ts) = word_value w >>= λ value. Some (value, ts)
 constant_at _ = None
 
 unfoldable pub value_at : List Name → List Sym → Option (Operand × List Name × List Sym)
-value_at ns (syms.Local n ∷ ts) = n >>= λ name. Some (operands.Local (place_of ns name), with_name ns name, ts)
+value_at ns (syms.Local n ∷ ts) = named_at ns n >>= λ r. Some (operands.Local r.0, r.1, ts)
 value_at ns ts = constant_at ts >>= λ v. Some (v.0, ns, v.1)
 
 -- a type and a value

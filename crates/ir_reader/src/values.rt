@@ -2,7 +2,7 @@
 
 ghost use Rattle.std.specs.Prelude.{◌≡◌};
 ghost use Rattle.ir_reader.specs.Reading.{Gives};
-ghost use Rattle.ir_reader.specs.Values.{word_value, constant_at, value_at, typed_at, arg_at, local_at, global_at, target_at, align_at};
+ghost use Rattle.ir_reader.specs.Values.{named_at, word_value, constant_at, value_at, typed_at, arg_at, local_at, global_at, target_at, align_at};
 
 use crate::attrs::behind_attrs;
 use crate::fault::ReadError;
@@ -28,13 +28,21 @@ fn word_value(word: Word) -> Option<Operand>
 }
 
 /// The name in a symbol.
-fn name_of(alloc: Global, ident: &Ident) -> Result<Name, ReadError>
+pub fn name_of(alloc: Global, ident: &Ident) -> Result<Name, ReadError>
     ensures { Gives (λ x. x) result ident.now }
 {
     match ident.name() {
         Some(name) => Ok(name.copied(alloc)?),
         None => Err(ReadError::Syntax),
     }
+}
+
+/// The position of the name that is written, which is added where it is new.
+pub fn place_of(alloc: Global, names: &mut Locals, ident: &Ident) -> Result<ValueId, ReadError>
+    ensures { Gives (λ x. (x, names.new)) result (named_at names.old ident.now) }
+{
+    let name = name_of(alloc, ident)?;
+    Ok(names.place(name)?)
 }
 
 /// A local's position among the names, and the symbols behind it.
@@ -46,10 +54,7 @@ pub fn local_of<'a>(
     ensures { Gives (λ x. (x.0, names.new, x.1.now)) result (local_at names.old symbols.entry.now) }
 {
     match symbols {
-        [Sym::Local(ident), rest @ ..] => {
-            let name = name_of(alloc, ident)?;
-            Ok((names.place(name)?, rest))
-        }
+        [Sym::Local(ident), rest @ ..] => Ok((place_of(alloc, names, ident)?, rest)),
         _ => Err(ReadError::Syntax),
     }
 }
@@ -91,8 +96,8 @@ pub fn value_of<'a>(
 {
     match symbols {
         [Sym::Local(ident), rest @ ..] => {
-            let name = name_of(alloc, ident)?;
-            Ok((Operand::Local(names.place(name)?), rest))
+            let id = place_of(alloc, names, ident)?;
+            Ok((Operand::Local(id), rest))
         }
         _ => constant_of(alloc, symbols),
     }
