@@ -1,0 +1,14 @@
+//! Reads a module from its text.
+#![tactic(auto)]
+
+mod blocks;
+mod calls;
+mod functions;
+mod instrs;
+mod items;
+mod known;
+mod loops;
+mod text;
+mod terminators;
+
+pub use text::{Parsed, parse};
