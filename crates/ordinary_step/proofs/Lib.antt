@@ -1,2 +1,4 @@
 pub mod Tables
 pub mod LabelPositions
+pub mod Numbers
+pub mod Lists

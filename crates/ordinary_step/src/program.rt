@@ -1,6 +1,7 @@
 //! A module as a machine runs it.
 
 ghost use Rattle.std.specs.Prelude.{◌≡◌, IfOk, Some, None, Option, slice_get, ℕ, List, ◌+◌, ◌<◌, length};
+ghost use Rattle.ir_model.specs.Ty.{ptr};
 ghost use Rattle.ordinary_step.specs.Tables.{FindsFirst, HaveAllPositions};
 
 use crate::labels::{position, positions_of, search};
@@ -20,6 +21,8 @@ pub struct Program {
     declarations: NameTable,
     types: NameTable,
     labels: Items<Items<BlockId>>,
+    pointer: IrType,
+    ghost pointer_is: { pointer ≡ ptr },
     ghost functions_first: { FindsFirst (λ f. f.name) module.functions functions },
     ghost globals_first: { FindsFirst (λ g. g.name) module.globals globals },
     ghost declarations_first: { FindsFirst (λ d. d.name) module.declarations declarations },
@@ -32,6 +35,7 @@ impl Program {
     ghost use Rattle.ir_model.specs.Layout.{type_named};
     ghost use Rattle.std.specs.Option.{option_copied};
     ghost use Rattle.ordinary_step.specs.Values.{address_of};
+    ghost use Rattle.ordinary_step.specs.Step.{answer};
 
     /// A module with its tables.
     pub fn new(alloc: Global, code: Module, answers: &[i128]) -> Result<Self, AllocError>
@@ -52,6 +56,7 @@ impl Program {
             declarations,
             types,
             labels,
+            pointer: IrType::pointer(),
         })
     }
 
@@ -86,6 +91,25 @@ impl Program {
                 None => None,
                 Some(item) => Some(&item.ty),
             },
+        }
+    }
+
+    /// The type ptr.
+    pub fn pointer(&self) -> &IrType
+        ensures { result.now ≡ ptr }
+    {
+        &self.pointer
+    }
+
+    /// The answer at a position, 0 past the end.
+    pub fn answer(&self, position: u128) -> i128
+        ensures { result ≡ answer self.now.answers position }
+    {
+        let answers = self.answers.as_slice();
+        if position < answers.len() as u128 {
+            answers[position as usize]
+        } else {
+            0
         }
     }
 

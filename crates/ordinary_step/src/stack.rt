@@ -2,8 +2,9 @@
 
 ghost use Rattle.std.specs.Prelude.{◌≡◌, List, [], ◌∷◌, length, reverse, OnOk, OnErr, IfErr, MatchOption};
 
-use std::alloc::{AllocFailed, Global};
+use std::alloc::{AllocError, AllocFailed, Global};
 use std::marker::Model;
+use std::mem;
 
 /// A list that grows at its front, which is the end of the vector that keeps it.
 #[derive(Debug, Drop)]
@@ -41,6 +42,20 @@ impl<T> Stack<T> {
         ensures value_returned { IfErr result (λ failed. failed.value ≡ value) }
     {
         self.values.push(value)
+    }
+
+    /// Puts what stands on top in front, and a value on top in its place. A list that finds no memory leaves both as they
+    /// were.
+    pub fn push_under(&mut self, top: &mut T, value: T) -> Result<(), AllocError>
+    where
+        T: Drop,
+        ensures ok { OnOk result ((self.new ≡ top.old ∷ self.old) × (top.new ≡ value)) }
+        ensures err { OnErr result ((self.new ≡ self.old) × (top.new ≡ top.old)) }
+    {
+        self.values.push(value)?;
+        let last = self.values.len() - 1;
+        mem::swap(top, &mut self.values[last]);
+        Ok(())
     }
 
     /// Takes the first value away.

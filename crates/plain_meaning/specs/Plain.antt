@@ -36,8 +36,9 @@ plain_work s = record { world = s.world; values = s.top.values }
 abbrev pub plain_settled : PlainState → Work → PlainState
 plain_settled s w = record s { world = w.world; top = record s.top { at = s.top.at + 1; values = w.values } }
 
+-- a slot more of the topmost activation, the newest first
 abbrev pub plain_slot : PlainState → Slot → PlainState
-plain_slot s slot = record s { top = record s.top { slots = s.top.slots ++ slot ∷ [] } }
+plain_slot s slot = record s { top = record s.top { slots = slot ∷ s.top.slots } }
 
 -- ---- branches
 

@@ -12,7 +12,7 @@ pub struct PlainActivation {
     pub block: BlockId,
     pub at: usize,
     pub values: Items<Option<Value>>,
-    pub slots: Items<Slot>,
+    pub slots: Stack<Slot>,
     pub result: Option<ValueId>,
 }
 

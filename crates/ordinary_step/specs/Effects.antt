@@ -1,0 +1,45 @@
+-- What the code of a step tells of an action.
+use Rattle.std.specs.Prelude.{List, [], ℤ, slice_set, Option, ◌≡◌, ◌∷◌}
+use Rattle.block_memory.specs.Memory.{Rights}
+use Rattle.block_memory.specs.declared.pointer.Value.{Value}
+use Rattle.ir_model.specs.declared.instr.Phi.{Phi}
+use Rattle.ir_model.specs.declared.module.Function.{Function}
+use Rattle.ir_model.specs.declared.module.Module.{Module}
+use Rattle.ordinary_step.specs.Step.{Action, Context, Coro, Deallocate, Done, Enter, GoTo, NewSlot, Return, Stuck, Work}
+use Rattle.ordinary_step.specs.Values.{Env}
+use Rattle.ordinary_step.specs.declared.effect.Effect.{Effect}
+use Rattle.ordinary_step.specs.declared.world.World.{World}
+
+-- an action without the work that it leaves
+abbrev pub effect_of : Action → Effect
+effect_of (Done w) = Effect.Done
+effect_of (NewSlot w slot) = Effect.NewSlot slot
+effect_of (Enter func args result must_tail) = Effect.Enter func args result must_tail
+effect_of (Coro i args result) = Effect.Coro i
+effect_of (Deallocate p) = Effect.Deallocate p
+effect_of (GoTo label) = Effect.GoTo label
+effect_of (Return v) = Effect.Return v
+effect_of (Stuck cause) = Effect.Stuck cause
+
+-- the work that an action leaves; only one that is done changes it
+abbrev pub work_after : Work → Action → Work
+work_after w (Done w') = w'
+work_after w (NewSlot w' slot) = w'
+work_after w _ = w
+
+abbrev pub context : Module → List ℤ → Rights → Function → Context
+context m answers rights f = record { code = m; answers = answers; rights = rights; function = f }
+
+abbrev pub work : World → Env → Work
+work world values = record { world = world; values = values }
+
+-- the effect and the new work are those of the action
+pub record IsEffect (e : Effect) (old new : Work) (a : Action) : Type 0 where
+  pub effect : e ≡ effect_of a
+  pub work : new ≡ work_after old a
+
+-- the values of phis set one after another
+abbrev pub with_taken : Env → List Phi → List (Option Value) → Env
+with_taken env [] vs = env
+with_taken env (p ∷ phis) [] = env
+with_taken env (p ∷ phis) (v ∷ vs) = with_taken (slice_set env p.result v) phis vs

@@ -1,0 +1,144 @@
+//! One instruction.
+
+ghost use Rattle.std.specs.Prelude.{◌≡◌, IfOk, OnErr};
+ghost use Rattle.ordinary_step.specs.Step.{instr_action};
+ghost use Rattle.ordinary_step.specs.Effects.{IsEffect, context, work};
+
+use crate::call::call;
+use crate::compute::{by, choose, compare_at, compute, converted};
+use crate::effect::Effect;
+use crate::element::moved;
+use crate::memory_step::{alloca, give, load, settle, settle_number, store};
+use crate::operand::{Values, from_number, to_address, truth};
+use crate::program::Program;
+use crate::world::World;
+use block_memory::{AccessRights, Memory, Value};
+use coro_base::{Cause, Pred};
+use ir_model::{Function, Instr, IrType, Node};
+use std::alloc::{AllocError, Global};
+
+/// A comparison of two values of a type.
+fn compared<R: AccessRights>(
+    rights: &R,
+    memory: &Memory,
+    pred: Pred,
+    ty: &IrType,
+    left: Value,
+    right: Value,
+) -> Result<Value, Cause>
+{
+    match ty.node() {
+        Node::Int(width) => Ok(from_number(compare_at(*width, pred, left, right))),
+        _ => match memory.compare_with(rights, to_address(left), to_address(right)) {
+            Ok(same) => Ok(truth(by(pred, same))),
+            Err(cause) => Err(cause),
+        },
+    }
+}
+
+/// Executes an instruction. Where it finds no memory the world and the values stay as they were.
+pub fn execute<R: AccessRights>(
+    alloc: Global,
+    program: &Program,
+    rights: &R,
+    function: &Function,
+    world: &mut World,
+    values: &mut Values,
+    instr: &Instr,
+) -> Result<Effect, AllocError>
+    ensures done { IfOk result (λ e. IsEffect e (work world.old values.old) (work world.new values.new) (instr_action (context program.now.«module» program.now.answers (R.rights rights.now) function.now) (work world.old values.old) instr.now)) }
+    ensures kept { OnErr result (work world.new values.new ≡ work world.old values.old) }
+{
+    match instr {
+        Instr::Binary {
+            result,
+            op,
+            flags,
+            ty,
+            left,
+            right,
+        } => {
+            let left = program.value_of(values, ty, left);
+            let right = program.value_of(values, ty, right);
+            Ok(settle_number(values, *result, compute(*op, *flags, ty, left, right)))
+        }
+        Instr::Icmp {
+            result,
+            pred,
+            ty,
+            left,
+            right,
+        } => {
+            let left = program.value_of(values, ty, left);
+            let right = program.value_of(values, ty, right);
+            let outcome = compared(rights, &world.memory, *pred, ty, left, right);
+            Ok(settle(values, *result, outcome))
+        }
+        Instr::Select {
+            result,
+            cond,
+            yes,
+            no,
+        } => {
+            let condition = program.condition_in(values, cond);
+            let yes = program.value_of_arg(values, yes);
+            let no = program.value_of_arg(values, no);
+            Ok(give(values, *result, choose(condition, yes, no)))
+        }
+        Instr::Cast {
+            result,
+            op,
+            nneg,
+            arg,
+            to,
+        } => {
+            let value = program.value_of_arg(values, arg);
+            Ok(give(values, *result, converted(*op, *nneg, &arg.ty, value, to)))
+        }
+        Instr::Alloca { result, ty, align } => alloca(
+            alloc, program, rights, function, world, values, *result, ty, *align,
+        ),
+        Instr::Load {
+            result,
+            ty,
+            address,
+            align,
+        } => Ok(load(
+            program, rights, world, values, *result, ty, address, *align,
+        )),
+        Instr::Store {
+            arg,
+            address,
+            align,
+        } => Ok(store(program, rights, world, values, arg, address, *align)),
+        Instr::Gep {
+            result,
+            inbounds,
+            ty,
+            base,
+            indices,
+        } => {
+            let base = program.pointer_in(values, base);
+            let distance = program.distance(values, ty, indices.as_slice());
+            Ok(give(values, *result, moved(&world.memory, *inbounds, base, distance)))
+        }
+        Instr::Call {
+            result,
+            must_tail,
+            ty,
+            callee,
+            args,
+        } => call(
+            alloc,
+            program,
+            rights,
+            world,
+            values,
+            *result,
+            *must_tail,
+            ty,
+            callee,
+            args.as_slice(),
+        ),
+    }
+}
