@@ -1,0 +1,14 @@
+//! The canonical text of modules.
+//!
+//! All types stand first, then all globals, declarations and functions, each on lines of their own, as LLVM's Language
+//! Reference writes them. Labels, the names of parameters and alignments are always written.
+#![tactic(auto)]
+
+mod blocks;
+mod instrs;
+mod items;
+mod operands;
+mod types;
+mod words;
+
+pub use items::print_module;
