@@ -1,0 +1,10 @@
+//! The passes in a row: from a module with coroutines to one without.
+#![tactic(auto)]
+
+mod homes;
+mod lowering;
+mod served;
+
+pub use homes::Homes;
+pub use lowering::{layouts_of, lowered_module};
+pub use served::unserved;
