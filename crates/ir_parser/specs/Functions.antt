@@ -1,5 +1,5 @@
 -- Reading the heads of functions, and whole ones.
-use Rattle.std.specs.Prelude.{ℕ, ◌+◌, Bool, true, false, List, [], ◌∷◌, map, Option, Some, None}
+use Rattle.std.specs.Prelude.{ℕ, ◌+◌, Bool, true, false, List, [], ◌∷◌, ◌++◌, map, Option, Some, None}
 use Rattle.coro_base.specs.declared.name.Name.{Name}
 use Rattle.ir_lexer.specs.Lists.{all_at, front}
 use Rattle.ir_model.specs.declared.module.Declaration.{Declaration}
@@ -69,15 +69,16 @@ abbrev pub counted : Name → ℕ → ℕ
 counted (Name.Number n) k = k + 1
 counted (Name.Text t) k = k
 
-abbrev pub param_front : Param → Option (List Param × List Name × ℕ) → Option (List Param × List Name × ℕ)
-param_front p None = None
-param_front p (Some r) = Some (p ∷ r.0, r.1, r.2)
+-- parameters before those that are named
+abbrev pub with_params : List Param → Option (List Param × List Name × ℕ) → Option (List Param × List Name × ℕ)
+with_params xs None = None
+with_params xs (Some r) = Some (xs ++ r.0, r.1, r.2)
 
 -- the parameters by their names, the names with theirs, and how many have a number
 abbrev pub named_params : List Name → ℕ → List Written → Option (List Param × List Name × ℕ)
 named_params ns k [] = Some ([], ns, k)
 named_params ns k (p ∷ ps) =
-    name_or p.name k >>= λ n. param_front (record { ty = p.ty; name = place_of ns n }) (named_params (with_name ns n) (counted n k) ps)
+    name_or p.name k >>= λ n. with_params (record { ty = p.ty; name = place_of ns n } ∷ []) (named_params (with_name ns n) (counted n k) ps)
 
 -- behind `define`
 unfoldable pub define_at : Known → List Sym → Option (Function × List Sym)

@@ -113,14 +113,22 @@ node_at _ = None
 unfoldable pub metadata_at : List Sym → Option (Item × List Sym)
 metadata_at ts = node_at (behind_distinct ts) >>= skipped
 
+-- behind 'declare'
+abbrev pub declaration_at : List Sym → Option (Item × List Sym)
+declaration_at ts = declare_at ts >>= λ d. Some (items.Declaration d.0, d.1)
+
+-- behind 'define'
+abbrev pub function_at : Known → List Sym → Option (Item × List Sym)
+function_at known ts = define_at known ts >>= λ f. Some (items.Function f.0, f.1)
+
 -- an item by its first word
 abbrev pub worded_at : Known → Word → List Sym → Option (Item × List Sym)
 worded_at known words.SourceFilename ts = source_at ts
 worded_at known words.Target ts = target_at ts
 worded_at known words.Dollar ts = comdat_at ts
 worded_at known words.Attributes ts = attributes_at ts
-worded_at known words.Declare ts = declare_at ts >>= λ d. Some (items.Declaration d.0, d.1)
-worded_at known words.Define ts = define_at known ts >>= λ f. Some (items.Function f.0, f.1)
+worded_at known words.Declare ts = declaration_at ts
+worded_at known words.Define ts = function_at known ts
 worded_at known _ ts = None
 
 unfoldable pub item_at : Known → List Sym → Option (Item × List Sym)

@@ -174,6 +174,7 @@ fn counted(name: &Name, numbers: usize) -> usize
 }
 
 /// The parameters by their names, and how many have a number.
+#[tactic(auto, using(crate::proofs::ParamSteps::named_begun, crate::proofs::ParamSteps::named_turn, crate::proofs::ParamSteps::named_fault, crate::proofs::ParamSteps::named_done))]
 fn named_params(
     alloc: Global,
     names: &mut Locals,

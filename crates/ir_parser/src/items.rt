@@ -1,9 +1,8 @@
 //! Readers of items.
 
 ghost use Rattle.std.specs.Prelude.{◌≡◌, ◌<◌, Some, OnOk, IfOk};
-ghost use Rattle.ir_reader.specs.Reading.{Gives, ◌>>=◌};
-ghost use Rattle.ir_parser.specs.Items.{source_at, target_at, comdat_at, kept_group, attributes_at, type_item_at, constant_word, scalar, scalar_at, is_init, init_at, global_item_at, behind_distinct, node_at, metadata_at, worded_at, item_at, items_at};
-ghost use Rattle.ir_parser.specs.Functions.{declare_at, define_at};
+ghost use Rattle.ir_reader.specs.Reading.{Gives};
+ghost use Rattle.ir_parser.specs.Items.{source_at, target_at, comdat_at, kept_group, attributes_at, type_item_at, constant_word, scalar, scalar_at, is_init, init_at, global_item_at, behind_distinct, node_at, metadata_at, declaration_at, function_at, worded_at, item_at, items_at};
 
 use crate::functions::{declare_of, define_of};
 use crate::instrs::align_or;
@@ -240,7 +239,7 @@ fn metadata_item_of(alloc: Global, symbols: &[Sym]) -> Result<(Item, &[Sym]), Re
 }
 
 fn declaration_of(alloc: Global, symbols: &[Sym]) -> Result<(Item, &[Sym]), ReadError>
-    ensures { Gives (λ x. (x.0, x.1.now)) result (declare_at symbols.now >>= λ d. Some (Item.Declaration d.0, d.1)) }
+    ensures { Gives (λ x. (x.0, x.1.now)) result (declaration_at symbols.now) }
 {
     let (declaration, rest) = declare_of(alloc, symbols)?;
     Ok((Item::Declaration(declaration), rest))
@@ -251,7 +250,7 @@ fn function_of<'a>(
     known: &Known,
     symbols: &'a [Sym],
 ) -> Result<(Item, &'a [Sym]), ReadError>
-    ensures { Gives (λ x. (x.0, x.1.now)) result (define_at known.now symbols.entry.now >>= λ f. Some (Item.Function f.0, f.1)) }
+    ensures { Gives (λ x. (x.0, x.1.now)) result (function_at known.now symbols.entry.now) }
 {
     let (function, rest) = define_of(alloc, known, symbols)?;
     Ok((Item::Function(function), rest))
