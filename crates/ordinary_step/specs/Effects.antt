@@ -1,13 +1,16 @@
 -- What the code of a step tells of an action.
-use Rattle.std.specs.Prelude.{List, [], ℤ, slice_set, Option, ◌≡◌, ◌∷◌}
+use Rattle.std.specs.Prelude.{Bool, true, false, List, [], ℤ, slice_set, Some, None, Option, ◌≡◌, ◌∷◌}
 use Rattle.block_memory.specs.Memory.{Rights}
 use Rattle.block_memory.specs.declared.pointer.Value.{Value}
+use Rattle.coro_base.specs.declared.cause.Cause.{Cause}
+use Rattle.ir_model.specs.declared.instr.Instr.{Instr}
 use Rattle.ir_model.specs.declared.instr.Phi.{Phi}
 use Rattle.ir_model.specs.declared.module.Function.{Function}
 use Rattle.ir_model.specs.declared.module.Module.{Module}
 use Rattle.ordinary_step.specs.Step.{Action, Context, Coro, Deallocate, Done, Enter, GoTo, NewSlot, Return, Stuck, Work}
 use Rattle.ordinary_step.specs.Values.{Env}
 use Rattle.ordinary_step.specs.declared.effect.Effect.{Effect}
+use Rattle.ordinary_step.specs.declared.world.Slot.{Slot}
 use Rattle.ordinary_step.specs.declared.world.World.{World}
 
 -- an action without the work that it leaves
@@ -43,3 +46,16 @@ abbrev pub with_taken : Env → List Phi → List (Option Value) → Env
 with_taken env [] vs = env
 with_taken env (p ∷ phis) [] = env
 with_taken env (p ∷ phis) (v ∷ vs) = with_taken (slice_set env p.result v) phis vs
+
+-- what an alloca gives
+abbrev pub slot_action : Option Slot → Work → Action
+slot_action None w = Stuck Cause.Align
+slot_action (Some slot) w = NewSlot w slot
+
+abbrev pub is_alloca : Instr → Bool
+is_alloca (Instr.Alloca name ty align) = true
+is_alloca _ = false
+
+abbrev pub is_new_slot : Effect → Bool
+is_new_slot (Effect.NewSlot slot) = true
+is_new_slot _ = false

@@ -1,6 +1,6 @@
 //! Calls.
 
-ghost use Rattle.std.specs.Prelude.{◌≡◌, ℕ, IfOk, OnErr, Some, Option};
+ghost use Rattle.std.specs.Prelude.{◌≡◌, ℕ, IfOk, OnErr, Some, Option, IsFalse};
 ghost use Rattle.block_memory.specs.Memory.{Rights, copy};
 ghost use Rattle.ir_model.specs.declared.operand.Callee.{Callee as TheCallee};
 ghost use Rattle.ordinary_step.specs.declared.effect.Effect.{Effect as TheEffect};
@@ -8,7 +8,7 @@ ghost use Rattle.ordinary_step.specs.declared.world.World.{World as TheWorld};
 ghost use Rattle.ir_model.specs.declared.module.Function.{Function as TheFunction};
 ghost use Rattle.ordinary_step.specs.Values.{with_result as with_result_of, arg_values, value_in, Env, address};
 ghost use Rattle.ordinary_step.specs.Step.{words_of as words_of_values, same_result as same_result_of, fits_params as fits_params_of, fits_function as fits_function_of, indirect_call as indirect_call_of, allocator_call as allocator_call_of, intrinsic_call as intrinsic_call_of, call as call_of, observed, with_length, allocated, Done, done, set_memory};
-ghost use Rattle.ordinary_step.specs.Effects.{IsEffect, context, work, effect_of};
+ghost use Rattle.ordinary_step.specs.Effects.{IsEffect, context, work, effect_of, is_new_slot};
 
 use crate::effect::Effect;
 use crate::memory_step::risen;
@@ -92,7 +92,7 @@ fn enter(
     result_name: Option<ValueId>,
     must_tail: bool,
 ) -> Result<Effect, AllocError>
-    ensures { IfOk result (λ e. e ≡ TheEffect.Enter func (arg_values program.now.«module» values.now args.now) result_name must_tail) }
+    ensures done { IfOk result (λ e. e ≡ TheEffect.Enter func (arg_values program.now.«module» values.now args.now) result_name must_tail) }
 {
     let args = program.values_of_args(alloc, values, args)?;
     Ok(Effect::Enter {
@@ -115,6 +115,7 @@ fn observe(
     args: &[Arg],
 ) -> Result<Effect, AllocError>
     ensures done { (rights : Rights) (f : TheFunction) → IfOk result (λ e. IsEffect e (work world.old values.old) (work world.new values.new) (observed (context program.now.«module» program.now.answers rights f) (work world.old values.old) declaration ty.now result_name (words_of_values (arg_values program.now.«module» values.old args.now)))) }
+    ensures no_slot { IfOk result (λ e. IsFalse (is_new_slot e)) }
     ensures kept { OnErr result (work world.new values.new ≡ work world.old values.old) }
 {
     let Some(words) = words_of(alloc, program, values, args)? else {
@@ -148,6 +149,7 @@ fn call_named(
     args: &[Arg],
 ) -> Result<Effect, AllocError>
     ensures done { (rights : Rights) (f : TheFunction) → IfOk result (λ e. IsEffect e (work world.old values.old) (work world.new values.new) (call_of (context program.now.«module» program.now.answers rights f) (work world.old values.old) result_name must_tail ty.now (TheCallee.Named name.now) args.now (arg_values program.now.«module» values.old args.now))) }
+    ensures no_slot { IfOk result (λ e. IsFalse (is_new_slot e)) }
     ensures kept { OnErr result (work world.new values.new ≡ work world.old values.old) }
 {
     match program.function_named(name) {
@@ -177,6 +179,7 @@ fn allocate(
     size: Value,
 ) -> Result<Effect, AllocError>
     ensures done { IfOk result (λ e. IsEffect e (work world.old values.old) (work world.new values.new) (with_length size (λ n. Done (allocated (work world.old values.old) result_name n)))) }
+    ensures no_slot { IfOk result (λ e. IsFalse (is_new_slot e)) }
     ensures kept { OnErr result (work world.new values.new ≡ work world.old values.old) }
 {
     let Value::Int(word) = size else {
@@ -199,6 +202,7 @@ fn call_allocator(
     args: &[Arg],
 ) -> Result<Effect, AllocError>
     ensures done { IfOk result (λ e. IsEffect e (work world.old values.old) (work world.new values.new) (allocator_call_of allocator (work world.old values.old) result_name (arg_values program.now.«module» values.old args.now))) }
+    ensures no_slot { IfOk result (λ e. IsFalse (is_new_slot e)) }
     ensures kept { OnErr result (work world.new values.new ≡ work world.old values.old) }
 {
     let first = program.nth_value(values, args, 0);
@@ -219,7 +223,8 @@ fn copy_bytes<R: AccessRights>(
     from: Value,
     length: Value,
 ) -> Effect
-    ensures { (values : Env) → IsEffect result (work world.old values) (work world.new values) (with_length length (λ n. done (set_memory (work world.old values)) (copy (R.rights rights.now) world.old.memory (address to) (address from) n))) }
+    ensures no_slot { IsFalse (is_new_slot result) }
+    ensures done { (values : Env) → IsEffect result (work world.old values) (work world.new values) (with_length length (λ n. done (set_memory (work world.old values)) (copy (R.rights rights.now) world.old.memory (address to) (address from) n))) }
 {
     let Value::Int(word) = length else {
         return Effect::Stuck(Cause::Poison);
@@ -239,7 +244,8 @@ fn call_intrinsic<R: AccessRights>(
     intrinsic: Intrinsic,
     args: &[Arg],
 ) -> Effect
-    ensures { (f : TheFunction) (result_name : Option ℕ) → IsEffect result (work world.old values.now) (work world.new values.now) (intrinsic_call_of (context program.now.«module» program.now.answers (R.rights rights.now) f) (work world.old values.now) intrinsic result_name args.now (arg_values program.now.«module» values.now args.now)) }
+    ensures no_slot { IsFalse (is_new_slot result) }
+    ensures done { (f : TheFunction) (result_name : Option ℕ) → IsEffect result (work world.old values.now) (work world.new values.now) (intrinsic_call_of (context program.now.«module» program.now.answers (R.rights rights.now) f) (work world.old values.now) intrinsic result_name args.now (arg_values program.now.«module» values.now args.now)) }
 {
     match intrinsic {
         Intrinsic::LifetimeStart => {
@@ -275,7 +281,8 @@ fn call_through(
     must_tail: bool,
     args: &[Arg],
 ) -> Result<Effect, AllocError>
-    ensures { (rights : Rights) (f : TheFunction) (world : TheWorld) → IfOk result (λ e. e ≡ effect_of (indirect_call_of (context program.now.«module» program.now.answers rights f) (value_in values.now name) ty.now result_name must_tail args.now (arg_values program.now.«module» values.now args.now))) }
+    ensures no_slot { IfOk result (λ e. IsFalse (is_new_slot e)) }
+    ensures done { (rights : Rights) (f : TheFunction) (world : TheWorld) → IfOk result (λ e. e ≡ effect_of (indirect_call_of (context program.now.«module» program.now.answers rights f) (value_in values.now name) ty.now result_name must_tail args.now (arg_values program.now.«module» values.now args.now))) }
 {
     let Value::Ptr(Pointer::Func(func)) = value_of_local(values, name) else {
         return Ok(Effect::Stuck(Cause::Call));
@@ -306,6 +313,7 @@ pub fn call<R: AccessRights>(
     args: &[Arg],
 ) -> Result<Effect, AllocError>
     ensures done { (f : TheFunction) → IfOk result (λ e. IsEffect e (work world.old values.old) (work world.new values.new) (call_of (context program.now.«module» program.now.answers (R.rights rights.now) f) (work world.old values.old) result_name must_tail ty.now callee.now args.now (arg_values program.now.«module» values.old args.now))) }
+    ensures no_slot { IfOk result (λ e. IsFalse (is_new_slot e)) }
     ensures kept { OnErr result (work world.new values.new ≡ work world.old values.old) }
 {
     match callee {

@@ -1,20 +1,21 @@
 //! One instruction.
 
-ghost use Rattle.std.specs.Prelude.{◌≡◌, IfOk, OnErr};
+ghost use Rattle.std.specs.Prelude.{◌≡◌, IfOk, OnErr, IsTrue, IsFalse, not};
+ghost use Rattle.ir_model.specs.declared.module.Function.{Function as TheFunction};
 ghost use Rattle.ordinary_step.specs.Step.{instr_action};
-ghost use Rattle.ordinary_step.specs.Effects.{IsEffect, context, work};
+ghost use Rattle.ordinary_step.specs.Effects.{IsEffect, context, is_alloca, is_new_slot, work};
 
 use crate::call::call;
 use crate::compute::{by, choose, compare_at, compute, converted};
 use crate::effect::Effect;
 use crate::element::moved;
-use crate::memory_step::{alloca, give, load, settle, settle_number, store};
+use crate::memory_step::{give, load, settle, settle_number, store};
 use crate::operand::{Values, from_number, to_address, truth};
 use crate::program::Program;
 use crate::world::World;
 use block_memory::{AccessRights, Memory, Value};
 use coro_base::{Cause, Pred};
-use ir_model::{Function, Instr, IrType, Node};
+use ir_model::{Instr, IrType, Node};
 use std::alloc::{AllocError, Global};
 
 /// A comparison of two values of a type.
@@ -36,17 +37,18 @@ fn compared<R: AccessRights>(
     }
 }
 
-/// Executes an instruction. Where it finds no memory the world and the values stay as they were.
+/// Executes an instruction that is no alloca. Where it finds no memory the world and the values stay as they were.
 pub fn execute<R: AccessRights>(
     alloc: Global,
     program: &Program,
     rights: &R,
-    function: &Function,
     world: &mut World,
     values: &mut Values,
     instr: &Instr,
 ) -> Result<Effect, AllocError>
-    ensures done { IfOk result (λ e. IsEffect e (work world.old values.old) (work world.new values.new) (instr_action (context program.now.«module» program.now.answers (R.rights rights.now) function.now) (work world.old values.old) instr.now)) }
+    requires { IsTrue (not (is_alloca instr.now)) }
+    ensures done { (f : TheFunction) → IfOk result (λ e. IsEffect e (work world.old values.old) (work world.new values.new) (instr_action (context program.now.«module» program.now.answers (R.rights rights.now) f) (work world.old values.old) instr.now)) }
+    ensures no_slot { IfOk result (λ e. IsFalse (is_new_slot e)) }
     ensures kept { OnErr result (work world.new values.new ≡ work world.old values.old) }
 {
     match instr {
@@ -95,9 +97,7 @@ pub fn execute<R: AccessRights>(
             let value = program.value_of_arg(values, arg);
             Ok(give(values, *result, converted(*op, *nneg, &arg.ty, value, to)))
         }
-        Instr::Alloca { result, ty, align } => alloca(
-            alloc, program, rights, function, world, values, *result, ty, *align,
-        ),
+        Instr::Alloca { .. } => unreachable!(),
         Instr::Load {
             result,
             ty,

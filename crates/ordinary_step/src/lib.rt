@@ -25,7 +25,7 @@ pub use effect::Effect;
 pub use enter::{entry_values, outcome_of, place_at, take_phis};
 pub use instruction::execute;
 pub use labels::{position, positions_of};
-pub use memory_step::{deallocate, kill_slots, risen};
+pub use memory_step::{deallocate, kill_slots, make_slot, risen};
 pub use operand::{
     Values, access_of, from_number, literal, number_at, pointer_to, to_address, to_number,
     to_stored, truth, value_of_local,

@@ -1,7 +1,8 @@
 //! Instructions that touch the memory.
 
-ghost use Rattle.std.specs.Prelude.{◌≡◌, IfOk, IfErr, OnOk, OnErr, Ok, Err};
+ghost use Rattle.std.specs.Prelude.{◌≡◌, IfOk, IfErr, IfSome, IfNone, OnOk, OnErr, Ok, Err, IsFalse, length, []};
 ghost use Rattle.std.specs.List.{list_any};
+ghost use Rattle.block_memory.specs.Memory.{Rights};
 ghost use Rattle.ir_model.specs.Names.{is_local as is_local_of};
 ghost use Rattle.ir_model.specs.declared.instr.Instr.{Instr as TheInstr};
 ghost use Rattle.ordinary_step.specs.declared.world.World.{World as TheWorld};
@@ -9,11 +10,12 @@ ghost use Rattle.ir_model.specs.declared.module.Function.{Function as TheFunctio
 ghost use Rattle.ordinary_step.specs.Step.{is_alignment as is_alignment_of, is_lifetime as is_lifetime_callee, is_marker_of as is_marker_of_name, has_markers as has_markers_of, instr_action, risen as risen_from, without_slots as without_slots_of, deallocated as deallocated_of, done, set_value};
 ghost use Rattle.ordinary_step.specs.Values.{value_of, with_value};
 ghost use Rattle.ordinary_step.specs.declared.effect.Effect.{Effect as TheEffect};
-ghost use Rattle.ordinary_step.specs.Effects.{IsEffect, context, work};
+ghost use Rattle.ordinary_step.specs.Effects.{IsEffect, context, is_new_slot, slot_action, work};
 
 use crate::effect::Effect;
 use crate::operand::{Values, access_of, from_number, pointer_to, to_address, to_stored};
 use crate::program::Program;
+use crate::stack::Stack;
 use crate::world::{Slot, World};
 use block_memory::{AccessRights, Kind, Memory, Pointer, Value};
 use coro_base::{Cause, ValueId};
@@ -100,7 +102,8 @@ pub fn risen(count: u128) -> u128
 
 /// Sets the value of a name, where an operation gave one.
 pub fn settle(values: &mut Values, name: ValueId, outcome: Result<Value, Cause>) -> Effect
-    ensures { (world : TheWorld) → IsEffect result (work world values.old) (work world values.new) (done (set_value (work world values.old) name) outcome) }
+    ensures no_slot { IsFalse (is_new_slot result) }
+    ensures done { (world : TheWorld) → IsEffect result (work world values.old) (work world values.new) (done (set_value (work world values.old) name) outcome) }
 {
     match outcome {
         Ok(value) => {
@@ -113,7 +116,8 @@ pub fn settle(values: &mut Values, name: ValueId, outcome: Result<Value, Cause>)
 
 /// Sets the value of a name, where an operation gave a number.
 pub fn settle_number(values: &mut Values, name: ValueId, outcome: Result<Num, Cause>) -> Effect
-    ensures { (world : TheWorld) → IsEffect result (work world values.old) (work world values.new) (done (λ n. set_value (work world values.old) name (value_of n)) outcome) }
+    ensures no_slot { IsFalse (is_new_slot result) }
+    ensures done { (world : TheWorld) → IsEffect result (work world values.old) (work world values.new) (done (λ n. set_value (work world values.old) name (value_of n)) outcome) }
 {
     match outcome {
         Ok(number) => {
@@ -144,7 +148,8 @@ pub fn load<R: AccessRights>(
     address: &Operand,
     align: u64,
 ) -> Effect
-    ensures { (f : TheFunction) → IsEffect result (work world.now values.old) (work world.now values.new) (instr_action (context program.now.«module» program.now.answers (R.rights rights.now) f) (work world.now values.old) (TheInstr.Load name ty.now address.now align)) }
+    ensures no_slot { IsFalse (is_new_slot result) }
+    ensures done { (f : TheFunction) → IsEffect result (work world.now values.old) (work world.now values.new) (instr_action (context program.now.«module» program.now.answers (R.rights rights.now) f) (work world.now values.old) (TheInstr.Load name ty.now address.now align)) }
 {
     if !is_alignment(align) {
         return Effect::Stuck(Cause::Align);
@@ -164,7 +169,8 @@ pub fn store<R: AccessRights>(
     address: &Operand,
     align: u64,
 ) -> Effect
-    ensures { (f : TheFunction) → IsEffect result (work world.old values.now) (work world.new values.now) (instr_action (context program.now.«module» program.now.answers (R.rights rights.now) f) (work world.old values.now) (TheInstr.Store arg.now address.now align)) }
+    ensures no_slot { IsFalse (is_new_slot result) }
+    ensures done { (f : TheFunction) → IsEffect result (work world.old values.now) (work world.new values.now) (instr_action (context program.now.«module» program.now.answers (R.rights rights.now) f) (work world.old values.now) (TheInstr.Store arg.now address.now align)) }
 {
     if !is_alignment(align) {
         return Effect::Stuck(Cause::Align);
@@ -177,23 +183,25 @@ pub fn store<R: AccessRights>(
     }
 }
 
-/// An alloca. A module that finds no memory for it leaves all as it was.
-pub fn alloca<R: AccessRights>(
+/// An alloca: its new slot, or none where it is aligned to a number that is no alignment. Where there is no memory for it
+/// all stays as it was.
+pub fn make_slot(
     alloc: Global,
     program: &Program,
-    rights: &R,
     function: &Function,
     world: &mut World,
     values: &mut Values,
     name: ValueId,
     ty: &IrType,
     align: u64,
-) -> Result<Effect, AllocError>
-    ensures done { IfOk result (λ e. IsEffect e (work world.old values.old) (work world.new values.new) (instr_action (context program.now.«module» program.now.answers (R.rights rights.now) function.now) (work world.old values.old) (TheInstr.Alloca name ty.now align))) }
+) -> Result<Option<Slot>, AllocError>
+    ensures done { (rights : Rights) → IfOk result (λ slot. instr_action (context program.now.«module» program.now.answers rights function.now) (work world.old values.old) (TheInstr.Alloca name ty.now align) ≡ slot_action slot (work world.new values.new)) }
+    ensures slot { IfOk result (λ made. IfSome made (λ slot. slot ≡ record { alloca = name; block = length world.old.memory })) }
+    ensures none { IfOk result (λ made. IfNone made (work world.new values.new ≡ work world.old values.old)) }
     ensures kept { OnErr result (work world.new values.new ≡ work world.old values.old) }
 {
     if !is_alignment(align) {
-        return Ok(Effect::Stuck(Cause::Align));
+        return Ok(None);
     }
     let size = program.size_of(ty);
     if size == u64::MAX {
@@ -209,17 +217,18 @@ pub fn alloca<R: AccessRights>(
         world.memory.end(block);
     }
     values.set(name, Some(pointer_to(block)));
-    Ok(Effect::NewSlot(Slot {
+    Ok(Some(Slot {
         alloca: name,
         block,
     }))
 }
 
-/// Kills the blocks of slots.
-pub fn kill_slots(memory: &mut Memory, slots: &[Slot])
-    ensures { memory.new ≡ without_slots_of memory.old slots.now }
+/// Kills the blocks of slots, of which none is left.
+pub fn kill_slots(memory: &mut Memory, slots: &mut Stack<Slot>)
+    ensures memory { memory.new ≡ without_slots_of memory.old slots.old }
+    ensures slots { slots.new ≡ [] }
 {
-    for slot in slots {
+    while let Some(slot) = slots.pop() {
         memory.kill_at(slot.block);
     }
 }

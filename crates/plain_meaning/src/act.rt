@@ -110,9 +110,7 @@ fn is_noalloc(name: &Name) -> bool {
 
 /// The slots of the topmost activation die.
 fn kill_own_slots(state: &mut PlainState) {
-    while let Some(slot) = state.top.slots.pop() {
-        state.world.memory.kill_at(slot.block);
-    }
+    kill_slots(&mut state.world.memory, &mut state.top.slots);
 }
 
 /// Puts an activation on top; the one below it goes on at a position.
@@ -194,11 +192,7 @@ pub fn act(
             go_on(state, next);
             Ok(())
         }
-        Effect::NewSlot(slot) => {
-            state.top.slots.push(slot)?;
-            go_on(state, next);
-            Ok(())
-        }
+        Effect::NewSlot(_) => unreachable!(),
         Effect::Enter {
             func,
             args,

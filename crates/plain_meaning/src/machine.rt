@@ -3,9 +3,9 @@
 use crate::act::{Stop, act, called};
 use crate::state::{PlainActivation, PlainState};
 use block_memory::{OwnerRights, Value};
-use coro_base::{Cause, Event, FuncId, Items, Outcome, Place, Word};
-use ir_model::{Function, Instr, Module};
-use ordinary_step::{Effect, Program, Slot, Stack, execute, first_world, place_at, terminate};
+use coro_base::{Cause, Event, FuncId, Items, Outcome, Place, ValueId, Word};
+use ir_model::{Function, Instr, IrType, Module};
+use ordinary_step::{Program, Slot, Stack, execute, first_world, make_slot, place_at, terminate};
 use std::alloc::{AllocError, Global};
 
 /// What a step answers.
@@ -24,30 +24,91 @@ pub struct PlainMachine {
     state: PlainState,
 }
 
-/// The effect of what stands at the state's place, other than an alloca.
-fn effect_at(
+/// Executes an alloca, whose slot is put down first.
+fn alloca(
     alloc: Global,
     program: &Program,
     state: &mut PlainState,
+    next: usize,
     function: &Function,
-) -> Result<Effect, AllocError> {
+    name: ValueId,
+    ty: &IrType,
+    align: u64,
+) -> Result<(), Stop> {
+    let slot = Slot {
+        alloca: name,
+        block: state.world.memory.len(),
+    };
+    if state.top.slots.push(slot).is_err() {
+        return Err(Stop::NoMemory);
+    }
+    let made = make_slot(
+        alloc,
+        program,
+        function,
+        &mut state.world,
+        &mut state.top.values,
+        name,
+        ty,
+        align,
+    );
+    match made {
+        Ok(Some(_)) => {
+            state.top.at = next;
+            Ok(())
+        }
+        Ok(None) => {
+            let _ = state.top.slots.pop();
+            Err(Stop::Undefined(Cause::Align))
+        }
+        Err(_) => {
+            let _ = state.top.slots.pop();
+            Err(Stop::NoMemory)
+        }
+    }
+}
+
+/// Executes an instruction.
+fn perform(
+    alloc: Global,
+    program: &Program,
+    state: &mut PlainState,
+    next: usize,
+    function: &Function,
+    instr: &Instr,
+) -> Result<(), Stop> {
+    if let Instr::Alloca { result, ty, align } = instr {
+        return alloca(alloc, program, state, next, function, *result, ty, *align);
+    }
+    let effect = execute(
+        alloc,
+        program,
+        &OwnerRights,
+        &mut state.world,
+        &mut state.top.values,
+        instr,
+    )?;
+    act(alloc, program, state, next, effect)
+}
+
+/// Does what stands at the state's place.
+fn proceed(
+    alloc: Global,
+    program: &Program,
+    state: &mut PlainState,
+    next: usize,
+    function: &Function,
+) -> Result<(), Stop> {
     match function.blocks.get(state.top.block) {
-        None => Ok(Effect::Stuck(Cause::Unreachable)),
+        None => Err(Stop::Undefined(Cause::Unreachable)),
         Some(block) => match block.instrs.get(state.top.at) {
-            Some(instr) => execute(
-                alloc,
-                program,
-                &OwnerRights,
-                function,
-                &mut state.world,
-                &mut state.top.values,
-                instr,
-            ),
+            Some(instr) => perform(alloc, program, state, next, function, instr),
             None => {
                 if state.top.at == block.instrs.len() {
-                    Ok(terminate(program, &state.top.values, &block.term))
+                    let effect = terminate(program, &state.top.values, &block.term);
+                    act(alloc, program, state, next, effect)
                 } else {
-                    Ok(Effect::Stuck(Cause::Unreachable))
+                    Err(Stop::Undefined(Cause::Unreachable))
                 }
             }
         },
@@ -67,8 +128,7 @@ fn advance(
     let Some(place) = place_at(state.top.func, function, state.top.block, state.top.at) else {
         return Err(AllocError);
     };
-    let effect = effect_at(alloc, program, state, function)?;
-    match act(alloc, program, state, next, effect) {
+    match proceed(alloc, program, state, next, function) {
         Ok(()) => Ok(()),
         Err(Stop::NoMemory) => Err(AllocError),
         Err(Stop::Undefined(cause)) => {
