@@ -5,3 +5,5 @@ pub mod Operands
 pub mod Instrs
 pub mod Blocks
 pub mod Items
+pub mod Frames
+pub mod Lines

@@ -5,10 +5,14 @@
 #![tactic(auto)]
 
 mod blocks;
+mod comments;
+mod frames;
 mod instrs;
 mod items;
 mod operands;
 mod types;
 mod words;
 
+pub use comments::read_frames;
+pub use frames::{FrameLine, print_frames};
 pub use items::print_module;
