@@ -1,5 +1,5 @@
 -- Turns of the loop over the items.
-use Rattle.std.proofs.Common.{◌≡◌, ◌<◌, ◌≤◌, List, [], ◌∷◌, length, Option, None, refl, sym, ap, ◌∙◌}
+use Rattle.std.proofs.Common.{◌≡◌, ◌<◌, ◌≤◌, List, length, None, refl, sym, ap, ◌∙◌}
 use Rattle.std.specs.Prelude.{Some}
 use Rattle.ir_lexer.specs.Lists.{all_at}
 use Rattle.ir_lexer.proofs.ListSteps.{all_at-some, all_at-none, all_at-stuck}

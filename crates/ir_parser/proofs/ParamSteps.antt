@@ -22,7 +22,6 @@ params_stuck whole xs ts rest x inv e more = all_stuck next_param_at whole xs ts
 
 -- ---- the parameters by their names
 
-
 abbrev Named : Type 0
 Named = Option (List Param × List Name × ℕ)
 

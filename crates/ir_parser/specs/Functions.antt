@@ -1,5 +1,5 @@
 -- Reading the heads of functions, and whole ones.
-use Rattle.std.specs.Prelude.{ℕ, ◌+◌, Bool, true, false, List, [], ◌∷◌, ◌++◌, map, Option, Some, None}
+use Rattle.std.specs.Prelude.{ℕ, ◌+◌, List, [], ◌∷◌, ◌++◌, map, Option, Some, None}
 use Rattle.coro_base.specs.declared.name.Name.{Name}
 use Rattle.ir_lexer.specs.Lists.{all_at, front}
 use Rattle.ir_model.specs.declared.module.Declaration.{Declaration}

@@ -1,5 +1,5 @@
 -- Reading instructions.
-use Rattle.std.specs.Prelude.{ℕ, Bool, true, false, List, [], ◌∷◌, Option, Some, None, unwrap_or}
+use Rattle.std.specs.Prelude.{ℕ, Bool, true, false, List, [], ◌∷◌, Option, Some, None}
 use Rattle.coro_base.specs.declared.name.Name.{Name}
 use Rattle.coro_base.specs.declared.ops.BinOp.{BinOp}
 use Rattle.coro_base.specs.declared.ops.BinOp.TheVariants as ops

@@ -4,9 +4,7 @@ use Rattle.coro_base.specs.declared.name.Name.{Name}
 use Rattle.ir_lexer.specs.Lists.{all_at}
 use Rattle.ir_model.specs.Ty.{Ty, int, ptr}
 use Rattle.ir_model.specs.TypeView.{bits_of}
-use Rattle.ir_model.specs.declared.module.GlobalItem.{GlobalItem}
 use Rattle.ir_model.specs.declared.module.Module.{Module}
-use Rattle.ir_model.specs.declared.module.TypeItem.{TypeItem}
 use Rattle.ir_model.specs.declared.operand.Operand.{Operand}
 use Rattle.ir_model.specs.declared.operand.Operand.TheVariants as operands
 use Rattle.ir_parser.specs.Functions.{declare_at, define_at}

@@ -22,11 +22,15 @@ known_by d = record { types = d.parts.types; groups = d.groups }
 abbrev pub module_at : Draft → List Sym → Parsed
 module_at first ts = parsed.Module (items_at (known_by first) ts).0.parts
 
+-- nothing is left, of symbols that are all of the text
+abbrev pub is_all : List Sym → Bool → Bool
+is_all rest whole = is_none rest && whole
+
+abbrev pub answer : Draft → Bool → List Sym → Parsed
+answer first all ts = if all then module_at first ts else parsed.Syntax first.count
+
 abbrev pub read_symbols : Symbols → Parsed
-read_symbols s =
-    if is_none (items_at nothing s.symbols).1 && s.whole
-    then module_at (items_at nothing s.symbols).0 s.symbols
-    else parsed.Syntax (items_at nothing s.symbols).0.count
+read_symbols s = answer (items_at nothing s.symbols).0 (is_all (items_at nothing s.symbols).1 s.whole) s.symbols
 
 -- the module that a text stands for, or with how many whole items it begins
 unfoldable pub read_module : List ℕ → Parsed

@@ -5,9 +5,7 @@ ghost use Rattle.ir_reader.specs.Many.{after, many_at};
 ghost use Rattle.ir_reader.specs.Reading.{Gives};
 ghost use Rattle.ir_parser.specs.Calls.{result_at, callee_at, begins_comma, next_arg_at, args_at, call_at, tail_call_at, assigned_at, effect_at, instr_at, instr_line_at, begins_effect, begins_instr};
 
-use crate::instrs::{
-    alloca_of, binary_of, cast_of, gep_of, icmp_of, load_of, select_of, store_of,
-};
+use crate::instrs::{alloca_of, binary_of, cast_of, gep_of, icmp_of, load_of, select_of, store_of};
 use crate::loops::args_behind;
 use coro_base::{Short, ValueId};
 use ir_model::{Arg, Callee, Instr, IrType, callee_of as named_callee};

@@ -48,12 +48,7 @@ fn target_of(symbols: &[Sym]) -> Result<(Item, &[Sym]), ReadError>
     ensures { Gives (λ x. (x.0, x.1.now)) result (target_at symbols.now) }
 {
     match symbols {
-        [
-            Sym::Word(_),
-            Sym::Mark(Mark::Equals),
-            Sym::Str,
-            rest @ ..,
-        ] => Ok((Item::Skipped, rest)),
+        [Sym::Word(_), Sym::Mark(Mark::Equals), Sym::Str, rest @ ..] => Ok((Item::Skipped, rest)),
         _ => Err(ReadError::Syntax),
     }
 }

@@ -8,7 +8,7 @@ mod instrs;
 mod items;
 mod known;
 mod loops;
-mod text;
 mod terminators;
+mod text;
 
 pub use text::{Parsed, parse};

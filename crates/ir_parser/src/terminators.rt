@@ -104,7 +104,7 @@ pub fn begins_phi(symbols: &[Sym]) -> bool
             Sym::Local(_),
             Sym::Mark(Mark::Equals),
             Sym::Word(Word::Phi),
-            ..,
+            ..
         ] => true,
         _ => false,
     }

@@ -3,7 +3,7 @@
 ghost use Rattle.std.specs.Prelude.{◌≡◌, IfOk};
 ghost use Rattle.ir_parser.specs.Known.{nothing};
 ghost use Rattle.ir_parser.specs.Items.{items_at};
-ghost use Rattle.ir_parser.specs.Parse.{module_at, read_symbols, read_module};
+ghost use Rattle.ir_parser.specs.Parse.{module_at, is_all, answer, read_symbols, read_module};
 
 use crate::items::{Draft, items_of};
 use crate::known::Known;
@@ -41,6 +41,28 @@ fn module_of(alloc: Global, first: Draft, symbols: &[Sym]) -> Result<Parsed, All
     Ok(Parsed::Module(parts))
 }
 
+/// Whether nothing is left, of symbols that are all of the text.
+fn is_all(rest: &[Sym], whole: bool) -> bool
+    ensures { result ≡ is_all rest.now whole }
+{
+    match rest {
+        [] => whole,
+        _ => false,
+    }
+}
+
+/// The answer, where all items were read once.
+fn answer_of(alloc: Global, first: Draft, all: bool, symbols: &[Sym]) -> Result<Parsed, AllocError>
+    requires { first ≡ (items_at nothing symbols.now).0 }
+    ensures { IfOk result (λ p. p ≡ answer first all symbols.now) }
+{
+    if all {
+        module_of(alloc, first, symbols)
+    } else {
+        Ok(Parsed::Syntax { items: first.count })
+    }
+}
+
 fn read_symbols(alloc: Global, symbols: &Symbols) -> Result<Parsed, AllocError>
     ensures { IfOk result (λ p. p ≡ read_symbols symbols.now) }
 {
@@ -50,11 +72,7 @@ fn read_symbols(alloc: Global, symbols: &Symbols) -> Result<Parsed, AllocError>
     };
     let all = symbols.symbols.as_slice();
     let (first, rest) = items_of(alloc, &nothing, all)?;
-    if rest.is_empty() && symbols.whole {
-        module_of(alloc, first, all)
-    } else {
-        Ok(Parsed::Syntax { items: first.count })
-    }
+    answer_of(alloc, first, is_all(rest, symbols.whole), all)
 }
 
 /// Reads the module that a text of LLVM's assembly language stands for (its integer subset, with coroutines), or tells

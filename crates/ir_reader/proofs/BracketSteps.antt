@@ -1,5 +1,5 @@
 -- A turn of the search for a closing bracket.
-use Rattle.std.proofs.Common.{◌≡◌, List, [], ◌∷◌, ◌++◌, Bool, true, false, Option, None, sym, ap, ◌∙◌, reverse, cond, ◌==◌}
+use Rattle.std.proofs.Common.{◌≡◌, List, [], ◌∷◌, ◌++◌, Bool, true, false, None, sym, ap, ◌∙◌, reverse, cond, ◌==◌}
 use Rattle.std.specs.Prelude.{Some}
 use Rattle.std.proofs.lemmas.List.{reverse-append}
 use Rattle.ir_reader.specs.declared.attrs.Bracket.{Bracket}

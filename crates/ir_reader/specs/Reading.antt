@@ -1,5 +1,5 @@
 -- Reading from left to right: a value and the symbols behind it, or none.
-use Rattle.std.specs.Prelude.{◌≡◌, ℕ, List, [], ◌∷◌, Option, Some, None, Result, Ok, Err, if◌then◌else◌, ◌==◌, Bool, false}
+use Rattle.std.specs.Prelude.{◌≡◌, List, [], ◌∷◌, Option, Some, None, Result, Ok, Err, if◌then◌else◌, ◌==◌, Bool, false}
 use Rattle.ir_reader.specs.declared.fault.ReadError.{ReadError}
 use Rattle.ir_reader.specs.declared.fault.ReadError.TheVariants as errors
 use Rattle.ir_symbols.specs.declared.sym.Mark.{Mark}

@@ -1,5 +1,5 @@
 -- Reading a type: a machine over the symbols, with the arrays and structures that are open.
-use Rattle.std.specs.Prelude.{◌≡◌, refl, List, [], ◌∷◌, ◌++◌, Option, Some, None, option_map}
+use Rattle.std.specs.Prelude.{List, [], ◌∷◌, ◌++◌, Option, Some, None, option_map}
 use Rattle.ir_model.specs.Ty.{Ty, int, ptr, token, array, structure, named, to_tys}
 use Rattle.ir_model.specs.TypeView.{bits_of}
 use Rattle.ir_reader.specs.declared.types.Open.{Open}
@@ -11,7 +11,6 @@ use Rattle.ir_symbols.specs.declared.word.Word.{Word}
 use Rattle.ir_symbols.specs.declared.word.Word.TheVariants as words
 use Rattle.ir_symbols.specs.declared.sym.Sym.{Sym}
 use Rattle.ir_symbols.specs.declared.sym.Sym.TheVariants as syms
-use Rattle.ir_reader.specs.Reading.{◌>>=◌}
 
 -- a type of one word
 abbrev pub word_type : Word → Option Ty

@@ -16,5 +16,6 @@ pub use locals::Locals;
 pub use marks::{mark_of, metadata_of, pairs_of};
 pub use types::type_of;
 pub use values::{
-    align_of, arg_of, constant_of, global_of, local_of, name_of, place_of, target_of, typed_of, value_of,
+    align_of, arg_of, constant_of, global_of, local_of, name_of, place_of, target_of, typed_of,
+    value_of,
 };

@@ -151,9 +151,12 @@ pub fn align_of(symbols: &[Sym]) -> (Option<u64>, &[Sym])
     ensures { (result.0, result.1.now) ≡ align_at symbols.now }
 {
     match symbols {
-        [Sym::Mark(Mark::Comma), Sym::Word(Word::Align), Sym::Int(n), rest @ ..] => {
-            (Some(*n), rest)
-        }
+        [
+            Sym::Mark(Mark::Comma),
+            Sym::Word(Word::Align),
+            Sym::Int(n),
+            rest @ ..,
+        ] => { (Some(*n), rest) }
         [
             Sym::Mark(Mark::Comma),
             Sym::Word(Word::Align),

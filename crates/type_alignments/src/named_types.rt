@@ -24,7 +24,6 @@ impl Model for NamedTypes {
     ghost use Rattle.ir_model.specs.declared.module.TypeItem.{TypeItem};
     ghost use Rattle.type_alignments.specs.Alignment.{alignment_at};
     ghost use Rattle.type_alignments.specs.Level.{known_at};
-
     ghost use Rattle.ir_model.specs.contracts.module.TypeItem as item;
     ghost use Rattle.std.specs.Coded.{codes};
 

@@ -1,4 +1,4 @@
-use Rattle.std.proofs.Common.{◌≡◌, ◌≤◌, ◌+◌, ℕ, ap, ◌∙◌, arith}
+use Rattle.std.proofs.Common.{◌≡◌, ℕ, ap, ◌∙◌, arith}
 use Rattle.type_alignments.specs.Alignment.{alignment_at}
 use Rattle.type_alignments.specs.Level.{known_at}
 use Rattle.type_alignments.proofs.Levels.{level_turn}

@@ -1,5 +1,4 @@
-use Rattle.std.proofs.Common.{◌≡◌, List, ap, ◌∙◌}
-use Rattle.coro_base.specs.declared.name.Name.{Name}
+use Rattle.std.proofs.Common.{List, ap, ◌∙◌}
 use Rattle.ir_model.specs.declared.module.TypeItem.{TypeItem}
 use Rattle.type_alignments.specs.Alignment.{alignment_at}
 use Rattle.type_alignments.specs.Level.{known_at}

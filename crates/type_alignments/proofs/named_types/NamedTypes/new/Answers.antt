@@ -1,4 +1,4 @@
-use Rattle.std.proofs.Common.{◌≡◌, List, ap, ◌∙◌}
+use Rattle.std.proofs.Common.{List, ap, ◌∙◌}
 use Rattle.ir_model.specs.declared.module.TypeItem.{TypeItem}
 use Rattle.type_alignments.specs.Alignment.{alignment_at}
 use Rattle.type_alignments.proofs.named_types.NamedTypes.new.Goals as goal
