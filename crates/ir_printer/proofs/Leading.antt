@@ -211,7 +211,7 @@ pub last_space : (text before front back rest : List ℕ) (last : ℕ) → text 
     → (x y : List ℕ) → lacks 32 y ≡ true → text ≡ x ++ 32 ∷ y → (front ≡ x) × (rest ≡ y)
 last_space text before front back rest last e h k l r x y m n =
     let whole : front ++ 32 ∷ back ≡ x ++ 32 ∷ y =
-      sym (e ∙ ap (λ (b : List ℕ). b ++ back) (k ∙ ap (λ (c : ℕ). front ++ c ∷ []) l) ∙ append_assoc front (32 ∷ []) back) ∙ n in
+    sym (e ∙ ap (λ (b : List ℕ). b ++ back) (k ∙ ap (λ (c : ℕ). front ++ c ∷ []) l) ∙ append_assoc front (32 ∷ []) back) ∙ n in
     let parts = part_last 32 front x back y h m whole in
     (parts.0, r ∙ ap (drop (length before)) e ∙ drop-append_seam before back ∙ parts.1)
 
@@ -283,20 +283,21 @@ pub kept : (text rest line behind : List ℕ) (frames : List FrameLine) (frame :
 kept text rest line behind frames frame k begins rest_is frame_is line_is parted told = record {
   frames_are = AreFrames-push frames frame k.frames_are frame_is;
   read =
-    k.read
-    ∙ ap (λ (l : List ℕ). frames_text frames ++ l)
+      k.read
+      ∙ ap (λ (l : List ℕ). frames_text frames ++ l)
       (rest_is ∙ ap (λ (l : List ℕ). l ++ 10 ∷ behind) line_is ∙ sym (append_assoc (frame_line frame) (10 ∷ []) behind))
-    ∙ sym (append_assoc (frames_text frames) (frame_line frame ++ 10 ∷ []) behind)
-    ∙ ap (λ (l : List ℕ). l ++ behind) (sym (frames_text-push frames frame));
+      ∙ sym (append_assoc (frames_text frames) (frame_line frame ++ 10 ∷ []) behind)
+      ∙ ap (λ (l : List ℕ). l ++ behind) (sym (frames_text-push frames frame));
   found = λ m h.
-    let left = k.found m h in
-    let next = next_of left.0 rest left.2 begins in
-    let parts = parted (frame_line next.frame) next.tail (lacks_line next.frame next.frame_is) next.text_is in
-    let same = told next.frame next.frame_is parts.0 in
-    let P : List ℕ → Type 0 = λ (t : List ℕ). Lead next.others t in
-    (next.others,
-      left.1 ∙ ap (λ (l : List FrameLine). frames ++ l) (next.frames_are ∙ ap (λ (g : FrameLine). g ∷ next.others) (sym same)) ∙ sym (append_assoc frames (frame ∷ []) next.others),
-      subst P (sym parts.1) next.leads);
+      let left = k.found m h in
+      let next = next_of left.0 rest left.2 begins in
+      let parts = parted (frame_line next.frame) next.tail (lacks_line next.frame next.frame_is) next.text_is in
+      let same = told next.frame next.frame_is parts.0 in
+      let P : List ℕ → Type 0 = λ (t : List ℕ). Lead next.others t in (
+        next.others,
+        left.1 ∙ ap (λ (l : List FrameLine). frames ++ l) (next.frames_are ∙ ap (λ (g : FrameLine). g ∷ next.others) (sym same)) ∙ sym (append_assoc frames (frame ∷ []) next.others),
+        subst P (sym parts.1) next.leads,
+      );
 }
 
 pub kept_by : (text rest : List ℕ) (frames new : List FrameLine) → new ≡ frames → Kept text frames rest → Kept text new rest
