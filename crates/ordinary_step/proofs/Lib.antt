@@ -2,3 +2,8 @@ pub mod Tables
 pub mod LabelPositions
 pub mod Numbers
 pub mod Lists
+pub mod Types
+pub mod Words
+pub mod Extents
+pub mod Globals
+pub mod Parts

@@ -1,6 +1,6 @@
 -- The first element that passes a test, one element further; names are told apart by their test.
 use Rattle.std.proofs.Common.{◌≡◌, ℕ, zero, suc, ◌+◌, ◌<◌, Bool, true, false, cond, ◌&&◌, List, [], ◌∷◌, length, take, get_or, refl, ap, sym, ◌∙◌, arith, Option, Some, None, inl, inr}
-use Rattle.std.proofs.lemmas.Bool.{eqb-true, false≢true}
+use Rattle.std.proofs.lemmas.Bool.{eqb-true, eq-eqb, false≢true}
 use Rattle.std.specs.Prelude.{option_map, if◌then◌else◌, ◌==◌, slice_get, ◌++◌, ◌⊎◌}
 use Rattle.coro_base.specs.declared.name.Name.{Name}
 use Rattle.coro_base.specs.declared.name.Name.TheVariants.{Number, Text}
@@ -38,11 +38,11 @@ first_where-suc test (y ∷ xs) (suc i) x lt e =
 cons-same : (x y : ℕ) (xs ys : List ℕ) → x ≡ y → xs ≡ ys → x ∷ xs ≡ y ∷ ys
 cons-same x y xs ys e f = cc
 
-and-left : (a b : Bool) → a && b ≡ true → a ≡ true
+pub and-left : (a b : Bool) → a && b ≡ true → a ≡ true
 and-left true b e = refl
 and-left false b e = e
 
-and-right : (a b : Bool) → a && b ≡ true → b ≡ true
+pub and-right : (a b : Bool) → a && b ≡ true → b ≡ true
 and-right true b e = e
 and-right false b e = absurd (false≢true e)
 
@@ -52,6 +52,14 @@ same_text-same [] (y ∷ ys) e = cc
 same_text-same (x ∷ xs) [] e = cc
 same_text-same (x ∷ xs) (y ∷ ys) e =
     cons-same x y xs ys (eqb-true x y (and-left (x == y) (same_text xs ys) e)) (same_text-same xs ys (and-right (x == y) (same_text xs ys) e))
+
+both-hold : (a b : Bool) → a ≡ true → b ≡ true → (a && b) ≡ true
+both-hold true b e f = f
+both-hold false b e f = e
+
+pub same_text-refl : (t : List ℕ) → same_text t t ≡ true
+same_text-refl [] = refl
+same_text-refl (x ∷ xs) = both-hold (x == x) (same_text xs xs) (eq-eqb x x refl) (same_text-refl xs)
 
 pub same_name-same : (a b : Name) → same_name a b ≡ true → a ≡ b
 same_name-same (Number m) (Number n) e = ap Number (eqb-true m n e)

@@ -1,14 +1,21 @@
 -- What the code of a step tells of an action.
-use Rattle.std.specs.Prelude.{Bool, true, false, List, [], ℤ, slice_set, Some, None, Option, ◌≡◌, ◌∷◌}
-use Rattle.block_memory.specs.Memory.{Rights}
+use Rattle.std.specs.Prelude.{ℕ, Bool, true, false, List, [], length, ℤ, slice_set, Some, None, Option, ◌≡◌, ◌∷◌, if◌then◌else◌}
+use Rattle.block_memory.specs.Memory.{Rights, end, fresh}
+use Rattle.block_memory.specs.declared.block.Byte.{Byte}
+use Rattle.block_memory.specs.declared.block.Kind.{Kind}
+use Rattle.block_memory.specs.declared.block.Life.{Life}
+use Rattle.block_memory.specs.declared.block.MemoryBlock.{MemoryBlock}
 use Rattle.block_memory.specs.declared.pointer.Value.{Value}
 use Rattle.coro_base.specs.declared.cause.Cause.{Cause}
+use Rattle.coro_base.specs.declared.outcome.Word.{Word}
+use Rattle.ir_model.specs.Layout.{Extent as LayoutExtent}
+use Rattle.ordinary_step.specs.declared.extent.Extent.{Extent as CodeExtent}
 use Rattle.ir_model.specs.declared.instr.Instr.{Instr}
 use Rattle.ir_model.specs.declared.instr.Phi.{Phi}
 use Rattle.ir_model.specs.declared.module.Function.{Function}
 use Rattle.ir_model.specs.declared.module.Module.{Module}
-use Rattle.ordinary_step.specs.Step.{Action, Context, Coro, Deallocate, Done, Enter, GoTo, NewSlot, Return, Stuck, Work}
-use Rattle.ordinary_step.specs.Values.{Env}
+use Rattle.ordinary_step.specs.Step.{Action, Context, Coro, Deallocate, Done, Enter, GoTo, NewSlot, Return, Stuck, Work, alloca_kind, has_markers}
+use Rattle.ordinary_step.specs.Values.{Env, capped}
 use Rattle.ordinary_step.specs.declared.effect.Effect.{Effect}
 use Rattle.ordinary_step.specs.declared.world.Slot.{Slot}
 use Rattle.ordinary_step.specs.declared.world.World.{World}
@@ -59,3 +66,21 @@ is_alloca _ = false
 abbrev pub is_new_slot : Effect → Bool
 is_new_slot (Effect.NewSlot slot) = true
 is_new_slot _ = false
+
+-- a value as a word
+abbrev pub word_of : Value → Option Word
+word_of (Value.Int x) = Some x
+word_of _ = None
+
+-- an extent as the code has it, its size 2^64 - 1 where it is more
+abbrev pub capped_extent : LayoutExtent → CodeExtent
+capped_extent e = record { size = capped e.size; align = e.align }
+
+-- the memory with the block of an alloca
+abbrev pub slot_memory : Function → List MemoryBlock → (name size align : ℕ) → List MemoryBlock
+slot_memory f memory name size align =
+    let made = fresh memory size align (alloca_kind f) in if has_markers f name then end made (length memory) else made
+
+-- a live block that nobody owns
+abbrev pub made_block : ℕ → ℕ → Kind → List Byte → MemoryBlock
+made_block size align kind bytes = record { size = size; align = align; kind = kind; life = Life.Live; owned = None; bytes = bytes }

@@ -1,14 +1,15 @@
 //! Calls.
 
 ghost use Rattle.std.specs.Prelude.{◌≡◌, ℕ, IfOk, OnErr, Some, Option, IsFalse};
-ghost use Rattle.block_memory.specs.Memory.{Rights, copy};
+ghost use Rattle.block_memory.specs.Memory.{Rights};
+ghost use Rattle.ir_model.specs.Layout.{same_type};
 ghost use Rattle.ir_model.specs.declared.operand.Callee.{Callee as TheCallee};
 ghost use Rattle.ordinary_step.specs.declared.effect.Effect.{Effect as TheEffect};
 ghost use Rattle.ordinary_step.specs.declared.world.World.{World as TheWorld};
 ghost use Rattle.ir_model.specs.declared.module.Function.{Function as TheFunction};
-ghost use Rattle.ordinary_step.specs.Values.{with_result as with_result_of, arg_values, value_in, Env, address};
-ghost use Rattle.ordinary_step.specs.Step.{words_of as words_of_values, same_result as same_result_of, fits_params as fits_params_of, fits_function as fits_function_of, indirect_call as indirect_call_of, allocator_call as allocator_call_of, intrinsic_call as intrinsic_call_of, call as call_of, observed, with_length, allocated, Done, done, set_memory};
-ghost use Rattle.ordinary_step.specs.Effects.{IsEffect, context, work, effect_of, is_new_slot};
+ghost use Rattle.ordinary_step.specs.Values.{with_result as with_result_of, arg_values, value_in};
+ghost use Rattle.ordinary_step.specs.Step.{words_of as words_of_values, same_result as same_result_of, fits_params as fits_params_of, fits_function as fits_function_of, indirect_call as indirect_call_of, allocator_call as allocator_call_of, intrinsic_call as intrinsic_call_of, call as call_of, observed, with_length, allocated, Done, copied_bytes};
+ghost use Rattle.ordinary_step.specs.Effects.{IsEffect, context, work, is_new_slot, word_of as word_of_value};
 
 use crate::effect::Effect;
 use crate::memory_step::risen;
@@ -29,6 +30,16 @@ pub fn set_result(values: &mut Values, result_name: Option<ValueId>, value: Valu
     }
 }
 
+/// A value as a word, none where it is none.
+fn word_of(value: Value) -> Option<Word>
+    ensures { result ≡ word_of_value value }
+{
+    match value {
+        Value::Int(word) => Some(word),
+        _ => None,
+    }
+}
+
 /// The values of arguments as words, none where one is none.
 fn words_of(
     alloc: Global,
@@ -40,37 +51,49 @@ fn words_of(
 {
     let mut words = Items::new(alloc);
     for arg in args {
-        match program.value_of_arg(values, arg) {
-            Value::Int(word) => words.push(word)?,
-            _ => return Ok(None),
+        match word_of(program.value_of_arg(values, arg)) {
+            Some(word) => words.push(word)?,
+            None => return Ok(None),
         }
     }
     Ok(Some(words))
+}
+
+fn is_same_type(a: &IrType, b: &IrType) -> bool
+    ensures { result ≡ same_type a.now b.now }
+{
+    a.is_same(b)
 }
 
 /// Whether two types of results are the same.
 fn same_result(a: &Option<IrType>, b: &Option<IrType>) -> bool
     ensures { result ≡ same_result_of a.now b.now }
 {
-    a.is_same(b)
+    match (a, b) {
+        (None, None) => true,
+        (Some(a), Some(b)) => is_same_type(a, b),
+        _ => false,
+    }
 }
 
 fn fits_params(args: &[Arg], params: &[Param]) -> bool
     ensures { result ≡ fits_params_of args.now params.now }
 {
-    let mut args = args;
-    let mut params = params;
+    let mut given = args;
+    let mut wanted = params;
     loop {
-        match (args, params) {
-            ([], []) => return true,
-            ([arg, more_args @ ..], [param, more_params @ ..]) => {
-                if !arg.ty.is_same(&param.ty) {
-                    return false;
+        match given {
+            [] => return wanted.is_empty(),
+            [arg, more_given @ ..] => match wanted {
+                [] => return false,
+                [param, more_wanted @ ..] => {
+                    if !is_same_type(&arg.ty, &param.ty) {
+                        return false;
+                    }
+                    given = more_given;
+                    wanted = more_wanted;
                 }
-                args = more_args;
-                params = more_params;
-            }
-            _ => return false,
+            },
         }
     }
 }
@@ -217,19 +240,21 @@ fn call_allocator(
 
 /// A copy of bytes.
 fn copy_bytes<R: AccessRights>(
+    program: &Program,
     rights: &R,
     world: &mut World,
-    to: Value,
-    from: Value,
-    length: Value,
+    values: &Values,
+    args: &[Arg],
 ) -> Effect
     ensures no_slot { IsFalse (is_new_slot result) }
-    ensures done { (values : Env) → IsEffect result (work world.old values) (work world.new values) (with_length length (λ n. done (set_memory (work world.old values)) (copy (R.rights rights.now) world.old.memory (address to) (address from) n))) }
+    ensures done { (f : TheFunction) → IsEffect result (work world.old values.now) (work world.new values.now) (copied_bytes (context program.now.«module» program.now.answers (R.rights rights.now) f) (work world.old values.now) (arg_values program.now.«module» values.now args.now)) }
 {
-    let Value::Int(word) = length else {
+    let to = to_address(program.nth_value(values, args, 0));
+    let from = to_address(program.nth_value(values, args, 1));
+    let Value::Int(length) = program.nth_value(values, args, 2) else {
         return Effect::Stuck(Cause::Poison);
     };
-    match world.memory.copy_with(rights, to_address(to), to_address(from), word.bits) {
+    match world.memory.copy_with(rights, to, from, length.bits) {
         Ok(()) => Effect::Done,
         Err(cause) => Effect::Stuck(cause),
     }
@@ -261,10 +286,7 @@ fn call_intrinsic<R: AccessRights>(
             Effect::Done
         }
         Intrinsic::MemcpyI64 | Intrinsic::MemcpyI32 => {
-            let to = program.nth_value(values, args, 0);
-            let from = program.nth_value(values, args, 1);
-            let length = program.nth_value(values, args, 2);
-            copy_bytes(rights, world, to, from, length)
+            copy_bytes(program, rights, world, values, args)
         }
         _ => Effect::Coro(intrinsic),
     }
@@ -282,7 +304,7 @@ fn call_through(
     args: &[Arg],
 ) -> Result<Effect, AllocError>
     ensures no_slot { IfOk result (λ e. IsFalse (is_new_slot e)) }
-    ensures done { (rights : Rights) (f : TheFunction) (world : TheWorld) → IfOk result (λ e. e ≡ effect_of (indirect_call_of (context program.now.«module» program.now.answers rights f) (value_in values.now name) ty.now result_name must_tail args.now (arg_values program.now.«module» values.now args.now))) }
+    ensures done { (rights : Rights) (f : TheFunction) (world : TheWorld) → IfOk result (λ e. IsEffect e (work world values.now) (work world values.now) (indirect_call_of (context program.now.«module» program.now.answers rights f) (value_in values.now name) ty.now result_name must_tail args.now (arg_values program.now.«module» values.now args.now))) }
 {
     let Value::Ptr(Pointer::Func(func)) = value_of_local(values, name) else {
         return Ok(Effect::Stuck(Cause::Call));

@@ -103,7 +103,8 @@ impl Program {
 
     /// How far an index leads inside a type that is no name, and to which type.
     fn part_at<'a>(&'a self, ty: &'a IrType, index: Option<u64>) -> (Option<u64>, &'a IrType)
-        ensures { let part = part_at_index self.now.«module» ty.now index in (result.0 ≡ part.0) × (result.1.now ≡ part.1) }
+        ensures distance { result.0 ≡ (part_at_index self.now.«module» ty.now index).0 }
+        ensures ty { result.1.now ≡ (part_at_index self.now.«module» ty.now index).1 }
     {
         match ty.node() {
             Node::Array(_, element) => (times(self.size_of(element), index), element),
@@ -130,11 +131,12 @@ impl Program {
         ensures { result ≡ inner_distance_of self.now.«module» ty.now so_far (indices_of self.now.«module» values.now indices.now) }
     {
         let mut distance = so_far;
-        let mut ty = ty;
+        let mut inside = ty;
         for arg in indices {
-            let (part, next) = self.part_at(self.unnamed(ty), self.index(values, arg));
+            let index = self.index(values, arg);
+            let (part, next) = self.part_at(self.unnamed(inside), index);
             distance = plus(distance, part);
-            ty = next;
+            inside = next;
         }
         distance
     }

@@ -58,8 +58,20 @@ fn taken(
 fn set_taken(values: &mut Values, phis: &[Phi], taken: &[Option<Value>])
     ensures { values.new ≡ with_taken values.old phis.now taken.now }
 {
-    for (phi, value) in phis.iter().zip(taken) {
-        values.set(phi.result, *value);
+    let mut left = phis;
+    let mut given = taken;
+    loop {
+        match left {
+            [] => return,
+            [phi, more_left @ ..] => match given {
+                [] => return,
+                [value, more_given @ ..] => {
+                    values.set(phi.result, *value);
+                    left = more_left;
+                    given = more_given;
+                }
+            },
+        }
     }
 }
 
@@ -93,8 +105,20 @@ fn no_values(alloc: Global, count: usize) -> Result<Values, AllocError>
 fn set_params(values: &mut Values, params: &[Param], args: &[Value])
     ensures { values.new ≡ with_params values.old params.now args.now }
 {
-    for (param, value) in params.iter().zip(args) {
-        values.set(param.name, Some(*value));
+    let mut left = params;
+    let mut given = args;
+    loop {
+        match left {
+            [] => return,
+            [param, more_left @ ..] => match given {
+                [] => return,
+                [value, more_given @ ..] => {
+                    values.set(param.name, Some(*value));
+                    left = more_left;
+                    given = more_given;
+                }
+            },
+        }
     }
 }
 

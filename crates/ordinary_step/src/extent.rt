@@ -1,9 +1,10 @@
 //! The sizes of types, and where their parts lie.
 
-ghost use Rattle.std.specs.Prelude.{◌≡◌, ◌≤◌, ◌*◌, ℕ, option_map, IfSome, Option, List};
-ghost use Rattle.ir_model.specs.Layout.{extent_of, extent_in, extent_at, rounded_up, size_of as size_of_type, field_offset as offset_of_field, fields_extent};
+ghost use Rattle.std.specs.Prelude.{◌≡◌, ◌≤◌, ℕ, option_map};
+ghost use Rattle.ir_model.specs.Layout.{Extent as LayoutExtent, extent_of, extent_in, extent_at, extent_or, rounded_up, with_field, padded, array_extent, plain_extent, fields_extent, size_of as size_of_type, field_offset as offset_of_field};
 ghost use Rattle.ir_model.specs.Ty.{to_tys};
 ghost use Rattle.ordinary_step.specs.Values.{capped};
+ghost use Rattle.ordinary_step.specs.Effects.{capped_extent};
 
 use crate::program::Program;
 use crate::width::bits;
@@ -28,7 +29,9 @@ fn cap(n: u128) -> u64
 }
 
 /// The least multiple of an alignment that is a size or more.
-fn round_up(size: u64, align: u64) -> u64 {
+fn round_up(size: u64, align: u64) -> u64
+    ensures { (n : ℕ) → size ≡ capped n → result ≡ capped (rounded_up n align) }
+{
     if align == 0 {
         0
     } else {
@@ -36,42 +39,63 @@ fn round_up(size: u64, align: u64) -> u64 {
     }
 }
 
-fn add_field(so_far: Extent, field: Extent) -> Extent {
+fn add_field(so_far: Extent, field: Extent) -> Extent
+    ensures { (e f : LayoutExtent) → so_far ≡ capped_extent e → field ≡ capped_extent f → result ≡ capped_extent (with_field e f) }
+{
     Extent {
         size: round_up(so_far.size, field.align).saturating_add(field.size),
         align: so_far.align.max(field.align),
     }
 }
 
+/// The extent of so many elements of an extent.
+fn repeated(count: u64, element: Extent) -> Extent
+    ensures { (e : LayoutExtent) → element ≡ capped_extent e → result ≡ capped_extent (array_extent count e) }
+{
+    Extent {
+        size: cap(count as u128 * element.size as u128),
+        align: element.align,
+    }
+}
+
+/// The extent of a structure whose fields end there.
+fn closed(fields: Extent) -> Extent
+    ensures { (e : LayoutExtent) → fields ≡ capped_extent e → result ≡ capped_extent (padded e) }
+{
+    Extent {
+        size: round_up(fields.size, fields.align),
+        align: fields.align,
+    }
+}
+
 const NO_FIELDS: Extent = Extent { size: 0, align: 1 };
+
+fn plain(size: u64) -> Extent
+    ensures { size ≤ 8 → result ≡ capped_extent (plain_extent size) }
+{
+    Extent { size, align: size }
+}
 
 impl Program {
     /// The extent of a type, going down through at most so many names and then so many brackets.
     #[cycle(extent)]
-    fn extent_in(&self, names: u32, depth: u32, ty: &IrType) -> Option<Extent> {
+    fn extent_in(&self, names: u32, depth: u32, ty: &IrType) -> Option<Extent>
+        ensures { result ≡ option_map capped_extent (extent_in (extent_at self.now.«module».types names) depth ty.now) }
+    {
         if depth == 0 {
             return None;
         }
         match ty.node() {
-            Node::Int(width) => {
-                let size = (bits(*width) as u64 + 7) / 8;
-                Some(Extent { size, align: size })
-            }
-            Node::Ptr => Some(Extent { size: 8, align: 8 }),
+            Node::Int(width) => Some(plain((bits(*width) as u64 + 7) / 8)),
+            Node::Ptr => Some(plain(8)),
             Node::Token => None,
             Node::Array(count, element) => match self.extent_in(names, depth - 1, element) {
                 None => None,
-                Some(e) => Some(Extent {
-                    size: cap(*count as u128 * e.size as u128),
-                    align: e.align,
-                }),
+                Some(e) => Some(repeated(*count, e)),
             },
             Node::Struct(fields) => match self.fields_extent(names, depth - 1, NO_FIELDS, fields) {
                 None => None,
-                Some(e) => Some(Extent {
-                    size: round_up(e.size, e.align),
-                    align: e.align,
-                }),
+                Some(e) => Some(closed(e)),
             },
             Node::Named(name) => {
                 if names == 0 {
@@ -93,7 +117,9 @@ impl Program {
         depth: u32,
         so_far: Extent,
         fields: &[IrType],
-    ) -> Option<Extent> {
+    ) -> Option<Extent>
+        ensures { (e : LayoutExtent) → so_far ≡ capped_extent e → result ≡ option_map capped_extent (fields_extent (extent_in (extent_at self.now.«module».types names) depth) e (to_tys fields.now)) }
+    {
         match fields {
             [] => Some(so_far),
             [first, rest @ ..] => match self.extent_in(names, depth, first) {
@@ -104,7 +130,9 @@ impl Program {
     }
 
     /// The extent of a type, that of the empty structure where it has none.
-    fn extent_of(&self, ty: &IrType) -> Extent {
+    fn extent_of(&self, ty: &IrType) -> Extent
+        ensures { result ≡ capped_extent (extent_or (extent_of self.now.«module».types ty.now)) }
+    {
         match self.extent_in(64, 64, ty) {
             None => NO_FIELDS,
             Some(extent) => extent,
@@ -123,14 +151,14 @@ impl Program {
         ensures { result ≡ capped (offset_of_field self.now.«module» (to_tys fields.now) i) }
     {
         let mut extent = NO_FIELDS;
-        let mut at: u64 = 0;
+        let mut left = i;
         for field in fields {
             let next = self.extent_of(field);
-            if at == i {
+            if left == 0 {
                 return round_up(extent.size, next.align);
             }
+            left -= 1;
             extent = add_field(extent, next);
-            at += 1;
         }
         extent.size
     }

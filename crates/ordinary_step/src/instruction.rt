@@ -1,8 +1,11 @@
 //! One instruction.
 
-ghost use Rattle.std.specs.Prelude.{◌≡◌, IfOk, OnErr, IsTrue, IsFalse, not};
+ghost use Rattle.std.specs.Prelude.{◌≡◌, ℕ, IfOk, OnErr, IsTrue, IsFalse, not};
 ghost use Rattle.ir_model.specs.declared.module.Function.{Function as TheFunction};
-ghost use Rattle.ordinary_step.specs.Step.{instr_action};
+ghost use Rattle.block_memory.specs.Memory.{Rights};
+ghost use Rattle.ir_model.specs.declared.instr.Instr.{Instr as TheInstr};
+ghost use Rattle.ordinary_step.specs.declared.world.World.{World as TheWorld};
+ghost use Rattle.ordinary_step.specs.Step.{instr_action, done, set_value, compared as compared_values, Context as TheContext, Work};
 ghost use Rattle.ordinary_step.specs.Effects.{IsEffect, context, is_alloca, is_new_slot, work};
 
 use crate::call::call;
@@ -14,9 +17,29 @@ use crate::operand::{Values, from_number, to_address, truth};
 use crate::program::Program;
 use crate::world::World;
 use block_memory::{AccessRights, Memory, Value};
-use coro_base::{Cause, Pred};
-use ir_model::{Instr, IrType, Node};
+use coro_base::{BinOp, Cause, Flags, Pred, ValueId};
+use ir_model::{Instr, IrType, Node, Operand};
 use std::alloc::{AllocError, Global};
+
+/// A binary operation.
+fn binary(
+    program: &Program,
+    values: &mut Values,
+    name: ValueId,
+    op: BinOp,
+    flags: Flags,
+    ty: &IrType,
+    left: &Operand,
+    right: &Operand,
+) -> Effect
+    ensures no_slot { IsFalse (is_new_slot result) }
+    ensures done { (rights : Rights) (f : TheFunction) (world : TheWorld) → IsEffect result (work world values.old) (work world values.new) (instr_action (context program.now.«module» program.now.answers rights f) (work world values.old) (TheInstr.Binary name op flags ty.now left.now right.now)) }
+{
+    let left = program.value_of(values, ty, left);
+    let right = program.value_of(values, ty, right);
+    let outcome = compute(op, flags, ty, left, right);
+    settle_number(values, name, outcome)
+}
 
 /// A comparison of two values of a type.
 fn compared<R: AccessRights>(
@@ -27,6 +50,7 @@ fn compared<R: AccessRights>(
     left: Value,
     right: Value,
 ) -> Result<Value, Cause>
+    ensures { (c : TheContext) (w : Work) (name : ℕ) → c.rights ≡ R.rights rights.now → w.world.memory ≡ memory.now → done (λ v. set_value w name v) result ≡ compared_values c w name pred ty.now left right }
 {
     match ty.node() {
         Node::Int(width) => Ok(from_number(compare_at(*width, pred, left, right))),
@@ -35,6 +59,27 @@ fn compared<R: AccessRights>(
             Err(cause) => Err(cause),
         },
     }
+}
+
+/// A comparison.
+fn icmp<R: AccessRights>(
+    program: &Program,
+    rights: &R,
+    world: &World,
+    values: &mut Values,
+    name: ValueId,
+    pred: Pred,
+    ty: &IrType,
+    left: &Operand,
+    right: &Operand,
+) -> Effect
+    ensures no_slot { IsFalse (is_new_slot result) }
+    ensures done { (f : TheFunction) → IsEffect result (work world.now values.old) (work world.now values.new) (instr_action (context program.now.«module» program.now.answers (R.rights rights.now) f) (work world.now values.old) (TheInstr.Icmp name pred ty.now left.now right.now)) }
+{
+    let left = program.value_of(values, ty, left);
+    let right = program.value_of(values, ty, right);
+    let outcome = compared(rights, &world.memory, pred, ty, left, right);
+    settle(values, name, outcome)
 }
 
 /// Executes an instruction that is no alloca. Where it finds no memory the world and the values stay as they were.
@@ -59,23 +104,18 @@ pub fn execute<R: AccessRights>(
             ty,
             left,
             right,
-        } => {
-            let left = program.value_of(values, ty, left);
-            let right = program.value_of(values, ty, right);
-            Ok(settle_number(values, *result, compute(*op, *flags, ty, left, right)))
-        }
+        } => Ok(binary(
+            program, values, *result, *op, *flags, ty, left, right,
+        )),
         Instr::Icmp {
             result,
             pred,
             ty,
             left,
             right,
-        } => {
-            let left = program.value_of(values, ty, left);
-            let right = program.value_of(values, ty, right);
-            let outcome = compared(rights, &world.memory, *pred, ty, left, right);
-            Ok(settle(values, *result, outcome))
-        }
+        } => Ok(icmp(
+            program, rights, world, values, *result, *pred, ty, left, right,
+        )),
         Instr::Select {
             result,
             cond,

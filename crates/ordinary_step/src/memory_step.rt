@@ -1,23 +1,23 @@
 //! Instructions that touch the memory.
 
-ghost use Rattle.std.specs.Prelude.{◌≡◌, IfOk, IfErr, IfSome, IfNone, OnOk, OnErr, Ok, Err, IsFalse, length, []};
+ghost use Rattle.std.specs.Prelude.{◌≡◌, IfOk, IfErr, IfSome, IfNone, OnOk, OnErr, Ok, Err, IsFalse, IsTrue, Some, length, []};
 ghost use Rattle.std.specs.List.{list_any};
 ghost use Rattle.block_memory.specs.Memory.{Rights};
 ghost use Rattle.ir_model.specs.Names.{is_local as is_local_of};
 ghost use Rattle.ir_model.specs.declared.instr.Instr.{Instr as TheInstr};
 ghost use Rattle.ordinary_step.specs.declared.world.World.{World as TheWorld};
 ghost use Rattle.ir_model.specs.declared.module.Function.{Function as TheFunction};
-ghost use Rattle.ordinary_step.specs.Step.{is_alignment as is_alignment_of, is_lifetime as is_lifetime_callee, is_marker_of as is_marker_of_name, has_markers as has_markers_of, instr_action, risen as risen_from, without_slots as without_slots_of, deallocated as deallocated_of, done, set_value};
+ghost use Rattle.ordinary_step.specs.Step.{is_alignment as is_alignment_of, is_lifetime as is_lifetime_callee, is_marker_of as is_marker_of_name, has_markers as has_markers_of, instr_action, risen as risen_from, without_slots as without_slots_of, deallocated as deallocated_of, done, set_value, alloca_kind};
 ghost use Rattle.ordinary_step.specs.Values.{value_of, with_value};
 ghost use Rattle.ordinary_step.specs.declared.effect.Effect.{Effect as TheEffect};
-ghost use Rattle.ordinary_step.specs.Effects.{IsEffect, context, is_new_slot, slot_action, work};
+ghost use Rattle.ordinary_step.specs.Effects.{IsEffect, context, is_new_slot, slot_action, slot_memory, work};
 
 use crate::effect::Effect;
 use crate::operand::{Values, access_of, from_number, pointer_to, to_address, to_stored};
 use crate::program::Program;
 use crate::stack::Stack;
 use crate::world::{Slot, World};
-use block_memory::{AccessRights, Kind, Memory, Pointer, Value};
+use block_memory::{AccessRights, BlockId, Kind, Memory, Pointer, Value};
 use coro_base::{Cause, ValueId};
 use ir_ints::Num;
 use ir_model::{Arg, Callee, Function, Instr, Intrinsic, IrType, Operand};
@@ -183,6 +183,65 @@ pub fn store<R: AccessRights>(
     }
 }
 
+/// The kind of a function's slots.
+fn slot_kind(function: &Function) -> Kind
+    ensures { result ≡ alloca_kind function.now }
+{
+    if function.coroutine {
+        Kind::Slot
+    } else {
+        Kind::Stack
+    }
+}
+
+/// Makes the block of an alloca, which is dead at first where there are markers of it.
+fn make_block(
+    alloc: Global,
+    function: &Function,
+    memory: &mut Memory,
+    name: ValueId,
+    size: u64,
+    align: u64,
+) -> Result<BlockId, AllocError>
+    ensures made { OnOk result (memory.new ≡ slot_memory function.now memory.old name size align) }
+    ensures position { IfOk result (λ block. block ≡ length memory.old) }
+    ensures kept { OnErr result (memory.new ≡ memory.old) }
+{
+    let block = memory.fresh(alloc, size, align, slot_kind(function))?;
+    if has_markers(function, name) {
+        memory.end(block);
+    }
+    Ok(block)
+}
+
+/// The slot of an alloca.
+fn new_slot(
+    alloc: Global,
+    program: &Program,
+    function: &Function,
+    world: &mut World,
+    values: &mut Values,
+    name: ValueId,
+    ty: &IrType,
+    align: u64,
+) -> Result<Slot, AllocError>
+    requires { IsTrue (is_alignment_of align) }
+    ensures done { (rights : Rights) → IfOk result (λ slot. instr_action (context program.now.«module» program.now.answers rights function.now) (work world.old values.old) (TheInstr.Alloca name ty.now align) ≡ slot_action (Some slot) (work world.new values.new)) }
+    ensures slot { IfOk result (λ slot. slot ≡ record { alloca = name; block = length world.old.memory }) }
+    ensures kept { OnErr result (work world.new values.new ≡ work world.old values.old) }
+{
+    let size = program.size_of(ty);
+    if size == u64::MAX {
+        return Err(AllocError);
+    }
+    let block = make_block(alloc, function, &mut world.memory, name, size, align)?;
+    values.set(name, Some(pointer_to(block)));
+    Ok(Slot {
+        alloca: name,
+        block,
+    })
+}
+
 /// An alloca: its new slot, or none where it is aligned to a number that is no alignment. Where there is no memory for it
 /// all stays as it was.
 pub fn make_slot(
@@ -200,27 +259,13 @@ pub fn make_slot(
     ensures none { IfOk result (λ made. IfNone made (work world.new values.new ≡ work world.old values.old)) }
     ensures kept { OnErr result (work world.new values.new ≡ work world.old values.old) }
 {
-    if !is_alignment(align) {
-        return Ok(None);
-    }
-    let size = program.size_of(ty);
-    if size == u64::MAX {
-        return Err(AllocError);
-    }
-    let kind = if function.coroutine {
-        Kind::Slot
+    if is_alignment(align) {
+        Ok(Some(new_slot(
+            alloc, program, function, world, values, name, ty, align,
+        )?))
     } else {
-        Kind::Stack
-    };
-    let block = world.memory.fresh(alloc, size, align, kind)?;
-    if has_markers(function, name) {
-        world.memory.end(block);
+        Ok(None)
     }
-    values.set(name, Some(pointer_to(block)));
-    Ok(Some(Slot {
-        alloca: name,
-        block,
-    }))
 }
 
 /// Kills the blocks of slots, of which none is left.

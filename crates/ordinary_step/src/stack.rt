@@ -52,15 +52,19 @@ impl<T> Stack<T> {
         ensures ok { OnOk result ((self.new ≡ top.old ∷ self.old) × (top.new ≡ value)) }
         ensures err { OnErr result ((self.new ≡ self.old) × (top.new ≡ top.old)) }
     {
-        self.values.push(value)?;
-        let last = self.values.len() - 1;
-        mem::swap(top, &mut self.values[last]);
-        Ok(())
+        let under = mem::replace(top, value);
+        match self.values.push(under) {
+            Ok(()) => Ok(()),
+            Err(failed) => {
+                *top = failed.value;
+                Err(AllocError)
+            }
+        }
     }
 
     /// Takes the first value away.
     pub fn pop(&mut self) -> Option<T>
-        ensures { MatchOption result (self.old ≡ []) (λ x. self.old ≡ x ∷ self.new) }
+        ensures { MatchOption result ((self.old ≡ []) × (self.new ≡ [])) (λ x. self.old ≡ x ∷ self.new) }
     {
         self.values.pop()
     }
