@@ -12,7 +12,13 @@ use Rattle.frame_layout.specs.declared.layout.Layouts.{Layouts}
 use Rattle.ir_model.specs.declared.module.Function.{Function}
 use Rattle.ir_model.specs.declared.module.Module.{Module}
 use Rattle.ir_model.specs.declared.operand.Intrinsic.{Intrinsic}
-use Rattle.lower_pipeline.specs.Served.{count_by}
+use Rattle.ir_parser.specs.Parse.{read_module}
+use Rattle.ir_parser.specs.declared.text.Parsed.{Parsed}
+use Rattle.ir_printer.specs.Items.{module_text}
+use Rattle.ir_printer.specs.Frames.{frames_text}
+use Rattle.ir_printer.specs.declared.frames.FrameLine.{FrameLine}
+use Rattle.lower_pipeline.specs.Served.{count_by, unserved}
+use Rattle.lower_pipeline.specs.declared.lower.Lowering.{Lowering}
 
 -- the layout of a coroutine whose frame holds the index alone
 abbrev pub layout_of : ℕ → Function → List Layout
@@ -30,3 +36,30 @@ layouts_of m = record { coroutines = layouts_from 0 m.functions }
 abbrev pub lowered_module : Module → Module
 lowered_module m = clean_module (split_module (layouts_of m) (early_module m))
 
+-- ---- the text
+
+abbrev pub name_of : Option Function → Name
+name_of None = Name.Number 0
+name_of (Some f) = f.name
+
+-- the frame line of a coroutine
+abbrev pub frame_line : Module → Layout → FrameLine
+frame_line m l = record { name = name_of (slice_get m.functions l.coroutine); size = l.size; align = l.align; index = l.index }
+
+-- a frame line per coroutine, and the canonical text of the lowered module
+abbrev pub lowered_text : Module → List ℕ
+lowered_text m = frames_text (map (frame_line m) (layouts_of m).coroutines) ++ module_text (lowered_module m)
+
+-- ---- what the lowering of a text comes to
+
+abbrev pub lowered_or : Module → Option Place → Lowering
+lowered_or m (Some place) = Lowering.Refused m Rule.X1 place
+lowered_or m None = Lowering.Done (record { text = lowered_text m; module = lowered_module m; source = m; layouts = layouts_of m })
+
+abbrev pub lowering_of_parsed : Parsed → Lowering
+lowering_of_parsed (Parsed.Syntax items) = Lowering.Syntax items
+lowering_of_parsed (Parsed.Module m) = lowered_or m (unserved m)
+
+-- the lowering of a text
+abbrev pub lowering_of : List ℕ → Lowering
+lowering_of text = lowering_of_parsed (read_module text)
