@@ -3,11 +3,11 @@ use Rattle.std.specs.Prelude.{ℕ, Bool, true, false, List, [], Some, None, Opti
 use Rattle.ir_model.specs.declared.instr.Instr.{Instr}
 use Rattle.ir_model.specs.declared.operand.Callee.{Callee}
 use Rattle.ir_model.specs.declared.operand.Intrinsic.{Intrinsic}
-use Rattle.coro_split.specs.Lowered.{number_of_save}
-use Rattle.coro_split.specs.Shapes.{begun_label, save_of, saved_label}
-use Rattle.coro_split.specs.declared.cuts.Cut.{Cut}
-use Rattle.coro_split.specs.declared.shape.Part.{Part}
-use Rattle.coro_split.specs.declared.shape.Shape.{Shape}
+use Rattle.intrinsic_lowering.specs.Lowered.{number_of_save}
+use Rattle.intrinsic_lowering.specs.Shapes.{begun_label, save_of, saved_label}
+use Rattle.intrinsic_lowering.specs.declared.cuts.Cut.{Cut}
+use Rattle.intrinsic_lowering.specs.declared.shape.Part.{Part}
+use Rattle.intrinsic_lowering.specs.declared.shape.Shape.{Shape}
 
 abbrev pub goes_on : Part → Bool
 goes_on Part.Ramp = false

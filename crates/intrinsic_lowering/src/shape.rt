@@ -24,17 +24,6 @@ pub enum Part {
     Destroy,
 }
 
-/// From where the edges come that leave a block of the source, in a part.
-#[derive(Clone, Copy, Debug, PartialEq, Eq, Drop)]
-pub enum Origin {
-    /// From the last piece of the block.
-    Piece(ValueId),
-    /// From where the part goes on behind a suspend.
-    Suspend(SuspendId),
-    /// There are none.
-    Nowhere,
-}
-
 /// What the parts of a coroutine are made by.
 #[derive(Drop)]
 pub struct Shape {

@@ -3,7 +3,7 @@
 ghost use Rattle.std.specs.Prelude.{◌≡◌, ◌+◌, ◌*◌, IfOk, OnOk, [], ◌∷◌, ◌++◌};
 ghost use Rattle.ir_model.specs.TypeView.{bits_of};
 ghost use Rattle.ir_model.specs.Ty.{int};
-ghost use Rattle.coro_split.specs.Lowered.{no_flags, truth_of, number_arg, pointer_arg, set_number, set_truth, address, set_address, store_pointer, load_pointer, call_pointer, operand_at};
+ghost use Rattle.intrinsic_lowering.specs.Lowered.{no_flags, truth_of, number_arg, pointer_arg, set_number, set_truth, address, set_address, store_pointer, load_pointer, call_pointer, operand_at};
 
 use coro_base::{BinOp, Data, Flags, Items, Short, ValueId};
 use ir_model::{Arg, Callee, Instr, IntWidth, IrType, Operand};

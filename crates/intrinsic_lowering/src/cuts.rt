@@ -1,7 +1,7 @@
 //! What an instruction does to its block.
 
 ghost use Rattle.std.specs.Prelude.{◌≡◌, IfOk};
-ghost use Rattle.coro_split.specs.Cuts.{goes_on, marks_save, token_in, next_suspend, transfers, cut_call, cut_at};
+ghost use Rattle.intrinsic_lowering.specs.Cuts.{goes_on, marks_save, token_in, next_suspend, transfers, cut_call, cut_at};
 
 use crate::lowered::number_of_save;
 use crate::shape::{Part, Shape};

@@ -11,9 +11,9 @@ use Rattle.ir_model.specs.declared.operand.Callee.{Callee}
 use Rattle.ir_model.specs.declared.operand.Intrinsic.{Intrinsic}
 use Rattle.ir_model.specs.declared.operand.Operand.{Operand}
 use Rattle.ir_model.specs.TypeView.{bits_of}
-use Rattle.coro_split.specs.Shapes.{index_bytes, is_true}
-use Rattle.coro_split.specs.declared.shape.Shape.{Shape}
-use Rattle.coro_split.specs.declared.shape.SuspendPoint.{SuspendPoint}
+use Rattle.intrinsic_lowering.specs.Shapes.{index_bytes, is_true}
+use Rattle.intrinsic_lowering.specs.declared.shape.Shape.{Shape}
+use Rattle.intrinsic_lowering.specs.declared.shape.SuspendPoint.{SuspendPoint}
 
 -- ---- small instructions
 

@@ -2,8 +2,8 @@
 
 ghost use Rattle.std.specs.Prelude.{◌≡◌, ◌+◌, ◌*◌, IfOk, OnOk, [], ◌∷◌, ◌++◌, slice_get};
 ghost use Rattle.ir_model.specs.TypeView.{bits_of};
-ghost use Rattle.coro_split.specs.Shapes.{index_bytes, is_true};
-ghost use Rattle.coro_split.specs.Lowered.{operand_at, set_address, begin_stores, resumed_by, is_final_at, save_stores, resume_call, destroy_call, done_test, promise_distance, number_of_save, save_or_none, lowered_call, lowered, names_for, names_taken};
+ghost use Rattle.intrinsic_lowering.specs.Shapes.{index_bytes, is_true};
+ghost use Rattle.intrinsic_lowering.specs.Lowered.{operand_at, set_address, begin_stores, resumed_by, is_final_at, save_stores, resume_call, destroy_call, done_test, promise_distance, number_of_save, save_or_none, lowered_call, lowered, names_for, names_taken};
 
 use crate::shape::Shape;
 use crate::small::{

@@ -15,8 +15,8 @@ use Rattle.ir_model.specs.declared.operand.Callee.{Callee}
 use Rattle.ir_model.specs.declared.operand.Intrinsic.{Intrinsic}
 use Rattle.ir_model.specs.declared.operand.Operand.{Operand}
 use Rattle.ir_paths.specs.Windows.{label_of_term}
-use Rattle.coro_split.specs.declared.shape.Shape.{Shape}
-use Rattle.coro_split.specs.declared.shape.SuspendPoint.{SuspendPoint}
+use Rattle.intrinsic_lowering.specs.declared.shape.Shape.{Shape}
+use Rattle.intrinsic_lowering.specs.declared.shape.SuspendPoint.{SuspendPoint}
 
 -- ---- suspends
 

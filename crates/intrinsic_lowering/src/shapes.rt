@@ -3,7 +3,7 @@
 ghost use Rattle.std.specs.Prelude.{◌≡◌, ◌+◌, ◌*◌, IfOk, OnOk, [], ◌∷◌, ◌++◌, length};
 ghost use Rattle.ir_paths.specs.Windows.{is_number, label_in, label_of_term};
 ghost use Rattle.ir_model.specs.Names.{spelling};
-ghost use Rattle.coro_split.specs.Shapes.{token_of, save_of, first_is_true, is_final, with_suspend, with_suspends_in, with_suspends_by, suspends_of, with_save, with_saves, saves_of, is_end, has_end, end_label, index_width, part_name, shape_of, begun_label, done_label, entry_label, none_label, slot_name, index_name, saved_label, back_label, pass_label, first_name};
+ghost use Rattle.intrinsic_lowering.specs.Shapes.{token_of, save_of, first_is_true, is_final, with_suspend, with_suspends_in, with_suspends_by, suspends_of, with_save, with_saves, saves_of, is_end, has_end, end_label, index_width, part_name, shape_of, begun_label, done_label, entry_label, none_label, slot_name, index_name, saved_label, back_label, pass_label, first_name};
 
 use crate::lowered::is_true;
 use crate::shape::{Shape, SuspendPoint};
