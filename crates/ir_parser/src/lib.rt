@@ -9,6 +9,8 @@ mod items;
 mod known;
 mod loops;
 mod terminators;
+#[cfg(test)]
+mod tests;
 mod text;
 
 pub use text::{Parsed, parse};

@@ -1,6 +1,7 @@
 //! Readers of types.
 
 ghost use Rattle.std.specs.Prelude.{◌≡◌, ◌<◌, [], length, IfOk};
+ghost use Rattle.ir_model.specs.Ty.{structure, to_tys};
 ghost use Rattle.ir_reader.specs.Reading.{Gives};
 ghost use Rattle.ir_reader.specs.Types.{word_type, begin_at, end_at, type_at};
 
@@ -68,6 +69,15 @@ fn begin_of(alloc: Global, symbols: &[Sym]) -> Result<(Step, &[Sym]), ReadError>
     }
 }
 
+/// A structure that keeps no more room than its fields need, since structures may nest as deep as the text is long.
+fn structure_of(fields: Items<IrType>) -> IrType
+    ensures { result ≡ structure (to_tys fields) }
+{
+    let mut fields = fields.into_vec();
+    fields.shrink_to_fit();
+    IrType::structure(fields)
+}
+
 /// What stands behind a type inside something open.
 fn end_of(
     alloc: Global,
@@ -84,7 +94,7 @@ fn end_of(
         }
         (Open::Struct(mut fields), [Sym::Mark(Mark::CloseCurly), rest @ ..]) => {
             fields.push(ty)?;
-            Ok((Step::Whole(IrType::structure(fields.into_vec())), rest))
+            Ok((Step::Whole(structure_of(fields)), rest))
         }
         (Open::Struct(mut fields), [Sym::Mark(Mark::Comma), rest @ ..]) => {
             fields.push(ty)?;

@@ -6,7 +6,7 @@ ghost use Rattle.ir_model.specs.Layout.{bytes_of_width};
 ghost use Rattle.ir_model.specs.Ty.{to_tys};
 ghost use Rattle.ir_model.specs.TypeView.{bits_of};
 ghost use Rattle.type_alignments.specs.Alignment.{alignment_in, fields_alignment};
-ghost use Rattle.type_alignments.specs.Level.{known_at, IsNext};
+ghost use Rattle.type_alignments.specs.Level.{known_at, agree_on, IsNext};
 
 use coro_base::{Data, Name};
 use indexmap::IndexMap;
@@ -80,6 +80,18 @@ impl Level {
             }
         }
         Some(most)
+    }
+
+    /// Whether another table has the same of each of the types' names.
+    pub fn agrees(&self, other: &Level, types: &[TypeItem]) -> bool
+        ensures { result ≡ agree_on types.now (known_at self.now) (known_at other.now) }
+    {
+        for item in types {
+            if self.alignment_of(&item.name) != other.alignment_of(&item.name) {
+                return false;
+            }
+        }
+        true
     }
 
     /// What is known one name further down. Of two types of one name the first counts, so it's put in last.

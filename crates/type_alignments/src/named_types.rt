@@ -36,7 +36,7 @@ impl Model for NamedTypes {
     ghost invariant = { λ a. (n : Name) → known_at a.level n ≡ alignment_at a.types 64 n };
 }
 
-/// The table that goes down through 64 names.
+/// The table that goes down through 64 names. Where going one name further tells nothing new, nothing further does.
 #[tactic(auto, using(crate::proofs::Levels::level_begun, crate::proofs::Levels::level_turn))]
 fn level_of(alloc: Global, types: &[TypeItem]) -> Result<Level, AllocError>
     ensures { IfOk result (λ l. (n : Name) → known_at l n ≡ alignment_at types.now 64 n) }
@@ -44,7 +44,11 @@ fn level_of(alloc: Global, types: &[TypeItem]) -> Result<Level, AllocError>
     let mut level = Level::new(alloc);
     let mut names: u32 = 0;
     while names < 64 {
-        level = level.next(alloc, types)?;
+        let next = level.next(alloc, types)?;
+        if next.agrees(&level, types) {
+            return Ok(next);
+        }
+        level = next;
         names += 1;
     }
     Ok(level)
