@@ -1,11 +1,11 @@
 //! Terminators.
 
-ghost use Rattle.std.specs.Prelude.{◌≡◌};
+ghost use Rattle.std.specs.Prelude.{◌≡◌, IsFalse};
 ghost use Rattle.block_memory.specs.Memory.{Rights};
 ghost use Rattle.ir_model.specs.declared.module.Function.{Function as TheFunction};
 ghost use Rattle.ordinary_step.specs.declared.world.World.{World as TheWorld};
-ghost use Rattle.ordinary_step.specs.Step.{branch as branch_of, is_word as is_word_of, target_of as target_of_word, switch as switch_of, term_action};
-ghost use Rattle.ordinary_step.specs.Effects.{IsEffect, context, work, effect_of};
+ghost use Rattle.ordinary_step.specs.Step.{branch as branch_of, is_word as is_word_of, target_of as target_of_word, switch as switch_of, term_action, Work};
+ghost use Rattle.ordinary_step.specs.Effects.{IsEffect, context, is_new_slot, work};
 
 use crate::effect::Effect;
 use crate::operand::Values;
@@ -15,7 +15,8 @@ use coro_base::{Cause, ValueId, Word};
 use ir_model::{Case, Terminator};
 
 fn branch(condition: Value, yes: ValueId, no: ValueId) -> Effect
-    ensures { result ≡ effect_of (branch_of condition yes no) }
+    ensures no_slot { IsFalse (is_new_slot result) }
+    ensures done { (w : Work) → IsEffect result w w (branch_of condition yes no) }
 {
     match condition {
         Value::Int(word) => {
@@ -52,7 +53,8 @@ fn target_of(program: &Program, word: Word, default: ValueId, cases: &[Case]) ->
 }
 
 fn switch(program: &Program, value: Value, default: ValueId, cases: &[Case]) -> Effect
-    ensures { result ≡ effect_of (switch_of program.now.«module» value default cases.now) }
+    ensures no_slot { IsFalse (is_new_slot result) }
+    ensures done { (w : Work) → IsEffect result w w (switch_of program.now.«module» value default cases.now) }
 {
     match value {
         Value::Int(word) => Effect::GoTo(target_of(program, word, default, cases)),
@@ -62,7 +64,8 @@ fn switch(program: &Program, value: Value, default: ValueId, cases: &[Case]) -> 
 
 /// What comes of a terminator.
 pub fn terminate(program: &Program, values: &Values, term: &Terminator) -> Effect
-    ensures { (rights : Rights) (f : TheFunction) (world : TheWorld) → result ≡ effect_of (term_action (context program.now.«module» program.now.answers rights f) (work world values.now) term.now) }
+    ensures no_slot { IsFalse (is_new_slot result) }
+    ensures done { (rights : Rights) (f : TheFunction) (world : TheWorld) → IsEffect result (work world values.now) (work world values.now) (term_action (context program.now.«module» program.now.answers rights f) (work world values.now) term.now) }
 {
     match term {
         Terminator::Jump(label) => Effect::GoTo(*label),

@@ -1,5 +1,5 @@
 -- The meaning of a plain module, which has functions, bytes and calls alone.
-use Rattle.std.specs.Prelude.{ℕ, Bool, true, false, List, [], map, ℤ, slice_get, None, Ok, Err, Option, Result, unwrap_or, ◌+◌, ◌∷◌, ◌++◌, if◌then◌else◌}
+use Rattle.std.specs.Prelude.{ℕ, Bool, true, false, List, [], map, ℤ, slice_get, None, Ok, Err, Option, Result, unwrap_or, ◌+◌, ◌∷◌, if◌then◌else◌}
 use Rattle.block_memory.specs.Memory.{owner_rights}
 use Rattle.block_memory.specs.declared.pointer.Value.{Value}
 use Rattle.coro_base.specs.declared.cause.Cause.{Cause}
@@ -55,9 +55,13 @@ abbrev pub plain_called : Module → ℕ → List Value → Option ℕ → Plain
 plain_called m func args result =
     record { func = func; block = 0; at = 0; values = entry_values (function_at m func) args; slots = []; result = result }
 
--- the memory without the slots of the topmost activation, which die when it returns
+-- the slots of the topmost activation die when it returns
 abbrev pub plain_returned : PlainState → PlainState
-plain_returned s = record s { world = record s.world { memory = without_slots s.world.memory s.top.slots } }
+plain_returned s =
+    record s {
+      world = record s.world { memory = without_slots s.world.memory s.top.slots };
+      top = record s.top { slots = [] };
+    }
 
 -- a musttail call replaces its activation
 abbrev pub plain_call : PlainGiven → PlainState → ℕ → List Value → Option ℕ → Bool → PlainState

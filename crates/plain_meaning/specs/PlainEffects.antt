@@ -1,12 +1,12 @@
 -- What the code of a plain step does by the effect of an instruction.
-use Rattle.std.specs.Prelude.{Ok, Err, Result, ◌≡◌}
+use Rattle.std.specs.Prelude.{Bool, true, false, Ok, Err, Result, ◌≡◌}
 use Rattle.coro_base.specs.declared.cause.Cause.{Cause}
 use Rattle.ordinary_step.specs.Results.{and_then}
 use Rattle.ordinary_step.specs.Step.{Coro, Deallocate, Done, Enter, GoTo, NewSlot, Return, Stuck, Work, deallocated, set_memory}
 use Rattle.ordinary_step.specs.declared.effect.Effect.{Effect}
 use Rattle.ordinary_step.specs.declared.program.Program.{Program}
 use Rattle.plain_meaning.specs.Plain.{PlainGiven, counted, plain_call, plain_coro, plain_go_to, plain_pop, plain_returned, plain_settled, plain_slot, plain_work}
-use Rattle.plain_meaning.specs.declared.act.Stop.{Stop}
+use Rattle.plain_meaning.specs.declared.effects.Stop.{Stop}
 use Rattle.plain_meaning.specs.declared.state.PlainState.{PlainState}
 
 -- the state with other work
@@ -29,10 +29,9 @@ abbrev pub IsStop : Stop → Result PlainState Cause → Type 0
 IsStop Stop.NoMemory r = Unit {0}
 IsStop (Stop.Undefined cause) r = r ≡ Err cause
 
--- a machine as a run: what it is given, and its state
-pub record PlainRun : Type 0 where
-  pub given : PlainGiven
-  pub state : PlainState
-
 abbrev pub given_of : Program → PlainGiven
 given_of p = record { code = p.module; answers = p.answers }
+
+abbrev pub is_done : Effect → Bool
+is_done Effect.Done = true
+is_done _ = false

@@ -1,22 +1,17 @@
 //! The machine of a plain module.
 
-use crate::act::{Stop, act, called};
-use crate::state::{PlainActivation, PlainState};
-use block_memory::{OwnerRights, Value};
-use coro_base::{Cause, Event, FuncId, Items, Outcome, Place, ValueId, Word};
-use ir_model::{Function, Instr, IrType, Module};
-use ordinary_step::{Program, Slot, Stack, execute, first_world, make_slot, place_at, terminate};
+use crate::progress::{Progress, outcome_progress, run_state};
+use crate::starting::first_state;
+use crate::state::PlainState;
+use crate::stepping::step_state;
+use coro_base::{Event, FuncId, Outcome, Word};
+use ir_model::Module;
+use ordinary_step::Program;
 use std::alloc::{AllocError, Global};
+use std::marker::Model;
 
-/// What a step answers.
-#[derive(Clone, Copy, Debug, PartialEq, Eq, Drop)]
-pub enum Progress {
-    Going,
-    Returned(Option<Word>),
-    Undefined(Cause, Place),
-}
-
-/// A plain run.
+/// A run of a plain module. A step that finds no memory leaves it as it was; after it returned or was undefined, a step
+/// gives the same again.
 #[derive(Drop)]
 pub struct PlainMachine {
     alloc: Global,
@@ -24,129 +19,22 @@ pub struct PlainMachine {
     state: PlainState,
 }
 
-/// Executes an alloca, whose slot is put down first.
-fn alloca(
-    alloc: Global,
-    program: &Program,
-    state: &mut PlainState,
-    next: usize,
-    function: &Function,
-    name: ValueId,
-    ty: &IrType,
-    align: u64,
-) -> Result<(), Stop> {
-    let slot = Slot {
-        alloca: name,
-        block: state.world.memory.len(),
-    };
-    if state.top.slots.push(slot).is_err() {
-        return Err(Stop::NoMemory);
-    }
-    let made = make_slot(
-        alloc,
-        program,
-        function,
-        &mut state.world,
-        &mut state.top.values,
-        name,
-        ty,
-        align,
-    );
-    match made {
-        Ok(Some(_)) => {
-            state.top.at = next;
-            Ok(())
-        }
-        Ok(None) => {
-            let _ = state.top.slots.pop();
-            Err(Stop::Undefined(Cause::Align))
-        }
-        Err(_) => {
-            let _ = state.top.slots.pop();
-            Err(Stop::NoMemory)
-        }
-    }
-}
+impl Model for PlainMachine {
+    ghost use Rattle.plain_meaning.specs.Machines.{PlainRun};
+    ghost use Rattle.plain_meaning.specs.PlainEffects.{given_of};
 
-/// Executes an instruction.
-fn perform(
-    alloc: Global,
-    program: &Program,
-    state: &mut PlainState,
-    next: usize,
-    function: &Function,
-    instr: &Instr,
-) -> Result<(), Stop> {
-    if let Instr::Alloca { result, ty, align } = instr {
-        return alloca(alloc, program, state, next, function, *result, ty, *align);
-    }
-    let effect = execute(
-        alloc,
-        program,
-        &OwnerRights,
-        &mut state.world,
-        &mut state.top.values,
-        instr,
-    )?;
-    act(alloc, program, state, next, effect)
-}
+    ghost Value = { PlainRun };
 
-/// Does what stands at the state's place.
-fn proceed(
-    alloc: Global,
-    program: &Program,
-    state: &mut PlainState,
-    next: usize,
-    function: &Function,
-) -> Result<(), Stop> {
-    match function.blocks.get(state.top.block) {
-        None => Err(Stop::Undefined(Cause::Unreachable)),
-        Some(block) => match block.instrs.get(state.top.at) {
-            Some(instr) => perform(alloc, program, state, next, function, instr),
-            None => {
-                if state.top.at == block.instrs.len() {
-                    let effect = terminate(program, &state.top.values, &block.term);
-                    act(alloc, program, state, next, effect)
-                } else {
-                    Err(Stop::Undefined(Cause::Unreachable))
-                }
-            }
-        },
-    }
-}
-
-/// One step of a run that goes on.
-fn advance(
-    alloc: Global,
-    program: &Program,
-    state: &mut PlainState,
-    function: &Function,
-) -> Result<(), AllocError> {
-    let Some(next) = state.top.at.checked_add(1) else {
-        return Err(AllocError);
-    };
-    let Some(place) = place_at(state.top.func, function, state.top.block, state.top.at) else {
-        return Err(AllocError);
-    };
-    match proceed(alloc, program, state, next, function) {
-        Ok(()) => Ok(()),
-        Err(Stop::NoMemory) => Err(AllocError),
-        Err(Stop::Undefined(cause)) => {
-            state.outcome = Outcome::Undefined(cause, place);
-            Ok(())
-        }
-    }
-}
-
-fn values_of_words(alloc: Global, words: &[Word]) -> Result<Items<Value>, AllocError> {
-    let mut all = Items::new(alloc);
-    for word in words {
-        all.push(Value::Int(*word))?;
-    }
-    Ok(all)
+    ghost view = { λ m. record { given = given_of m.program; state = m.state } };
 }
 
 impl PlainMachine {
+    ghost use Rattle.std.specs.Prelude.{◌≡◌, ◌+◌, ◌≤◌, ℕ, List, map, IfOk, OnOk, OnErr};
+    ghost use Rattle.coro_base.specs.declared.outcome.Word.{Word as TheWord};
+    ghost use Rattle.ordinary_step.specs.Runs.{seen_event};
+    ghost use Rattle.plain_meaning.specs.Plain.{PlainGiven, PlainAt};
+    ghost use Rattle.plain_meaning.specs.Machines.{machine_at, ran, progress_of};
+
     /// A machine at the entry, before its first step.
     pub fn start(
         alloc: Global,
@@ -154,28 +42,11 @@ impl PlainMachine {
         entry: FuncId,
         args: &[Word],
         answers: &[i128],
-    ) -> Result<Self, AllocError> {
+    ) -> Result<Self, AllocError>
+        ensures { IfOk result (λ machine. machine ≡ machine_at (record { code = code; answers = answers.now }) entry args.now 0) }
+    {
         let program = Program::new(alloc, code, answers)?;
-        let args = values_of_words(alloc, args)?;
-        let world = first_world(alloc, &program)?;
-        let top = match program.module.functions.get(entry) {
-            Some(function) => called(alloc, function, entry, args.as_slice(), None)?,
-            None => PlainActivation {
-                func: entry,
-                block: 0,
-                at: 0,
-                values: Items::new(alloc),
-                slots: Stack::new(alloc),
-                result: None,
-            },
-        };
-        let state = PlainState {
-            world,
-            top,
-            below: Stack::new(alloc),
-            elided: 0,
-            outcome: Outcome::Running,
-        };
+        let state = first_state(alloc, &program, entry, args)?;
         Ok(PlainMachine {
             alloc,
             program,
@@ -183,50 +54,47 @@ impl PlainMachine {
         })
     }
 
-    fn outcome(&self) -> Progress {
-        match self.state.outcome {
-            Outcome::Running => Progress::Going,
-            Outcome::Returned(value) => Progress::Returned(value),
-            Outcome::Undefined(cause, place) => Progress::Undefined(cause, place),
-        }
+    /// One step, and how far the run is then.
+    pub fn step(&mut self) -> Result<Progress, AllocError>
+        ensures done { OnOk result (self.new ≡ ran 1 self.old) }
+        ensures answer { IfOk result (λ progress. progress ≡ progress_of self.new.state.outcome) }
+        ensures kept { OnErr result (self.new ≡ self.old) }
+    {
+        step_state(self.alloc, &self.program, &mut self.state)?;
+        Ok(outcome_progress(self.state.outcome))
     }
 
-    /// One step.
-    pub fn step(&mut self) -> Result<Progress, AllocError> {
-        if self.state.outcome == Outcome::Running {
-            match self.program.module.functions.get(self.state.top.func) {
-                Some(function) => {
-                    advance(self.alloc, &self.program, &mut self.state, function)?;
-                }
-                None => {}
-            }
-        }
-        Ok(self.outcome())
-    }
-
-    /// So many steps.
-    pub fn run(&mut self, n: u64) -> Result<Outcome, AllocError> {
-        for _ in 0..n {
-            match self.step()? {
-                Progress::Going => {}
-                _ => return Ok(self.state.outcome),
-            }
-        }
+    /// So many steps, and how far the run is then. Where there is no memory for a step the machine stands before it.
+    pub fn run(&mut self, n: u64) -> Result<Outcome, AllocError>
+        ensures done { OnOk result (self.new ≡ ran n self.old) }
+        ensures outcome { IfOk result (λ outcome. outcome ≡ self.new.state.outcome) }
+        ensures stopped { OnErr result ((k : ℕ) × (k ≤ n) × (self.new ≡ ran k self.old)) }
+        ensures seen { (g : PlainGiven) (entry : ℕ) (args : List TheWord) (k : ℕ) → self.old ≡ machine_at g entry args k → IfOk result (λ outcome. outcome ≡ (PlainAt g.code entry args g.answers (k + n)).outcome) }
+    {
+        run_state(self.alloc, &self.program, &mut self.state, n)?;
         Ok(self.state.outcome)
     }
 
-    /// The events so far.
-    pub fn events(&self) -> &[Event] {
+    /// The events so far, by the positions of the declared functions.
+    pub fn events(&self) -> &[Event]
+        ensures events { result.now ≡ self.now.state.world.events }
+        ensures seen { (g : PlainGiven) (entry : ℕ) (args : List TheWord) (k : ℕ) → self.now ≡ machine_at g entry args k → map (seen_event g.code) result.now ≡ (PlainAt g.code entry args g.answers k).events }
+    {
         self.state.world.events.as_slice()
     }
 
     /// How many calls of `malloc` and `_Znwm` there were.
-    pub fn allocs(&self) -> u128 {
+    pub fn allocs(&self) -> u128
+        ensures allocs { result ≡ self.now.state.world.allocs }
+        ensures seen { (g : PlainGiven) (entry : ℕ) (args : List TheWord) (k : ℕ) → self.now ≡ machine_at g entry args k → result ≡ (PlainAt g.code entry args g.answers k).allocs }
+    {
         self.state.world.allocs
     }
 
     /// How many calls of a function whose name ends in `.noalloc` there were.
-    pub fn elided(&self) -> u128 {
+    pub fn elided(&self) -> u128
+        ensures { result ≡ self.now.state.elided }
+    {
         self.state.elided
     }
 }
