@@ -1,5 +1,5 @@
 -- The operations keep every block whole.
-use Rattle.std.proofs.Common.{◌≡◌, ℕ, zero, suc, ◌+◌, ◌-◌, ◌≤◌, ◌<◌, Bool, true, false, nat_le, List, [], ◌∷◌, ◌++◌, length, take, drop, replicate, min, Option, Some, None, Ok, Err, Result, refl, sym, ap, ◌∙◌, subst, arith, length-append, length-take, length-drop, if◌then◌else◌}
+use Rattle.std.proofs.Common.{◌≡◌, ℕ, zero, suc, ◌+◌, ◌-◌, ◌≤◌, Bool, true, false, nat_le, List, [], ◌∷◌, ◌++◌, length, take, drop, replicate, min, Option, Some, None, Ok, Err, Result, refl, ap, ◌∙◌, subst, arith, length-append, length-take, length-drop, if◌then◌else◌}
 use Rattle.std.specs.Prelude.{slice_get}
 use Rattle.std.proofs.lemmas.List.{length-replicate}
 use Rattle.std.proofs.lemmas.List.Elements.{All-nil, All-cons, All-head, All-tail, All-push}
@@ -8,7 +8,6 @@ use Rattle.block_memory.specs.declared.block.Kind.{Kind}
 use Rattle.block_memory.specs.declared.block.Life.{Life}
 use Rattle.block_memory.specs.declared.block.MemoryBlock.{MemoryBlock}
 use Rattle.block_memory.specs.declared.pointer.Access.{Access}
-use Rattle.block_memory.specs.declared.pointer.Pointer.{Pointer}
 use Rattle.block_memory.specs.declared.pointer.Spot.{Spot}
 use Rattle.block_memory.specs.declared.pointer.Value.{Value}
 use Rattle.block_memory.specs.Memory.{Rights, access_bytes, bytes_at, bytes_in, with_block, with_bytes, write, written, encode, fresh, killed, killed_block, start, started, end, ended, disown, disowned, owned_to, seal, sealed, is_killed, same_kind, range, store, is_constant, copied, both, overlaps, on_ok, unless_constant, rank, copy}

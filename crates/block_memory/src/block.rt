@@ -147,6 +147,10 @@ impl MemoryBlock {
 }
 
 impl Default for Byte {
+    ghost use Rattle.block_memory.specs.declared.block.Byte.{Byte};
+
+    ghost is_default = { λ x. x ≡ Byte.Undefined };
+
     fn default() -> Self {
         Byte::Undefined
     }

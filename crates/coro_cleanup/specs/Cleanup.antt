@@ -1,6 +1,5 @@
 -- The last pass: the calls of `coro.id` go, and the declarations of the coro intrinsics.
-use Rattle.std.specs.Prelude.{ℕ, Bool, true, false, not, List, [], map, filter, ◌∷◌}
-use Rattle.coro_base.specs.declared.name.Name.{Name}
+use Rattle.std.specs.Prelude.{Bool, true, false, not, map, filter}
 use Rattle.ir_model.specs.Table.{callee_named}
 use Rattle.ir_model.specs.declared.instr.Instr.{Instr}
 use Rattle.ir_model.specs.declared.module.Block.{Block}

@@ -1,5 +1,5 @@
 -- The number with its sign of a word whose width is more than its bits need.
-use Rattle.std.proofs.Common.{◌≡◌, ℕ, ◌<◌, ◌≤◌, ◌*◌, ◌^◌, Bool, true, false, ℤ, pos, negsuc, nat_lt, arith, refl, if◌then◌else◌, lit≤, sym, ◌∙◌}
+use Rattle.std.proofs.Common.{◌≡◌, ℕ, ◌<◌, ◌≤◌, ◌*◌, ◌^◌, pos, arith, refl}
 use Rattle.std.proofs.Math.Pow.{pow_mono}
 use Rattle.ir_ints.specs.Numbers.{signed_of}
 

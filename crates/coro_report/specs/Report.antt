@@ -2,7 +2,6 @@
 use Rattle.std.specs.Prelude.{ℕ, List, [], codes, decimal, slice_get, ℤ, pos, negsuc, nat_lt, ◌-◌, ◌*◌, Some, None, Option, ◌∷◌, ◌++◌, if◌then◌else◌, ◌==◌}
 use Rattle.std.specs.Fmt.{signed_decimal}
 use Rattle.coro_base.specs.Words.{cause_word, rule_word}
-use Rattle.coro_base.specs.declared.cause.Cause.{Cause}
 use Rattle.coro_base.specs.declared.name.Name.{Name}
 use Rattle.coro_base.specs.declared.outcome.Event.{Event}
 use Rattle.coro_base.specs.declared.outcome.Outcome.{Outcome}

@@ -1,6 +1,6 @@
 //! Values as they are written.
 
-ghost use Rattle.std.specs.Prelude.{◌≡◌, ◌++◌, OnOk, decimal, codes};
+ghost use Rattle.std.specs.Prelude.{◌≡◌, ◌≤◌, ◌^◌, ◌++◌, OnOk, decimal, codes};
 ghost use Rattle.std.specs.Fmt.{signed_decimal};
 ghost use Rattle.ir_ints.specs.Numbers.{signed_of};
 ghost use Rattle.coro_report.specs.Report.{signed_among, word_text, later_words, words_text};

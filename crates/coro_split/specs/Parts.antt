@@ -17,15 +17,15 @@ use Rattle.ir_model.specs.declared.operand.Arg.{Arg}
 use Rattle.ir_model.specs.declared.operand.Operand.{Operand}
 use Rattle.ir_model.specs.TypeView.{bits_of}
 use Rattle.ir_model.specs.declared.ir_type.IntWidth.{IntWidth}
-use Rattle.coro_split.specs.Lowered.{address, number_arg}
-use Rattle.coro_split.specs.Cuts.{goes_on}
+use Rattle.intrinsic_lowering.specs.Lowered.{address, number_arg}
+use Rattle.intrinsic_lowering.specs.Cuts.{goes_on}
 use Rattle.coro_split.specs.Pieces.{going_on, next_after, origins_of, pieces_of, redirected}
 use Rattle.coro_split.specs.Reached.{pruned}
-use Rattle.coro_split.specs.Shapes.{back_label, done_label, entry_label, first_name, index_bytes, index_name, none_label, shape_of, slot_name}
-use Rattle.coro_split.specs.declared.shape.Origin.{Origin}
-use Rattle.coro_split.specs.declared.shape.Part.{Part}
-use Rattle.coro_split.specs.declared.shape.Shape.{Shape}
-use Rattle.coro_split.specs.declared.shape.SuspendPoint.{SuspendPoint}
+use Rattle.intrinsic_lowering.specs.Shapes.{back_label, done_label, entry_label, first_name, index_bytes, index_name, none_label, shape_of, slot_name}
+use Rattle.coro_split.specs.declared.origin.Origin.{Origin}
+use Rattle.intrinsic_lowering.specs.declared.shape.Part.{Part}
+use Rattle.intrinsic_lowering.specs.declared.shape.Shape.{Shape}
+use Rattle.intrinsic_lowering.specs.declared.shape.SuspendPoint.{SuspendPoint}
 
 -- ---- the entry of the parts that go on behind a suspend
 

@@ -6,15 +6,15 @@ use Rattle.ir_model.specs.declared.instr.Instr.{Instr}
 use Rattle.ir_model.specs.declared.instr.Phi.{Phi}
 use Rattle.ir_model.specs.declared.instr.Terminator.{Terminator}
 use Rattle.ir_model.specs.declared.module.Block.{Block}
-use Rattle.coro_split.specs.Cuts.{cut_at}
-use Rattle.coro_split.specs.Lowered.{lowered, names_taken}
-use Rattle.coro_split.specs.Shapes.{back_label, done_label, pass_label}
-use Rattle.coro_split.specs.declared.cuts.Cut.{Cut}
+use Rattle.intrinsic_lowering.specs.Cuts.{cut_at}
+use Rattle.intrinsic_lowering.specs.Lowered.{lowered, names_taken}
+use Rattle.intrinsic_lowering.specs.Shapes.{back_label, done_label, pass_label}
+use Rattle.intrinsic_lowering.specs.declared.cuts.Cut.{Cut}
 use Rattle.coro_split.specs.declared.piecing.Piecing.{Piecing}
-use Rattle.coro_split.specs.declared.shape.Origin.{Origin}
-use Rattle.coro_split.specs.declared.shape.Part.{Part}
-use Rattle.coro_split.specs.declared.shape.Shape.{Shape}
-use Rattle.coro_split.specs.declared.shape.SuspendPoint.{SuspendPoint}
+use Rattle.coro_split.specs.declared.origin.Origin.{Origin}
+use Rattle.intrinsic_lowering.specs.declared.shape.Part.{Part}
+use Rattle.intrinsic_lowering.specs.declared.shape.Shape.{Shape}
+use Rattle.intrinsic_lowering.specs.declared.shape.SuspendPoint.{SuspendPoint}
 
 -- ---- the pieces
 

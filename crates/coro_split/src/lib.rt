@@ -1,8 +1,7 @@
 //! Coroutines split into their parts: the ramp, and the functions that go on behind a suspend.
 #![tactic(auto)]
 
-mod cuts;
-mod lowered;
+mod origin;
 mod origins;
 mod parts;
 mod pass;
@@ -10,8 +9,5 @@ mod phis;
 mod pieces;
 mod piecing;
 mod reached;
-mod shape;
-mod shapes;
-mod small;
 
 pub use pass::split;

@@ -3,10 +3,9 @@
 ghost use Rattle.std.specs.Prelude.{◌≡◌, IfOk, OnOk, []};
 ghost use Rattle.coro_split.specs.Pieces.{after_cut, is_nowhere, origin_after, origin_in, origins_by, suspend_origins, origins_of};
 
-use crate::cuts::{Cut, cut_at};
-use crate::shape::{Origin, Part, Shape, SuspendPoint};
-use crate::small::later;
+use crate::origin::Origin;
 use coro_base::Items;
+use intrinsic_lowering::{Cut, Part, Shape, SuspendPoint, cut_at, later};
 use ir_model::{Block, Instr};
 use std::alloc::AllocError;
 

@@ -6,16 +6,16 @@ ghost use Rattle.ir_model.specs.Names.{numbered};
 ghost use Rattle.coro_split.specs.Pieces.{next_after, pieces_of, piecing_of, first_piecing, all_pieces};
 ghost use Rattle.coro_split.specs.Parts.{is_alloca, allocas_of, is_entered, case_of, cases_from, entry_instrs, entry_term, entry_block, none_block, back_block, back_blocks, done_block, head_blocks, saved_name, back_name, pass_name, names_of_suspend, begun_mark, done_mark, entry_mark, none_mark, slot_mark, index_mark, frame_mark, label_names, suspend_names, instr_names, mark_names, names_of, origins_for, part_blocks, part_names, ramp_of, later_part, parts_of, plain_shape, plain_of};
 
-use crate::cuts::goes_on;
-use crate::lowered::index_bytes;
+use crate::origin::Origin;
 use crate::origins::set_origins;
 use crate::phis::{going_on, pieced_phis};
 use crate::pieces::{all_pieces, redirected, with_instrs};
 use crate::piecing::Piecing;
 use crate::reached::pruned;
-use crate::shape::{Origin, Part, Shape, SuspendPoint};
-use crate::small::{address, later, number_arg};
 use coro_base::{Data, Items, Name, SuspendId, Text, ValueId};
+use intrinsic_lowering::{
+    Part, Shape, SuspendPoint, address, goes_on, index_bytes, later, number_arg,
+};
 use ir_model::{
     Arg, Block, Case, Function, Instr, IntWidth, IrType, Operand, Param, Terminator, numbered_name,
 };
@@ -419,10 +419,7 @@ fn names_of(
     ensures { IfOk result (λ x. x ≡ names_of shape.now names.now count) }
 {
     let mut all = names.copied(alloc)?;
-    all.set(
-        shape.begin,
-        Name::Text(Text::from_bytes(alloc, b"$c.frame")?),
-    );
+    all.set(shape.begin, frame_mark(alloc)?);
     push_mark_names(alloc, &mut all)?;
     push_names(&mut all, suspend_names(alloc, shape.suspends.len())?)?;
     push_names(&mut all, instr_names(alloc, count)?)?;

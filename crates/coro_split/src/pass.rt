@@ -1,13 +1,13 @@
 //! The pass over the module.
 
 ghost use Rattle.std.specs.Prelude.{◌≡◌, IfOk, OnOk, ◌++◌};
-ghost use Rattle.coro_split.specs.Shapes.{shape_of};
+ghost use Rattle.intrinsic_lowering.specs.Shapes.{shape_of};
 ghost use Rattle.coro_split.specs.Parts.{parts_of, split_function, first_layout, other_layouts, layouts_after, split_functions, split_module};
 
 use crate::parts::{plain_of, push_parts};
-use crate::shapes::shape_of;
 use coro_base::{Data, Items};
 use frame_layout::{Layout, Layouts, index_alone};
+use intrinsic_lowering::shape_of;
 use ir_model::{Function, Module};
 use std::alloc::{AllocError, Global};
 

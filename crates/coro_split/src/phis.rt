@@ -1,11 +1,12 @@
 //! The phis of a part, whose labels become those of the pieces from which the edges come.
 
 ghost use Rattle.std.specs.Prelude.{◌≡◌, IfOk, map, filter_map, slice_get};
-ghost use Rattle.coro_split.specs.Shapes.{back_label};
+ghost use Rattle.intrinsic_lowering.specs.Shapes.{back_label};
 ghost use Rattle.coro_split.specs.Pieces.{going_on, if_same, comes_from, incoming_from, pieced_incoming, pieced_phi};
 
-use crate::shape::{Origin, Part, Shape, SuspendPoint};
+use crate::origin::Origin;
 use coro_base::{Data, Items, SuspendId, ValueId};
+use intrinsic_lowering::{Part, Shape, SuspendPoint};
 use ir_model::{Incoming, Phi};
 use std::alloc::{AllocError, Global};
 

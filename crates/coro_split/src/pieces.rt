@@ -1,15 +1,12 @@
 //! The pieces of a block.
 
 ghost use Rattle.std.specs.Prelude.{◌≡◌, IfOk, OnOk, ◌++◌, ◌∷◌, [], map};
-ghost use Rattle.coro_split.specs.declared.cuts.Cut.TheVariants as cuts;
+ghost use Rattle.intrinsic_lowering.specs.declared.cuts.Cut.TheVariants as cuts;
 ghost use Rattle.coro_split.specs.Pieces.{ended_with, piece, stop_label, pieced, with_instr, with_instrs, redirected, redirected_case, redirected_term, all_pieces};
 
-use crate::cuts::{Cut, cut_at};
-use crate::lowered::{names_taken, push_lowered};
 use crate::piecing::Piecing;
-use crate::shape::{Part, Shape};
-use crate::small::later;
 use coro_base::{Data, Items, SuspendId, ValueId};
+use intrinsic_lowering::{Cut, Part, Shape, cut_at, later, names_taken, push_lowered};
 use ir_model::{Block, Case, Instr, Terminator};
 use std::alloc::{AllocError, Global};
 

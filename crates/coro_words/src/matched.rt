@@ -145,7 +145,8 @@ pub fn command_read(alloc: Global, matches: &ArgMatches<'_>) -> Result<Reading, 
         return Ok(Reading::Refused);
     };
     if name == "lower" {
-        Ok(Reading::Read(Words::Lower(has_flag(given, "plain"))))
+        let plain = has_flag(given, "plain");
+        Ok(Reading::Read(Words::Lower { plain }))
     } else if name == "run" {
         run_read(alloc, given)
     } else {

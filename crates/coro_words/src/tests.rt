@@ -56,7 +56,7 @@ fn lists_are_read(rt: HostRuntime) -> Result<(), Fail> {
 fn commands_are_taken(rt: HostRuntime) -> Result<(), Fail> {
     for (line, wanted) in [("lower", false), ("lower --plain", true)] {
         match take_words(rt.alloc(), &words_of(rt.alloc(), line)?)? {
-            Taken::Words(Words::Lower(plain)) => assert_eq!(rt; plain, wanted),
+            Taken::Words(Words::Lower { plain }) => assert_eq!(rt; plain, wanted),
             _ => panic!(rt; "{line} is taken"),
         }
     }

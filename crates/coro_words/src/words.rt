@@ -31,8 +31,11 @@ pub struct RunWords {
 /// A command with its options.
 #[derive(Debug, Drop)]
 pub enum Words {
-    /// Lowers the module, where the flag is set without shared bytes and elision.
-    Lower(bool),
+    /// Lowers the module.
+    Lower {
+        /// Without shared bytes and elision.
+        plain: bool,
+    },
     /// Runs the module.
     Run(RunWords),
 }

@@ -1,6 +1,5 @@
 -- Uses of some values put in the place of uses of others.
-use Rattle.std.specs.Prelude.{ℕ, Bool, true, false, List, [], map, slice_get, slice_set, Some, None, Option, ◌∷◌, if◌then◌else◌}
-use Rattle.ir_model.specs.declared.instr.Case.{Case}
+use Rattle.std.specs.Prelude.{ℕ, Bool, false, map, slice_get, Some, None, Option, if◌then◌else◌}
 use Rattle.ir_model.specs.declared.instr.Incoming.{Incoming}
 use Rattle.ir_model.specs.declared.instr.Instr.{Instr}
 use Rattle.ir_model.specs.declared.instr.Phi.{Phi}

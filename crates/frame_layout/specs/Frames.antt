@@ -2,7 +2,6 @@
 use Rattle.std.specs.Prelude.{ℕ, [], ◌∷◌, None, nat_le, if◌then◌else◌}
 use Rattle.frame_layout.specs.declared.layout.FieldKind.{FieldKind}
 use Rattle.frame_layout.specs.declared.layout.Layout.{Layout}
-use Rattle.frame_layout.specs.declared.layout.PlacedField.{PlacedField}
 
 -- the index takes a byte for at most 256 suspends, else two
 abbrev pub index_size : ℕ → ℕ

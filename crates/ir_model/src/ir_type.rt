@@ -18,12 +18,15 @@ pub enum IntWidth {
     I64,
 }
 
-/// A type (LangRef, "Type System"). Contracts see it as the data `Ty`. Copying and comparing go down the type, so they
-/// are for types of bounded depth; dropping is a loop.
+/// A type (LangRef, "Type System"). Contracts see it as the data `Ty`. Copying goes down the type, at most
+/// 1024 levels; comparing goes down too, and is for types of bounded depth; dropping is a loop.
 #[cycle(ir_type)]
 pub struct IrType {
     node: Node,
 }
+
+/// How deep a type may be to be copied. No accepted module has a type deeper than 64.
+const LEVELS: u32 = 1024;
 
 /// What a type is made of.
 #[cycle(ir_type)]
@@ -163,19 +166,26 @@ impl IrType {
         }
     }
 
+    /// The same data, where the type is at most so many levels deep; a deeper one finds no memory.
     #[cycle(copied)]
     #[tactic(auto, using(crate::specs::TypeView::item_below_tys_size))]
-    fn copied_type(&self, alloc: Global) -> Result<IrType, AllocError>
+    fn copied_within(&self, alloc: Global, levels: u32) -> Result<IrType, AllocError>
         ensures { IfOk result (λ t. t ≡ self.now) }
     {
+        let Some(levels) = levels.checked_sub(1) else {
+            return Err(AllocError);
+        };
         let node = match &self.node {
             Node::Int(width) => Node::Int(*width),
             Node::Ptr => Node::Ptr,
             Node::Token => Node::Token,
             Node::Array(count, element) => {
-                Node::Array(*count, Box::new(alloc, element.copied_type(alloc)?)?)
+                Node::Array(
+                    *count,
+                    Box::new(alloc, element.copied_within(alloc, levels)?)?,
+                )
             }
-            Node::Struct(fields) => Node::Struct(copied_all(alloc, fields)?),
+            Node::Struct(fields) => Node::Struct(copied_all(alloc, fields, levels)?),
             Node::Named(name) => Node::Named(name.copied(alloc)?),
         };
         Ok(IrType { node })
@@ -200,12 +210,12 @@ impl IrType {
 
 #[cycle(copied)]
 #[tactic(auto, using(crate::specs::TypeView::item_below_tys_size))]
-fn copied_all(alloc: Global, types: &[IrType]) -> Result<Vec<IrType>, AllocError>
+fn copied_all(alloc: Global, types: &[IrType], levels: u32) -> Result<Vec<IrType>, AllocError>
     ensures { IfOk result (λ v. v.items ≡ types.now) }
 {
     let mut all = Vec::new(alloc);
     for t in types {
-        all.push(t.copied_type(alloc)?)?;
+        all.push(t.copied_within(alloc, levels)?)?;
     }
     Ok(all)
 }
@@ -230,7 +240,7 @@ impl Default for IrType {
 
 impl Data for IrType {
     fn copied(&self, alloc: Global) -> Result<IrType, AllocError> {
-        self.copied_type(alloc)
+        self.copied_within(alloc, LEVELS)
     }
 
     fn is_same(&self, other: &IrType) -> bool {

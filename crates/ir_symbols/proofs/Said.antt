@@ -1,11 +1,9 @@
 -- Turns of the loop over the tokens of a text.
-use Rattle.std.proofs.Common.{◌≡◌, ◌≢◌, ◌<◌, ◌≤◌, ◌+◌, ℕ, Bool, true, false, List, [], ◌∷◌, ◌++◌, append_assoc, length, drop, map, Option, None, ◌==◌, refl, sym, ap, ◌∙◌, arith, eq-eqb}
+use Rattle.std.proofs.Common.{◌≡◌, ◌<◌, ◌≤◌, ℕ, Bool, true, false, List, [], ◌∷◌, ◌++◌, append_assoc, length, drop, None, refl, sym, ap, ◌∙◌, arith, eq-eqb}
 use Rattle.std.specs.Prelude.{Some}
 use Rattle.std.proofs.lemmas.Bool.{ne_eqb}
 use Rattle.std.proofs.lemmas.List.{length-drop}
-use Rattle.ir_lexer.specs.Lists.{all_at}
-use Rattle.ir_lexer.specs.Scan.{blank_len}
-use Rattle.ir_lexer.specs.Tokens.{first_token, tokens}
+use Rattle.ir_lexer.specs.Tokens.{first_token}
 use Rattle.ir_lexer.specs.Next.{IsBlankFrom, IsNoToken}
 use Rattle.ir_lexer.specs.declared.token.Kind.{Kind}
 use Rattle.ir_lexer.proofs.ListSteps.{all_at-some, all_at-none}

@@ -1,5 +1,5 @@
 -- A turn of the loop over the bytes between quotes.
-use Rattle.std.proofs.Common.{◌≡◌, ◌<◌, ℕ, List, [], ◌∷◌, ◌++◌, length, Option}
+use Rattle.std.proofs.Common.{◌≡◌, ◌<◌, ℕ, List, [], ◌∷◌, ◌++◌, length}
 use Rattle.std.specs.Prelude.{Some}
 use Rattle.ir_lexer.specs.Lists.{all_at}
 use Rattle.ir_lexer.proofs.ListSteps.{behind, all_turn}

@@ -1,5 +1,5 @@
 -- The word that is looked up.
-use Rattle.std.proofs.Common.{◌≡◌, ℕ, List, Option, None, sym, ap, ◌∙◌}
+use Rattle.std.proofs.Common.{◌≡◌, ℕ, List, Option, None, ap, ◌∙◌}
 use Rattle.std.specs.Prelude.{Some, unwrap_or}
 use Rattle.ir_symbols.specs.declared.word.Word.{Word}
 use Rattle.ir_symbols.specs.Words.{word_in, the_words, plain_word, word_of}

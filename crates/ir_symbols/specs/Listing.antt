@@ -4,7 +4,6 @@ use Rattle.ir_lexer.specs.Scan.{blank_len}
 use Rattle.ir_lexer.specs.Tokens.{tokens}
 use Rattle.ir_lexer.specs.declared.token.Kind.{Kind}
 use Rattle.ir_symbols.specs.declared.listing.Symbols.{Symbols}
-use Rattle.ir_symbols.specs.declared.sym.Sym.{Sym}
 use Rattle.ir_symbols.specs.Sym.{sym_of}
 
 -- blanks and comments alone

@@ -1,5 +1,5 @@
 -- Names by their spelling.
-use Rattle.std.specs.Prelude.{ℕ, ◌+◌, ◌-◌, ◌*◌, ◌^◌, Bool, true, false, not, List, [], ◌∷◌, Option, Some, None, if◌then◌else◌, ◌==◌, ◌&&◌, ◌||◌, nat_le, nat_lt, take, length}
+use Rattle.std.specs.Prelude.{ℕ, ◌+◌, ◌-◌, ◌*◌, ◌^◌, Bool, true, false, List, [], ◌∷◌, Option, Some, None, if◌then◌else◌, ◌==◌, ◌&&◌, ◌||◌, nat_le, nat_lt, take, length}
 use Rattle.coro_base.specs.declared.name.Name.{Name}
 use Rattle.ir_lexer.specs.Lists.{all_at}
 use Rattle.ir_symbols.specs.Numbers.{are_digits, value_of}

@@ -14,7 +14,7 @@ use Rattle.ir_model.specs.declared.module.Module.{Module}
 use Rattle.ir_model.specs.declared.operand.Intrinsic.{Intrinsic}
 use Rattle.ir_parser.specs.Parse.{read_module}
 use Rattle.ir_parser.specs.declared.text.Parsed.{Parsed}
-use Rattle.ir_printer.specs.Module.{module_text}
+use Rattle.ir_printer.specs.Items.{module_text}
 use Rattle.ir_printer.specs.Frames.{frames_text}
 use Rattle.ir_printer.specs.declared.frames.FrameLine.{FrameLine}
 use Rattle.lower_pipeline.specs.Served.{count_by, unserved}

@@ -2,9 +2,11 @@
 #![tactic(auto)]
 
 mod homes;
+mod lower;
 mod lowering;
 mod served;
 
 pub use homes::Homes;
+pub use lower::{Lowered, Lowering, lower, lower_module};
 pub use lowering::{layouts_of, lowered_module};
 pub use served::unserved;

@@ -63,7 +63,7 @@ fn frame_lines(
     Ok(all)
 }
 
-fn lowered(alloc: Global, source: Module) -> Result<Lowered, AllocError>
+fn lower_served(alloc: Global, source: Module) -> Result<Lowered, AllocError>
     ensures { IfOk result (λ l. Lowering.Done l ≡ lowered_or source None) }
 {
     let layouts = layouts_of(alloc, &source)?;
@@ -89,7 +89,7 @@ pub fn lower_module(alloc: Global, source: Module) -> Result<Lowering, AllocErro
     let Program { module: source, .. } = program;
     match place {
         Some(place) => Ok(Lowering::Refused(source, Rule::X1, place)),
-        None => Ok(Lowering::Done(lowered(alloc, source)?)),
+        None => Ok(Lowering::Done(lower_served(alloc, source)?)),
     }
 }
 

@@ -34,4 +34,5 @@ pub use program::Program;
 pub use stack::Stack;
 pub use start::first_world;
 pub use terminator::terminate;
+pub use width::{bits, cut};
 pub use world::{Slot, World};

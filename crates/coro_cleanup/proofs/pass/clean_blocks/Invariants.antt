@@ -1,4 +1,4 @@
-use Rattle.std.proofs.Common.{◌≡◌, ◌++◌, drop, map, filter}
+use Rattle.std.proofs.Common.{◌≡◌, ◌++◌, drop, map}
 use Rattle.coro_cleanup.specs.Cleanup.{clean_block}
 use Rattle.coro_cleanup.proofs.pass.clean_blocks.Given as goal
 

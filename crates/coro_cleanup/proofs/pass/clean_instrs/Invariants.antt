@@ -1,4 +1,4 @@
-use Rattle.std.proofs.Common.{◌≡◌, ◌++◌, drop, map, filter}
+use Rattle.std.proofs.Common.{◌≡◌, ◌++◌, drop, filter}
 use Rattle.coro_cleanup.specs.Cleanup.{is_kept_instr}
 use Rattle.coro_cleanup.proofs.pass.clean_instrs.Given as goal
 

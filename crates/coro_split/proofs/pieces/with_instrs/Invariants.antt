@@ -2,8 +2,8 @@ use Rattle.std.proofs.Common.{◌≡◌, ◌++◌, ◌∷◌, drop, take, map, f
 use Rattle.coro_split.specs.Pieces.{with_instrs}
 use Rattle.coro_split.proofs.pieces.with_instrs.Given as goal
 
-abbrev pub invariant-loop-instr : goal.invariant-loop-instr
-invariant-loop-instr l = with_instrs l.shape l.part l.term l.piecing l.rest ≡ with_instrs l.shape l.part l.term l.fn.first l.instrs
+abbrev pub invariant-loop-rest : goal.invariant-loop-rest
+invariant-loop-rest l = with_instrs l.shape l.part l.term l.piecing l.rest ≡ with_instrs l.shape l.part l.term l.fn.first l.instrs
 
-abbrev pub decreases-loop-instr : goal.decreases-loop-instr
-decreases-loop-instr l = length l.rest
+abbrev pub decreases-loop-rest : goal.decreases-loop-rest
+decreases-loop-rest l = length l.rest

@@ -1,4 +1,4 @@
-use Rattle.std.proofs.Common.{◌≡◌, ◌++◌, ◌∷◌, drop, take, map, replicate, length, ◌-◌, ◌+◌}
+use Rattle.std.proofs.Common.{◌≡◌, drop}
 use Rattle.early_lower.specs.Early.{flagged_by}
 use Rattle.early_lower.proofs.frames.flag_by.Given as goal
 

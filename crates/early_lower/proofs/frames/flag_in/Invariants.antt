@@ -1,4 +1,4 @@
-use Rattle.std.proofs.Common.{◌≡◌, ◌++◌, ◌∷◌, drop, take, map, replicate, length, ◌-◌, ◌+◌}
+use Rattle.std.proofs.Common.{◌≡◌, drop}
 use Rattle.early_lower.specs.Early.{flagged_in}
 use Rattle.early_lower.proofs.frames.flag_in.Given as goal
 

@@ -1,4 +1,4 @@
-use Rattle.std.proofs.Common.{◌≡◌, ◌++◌, ◌∷◌, drop, take, map, replicate, length, ◌-◌, ◌+◌}
+use Rattle.std.proofs.Common.{◌≡◌, ◌++◌, drop}
 use Rattle.early_lower.specs.Early.{early_blocks, after_blocks}
 use Rattle.early_lower.proofs.pass.early_blocks.Given as goal
 

@@ -1,4 +1,4 @@
-use Rattle.std.proofs.Common.{◌≡◌, ◌++◌, ◌∷◌, drop, take, map, replicate, length, ◌-◌, ◌+◌}
+use Rattle.std.proofs.Common.{◌≡◌, ◌++◌, drop, map}
 use Rattle.early_lower.specs.Early.{early_function}
 use Rattle.early_lower.proofs.pass.early_functions.Given as goal
 

@@ -1,4 +1,4 @@
-use Rattle.std.proofs.Common.{◌≡◌, ◌++◌, ◌∷◌, drop, take, map, replicate, length, ◌-◌, ◌+◌}
+use Rattle.std.proofs.Common.{◌≡◌, ◌++◌, drop}
 use Rattle.early_lower.specs.Early.{early_instrs, after_instrs}
 use Rattle.early_lower.proofs.saves.early_instrs.Given as goal
 

@@ -1,4 +1,4 @@
-use Rattle.std.proofs.Common.{◌≡◌, ◌++◌, ◌∷◌, drop, take, map, replicate, length, ◌-◌, ◌+◌}
+use Rattle.std.proofs.Common.{◌≡◌}
 use Rattle.early_lower.specs.Early.{save_names}
 use Rattle.early_lower.proofs.saves.save_names.Given as goal
 

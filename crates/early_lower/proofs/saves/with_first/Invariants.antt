@@ -1,4 +1,4 @@
-use Rattle.std.proofs.Common.{◌≡◌, ◌++◌, ◌∷◌, drop, take, map, replicate, length, ◌-◌, ◌+◌}
+use Rattle.std.proofs.Common.{◌≡◌, ◌++◌, drop}
 use Rattle.early_lower.proofs.saves.with_first.Given as goal
 
 abbrev pub invariant-loop-arg : goal.invariant-loop-arg

@@ -1,5 +1,4 @@
-use Rattle.std.proofs.Common.{◌≡◌, ◌++◌, ◌∷◌, drop, take, map, replicate, length, ◌-◌, ◌+◌}
-use Rattle.early_lower.specs.Early.{save_names}
+use Rattle.std.proofs.Common.{◌≡◌, ◌++◌, drop}
 use Rattle.early_lower.proofs.saves.with_save_names.Given as goal
 
 abbrev pub invariant-loop-name : goal.invariant-loop-name

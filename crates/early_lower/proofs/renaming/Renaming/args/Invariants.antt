@@ -1,4 +1,4 @@
-use Rattle.std.proofs.Common.{◌≡◌, ◌++◌, ◌∷◌, drop, take, map, replicate, length, ◌-◌, ◌+◌}
+use Rattle.std.proofs.Common.{◌≡◌, ◌++◌, drop, map}
 use Rattle.early_lower.specs.Renaming.{renamed_arg}
 use Rattle.early_lower.proofs.renaming.Renaming.args.Given as goal
 

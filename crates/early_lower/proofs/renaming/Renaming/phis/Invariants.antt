@@ -1,4 +1,4 @@
-use Rattle.std.proofs.Common.{◌≡◌, ◌++◌, ◌∷◌, drop, take, map, replicate, length, ◌-◌, ◌+◌}
+use Rattle.std.proofs.Common.{◌≡◌, ◌++◌, drop, map}
 use Rattle.early_lower.specs.Renaming.{renamed_phi}
 use Rattle.early_lower.proofs.renaming.Renaming.phis.Given as goal
 

@@ -1,0 +1,3 @@
+pub mod Shapes
+pub mod Lowered
+pub mod Cuts

@@ -1,0 +1,3 @@
+pub mod ListTurns
+pub mod ParamSteps
+pub mod ItemSteps

@@ -1,0 +1,21 @@
+//! The canonical text of modules.
+//!
+//! All types stand first, then all globals, declarations and functions, each on lines of their own, as LLVM's Language
+//! Reference writes them. Labels, the names of parameters and alignments are always written. The frames of a lowered
+//! module's coroutines stand before its text, in frame lines.
+#![tactic(auto)]
+
+mod blocks;
+mod comments;
+mod frames;
+mod instrs;
+mod items;
+mod operands;
+#[cfg(test)]
+mod tests;
+mod types;
+mod words;
+
+pub use comments::read_frames;
+pub use frames::{FrameLine, print_frames};
+pub use items::print_module;

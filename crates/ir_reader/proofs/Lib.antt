@@ -1,0 +1,4 @@
+pub mod AttrSteps
+pub mod BracketSteps
+pub mod TypeSteps
+pub mod ManySteps

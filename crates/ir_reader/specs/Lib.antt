@@ -1,0 +1,7 @@
+pub mod Reading
+pub mod Locals
+pub mod Groups
+pub mod Attrs
+pub mod Types
+pub mod Values
+pub mod Many
