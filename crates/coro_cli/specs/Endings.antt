@@ -1,0 +1,48 @@
+-- How a run of the program may end.
+use Rattle.std.specs.Prelude.{◌≡◌, ◌≢◌, ◌⊎◌, ℕ, true, List, Option}
+use Rattle.std.specs.List.{list_any}
+use Rattle.std.specs.Io.KnownBytes.{Appends, Consumes, IsAtEnd, Keeps}
+use Rattle.coro_base.specs.declared.status.Status.{Status}
+use Rattle.coro_cli.specs.Answers.{answer, verdict_status}
+use Rattle.coro_cli.specs.declared.verdict.Answer.{Answer}
+use Rattle.coro_words.specs.Asked.{asks_help}
+use Rattle.coro_words.specs.declared.words.Words.{Words}
+
+-- what is left of the input and what the outputs hold, before and after, where that is told
+pub record Sides : Type 0 where
+  pub left : Option (List ℕ)
+  pub left-new : Option (List ℕ)
+  pub out : Option (List ℕ)
+  pub out-new : Option (List ℕ)
+  pub err : Option (List ℕ)
+  pub err-new : Option (List ℕ)
+
+-- nothing went to standard output, and this to standard error
+pub record Tells (s : Sides) (text : List ℕ) : Type 0 where
+  pub out : Keeps s.out s.out-new
+  pub err : Appends s.err s.err-new text
+
+-- the outputs got what is answered, with its status
+pub record Gives (s : Sides) (a : Answer) (status : Status) : Type 0 where
+  pub ends : verdict_status a.verdict ≡ status
+  pub out : Appends s.out s.out-new a.out
+  pub err : Appends s.err s.err-new a.err
+
+-- the input was read to its end, and the outputs got what the words' command answers to it
+pub record Answers (w : Words) (s : Sides) (status : Status) : Type 0 where
+  pub bytes : List ℕ
+  pub read : Consumes s.left s.left-new bytes
+  pub at_end : IsAtEnd s.left-new
+  pub gives : Gives s (answer w bytes) status
+
+-- a status that isn't want of memory, nor a fault of a sink
+abbrev pub IsTold : Status → Type 0
+IsTold status = (status ≢ Status.OutOfMemory) × (status ≢ Status.WriteFault)
+
+-- words that aren't taken: their fault, or the help that one of them asks for
+abbrev pub RefusesWords : List (List ℕ) → Sides → Status → Type 0
+RefusesWords words s status = ((status ≡ Status.Words) × Keeps s.out s.out-new) ⊎ ((status ≡ Status.Done) × (list_any asks_help words ≡ true))
+
+abbrev pub sides : Option (List ℕ) → Option (List ℕ) → Option (List ℕ) → Option (List ℕ) → Option (List ℕ) → Option (List ℕ) → Sides
+sides left left-new out out-new err err-new =
+    record { left = left; left-new = left-new; out = out; out-new = out-new; err = err; err-new = err-new }

@@ -1,0 +1,12 @@
+//! The program as one call over a source and two sinks.
+#![tactic(auto)]
+
+mod commands;
+mod entry;
+mod program;
+#[cfg(test)]
+mod tests;
+mod verdict;
+
+pub use program::{drive, told};
+pub use verdict::{Answer, EntryCall, Verdict};
