@@ -23,8 +23,8 @@ use Rattle.ir_model.specs.declared.module.Param.{Param}
 use Rattle.ir_parser.specs.Parse.{read_module}
 use Rattle.ir_parser.specs.declared.text.Parsed.{Parsed}
 use Rattle.lower_pipeline.specs.Lowering.{lowering_of}
-use Rattle.lower_pipeline.specs.declared.lower.Lowered.{Lowered}
-use Rattle.lower_pipeline.specs.declared.lower.Lowering.{Lowering}
+use Rattle.lower_pipeline.specs.declared.whole.Lowered.{Lowered}
+use Rattle.lower_pipeline.specs.declared.whole.Lowering.{Lowering}
 use Rattle.plain_meaning.specs.Plain.{PlainGiven, plain_state_at}
 
 -- ---- answers

@@ -18,7 +18,7 @@ use Rattle.ir_printer.specs.Items.{module_text}
 use Rattle.ir_printer.specs.Frames.{frames_text}
 use Rattle.ir_printer.specs.declared.frames.FrameLine.{FrameLine}
 use Rattle.lower_pipeline.specs.Served.{count_by, unserved}
-use Rattle.lower_pipeline.specs.declared.lower.Lowering.{Lowering}
+use Rattle.lower_pipeline.specs.declared.whole.Lowering.{Lowering}
 
 -- the layout of a coroutine whose frame holds the index alone
 abbrev pub layout_of : ℕ → Function → List Layout
@@ -54,7 +54,7 @@ lowered_text m = frames_text (map (frame_line m) (layouts_of m).coroutines) ++ m
 
 abbrev pub lowered_or : Module → Option Place → Lowering
 lowered_or m (Some place) = Lowering.Refused m Rule.X1 place
-lowered_or m None = Lowering.Done (record { text = lowered_text m; module = lowered_module m; source = m; layouts = layouts_of m })
+lowered_or m None = Lowering.Done (record { text = lowered_text m; «module» = lowered_module m; source = m; layouts = layouts_of m })
 
 abbrev pub lowering_of_parsed : Parsed → Lowering
 lowering_of_parsed (Parsed.Syntax items) = Lowering.Syntax items

@@ -163,8 +163,7 @@ impl Homes {
                 self.stays(block, left) && self.stays(block, right)
             }
             Instr::Select { cond, yes, no, .. } => {
-                self.stays(block, cond)
-                    && (self.arg_stays(block, yes) && self.arg_stays(block, no))
+                self.stays(block, cond) && (self.arg_stays(block, yes) && self.arg_stays(block, no))
             }
             Instr::Cast { arg, .. } => self.arg_stays(block, arg),
             Instr::Alloca { .. } => true,

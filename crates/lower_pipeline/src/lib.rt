@@ -2,11 +2,11 @@
 #![tactic(auto)]
 
 mod homes;
-mod lower;
-mod lowering;
+mod passes;
 mod served;
+mod whole;
 
 pub use homes::Homes;
-pub use lower::{Lowered, Lowering, lower, lower_module};
-pub use lowering::{layouts_of, lowered_module};
+pub use passes::{layouts_of, lowered_module};
 pub use served::unserved;
+pub use whole::{Lowered, Lowering, lower, lower_module};

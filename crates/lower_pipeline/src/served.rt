@@ -200,7 +200,12 @@ fn unserved_block(
         return Ok(Some(place));
     }
     let is_fine = serves_term(is_coroutine, homes, at, block);
-    Ok(place_unless(is_fine, func, at, behind(block.phis.len(), block.instrs.len())?))
+    Ok(place_unless(
+        is_fine,
+        func,
+        at,
+        behind(block.phis.len(), block.instrs.len())?,
+    ))
 }
 
 fn unserved_blocks(

@@ -4,7 +4,7 @@ ghost use Rattle.std.specs.Prelude.{◌≡◌, ◌++◌, IfOk, map, slice_get};
 ghost use Rattle.lower_pipeline.specs.Served.{unserved};
 ghost use Rattle.lower_pipeline.specs.Lowering.{name_of, frame_line, lowered_text, lowered_or, lowering_of};
 
-use crate::lowering::{layouts_of, lowered_module};
+use crate::passes::{layouts_of, lowered_module};
 use crate::served::unserved;
 use coro_base::{Data, FuncId, Items, Name, Place, Rule};
 use frame_layout::{Layout, Layouts};
