@@ -22,18 +22,30 @@ fn counts_of_items(rt: HostRuntime) -> Result<(), Fail> {
         ("@", Some(0)),
         ("\"a", Some(0)),
         ("[", Some(0)),
-        ("declare ptr @malloc(i32)\ndeclare void @free(ptr)\ndeclare void @fr", Some(2)),
+        (
+            "declare ptr @malloc(i32)\ndeclare void @free(ptr)\ndeclare void @fr",
+            Some(2),
+        ),
         ("declare void @f() \"a\" = 5", Some(1)),
         ("declare void @f(i32 %\"\")", Some(0)),
         ("@g = global i32 7, align", Some(1)),
         ("@g = external global i32", Some(0)),
         ("@g = global i32 none", Some(0)),
-        ("define void @f() { %a = alloca [-0 x i8] ret void }", Some(0)),
+        (
+            "define void @f() { %a = alloca [-0 x i8] ret void }",
+            Some(0),
+        ),
         ("define i64 @f() { ret i64 18446744073709551616 }", Some(0)),
         ("define i64 @f() { ret i64 18446744073709551615 }", None),
         ("define void @f() { ret void } }", Some(1)),
-        ("define void @f() { ret void b: %p = phi i1 [ 1, %a ], ret void }", Some(0)),
-        ("$c = comdat any\n!0 = distinct !{!\"x\", [1]}\n!1 = !{]}", Some(2)),
+        (
+            "define void @f() { ret void b: %p = phi i1 [ 1, %a ], ret void }",
+            Some(0),
+        ),
+        (
+            "$c = comdat any\n!0 = distinct !{!\"x\", [1]}\n!1 = !{]}",
+            Some(2),
+        ),
     ] {
         assert_eq!(rt; items(&rt, text)?, count, "{text}");
     }

@@ -58,13 +58,7 @@ mod tests {
         match symbol {
             Sym::Label(ident) | Sym::Local(ident) | Sym::Global(ident) => match ident.name() {
                 None => '-',
-                Some(Name::Number(n)) => {
-                    if *n == 7 {
-                        '7'
-                    } else {
-                        'n'
-                    }
-                }
+                Some(Name::Number(n)) => { if *n == 7 { '7' } else { 'n' } }
                 Some(Name::Text(text)) => {
                     if text.as_bytes() == b"a\\41".as_slice() {
                         'q'
@@ -81,13 +75,7 @@ mod tests {
             Sym::Negative(_) => 'm',
             Sym::LongInt => 'l',
             Sym::Str => 's',
-            Sym::Group(digits) => {
-                if digits.len() == 1 {
-                    'g'
-                } else {
-                    'z'
-                }
-            }
+            Sym::Group(digits) => { if digits.len() == 1 { 'g' } else { 'z' } }
             Sym::Meta => '!',
             Sym::Mark(Mark::Comma) => ',',
             Sym::Mark(_) => '*',
@@ -101,7 +89,11 @@ mod tests {
             ("define i128 noundef $a a: 7:", "dow$t7", true),
             ("%007 @\"007\" %\"a\\\\41\" %\"\" @\"\\00\"", "7tq--", true),
             ("%4294967295 %4294967296", "n-", true),
-            ("18446744073709551615 18446744073709551616 -0 -18446744073709551616", "ilml", true),
+            (
+                "18446744073709551615 18446744073709551616 -0 -18446744073709551616",
+                "ilml",
+                true,
+            ),
             ("#00 #01 !a ! \"s\" , = ; end", "zg!!s,*", true),
             ("define \"s", "d", false),
         ] {
