@@ -1,11 +1,11 @@
 -- Extents whose size is cut off.
 use Rattle.std.proofs.Common.{◌≡◌, ℕ, zero, suc, ◌+◌, ◌-◌, ◌*◌, ◌<◌, ◌≤◌, List, [], ◌∷◌, length, drop, get_or, refl, ap, sym, ◌∙◌, arith, Option, Some, None, inl, inr}
-use Rattle.std.specs.Prelude.{option_map, min, slice_get, ◌^◌, ◌⊎◌}
+use Rattle.std.specs.Prelude.{option_map, slice_get, ◌^◌, ◌⊎◌}
 use Rattle.std.specs.Option.{unwrap_or}
 use Rattle.std.proofs.Math.Nat.{suc-mul, zero-mul}
 use Rattle.coro_base.specs.declared.name.Name.{Name}
 use Rattle.ir_model.specs.Layout.{Extent, array_extent, extent_at, extent_in, extent_or, extent_then, fields_extent, field_offset_from, field_type, no_fields, of_type, padded, rounded_up, type_named, with_field, extent_of, align_of, size_of}
-use Rattle.ir_model.specs.Ty.{Ty, Tys, array, field, int, named, none, ptr, structure, to_tys}
+use Rattle.ir_model.specs.Ty.{Ty, Tys, array, field, named, ptr, structure, to_tys}
 use Rattle.ir_model.specs.declared.module.TypeItem.{TypeItem}
 use Rattle.ir_model.specs.declared.module.Module.{Module}
 use Rattle.ordinary_step.specs.Values.{capped, part_at, times}
@@ -20,8 +20,8 @@ times-by : (c s : ℕ) → (s ≤ 2 ^ 64 - 1) ⊎ (2 ^ 64 - 1 ≤ s) → capped 
 times-by zero s h = ap capped (zero-mul (capped s) ∙ sym (zero-mul s))
 times-by (suc k) s h =
     elim h [
-      inl le ↦ let e : capped s ≡ s = omega arith in ap (λ (x : ℕ). capped (suc k * x)) e
-    | inr ge ↦ let e : 2 ^ 64 - 1 ≤ capped s = omega arith in big-times k (capped s) e ∙ sym (big-times k s ge)
+      | inl le ↦ let e : capped s ≡ s = omega arith in ap (λ (x : ℕ). capped (suc k * x)) e
+      | inr ge ↦ let e : 2 ^ 64 - 1 ≤ capped s = omega arith in big-times k (capped s) e ∙ sym (big-times k s ge)
     ]
 
 either : (s m : ℕ) → (s ≤ m) ⊎ (m ≤ s)

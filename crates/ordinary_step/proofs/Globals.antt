@@ -1,5 +1,5 @@
 -- The block of a global.
-use Rattle.std.proofs.Common.{◌≡◌, ℕ, zero, suc, ◌+◌, ◌≤◌, Bool, true, false, List, [], ◌∷◌, ◌++◌, length, take, drop, refl, ap, sym, ◌∙◌, arith, Option, Some, None, Ok, Err}
+use Rattle.std.proofs.Common.{◌≡◌, ℕ, zero, suc, ◌+◌, ◌≤◌, Bool, true, false, List, [], ◌∷◌, ◌++◌, length, drop, refl, ap, sym, ◌∙◌, arith, Option, Some, Ok, Err}
 use Rattle.std.specs.Prelude.{Result, OnOk, IfErr, slice_get, replicate, nat_lt, nat_le, if◌then◌else◌}
 use Rattle.std.proofs.lemmas.Bool.{false≢true, le-leb, le-ltb}
 use Rattle.block_memory.specs.Memory.{access_bytes, encode, fresh, is_constant, owner_rights, range, range_at, seal, sealed, store, unless_constant, with_block, write, written, on_ok}

@@ -1,5 +1,5 @@
 -- The position of a label's block, counted along the blocks.
-use Rattle.std.proofs.Common.{◌≡◌, ℕ, zero, suc, ◌+◌, ◌-◌, ◌<◌, ◌≤◌, subst, Bool, true, false, cond, List, [], ◌∷◌, length, take, drop, get_or, refl, ap, sym, ◌∙◌, arith, Option, Some, None, zero-add, inl, inr}
+use Rattle.std.proofs.Common.{◌≡◌, ℕ, zero, suc, ◌+◌, ◌-◌, ◌<◌, ◌≤◌, subst, Bool, true, false, List, [], ◌∷◌, length, drop, get_or, refl, ap, sym, ◌∙◌, arith, Option, Some, None, zero-add, inl, inr}
 use Rattle.std.proofs.lemmas.Bool.{eqb-true, eq-eqb, false≢true}
 use Rattle.std.proofs.Math.Seq.{drop-cons}
 use Rattle.std.specs.Prelude.{option_map, unwrap_or, slice_get, slice_set, replicate, if◌then◌else◌, ◌==◌, ◌⊎◌}
@@ -81,10 +81,10 @@ positions-set blocks at table b lt e h label block get =
     let next : at + leading label (drop at blocks) ≡ (if b.label == label then at else rest) = leading-drop label blocks at b lt e in
     let one : at + 1 ≡ suc at = omega arith in
     elim (slice_get-set table b.label label at block get) [
-      inl p ↦ p.1 ∙ here (b.label == label) at rest (eq-eqb b.label label (sym p.0)) ∙ sym next
-    | inr q ↦
-        h label block q.0 ∙ ap (λ n. at + 1 + leading label (drop n blocks)) one
-        ∙ there (b.label == label) b.label label rest at refl q.1 ∙ sym next
+      | inl p ↦ p.1 ∙ here (b.label == label) at rest (eq-eqb b.label label (sym p.0)) ∙ sym next
+      | inr q ↦
+          h label block q.0 ∙ ap (λ n. at + 1 + leading label (drop n blocks)) one
+          ∙ there (b.label == label) b.label label rest at refl q.1 ∙ sym next
     ]
 
 pub positions-first : (blocks : List Block) (n : ℕ) → ArePositions blocks (length blocks) (replicate n (length blocks))

@@ -1,7 +1,7 @@
 -- Numbers of a width that a type has.
 use Rattle.std.proofs.Common.{◌≡◌, ℕ, ◌≤◌, ◌<◌, arith, sym, ◌∙◌, subst}
 use Rattle.std.specs.Prelude.{◌^◌}
-use Rattle.ir_ints.specs.Words.{IsNum, IsNumOf, IsWord, AreOfOneWidth}
+use Rattle.ir_ints.specs.Words.{IsNum, IsNumOf, AreOfOneWidth}
 use Rattle.ir_ints.specs.declared.num.Num.{Num}
 use Rattle.ir_ints.specs.declared.num.Num.TheVariants.{Poison, Is}
 use Rattle.ir_model.specs.TypeView.{bits_of}

@@ -1,6 +1,6 @@
 -- Going along the indices of a getelementptr.
-use Rattle.std.proofs.Common.{◌≡◌, ℕ, ◌+◌, ◌-◌, ◌<◌, ◌≤◌, List, [], ◌∷◌, length, take, drop, get_or, map, refl, ap, sym, ◌∙◌, arith, suc, Option, Some, None, Bool, true, false}
-use Rattle.std.specs.Prelude.{min, ◌^◌}
+use Rattle.std.proofs.Common.{◌≡◌, ℕ, ◌+◌, ◌-◌, ◌<◌, ◌≤◌, List, [], ◌∷◌, length, take, drop, get_or, map, refl, ap, sym, ◌∙◌, arith, suc, Option, Some, true}
+use Rattle.std.specs.Prelude.{◌^◌}
 use Rattle.ir_model.specs.Layout.{unnamed}
 use Rattle.ir_model.specs.Ty.{Ty}
 use Rattle.ir_model.specs.declared.instr.Phi.{Phi}
@@ -11,10 +11,9 @@ use Rattle.block_memory.specs.declared.block.MemoryBlock.{MemoryBlock}
 use Rattle.block_memory.specs.declared.pointer.Value.{Value}
 use Rattle.coro_base.specs.declared.cause.Cause.{Cause}
 use Rattle.ordinary_step.specs.Effects.{slot_memory, with_taken}
-use Rattle.ordinary_step.specs.Step.{Action, Context, NewSlot, Stuck, Work, alloca, if_alignment, is_alignment, with_all, with_params}
+use Rattle.ordinary_step.specs.Step.{Context, NewSlot, Stuck, Work, alloca, if_alignment, is_alignment, with_all, with_params}
 use Rattle.ordinary_step.specs.Values.{Env, arg_value, capped, index_of, indices_of, inner_distance, number_at, part_at, plus, pointer_to, with_value}
-use Rattle.ordinary_step.specs.declared.world.Slot.{Slot}
-use Rattle.ordinary_step.proofs.Lists.{drop-next, drop-end, if-true, if-false}
+use Rattle.ordinary_step.proofs.Lists.{drop-next, drop-end, if-true}
 
 pub distance-next : (m : Module) (env : Env) (xs : List Arg) (i : ℕ) (x : Arg) (ty under next : Ty) (d d2 all part index : Option ℕ) → i < length xs → x ≡ get_or xs i x → index ≡ index_of (number_at x.ty (arg_value m env x)) → under ≡ unnamed m ty → part ≡ (part_at m under index).0 → next ≡ (part_at m under index).1 → d2 ≡ plus d part → all ≡ inner_distance m ty d (indices_of m env (drop i xs)) → all ≡ inner_distance m next d2 (indices_of m env (drop (i + 1) xs))
 distance-next m env xs i x ty under next d d2 all part index lt e is u p n s h =

@@ -150,12 +150,12 @@ pub each-more : (functions : List Function) (at : ℕ) (tables next : List (List
 each-more functions at tables next function table lt is len e has h func f t gf gt label block gb =
     let gt' : slice_get (tables ++ table ∷ []) func ≡ Some t = ap (λ (l : List (List ℕ)). slice_get l func) (sym e) ∙ gt in
     elim (slice_get-push tables table func t gt') [
-      inl p ↦
-        let at-is : func ≡ at = p.0 ∙ len in
-        let got : slice_get functions func ≡ Some function = ap (slice_get functions) at-is ∙ slice_get-get_or functions at function lt ∙ ap Some (sym is) in
-        let same : function ≡ f = some-same (sym got ∙ gf) in
-        has.positions label block (ap (λ (l : List ℕ). slice_get l label) (sym p.1) ∙ gb) ∙ ap (λ (g : Function). position_of g label) same
-    | inr q ↦ h func f t gf q label block gb
+      | inl p ↦
+          let at-is : func ≡ at = p.0 ∙ len in
+          let got : slice_get functions func ≡ Some function = ap (slice_get functions) at-is ∙ slice_get-get_or functions at function lt ∙ ap Some (sym is) in
+          let same : function ≡ f = some-same (sym got ∙ gf) in
+          has.positions label block (ap (λ (l : List ℕ). slice_get l label) (sym p.1) ∙ gb) ∙ ap (λ (g : Function). position_of g label) same
+      | inr q ↦ h func f t gf q label block gb
     ]
 
 -- the type of a name, by its position

@@ -33,7 +33,6 @@ use Rattle.ir_model.specs.declared.operand.Callee.{Callee}
 use Rattle.ir_model.specs.declared.operand.Intrinsic.{Intrinsic}
 use Rattle.ir_model.specs.declared.operand.Operand.{Operand}
 use Rattle.ordinary_step.specs.Values.{Env, access_of, address, arg_value, arg_values, distance, element, indices_of, literal, nth, number_at, number_of_width, operand_value, pointer_to, stored, truth_value, value_in, value_of, with_result, with_value}
-use Rattle.ordinary_step.specs.declared.stack.Stack.{Stack}
 use Rattle.ordinary_step.specs.declared.world.Slot.{Slot}
 use Rattle.ordinary_step.specs.declared.world.World.{World}
 use Rattle.std.specs.List.{list_any}

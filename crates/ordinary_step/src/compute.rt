@@ -80,13 +80,7 @@ pub fn choose(condition: Value, yes: Value, no: Value) -> Value
     ensures { result ≡ chosen condition yes no }
 {
     match condition {
-        Value::Int(word) => {
-            if word.bits == 1 {
-                yes
-            } else {
-                no
-            }
-        }
+        Value::Int(word) => { if word.bits == 1 { yes } else { no } }
         _ => Value::Poison,
     }
 }

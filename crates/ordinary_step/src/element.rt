@@ -62,13 +62,7 @@ pub fn moved(memory: &Memory, inbounds: bool, base: Value, distance: Option<u64>
         return Value::Poison;
     };
     match base {
-        Value::Ptr(Pointer::Null) => {
-            if distance == 0 {
-                base
-            } else {
-                Value::Poison
-            }
-        }
+        Value::Ptr(Pointer::Null) => { if distance == 0 { base } else { Value::Poison } }
         Value::Ptr(Pointer::At(block, offset)) => {
             let there = offset.moved(distance);
             if inbounds && !is_within(memory, block, there) {

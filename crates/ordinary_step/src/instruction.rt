@@ -104,9 +104,7 @@ pub fn execute<R: AccessRights>(
             ty,
             left,
             right,
-        } => Ok(binary(
-            program, values, *result, *op, *flags, ty, left, right,
-        )),
+        } => Ok(binary(program, values, *result, *op, *flags, ty, left, right)),
         Instr::Icmp {
             result,
             pred,
@@ -143,9 +141,7 @@ pub fn execute<R: AccessRights>(
             ty,
             address,
             align,
-        } => Ok(load(
-            program, rights, world, values, *result, ty, address, *align,
-        )),
+        } => Ok(load(program, rights, world, values, *result, ty, address, *align)),
         Instr::Store {
             arg,
             address,
@@ -160,7 +156,11 @@ pub fn execute<R: AccessRights>(
         } => {
             let base = program.pointer_in(values, base);
             let distance = program.distance(values, ty, indices.as_slice());
-            Ok(give(values, *result, moved(&world.memory, *inbounds, base, distance)))
+            Ok(give(
+                values,
+                *result,
+                moved(&world.memory, *inbounds, base, distance),
+            ))
         }
         Instr::Call {
             result,

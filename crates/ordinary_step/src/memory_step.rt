@@ -65,7 +65,8 @@ fn is_marker_of(name: ValueId, instr: &Instr) -> bool
     ensures { result ≡ is_marker_of_name name instr.now }
 {
     match instr {
-        Instr::Call { callee, args, .. } => is_lifetime(callee) && have_local(name, args.as_slice()),
+        Instr::Call { callee, args, .. } => is_lifetime(callee)
+            && have_local(name, args.as_slice()),
         _ => false,
     }
 }
@@ -177,7 +178,10 @@ pub fn store<R: AccessRights>(
     }
     let to = to_address(program.pointer_in(values, address));
     let value = to_stored(&arg.ty, program.value_of_arg(values, arg));
-    match world.memory.store_with(rights, to, value, access_of(&arg.ty), align) {
+    match world
+        .memory
+        .store_with(rights, to, value, access_of(&arg.ty), align)
+    {
         Ok(()) => Effect::Done,
         Err(cause) => Effect::Stuck(cause),
     }
@@ -260,9 +264,7 @@ pub fn make_slot(
     ensures kept { OnErr result (work world.new values.new ≡ work world.old values.old) }
 {
     if is_alignment(align) {
-        Ok(Some(new_slot(
-            alloc, program, function, world, values, name, ty, align,
-        )?))
+        Ok(Some(new_slot(alloc, program, function, world, values, name, ty, align)?))
     } else {
         Ok(None)
     }

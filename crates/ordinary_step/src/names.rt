@@ -56,12 +56,7 @@ impl Named for TypeItem {
 }
 
 /// Puts a position beside a name that has none.
-fn note(
-    alloc: Global,
-    table: &mut NameTable,
-    name: &Name,
-    at: usize,
-) -> Result<(), AllocError>
+fn note(alloc: Global, table: &mut NameTable, name: &Name, at: usize) -> Result<(), AllocError>
     ensures { OnOk result ((n : TheName) → get same_name table.new n ≡ or_at (get same_name table.old n) (same_name name.now n) at) }
 {
     match find(table, name) {

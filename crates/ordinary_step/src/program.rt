@@ -149,10 +149,7 @@ impl Program {
 }
 
 /// The tables of all functions.
-fn all_positions(
-    alloc: Global,
-    functions: &[Function],
-) -> Result<Items<Items<BlockId>>, AllocError>
+fn all_positions(alloc: Global, functions: &[Function]) -> Result<Items<Items<BlockId>>, AllocError>
     ensures { IfOk result (λ tables. HaveAllPositions functions.now tables) }
 {
     let mut all = Items::new(alloc);

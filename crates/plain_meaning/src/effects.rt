@@ -156,11 +156,7 @@ fn kill_own_slots(state: &mut PlainState)
 }
 
 /// Puts an activation on top; the one below it goes on at a position.
-fn push(
-    state: &mut PlainState,
-    next: usize,
-    entered: PlainActivation,
-) -> Result<(), AllocError>
+fn push(state: &mut PlainState, next: usize, entered: PlainActivation) -> Result<(), AllocError>
     ensures done { OnOk result (state.new ≡ record state.old { top = entered; below = record state.old.top { at = next } ∷ state.old.below }) }
     ensures kept { OnErr result (state.new ≡ state.old) }
 {

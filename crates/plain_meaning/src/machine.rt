@@ -45,6 +45,13 @@ impl PlainMachine {
         })
     }
 
+    /// The module that runs.
+    pub fn code(&self) -> &Module
+        ensures { result.now ≡ (run_of self.now).given.code }
+    {
+        &self.program.module
+    }
+
     /// One step, and how far the run is then.
     pub fn step(&mut self) -> Result<Progress, AllocError>
         ensures done { OnOk result (run_of self.new ≡ ran 1 (run_of self.old)) }

@@ -1,4 +1,3 @@
-use Rattle.std.proofs.Common.{rules}
 use Rattle.ir_model.specs.TypeView.{bits_of}
 use Rattle.ordinary_step.proofs.Numbers.{is_num, one_width}
 use Rattle.ordinary_step.proofs.compute.compute_at.Goals as goal

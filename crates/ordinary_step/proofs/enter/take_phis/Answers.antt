@@ -1,4 +1,4 @@
-use Rattle.std.proofs.Common.{◌≡◌, ◌∙◌, ap, map}
+use Rattle.std.proofs.Common.{◌∙◌, ap, map}
 use Rattle.block_memory.specs.declared.pointer.Value.{Value}
 use Rattle.ir_model.specs.declared.instr.Phi.{Phi}
 use Rattle.ordinary_step.specs.Effects.{with_taken}

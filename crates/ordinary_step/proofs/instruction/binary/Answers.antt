@@ -1,4 +1,4 @@
-use Rattle.std.proofs.Common.{◌≡◌, ◌∙◌, ap, subst}
+use Rattle.std.proofs.Common.{◌∙◌, ap, subst}
 use Rattle.block_memory.specs.declared.pointer.Value.{Value}
 use Rattle.coro_base.specs.declared.cause.Cause.{Cause}
 use Rattle.ir_ints.specs.Numbers.{binary}
@@ -18,8 +18,8 @@ returns-clause-done c = λ rights f world.
     let right = c.value_of-right.result in
     let a = operand_value m env ty c.args.left.now in
     let e =
-      c.compute-outcome.ensures
-      ∙ ap (λ (v : Value). binary c.args.op c.args.flags (number_at ty v) (number_at ty right)) c.value_of-left.ensures
-      ∙ ap (λ (v : Value). binary c.args.op c.args.flags (number_at ty a) (number_at ty v)) c.value_of-right.ensures in
+    c.compute-outcome.ensures
+    ∙ ap (λ (v : Value). binary c.args.op c.args.flags (number_at ty v) (number_at ty right)) c.value_of-left.ensures
+    ∙ ap (λ (v : Value). binary c.args.op c.args.flags (number_at ty a) (number_at ty v)) c.value_of-right.ensures in
     let P : Result Num Cause → Type 0 = λ r. IsEffect c.settle_number.result (work world env) (work world c.settle_number.new.values) (done (λ n. set_value (work world env) c.args.name (value_of n)) r) in
     subst P e (c.settle_number.ensures.done world)

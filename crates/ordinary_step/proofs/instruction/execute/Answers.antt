@@ -1,4 +1,3 @@
-use Rattle.std.proofs.Common.{◌≡◌}
 use Rattle.ordinary_step.proofs.instruction.execute.Goals as goal
 
 pub returns-in-Binary-clause-done : goal.returns-in-Binary-clause-done

@@ -1,5 +1,4 @@
-use Rattle.std.proofs.Common.{◌≡◌, arith, ℕ, List, subst, sym, length}
-use Rattle.std.specs.Prelude.{replicate}
+use Rattle.std.proofs.Common.{◌≡◌, arith, subst, sym, length}
 use Rattle.ordinary_step.proofs.LabelPositions.{ArePositions, positions-step, positions-none, positions-first}
 use Rattle.ordinary_step.proofs.labels.positions_of.Goals as goal
 

@@ -7,7 +7,7 @@ abbrev pub invariant-loop-at : goal.invariant-loop-at
 invariant-loop-at l =
     record {
       within : l.at ≤ length l.blocks;
-      positions : (label block : ℕ) → slice_get l.table label ≡ Some block → block ≡ l.at + leading label (drop l.at l.blocks)
+      positions : (label block : ℕ) → slice_get l.table label ≡ Some block → block ≡ l.at + leading label (drop l.at l.blocks);
     }
 
 abbrev pub decreases-loop-at : goal.decreases-loop-at

@@ -1,4 +1,4 @@
-use Rattle.std.proofs.Common.{◌≡◌, arith}
+use Rattle.std.proofs.Common.{arith}
 use Rattle.ordinary_step.proofs.LabelPositions.{found-at, found-nowhere}
 use Rattle.ordinary_step.proofs.labels.search.Goals as goal
 

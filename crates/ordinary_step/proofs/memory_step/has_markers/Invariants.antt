@@ -1,6 +1,5 @@
 use Rattle.std.proofs.Common.{◌≡◌, drop}
 use Rattle.std.specs.List.{list_any}
-use Rattle.ir_model.specs.Names.{is_local}
 use Rattle.ordinary_step.specs.Step.{is_marker_of}
 use Rattle.ordinary_step.proofs.memory_step.has_markers.Given as goal
 

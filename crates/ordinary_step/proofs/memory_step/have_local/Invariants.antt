@@ -1,7 +1,6 @@
 use Rattle.std.proofs.Common.{◌≡◌, drop}
 use Rattle.std.specs.List.{list_any}
 use Rattle.ir_model.specs.Names.{is_local}
-use Rattle.ordinary_step.specs.Step.{is_marker_of}
 use Rattle.ordinary_step.proofs.memory_step.have_local.Given as goal
 
 abbrev pub invariant-loop-arg : goal.invariant-loop-arg

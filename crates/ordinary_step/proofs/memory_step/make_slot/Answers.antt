@@ -1,4 +1,4 @@
-use Rattle.std.proofs.Common.{◌≡◌, ◌∙◌, sym}
+use Rattle.std.proofs.Common.{◌∙◌, sym}
 use Rattle.coro_base.specs.declared.cause.Cause.{Cause}
 use Rattle.ordinary_step.specs.Step.{Stuck, is_alignment}
 use Rattle.ordinary_step.proofs.Lists.{if-false}

@@ -1,5 +1,4 @@
-use Rattle.std.proofs.Common.{◌≡◌, ◌∙◌, ap, Some}
-use Rattle.block_memory.specs.Memory.{Rights}
+use Rattle.std.proofs.Common.{◌∙◌, ap}
 use Rattle.ir_model.specs.Layout.{size_of}
 use Rattle.ordinary_step.specs.Effects.{context, work}
 use Rattle.ordinary_step.specs.Values.{with_value}

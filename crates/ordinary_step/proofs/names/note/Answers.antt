@@ -1,4 +1,4 @@
-use Rattle.std.proofs.Common.{rules, ◌≡◌, ◌∙◌, ap, sym, ℕ, Bool, cond, Option, Some, None}
+use Rattle.std.proofs.Common.{◌∙◌, ap, sym, ℕ, Bool, cond, Option, Some}
 use Rattle.coro_base.specs.declared.name.Name.{Name}
 use Rattle.indexmap.specs.IndexMap.{get}
 use Rattle.std.specs.Map.{lookup}
@@ -8,7 +8,7 @@ use Rattle.ordinary_step.proofs.Tables.{new-position, old-position, lookup-is, e
 use Rattle.ordinary_step.proofs.names.note.Goals as goal
 
 pub returns-in_ok-insert-in-None : goal.returns-in_ok-insert-in-None
-returns-in_ok-insert-in-None c = λ n. 
+returns-in_ok-insert-in-None c = λ n.
     let f : Name → Option ℕ = λ k. get same_name c.args.table.now k in
     let key = c.in_ok-copied-in-None.field-0 in
     sym (lookup-is n c.insert.new.self.entries)

@@ -1,7 +1,3 @@
-use Rattle.std.proofs.Common.{◌≡◌, ◌∙◌, ap, sym, take, ℕ, Bool, Option}
-use Rattle.coro_base.specs.declared.name.Name.{Name}
-use Rattle.ir_model.specs.Names.{first_where, same_name}
-use Rattle.ordinary_step.specs.Tables.{or_at}
 use Rattle.ordinary_step.proofs.Tables.{first_where-next}
 use Rattle.ordinary_step.proofs.names.table_of.Goals as goal
 

@@ -1,5 +1,3 @@
-use Rattle.std.proofs.Common.{◌≡◌, arith, sym}
-use Rattle.ordinary_step.proofs.Tables.{HasEach, each-more}
 use Rattle.ordinary_step.proofs.program.all_positions.Goals as goal
 
 pub returns : goal.returns

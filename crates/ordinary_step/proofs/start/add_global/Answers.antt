@@ -1,4 +1,4 @@
-use Rattle.std.proofs.Common.{◌≡◌, ◌∙◌, ap, sym, Bool, ◌++◌, ◌∷◌, []}
+use Rattle.std.proofs.Common.{◌∙◌, ap, sym, Bool, ◌++◌, ◌∷◌, []}
 use Rattle.std.specs.Prelude.{if◌then◌else◌}
 use Rattle.block_memory.specs.Memory.{access_bytes, encode, fresh}
 use Rattle.block_memory.specs.declared.block.Kind.{Kind}

@@ -1,4 +1,4 @@
-use Rattle.std.proofs.Common.{◌≡◌, ◌∙◌, ap, subst}
+use Rattle.std.proofs.Common.{◌∙◌, ap, subst}
 use Rattle.block_memory.specs.declared.pointer.Value.{Value}
 use Rattle.ordinary_step.specs.Effects.{IsEffect, work}
 use Rattle.ordinary_step.specs.Step.{Action, branch, switch}
@@ -18,6 +18,6 @@ returns-in-Switch-clause-done c = λ rights f world.
     let m = c.args.program.now.module in
     let P : Action → Type 0 = λ a. IsEffect c.switch.result w w a in
     let e =
-      ap (λ (v : Value). switch m v c.in-Switch.default c.as_slice.result.now) c.value_of_arg.ensures
-      ∙ ap (λ l. switch m (arg_value m c.args.values.now c.in-Switch.arg) c.in-Switch.default l) c.as_slice.ensures in
+    ap (λ (v : Value). switch m v c.in-Switch.default c.as_slice.result.now) c.value_of_arg.ensures
+    ∙ ap (λ l. switch m (arg_value m c.args.values.now c.in-Switch.arg) c.in-Switch.default l) c.as_slice.ensures in
     rw c.in-Switch.is (subst P e (c.switch.ensures.done w))

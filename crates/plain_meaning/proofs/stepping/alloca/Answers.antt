@@ -21,9 +21,9 @@ returns-in-Some-clause-done c =
     let P : Option Slot → Type 0 = λ o. IfSome o (λ x. x ≡ record { alloca = c.args.name; block = length s.world.memory }) in
     let x = c.in-Some.field-0 in
     slot-placed g s w (f (plain_function g s)) x c.args.next c.len.result c.args.name c.push.new.self
-      (ap f (sym c.requires.own) ∙ c.in-Ok-made.ensures.done owner_rights ∙ ap (λ o. slot_action o w) c.in-Some.is)
-      (subst P c.in-Some.is c.in-Ok-made.ensures.slot)
-      c.in-Ok.ensures.ok c.len.ensures c.requires.behind
+    (ap f (sym c.requires.own) ∙ c.in-Ok-made.ensures.done owner_rights ∙ ap (λ o. slot_action o w) c.in-Some.is)
+    (subst P c.in-Some.is c.in-Ok-made.ensures.slot)
+    c.in-Ok.ensures.ok c.len.ensures c.requires.behind
 
 pub returns-in-None-clause-refused : goal.returns-in-None-clause-refused
 returns-in-None-clause-refused c =

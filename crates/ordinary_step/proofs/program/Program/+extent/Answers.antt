@@ -1,4 +1,4 @@
-use Rattle.std.proofs.Common.{◌≡◌, ◌∙◌, ap, sym, refl, ◌-◌, arith}
+use Rattle.std.proofs.Common.{◌≡◌, ◌∙◌, ap, sym, refl, ◌-◌}
 use Rattle.ir_model.specs.Layout.{extent_at, extent_in, fields_extent, no_fields}
 use Rattle.ir_model.specs.Ty.{structure, named, to_tys}
 use Rattle.ir_model.specs.TypeView.{ty_of}

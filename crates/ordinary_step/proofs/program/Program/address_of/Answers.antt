@@ -1,4 +1,4 @@
-use Rattle.std.proofs.Common.{◌≡◌, arith, sym, ap, ◌<◌, length, List}
+use Rattle.std.proofs.Common.{arith, ap, ◌<◌, length}
 use Rattle.ordinary_step.proofs.Tables.{first_where-within}
 use Rattle.ordinary_step.proofs.program.Program.address_of.Goals as goal
 

@@ -1,4 +1,4 @@
-use Rattle.std.proofs.Common.{◌≡◌, refl, arith}
+use Rattle.std.proofs.Common.{refl, arith}
 use Rattle.ir_model.specs.Layout.{extent_of, extent_or, field_offset, no_fields, with_field}
 use Rattle.ir_model.specs.Ty.{to_tys}
 use Rattle.ordinary_step.proofs.Extents.{offset-here, offset-next, offset-last}

@@ -10,5 +10,5 @@ invariant-loop-field l =
     record {
       e : Extent;
       is : l.extent ≡ capped_extent e;
-      rest : field_offset l.self.module (to_tys l.fields) l.i ≡ field_offset_from l.self.module e (to_tys (drop l.field-index l.fields)) l.left
+      rest : field_offset l.self.module (to_tys l.fields) l.i ≡ field_offset_from l.self.module e (to_tys (drop l.field-index l.fields)) l.left;
     }

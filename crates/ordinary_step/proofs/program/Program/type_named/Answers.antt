@@ -1,4 +1,4 @@
-use Rattle.std.proofs.Common.{◌≡◌, ◌∙◌, sym}
+use Rattle.std.proofs.Common.{◌∙◌, sym}
 use Rattle.ordinary_step.proofs.Tables.{type_named-none, type_named-some, type_named-there}
 use Rattle.ordinary_step.proofs.program.Program.type_named.Goals as goal
 

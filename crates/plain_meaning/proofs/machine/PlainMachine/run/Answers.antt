@@ -11,7 +11,7 @@ returns-clause-seen c = λ g entry args k h.
     let is = ap (λ (r : PlainRun). r.given) h in
     let at = ap (λ (r : PlainRun). r.state) h in
     ap (λ (s : PlainState). s.outcome)
-      (c.in_ok-run_state.ensures.done
-      ∙ ap (λ (x : PlainGiven). iterate (plain_step x) c.args.n c.args.self.now.state) is
-      ∙ ap (λ (s : PlainState). iterate (plain_step g) c.args.n s) at
-      ∙ iterate-more (plain_step g) k c.args.n (plain_first g.code entry args))
+    (c.in_ok-run_state.ensures.done
+    ∙ ap (λ (x : PlainGiven). iterate (plain_step x) c.args.n c.args.self.now.state) is
+    ∙ ap (λ (s : PlainState). iterate (plain_step g) c.args.n s) at
+    ∙ iterate-more (plain_step g) k c.args.n (plain_first g.code entry args))
