@@ -73,13 +73,6 @@ impl PlainMachine {
         Ok(self.state.outcome)
     }
 
-    /// The module that runs.
-    pub fn code(&self) -> &Module
-        ensures { result.now ≡ self.now.given.code }
-    {
-        &self.program.module
-    }
-
     /// The events so far, by the positions of the declared functions.
     pub fn events(&self) -> &[Event]
         ensures events { result.now ≡ self.now.state.world.events }
