@@ -1,6 +1,5 @@
 -- Reading and changing the state of a run.
 use Rattle.std.specs.Prelude.{ℕ, suc, Bool, true, false, List, [], ℤ, slice_get, slice_set, Some, None, Ok, Err, Option, Result, unwrap_or, option_map, option_and_then, ◌+◌, ◌&&◌, ◌∷◌, if◌then◌else◌, ◌==◌}
-use Rattle.block_memory.specs.Memory.{start}
 use Rattle.block_memory.specs.Pointers.{offset_of}
 use Rattle.block_memory.specs.declared.block.MemoryBlock.{MemoryBlock}
 use Rattle.block_memory.specs.declared.pointer.Pointer.{Pointer}

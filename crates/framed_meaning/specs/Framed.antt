@@ -1,6 +1,6 @@
 -- The meaning of a framed module: the source meaning, except for what stands here.
 use Rattle.std.specs.Prelude.{ℕ, zero, suc, Bool, true, false, not, List, [], map, length, replicate, ℤ, is_none, nat_lt, nat_le, slice_get, Some, None, Ok, Err, find, Option, Result, unwrap_or, option_map, option_and_then, ◌+◌, ◌-◌, ◌%◌, ◌&&◌, ◌||◌, ◌∷◌, if◌then◌else◌, ◌==◌}
-use Rattle.block_memory.specs.Memory.{Rights, disown, meets, same_kind, start}
+use Rattle.block_memory.specs.Memory.{Rights, disown, meets, same_kind}
 use Rattle.block_memory.specs.declared.block.Kind.{Kind}
 use Rattle.block_memory.specs.declared.block.MemoryBlock.{MemoryBlock}
 use Rattle.block_memory.specs.declared.pointer.Pointer.{Pointer}
@@ -36,7 +36,6 @@ use Rattle.ordinary_step.specs.Results.{and_then, found, ok_if}
 use Rattle.ordinary_step.specs.Runs.{Seen, iterate, seen_of}
 use Rattle.ordinary_step.specs.Step.{Action, AtInstr, Context, Coro, Fetched, NewSlot, action_of, fetch}
 use Rattle.ordinary_step.specs.Values.{Env, arg_values, nth, pointer_to, truth_value, with_result}
-use Rattle.ordinary_step.specs.declared.stack.Stack.{Stack}
 use Rattle.ordinary_step.specs.declared.world.Slot.{Slot}
 use Rattle.std.specs.List.{list_all, list_any}
 use Rattle.std.specs.Option.{option_map_or}

@@ -1,11 +1,8 @@
 -- A ramp is given a frame on its caller's stack.
 use Rattle.std.specs.Prelude.{true, false, [], pos, Some, None, codes, refl, ◌≡◌, ◌∷◌}
-use Rattle.block_memory.specs.Memory.{end, start}
-use Rattle.block_memory.specs.declared.pointer.Value.{Value}
 use Rattle.coro_base.specs.declared.name.Name.{Name}
 use Rattle.coro_base.specs.declared.ops.BinOp.{BinOp}
 use Rattle.coro_base.specs.declared.outcome.Outcome.{Outcome}
-use Rattle.coro_base.specs.declared.text.Text.{Text}
 use Rattle.frame_layout.specs.declared.layout.FieldKind.{FieldKind}
 use Rattle.framed_meaning.specs.Framed.{FramedAt}
 use Rattle.ir_model.specs.Ty.{array, int, ptr, token}

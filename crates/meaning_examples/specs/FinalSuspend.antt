@@ -1,9 +1,7 @@
 -- At its final suspend a coroutine is done.
 use Rattle.std.specs.Prelude.{true, false, [], pos, Some, None, codes, refl, ◌≡◌, ◌∷◌}
-use Rattle.block_memory.specs.Memory.{end}
 use Rattle.coro_base.specs.declared.name.Name.{Name}
 use Rattle.coro_base.specs.declared.outcome.Outcome.{Outcome}
-use Rattle.coro_base.specs.declared.text.Text.{Text}
 use Rattle.coro_meaning.specs.Source.{SourceAt}
 use Rattle.ir_model.specs.Ty.{int, ptr, token}
 use Rattle.ir_model.specs.declared.instr.Instr.{Instr}

@@ -1,12 +1,9 @@
 -- The program's own touch of a frame's index is undefined, owned.
 use Rattle.std.specs.Prelude.{true, false, [], pos, Some, None, codes, refl, ◌≡◌, ◌∷◌}
-use Rattle.block_memory.specs.Memory.{end}
-use Rattle.block_memory.specs.declared.pointer.Value.{Value}
 use Rattle.coro_base.specs.declared.cause.Cause.{Cause}
 use Rattle.coro_base.specs.declared.name.Name.{Name}
 use Rattle.coro_base.specs.declared.ops.BinOp.{BinOp}
 use Rattle.coro_base.specs.declared.outcome.Outcome.{Outcome}
-use Rattle.coro_base.specs.declared.text.Text.{Text}
 use Rattle.frame_layout.specs.declared.layout.FieldKind.{FieldKind}
 use Rattle.framed_meaning.specs.Framed.{FramedAt}
 use Rattle.ir_model.specs.Ty.{int, ptr, token}

@@ -3,7 +3,6 @@ use Rattle.std.specs.Prelude.{false, [], pos, Some, None, codes, refl, ◌≡◌
 use Rattle.coro_base.specs.declared.cause.Cause.{Cause}
 use Rattle.coro_base.specs.declared.name.Name.{Name}
 use Rattle.coro_base.specs.declared.outcome.Outcome.{Outcome}
-use Rattle.coro_base.specs.declared.text.Text.{Text}
 use Rattle.ir_model.specs.Ty.{int, ptr}
 use Rattle.ir_model.specs.declared.instr.Instr.{Instr}
 use Rattle.ir_model.specs.declared.instr.Terminator.{Terminator}
