@@ -1,0 +1,15 @@
+pub mod FirstRun
+pub mod FirstRunDestroyedTwice
+pub mod CountingLoop
+pub mod FinalSuspend
+pub mod LeftWindow
+pub mod Promise
+pub mod ResumedInWindow
+pub mod TwoInstances
+pub mod ConstantStore
+pub mod FirstRunLowered
+pub mod ElidedLowered
+pub mod WrongTypeLowered
+pub mod CountingLoopFramed
+pub mod IndexTouchedFramed
+pub mod ElidedFramed

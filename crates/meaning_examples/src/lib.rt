@@ -1,0 +1,2 @@
+//! Runs of worked modules, computed by the check to their exact events, outcomes and counts of allocator calls.
+#![tactic(auto)]
