@@ -18,5 +18,8 @@ the_module = record { types = []; globals = (record { name = (Name.Text (codes "
 abbrev pub expected : Seen
 expected = record { events = (record { name = Name.Text (codes "print"); args = (record { width = 32; bits = 7 } ∷ []) } ∷ []); outcome = (Outcome.Undefined Cause.Constant (record { item = 0; block = Some 0; instr = Some 2 })); allocs = 0 }
 
-pub computes : SourceAt the_module [] 0 [] [] 20 ≡ expected
+abbrev pub Computes : Type 0
+Computes = SourceAt the_module [] 0 [] [] 20 ≡ expected
+
+pub computes : Computes
 computes = refl

@@ -17,5 +17,8 @@ the_module = record { types = []; globals = []; declarations = (record { name = 
 abbrev pub expected : Seen
 expected = record { events = (record { name = Name.Text (codes "print"); args = (record { width = 32; bits = 1 } ∷ []) } ∷ record { name = Name.Text (codes "print"); args = (record { width = 32; bits = 2 } ∷ []) } ∷ []); outcome = (Outcome.Returned (Some (record { width = 32; bits = 0 }))); allocs = 0 }
 
-pub computes : PlainAt the_module 4 [] [] 150 ≡ expected
+abbrev pub Computes : Type 0
+Computes = PlainAt the_module 4 [] [] 150 ≡ expected
+
+pub computes : Computes
 computes = refl

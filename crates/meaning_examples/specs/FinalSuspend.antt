@@ -19,5 +19,8 @@ the_module = record { types = []; globals = []; declarations = (record { name = 
 abbrev pub expected : Seen
 expected = record { events = (record { name = Name.Text (codes "print"); args = (record { width = 32; bits = 1 } ∷ []) } ∷ record { name = Name.Text (codes "flag"); args = (record { width = 1; bits = 0 } ∷ []) } ∷ record { name = Name.Text (codes "print"); args = (record { width = 32; bits = 2 } ∷ []) } ∷ record { name = Name.Text (codes "flag"); args = (record { width = 1; bits = 1 } ∷ []) } ∷ []); outcome = (Outcome.Returned (Some (record { width = 32; bits = 0 }))); allocs = 1 }
 
-pub computes : SourceAt the_module (record { coroutine = 0; size = 24; align = 8 } ∷ []) 1 [] [] 100 ≡ expected
+abbrev pub Computes : Type 0
+Computes = SourceAt the_module (record { coroutine = 0; size = 24; align = 8 } ∷ []) 1 [] [] 100 ≡ expected
+
+pub computes : Computes
 computes = refl

@@ -20,5 +20,8 @@ the_module = record { types = []; globals = []; declarations = (record { name = 
 abbrev pub expected : Seen
 expected = record { events = (record { name = Name.Text (codes "print"); args = (record { width = 32; bits = 1 } ∷ []) } ∷ []); outcome = (Outcome.Undefined Cause.State (record { item = 1; block = Some 0; instr = Some 2 })); allocs = 1 }
 
-pub computes : SourceAt the_module (record { coroutine = 0; size = 24; align = 8 } ∷ []) 1 [] [] 60 ≡ expected
+abbrev pub Computes : Type 0
+Computes = SourceAt the_module (record { coroutine = 0; size = 24; align = 8 } ∷ []) 1 [] [] 60 ≡ expected
+
+pub computes : Computes
 computes = refl

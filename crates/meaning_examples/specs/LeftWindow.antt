@@ -20,5 +20,8 @@ the_module = record { types = []; globals = []; declarations = (record { name = 
 abbrev pub expected : Seen
 expected = record { events = (record { name = Name.Text (codes "pick"); args = [] } ∷ record { name = Name.Text (codes "print"); args = (record { width = 32; bits = 2 } ∷ []) } ∷ []); outcome = (Outcome.Returned (Some (record { width = 32; bits = 0 }))); allocs = 1 }
 
-pub computes : SourceAt the_module (record { coroutine = 1; size = 24; align = 8 } ∷ []) 2 [] ((pos 0) ∷ []) 100 ≡ expected
+abbrev pub Computes : Type 0
+Computes = SourceAt the_module (record { coroutine = 1; size = 24; align = 8 } ∷ []) 2 [] ((pos 0) ∷ []) 100 ≡ expected
+
+pub computes : Computes
 computes = refl

@@ -21,5 +21,8 @@ the_module = record { types = []; globals = []; declarations = (record { name = 
 abbrev pub expected : Seen
 expected = record { events = (record { name = Name.Text (codes "print"); args = (record { width = 32; bits = 10 } ∷ []) } ∷ record { name = Name.Text (codes "print"); args = (record { width = 32; bits = 20 } ∷ []) } ∷ record { name = Name.Text (codes "pick"); args = [] } ∷ record { name = Name.Text (codes "print"); args = (record { width = 32; bits = 21 } ∷ []) } ∷ record { name = Name.Text (codes "pick"); args = [] } ∷ record { name = Name.Text (codes "print"); args = (record { width = 32; bits = 11 } ∷ []) } ∷ record { name = Name.Text (codes "pick"); args = [] } ∷ record { name = Name.Text (codes "print"); args = (record { width = 32; bits = 12 } ∷ []) } ∷ record { name = Name.Text (codes "pick"); args = [] } ∷ record { name = Name.Text (codes "print"); args = (record { width = 32; bits = 22 } ∷ []) } ∷ record { name = Name.Text (codes "pick"); args = [] } ∷ record { name = Name.Text (codes "print"); args = (record { width = 32; bits = 23 } ∷ []) } ∷ []); outcome = (Outcome.Returned (Some (record { width = 32; bits = 0 }))); allocs = 2 }
 
-pub computes : SourceAt the_module (record { coroutine = 0; size = 24; align = 8 } ∷ []) 1 [] ((pos 1) ∷ (pos 0) ∷ (pos 0) ∷ (pos 1) ∷ (pos 1) ∷ []) 200 ≡ expected
+abbrev pub Computes : Type 0
+Computes = SourceAt the_module (record { coroutine = 0; size = 24; align = 8 } ∷ []) 1 [] ((pos 1) ∷ (pos 0) ∷ (pos 0) ∷ (pos 1) ∷ (pos 1) ∷ []) 200 ≡ expected
+
+pub computes : Computes
 computes = refl

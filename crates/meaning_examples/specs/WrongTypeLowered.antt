@@ -18,5 +18,8 @@ the_module = record { types = []; globals = []; declarations = []; functions = (
 abbrev pub expected : Seen
 expected = record { events = []; outcome = (Outcome.Undefined Cause.Call (record { item = 1; block = Some 0; instr = Some 4 })); allocs = 0 }
 
-pub computes : PlainAt the_module 1 [] [] 50 ≡ expected
+abbrev pub Computes : Type 0
+Computes = PlainAt the_module 1 [] [] 50 ≡ expected
+
+pub computes : Computes
 computes = refl
