@@ -1,3 +1,2 @@
-pub mod ListTurns
-pub mod ParamSteps
 pub mod ItemSteps
+pub mod ParamSteps
