@@ -5,3 +5,4 @@ pub mod AssignedRead
 pub mod CallsRead
 pub mod InstrsRead
 pub mod TerminatorsRead
+pub mod BlocksRead

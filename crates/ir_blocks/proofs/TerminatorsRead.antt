@@ -112,7 +112,7 @@ phi_found ns (syms.Local n ∷ syms.Mark marks.Equals ∷ syms.Word words.Phi �
     (λ r h. incomings_found r.0 r.1 ts (ns, syms.Local n ∷ syms.Mark marks.Equals ∷ syms.Word words.Phi ∷ ts) (named_phrase ns n (syms.Word words.Phi ∷ ts) r h.0 h.1 h.2))
 phi_found ns _ = tt
 
-named_word : (r : ℕ) (w : Word) (s m : Locals) (ts : List Sym) → (h : IsNamed r s m) → m.1 ≡ syms.Word w ∷ ts → s.1 ≡ syms.Local (Some h.1.0) ∷ syms.Mark marks.Equals ∷ syms.Word w ∷ ts
+pub named_word : (r : ℕ) (w : Word) (s m : Locals) (ts : List Sym) → (h : IsNamed r s m) → m.1 ≡ syms.Word w ∷ ts → s.1 ≡ syms.Local (Some h.1.0) ∷ syms.Mark marks.Equals ∷ syms.Word w ∷ ts
 named_word r w s m ts h e = h.1.1 ∙ ap (λ (l : List Sym). syms.Local (Some h.1.0) ∷ l) (h.2.1 ∙ ap (λ (l : List Sym). syms.Mark marks.Equals ∷ l) e)
 
 phi_step : (r : ℕ) (s m : Locals) (ts : List Sym) → IsNamed r s m → m.1 ≡ syms.Word words.Phi ∷ ts → phi_line_at s.0 s.1 ≡ incomings_at r m.0 ts
@@ -238,26 +238,26 @@ by_value (array n t) ns ts rest h = rw h.1 refl
 by_value (structure fs) ns ts rest h = rw h.1 refl
 by_value (named n) ns ts rest h = rw h refl
 
-word_step : (t : Terminator) (ns : List Name) (w : Word) (ts us : List Sym) (o : Option (Terminator × List Name × List Sym)) (end : Locals) → ts ≡ syms.Word w ∷ us → ended_at w ns us ≡ Some (t, end.0, end.1) → terminator_at ns ts ≡ Some (t, end.0, behind_metadata end.1)
+word_step : (t : Terminator) (ns : List Name) (w : Word) (ts us : List Sym) (end : Locals) → ts ≡ syms.Word w ∷ us → ended_at w ns us ≡ Some (t, end.0, end.1) → terminator_at ns ts ≡ Some (t, end.0, behind_metadata end.1)
 unfolding terminator_at
-word_step t ns w ts us o end e k = ap (terminator_at ns) e ∙ bind_again (ended_at w ns us) (t, end.0, end.1) _ _ k refl
+word_step t ns w ts us end e k = ap (terminator_at ns) e ∙ bind_again (ended_at w ns us) (t, end.0, end.1) _ _ k refl
 
 bare_again : (t : Terminator) (s end : Locals) → IsTerminator t s end → terminator_at s.0 s.1 ≡ Some (t, end.0, behind_metadata end.1)
 unfolding br_at ret_at
 bare_again (terms.Jump l) s end (m, (e, w), h) =
-    word_step (terms.Jump l) s.0 words.Br s.1 m.1 None end w
+    word_step (terms.Jump l) s.0 words.Br s.1 m.1 end w
     (ap (λ ns. br_at ns m.1) e ∙ by_jump l m end h ∙ bind_again (target_at m.0 m.1) (l, end.0, end.1) _ _ (target_again l m end h) refl)
 bare_again (terms.Branch c x y) s end (m, (e, (u, w, v)), h) =
-    word_step (terms.Branch c x y) s.0 words.Br s.1 u None end w (ap (br_at s.0) v ∙ ap (λ ns. branch_at ns m.1) e ∙ branch_again c x y m end h)
+    word_step (terms.Branch c x y) s.0 words.Br s.1 u end w (ap (br_at s.0) v ∙ ap (λ ns. branch_at ns m.1) e ∙ branch_again c x y m end h)
 bare_again (terms.Switch a l cases) s end (m, (e, w), h) =
-    word_step (terms.Switch a l cases) s.0 words.Switch s.1 m.1 None end w (ap (λ ns. switch_at ns m.1) e ∙ switch_again a l cases m end h)
+    word_step (terms.Switch a l cases) s.0 words.Switch s.1 m.1 end w (ap (λ ns. switch_at ns m.1) e ∙ switch_again a l cases m end h)
 bare_again (terms.Ret None) s end (e, (u, w, v)) =
-    word_step (terms.Ret None) s.0 words.Ret s.1 u None end w (ap (ret_at s.0) v ∙ ap (λ (l : List Name). Some (terms.Ret None, l, end.1)) e)
+    word_step (terms.Ret None) s.0 words.Ret s.1 u end w (ap (ret_at s.0) v ∙ ap (λ (l : List Name). Some (terms.Ret None, l, end.1)) e)
 bare_again (terms.Ret (Some a)) s end (m, (e, w), h) =
-    word_step (terms.Ret (Some a)) s.0 words.Ret s.1 m.1 None end w
+    word_step (terms.Ret (Some a)) s.0 words.Ret s.1 m.1 end w
     (ap (λ ns. ret_at ns m.1) e ∙ by_value a.ty m.0 m.1 h.0.1 h.1.1 ∙ bind_again (typed_at m.0 m.1) (a, end.0, end.1) _ _ (typed_again a m end h) refl)
 bare_again terms.Unreachable s end (e, w) =
-    word_step terms.Unreachable s.0 words.Unreachable s.1 end.1 None end w (ap (λ (l : List Name). Some (terms.Unreachable, l, end.1)) e)
+    word_step terms.Unreachable s.0 words.Unreachable s.1 end.1 end w (ap (λ (l : List Name). Some (terms.Unreachable, l, end.1)) e)
 
 pub terminator_again : (t : Terminator) (s end : Locals) → Ended t s end → EndsLine end.1 → terminator_at s.0 s.1 ≡ Some (t, end.0, end.1)
 terminator_again t s end h ends =

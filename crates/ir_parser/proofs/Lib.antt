@@ -1,2 +1,5 @@
 pub mod ItemSteps
 pub mod ParamSteps
+pub mod FunctionsRead
+pub mod Retyped
+pub mod ItemsRead
