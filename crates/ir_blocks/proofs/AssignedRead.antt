@@ -1,5 +1,5 @@
 -- Instructions behind their names, calls apart: what is read is of the grammar, and what is of the grammar is read.
-use Rattle.std.proofs.Common.{◌≡◌, ℕ, Bool, true, false, List, [], ◌∷◌, Option, None, refl, sym, ap, subst, ◌∙◌, inl, inr}
+use Rattle.std.proofs.Common.{◌≡◌, ℕ, Bool, true, false, List, [], ◌∷◌, Option, None, refl, sym, ap, ◌∙◌, inl, inr}
 use Rattle.std.specs.Prelude.{Some, IfSome}
 use Rattle.coro_base.specs.declared.name.Name.{Name}
 use Rattle.coro_base.specs.declared.ops.BinOp.{BinOp}
@@ -17,11 +17,10 @@ use Rattle.ir_symbols.specs.declared.sym.Mark.TheVariants as marks
 use Rattle.ir_symbols.specs.declared.sym.Sym.{Sym}
 use Rattle.ir_symbols.specs.declared.sym.Sym.TheVariants as syms
 use Rattle.ir_symbols.specs.declared.word.Word.TheVariants as words
-use Rattle.type_alignments.specs.Alignment.{align_in}
-use Rattle.ir_grammar.specs.Phrases.{Locals, Phrase, Naming, ◌⨾◌, each, some, these, word, flag, plain, comma, behind_comma}
+use Rattle.ir_grammar.specs.Phrases.{Locals, Phrase, ◌⨾◌, each, some, word, flag, plain, comma, behind_comma}
 use Rattle.ir_grammar.specs.Types.{IsType}
 use Rattle.ir_grammar.specs.Values.{IsValue, IsTyped, IsAddress, IsAligned}
-use Rattle.ir_grammar.specs.Instructions.{AreFlags, IsOperation, IsCast, IsNamed, IsInstr}
+use Rattle.ir_grammar.specs.Instructions.{AreFlags, IsCast, IsNamed, IsInstr}
 use Rattle.ir_grammar.proofs.Takes.{takes_keeps, left, behind_comma_takes, typed_takes}
 use Rattle.ir_reader.specs.Many.{after, many_at}
 use Rattle.ir_reader.specs.Reading.{◌>>=◌, mark_at}

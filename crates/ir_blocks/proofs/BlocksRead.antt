@@ -19,7 +19,7 @@ use Rattle.ir_symbols.specs.declared.word.Word.TheVariants as words
 use Rattle.ir_grammar.specs.Phrases.{Locals, ◌⨾◌, each}
 use Rattle.ir_grammar.specs.Values.{IsPlace}
 use Rattle.ir_grammar.specs.Instructions.{IsTail, IsNamed, IsInstr}
-use Rattle.ir_grammar.specs.Blocks.{IsTerminator, IsPhiLine, IsLine, IsBody, label, unwritten_label, IsBlock, IsEntry, AreBlocks}
+use Rattle.ir_grammar.specs.Blocks.{IsTerminator, IsPhiLine, IsLine, IsBody, IsBlock, IsEntry, AreBlocks}
 use Rattle.ir_grammar.proofs.LinesTake.{phi_line_takes, line_takes, block_takes}
 use Rattle.ir_reader.specs.Many.{after, many_at}
 use Rattle.ir_reader.specs.Reading.{◌>>=◌, mark_at}

@@ -1,5 +1,5 @@
 -- Calls: what is read is of the grammar, and what is of the grammar is read.
-use Rattle.std.proofs.Common.{◌≡◌, ℕ, Bool, true, false, List, [], ◌∷◌, Option, None, refl, sym, ap, subst, ◌∙◌, inl, inr}
+use Rattle.std.proofs.Common.{◌≡◌, ℕ, Bool, true, false, List, [], ◌∷◌, Option, None, refl, sym, ap, ◌∙◌}
 use Rattle.std.specs.Prelude.{Some, IfSome}
 use Rattle.coro_base.specs.declared.name.Name.{Name}
 use Rattle.coro_base.specs.declared.name.Name.TheVariants.{Number, Text}
@@ -17,9 +17,9 @@ use Rattle.ir_symbols.specs.declared.sym.Sym.{Sym}
 use Rattle.ir_symbols.specs.declared.sym.Sym.TheVariants as syms
 use Rattle.ir_symbols.specs.declared.word.Word.TheVariants as words
 use Rattle.ir_grammar.specs.Attributes.{attributes}
-use Rattle.ir_grammar.specs.Phrases.{Locals, ◌⨾◌, each, mark, word, plain, comma, behind_comma, listed}
+use Rattle.ir_grammar.specs.Phrases.{Locals, ◌⨾◌, each, mark, plain, comma, behind_comma, listed}
 use Rattle.ir_grammar.specs.Types.{IsType, IsResult}
-use Rattle.ir_grammar.specs.Values.{IsPlace, local, global, IsArg}
+use Rattle.ir_grammar.specs.Values.{IsPlace, IsArg}
 use Rattle.ir_grammar.specs.Instructions.{IsCallee, IsTail, AreArgs, IsCall}
 use Rattle.ir_grammar.proofs.Takes.{takes_keeps, left, behind_comma_takes, arg_takes}
 use Rattle.ir_reader.specs.Attrs.{behind_attrs}

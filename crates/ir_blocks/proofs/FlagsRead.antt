@@ -1,6 +1,5 @@
 -- Operations with their flags, and casts: what is read is of the grammar, and what is of the grammar is read.
-use Rattle.std.proofs.Common.{◌≡◌, Bool, true, false, ◌||◌, List, [], ◌∷◌, Option, refl, sym, ap, ◌∙◌}
-use Rattle.std.specs.Prelude.{Some, IfSome}
+use Rattle.std.proofs.Common.{◌≡◌, Bool, true, false, ◌||◌, List, [], ◌∷◌, refl, sym, ap, ◌∙◌}
 use Rattle.coro_base.specs.declared.ops.BinOp.{BinOp}
 use Rattle.coro_base.specs.declared.ops.BinOp.TheVariants as ops
 use Rattle.coro_base.specs.declared.ops.CastOp.{CastOp}
@@ -10,7 +9,7 @@ use Rattle.ir_model.specs.Ty.{Ty, int, ptr, token, array, structure, named}
 use Rattle.ir_symbols.specs.declared.sym.Sym.{Sym}
 use Rattle.ir_symbols.specs.declared.sym.Sym.TheVariants as syms
 use Rattle.ir_symbols.specs.declared.word.Word.TheVariants as words
-use Rattle.ir_grammar.specs.Phrases.{each, flag, nothing}
+use Rattle.ir_grammar.specs.Phrases.{each, flag}
 use Rattle.ir_grammar.specs.Types.{IsType}
 use Rattle.ir_grammar.specs.Instructions.{Wrap, nuw, nsw, IsWrap, has_nuw, has_nsw, AreWraps, MayBeExact, MayBeDisjoint, WithoutFlags, AreFlags, IsCast}
 use Rattle.ir_blocks.specs.Instrs.{no_flags, wrap_flags, exact_flag, disjoint_flag, flags_at, nneg_at, inbounds_at}

@@ -1,32 +1,28 @@
 -- Instructions: what is read is of the grammar, and what is of the grammar is read.
-use Rattle.std.proofs.Common.{◌≡◌, ℕ, Bool, true, false, List, [], ◌∷◌, Option, None, refl, sym, ap, subst, ◌∙◌, inl, inr}
+use Rattle.std.proofs.Common.{◌≡◌, ℕ, Bool, true, false, List, ◌∷◌, Option, None, refl, ap, ◌∙◌, inl, inr}
 use Rattle.std.specs.Prelude.{Some, IfSome}
 use Rattle.coro_base.specs.declared.name.Name.{Name}
 use Rattle.coro_base.specs.declared.ops.CastOp.{CastOp}
 use Rattle.coro_base.specs.declared.ops.CastOp.TheVariants as casts
-use Rattle.ir_model.specs.Ty.{Ty}
 use Rattle.ir_model.specs.declared.instr.Instr.{Instr}
 use Rattle.ir_model.specs.declared.instr.Instr.TheVariants as instrs
 use Rattle.ir_model.specs.declared.module.TypeItem.{TypeItem}
-use Rattle.ir_model.specs.declared.operand.Arg.{Arg}
-use Rattle.ir_model.specs.declared.operand.Callee.{Callee}
 use Rattle.ir_symbols.specs.declared.sym.Mark.TheVariants as marks
 use Rattle.ir_symbols.specs.declared.sym.Sym.{Sym}
 use Rattle.ir_symbols.specs.declared.sym.Sym.TheVariants as syms
 use Rattle.ir_symbols.specs.declared.word.Word.{Word}
 use Rattle.ir_symbols.specs.declared.word.Word.TheVariants as words
-use Rattle.ir_grammar.specs.Attributes.{metadata}
-use Rattle.ir_grammar.specs.Phrases.{Locals, word, plain}
+use Rattle.ir_grammar.specs.Phrases.{Locals}
 use Rattle.ir_grammar.specs.Values.{IsPlace}
-use Rattle.ir_grammar.specs.Instructions.{IsCast, IsTail, IsCall, IsNamed, IsInstr}
+use Rattle.ir_grammar.specs.Instructions.{IsCast, IsTail, IsNamed, IsInstr}
 use Rattle.ir_grammar.specs.Blocks.{IsLine}
-use Rattle.ir_reader.specs.Reading.{◌>>=◌, behind_metadata}
+use Rattle.ir_reader.specs.Reading.{◌>>=◌}
 use Rattle.ir_reader.specs.Values.{named_at}
 use Rattle.ir_reader.proofs.Binding.{bind_found, bind_again}
-use Rattle.ir_reader.proofs.Follow.{EndsAttrs, EndsLine, EndsInstr, instr_ends_attrs, metadata_found, metadata_again, metadata_starts}
+use Rattle.ir_reader.proofs.Follow.{EndsLine, EndsInstr, instr_ends_attrs, metadata_found, metadata_again, metadata_starts}
 use Rattle.ir_reader.proofs.PlacesRead.{named_found, named_again}
 use Rattle.ir_blocks.specs.Instrs.{store_at}
-use Rattle.ir_blocks.specs.Calls.{call_at, tail_call_at, assigned_at, effect_at, instr_at, instr_line_at, begins_instr}
+use Rattle.ir_blocks.specs.Calls.{call_at, tail_call_at, assigned_at, effect_at, instr_at, instr_line_at}
 use Rattle.ir_blocks.proofs.AssignedRead.{binary_found, binary_again, icmp_found, icmp_again, select_found, select_again, cast_found, cast_again, alloca_found, alloca_again, load_found, load_again, store_found, store_again, gep_found, gep_again}
 use Rattle.ir_blocks.proofs.CallsRead.{call_found, call_again}
 

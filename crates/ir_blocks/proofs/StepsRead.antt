@@ -1,21 +1,20 @@
 -- Steps that readers of instructions share.
-use Rattle.std.proofs.Common.{◌≡◌, ℕ, Bool, true, false, List, [], ◌∷◌, Option, None, refl, sym, ap, ◌∙◌}
+use Rattle.std.proofs.Common.{◌≡◌, List, [], ◌∷◌, Option, None, refl, ap, ◌∙◌}
 use Rattle.std.specs.Prelude.{Some, IfSome}
 use Rattle.coro_base.specs.declared.name.Name.{Name}
-use Rattle.ir_model.specs.declared.operand.Arg.{Arg}
 use Rattle.ir_model.specs.declared.operand.Operand.{Operand}
 use Rattle.ir_symbols.specs.declared.sym.Mark.{Mark}
 use Rattle.ir_symbols.specs.declared.sym.Mark.TheVariants as marks
 use Rattle.ir_symbols.specs.declared.sym.Sym.{Sym}
 use Rattle.ir_symbols.specs.declared.sym.Sym.TheVariants as syms
 use Rattle.ir_symbols.specs.declared.word.Word.TheVariants as words
-use Rattle.ir_grammar.specs.Phrases.{Naming, Locals, ◌⨾◌, mark, plain, comma, behind_comma}
-use Rattle.ir_grammar.specs.Values.{IsValue, IsTyped, IsAddress}
+use Rattle.ir_grammar.specs.Phrases.{Locals, ◌⨾◌, mark, plain, comma}
+use Rattle.ir_grammar.specs.Values.{IsValue, IsAddress}
 use Rattle.ir_reader.specs.Many.{after}
 use Rattle.ir_reader.specs.Reading.{◌>>=◌, mark_at}
-use Rattle.ir_reader.specs.Values.{value_at, typed_at}
+use Rattle.ir_reader.specs.Values.{value_at}
 use Rattle.ir_reader.proofs.Binding.{bind_found, bind_again}
-use Rattle.ir_reader.proofs.ValuesRead.{mark_found, mark_again, value_found, value_again, typed_found, typed_again}
+use Rattle.ir_reader.proofs.ValuesRead.{mark_found, mark_again, value_found, value_again}
 use Rattle.ir_blocks.specs.Instrs.{operands_at, address_at}
 
 -- a mark, and what is read behind it

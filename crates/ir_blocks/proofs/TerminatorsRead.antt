@@ -1,5 +1,5 @@
 -- Phis and terminators: what is read is of the grammar, and what is of the grammar is read.
-use Rattle.std.proofs.Common.{◌≡◌, ℕ, Bool, true, false, List, [], ◌∷◌, Option, None, refl, sym, ap, subst, ◌∙◌}
+use Rattle.std.proofs.Common.{◌≡◌, ℕ, true, false, List, [], ◌∷◌, Option, None, refl, ap, ◌∙◌}
 use Rattle.std.specs.Prelude.{Some, IfSome}
 use Rattle.coro_base.specs.declared.name.Name.{Name}
 use Rattle.ir_model.specs.Ty.{Ty, int, ptr, token, array, structure, named}
@@ -17,11 +17,11 @@ use Rattle.ir_symbols.specs.declared.sym.Sym.TheVariants as syms
 use Rattle.ir_symbols.specs.declared.word.Word.{Word}
 use Rattle.ir_symbols.specs.declared.word.Word.TheVariants as words
 use Rattle.ir_grammar.specs.Attributes.{metadata}
-use Rattle.ir_grammar.specs.Phrases.{Locals, Naming, ◌⨾◌, each, mark, word, plain, comma, behind_comma, listed}
+use Rattle.ir_grammar.specs.Phrases.{Locals, Naming, ◌⨾◌, each, mark, plain, comma, behind_comma, listed}
 use Rattle.ir_grammar.specs.Types.{IsType}
 use Rattle.ir_grammar.specs.Values.{IsPlace, local, IsValue, IsTyped, IsTarget}
 use Rattle.ir_grammar.specs.Instructions.{IsNamed}
-use Rattle.ir_grammar.specs.Blocks.{IsIncoming, IsPhi, IsCase, IsTerminator, IsPhiLine}
+use Rattle.ir_grammar.specs.Blocks.{IsIncoming, IsCase, IsTerminator, IsPhiLine}
 use Rattle.ir_grammar.proofs.Takes.{takes_keeps, left, behind_comma_takes}
 use Rattle.ir_grammar.proofs.LinesTake.{incoming_takes, case_takes}
 use Rattle.ir_reader.specs.Many.{after, many_at}

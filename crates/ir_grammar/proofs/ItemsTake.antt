@@ -1,5 +1,5 @@
 -- An item takes a symbol at least.
-use Rattle.std.proofs.Common.{◌≡◌, ◌<◌, ◌≤◌, ℕ, Bool, true, false, List, [], ◌∷◌, length, Option, Some, None, inl, inr, arith}
+use Rattle.std.proofs.Common.{ℕ, Bool, true, false, List, [], length, Option, Some, None, inl, inr, arith}
 use Rattle.coro_base.specs.declared.name.Name.{Name}
 use Rattle.ir_model.specs.Ty.{Ty, structure}
 use Rattle.ir_model.specs.declared.module.Declaration.{Declaration}
@@ -8,15 +8,13 @@ use Rattle.ir_model.specs.declared.module.GlobalItem.{GlobalItem}
 use Rattle.ir_model.specs.declared.module.TypeItem.{TypeItem}
 use Rattle.ir_model.specs.declared.operand.Operand.{Operand}
 use Rattle.ir_model.specs.declared.operand.Operand.TheVariants as operands
-use Rattle.ir_symbols.specs.declared.sym.Sym.{Sym}
-use Rattle.ir_grammar.specs.Attributes.{Balanced, Attr, IsAttr, attributes, metadata, pairs, round_text, curly_text}
-use Rattle.ir_grammar.specs.Blocks.{AreBlocks}
+use Rattle.ir_grammar.specs.Attributes.{Attr, IsAttr, attributes, metadata, pairs, round_text, curly_text}
 use Rattle.ir_grammar.specs.Functions.{Written, IsWrittenName, IsParam, AreParams, IsHead, IsDeclaration, IsFunction}
-use Rattle.ir_grammar.specs.Items.{Item, type_item, global_item, declaration, function, group, other, source_item, target_item, comdat_item, metadata_item, IsAttributes, attributes_item, IsGroup, IsTypeItem, IsKeyword, IsGlobal, IsItem}
-use Rattle.ir_grammar.specs.Phrases.{◌⨾◌, each, commas}
+use Rattle.ir_grammar.specs.Items.{Item, type_item, global_item, declaration, function, group, other, IsAttributes, IsKeyword, IsGlobal, IsItem}
+use Rattle.ir_grammar.specs.Phrases.{each, commas}
 use Rattle.ir_grammar.specs.Types.{IsType, IsResult, IsScalar}
 use Rattle.ir_grammar.specs.Values.{IsInitial, IsAligned}
-use Rattle.ir_grammar.proofs.Takes.{takes_keeps, nothing_keeps, never_takes, seq_keeps, seq_takes, or_keeps, or_takes, perhaps_keeps, each_keeps, KeepsSymbols, TakesSymbols, one, two, three, four, one_keeps, commas_keep, type_takes, type_keeps, result_takes, scalar_takes, attr_takes, attributes_keep, any_keeps, metadata_keep, round_keeps, curly_keeps, integer_takes, aligned_keeps}
+use Rattle.ir_grammar.proofs.Takes.{takes_keeps, nothing_keeps, never_takes, seq_keeps, seq_takes, or_keeps, perhaps_keeps, each_keeps, KeepsSymbols, TakesSymbols, one, two, three, four, one_keeps, commas_keep, type_takes, type_keeps, result_takes, scalar_takes, attr_takes, attributes_keep, any_keeps, metadata_keep, round_keeps, curly_keeps, integer_takes, aligned_keeps}
 use Rattle.ir_grammar.proofs.LinesTake.{blocks_keep}
 
 written_keeps : (n : Option Name) → KeepsSymbols (IsWrittenName n)

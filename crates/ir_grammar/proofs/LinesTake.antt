@@ -1,5 +1,5 @@
 -- What instructions, blocks and items take: at least a symbol.
-use Rattle.std.proofs.Common.{◌≡◌, ◌<◌, ◌≤◌, ℕ, Bool, true, false, List, [], ◌∷◌, length, Option, Some, None, inl, inr, arith}
+use Rattle.std.proofs.Common.{ℕ, Bool, true, false, List, [], ◌∷◌, length, Option, Some, None}
 use Rattle.coro_base.specs.declared.ops.BinOp.{BinOp}
 use Rattle.coro_base.specs.declared.ops.BinOp.TheVariants as ops
 use Rattle.coro_base.specs.declared.ops.CastOp.{CastOp}
@@ -19,12 +19,12 @@ use Rattle.ir_model.specs.declared.operand.Arg.{Arg}
 use Rattle.ir_model.specs.declared.operand.Callee.{Callee}
 use Rattle.ir_model.specs.declared.operand.Callee.TheVariants as callees
 use Rattle.ir_grammar.specs.Attributes.{attributes, metadata}
-use Rattle.ir_grammar.specs.Phrases.{◌⨾◌, some, each, plain, comma, behind_comma, listed}
+use Rattle.ir_grammar.specs.Phrases.{◌⨾◌, some, each, comma, behind_comma, listed}
 use Rattle.ir_grammar.specs.Types.{IsType, IsResult}
 use Rattle.ir_grammar.specs.Values.{local, IsValue, IsTyped, IsArg, IsTarget, IsAddress, IsAligned}
 use Rattle.ir_grammar.specs.Instructions.{Wrap, nuw, nsw, IsWrap, AreFlags, AreWraps, MayBeExact, MayBeDisjoint, WithoutFlags, IsOperation, IsCast, IsCallee, IsTail, AreArgs, IsCall, IsNamed, IsInstr}
 use Rattle.ir_grammar.specs.Blocks.{IsIncoming, IsPhi, IsCase, IsTerminator, IsPhiLine, IsLine, IsBody, label, unwritten_label, IsBlock, IsEntry, AreBlocks}
-use Rattle.ir_grammar.proofs.Takes.{takes_keeps, nothing_keeps, never_takes, seq_keeps, seq_takes, seq_takes_later, or_keeps, or_takes, each_keeps, some_takes, KeepsSymbols, TakesSymbols, one, two, one_keeps, flag_keeps, left, KeepsLocals, TakesLocals, plain_keeps, plain_takes, comma_takes, behind_comma_takes, listed_takes, type_takes, type_keeps, result_takes, attributes_keep, metadata_keep, local_takes, value_takes, value_keeps, typed_takes, arg_takes, target_takes, address_takes, aligned_keeps}
+use Rattle.ir_grammar.proofs.Takes.{takes_keeps, nothing_keeps, never_takes, seq_keeps, seq_takes, seq_takes_later, or_keeps, each_keeps, some_takes, KeepsSymbols, one, one_keeps, flag_keeps, left, KeepsLocals, TakesLocals, plain_keeps, plain_takes, comma_takes, behind_comma_takes, listed_takes, type_keeps, result_takes, attributes_keep, metadata_keep, local_takes, value_keeps, typed_takes, arg_takes, target_takes, address_takes, aligned_keeps}
 
 -- ---- operations
 

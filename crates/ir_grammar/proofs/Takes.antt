@@ -1,31 +1,15 @@
 -- What a phrase takes: it never leaves more symbols than there were, and most leave fewer.
-use Rattle.std.proofs.Common.{◌≡◌, ◌<◌, ◌≤◌, ◌+◌, ◌∙◌, ℕ, Bool, true, false, List, [], ◌∷◌, ◌++◌, length, Option, Some, None, inl, inr, ap, arith}
-use Rattle.std.proofs.lemmas.List.{length-append}
-use Rattle.coro_base.specs.declared.ops.BinOp.{BinOp}
-use Rattle.coro_base.specs.declared.ops.BinOp.TheVariants as ops
-use Rattle.coro_base.specs.declared.ops.CastOp.{CastOp}
-use Rattle.coro_base.specs.declared.ops.CastOp.TheVariants as casts
-use Rattle.coro_base.specs.declared.ops.Flags.{Flags}
+use Rattle.std.proofs.Common.{◌≡◌, ◌<◌, ◌≤◌, ℕ, Bool, true, false, List, [], ◌∷◌, length, Option, Some, None, inl, inr, ap, arith}
 use Rattle.ir_model.specs.Ty.{Ty, Tys, int, ptr, token, array, structure, named, none, field}
-use Rattle.ir_model.specs.declared.instr.Case.{Case}
-use Rattle.ir_model.specs.declared.instr.Incoming.{Incoming}
-use Rattle.ir_model.specs.declared.instr.Instr.{Instr}
-use Rattle.ir_model.specs.declared.instr.Instr.TheVariants as instrs
-use Rattle.ir_model.specs.declared.instr.Phi.{Phi}
-use Rattle.ir_model.specs.declared.instr.Terminator.{Terminator}
-use Rattle.ir_model.specs.declared.instr.Terminator.TheVariants as terms
-use Rattle.ir_model.specs.declared.module.Block.{Block}
 use Rattle.ir_model.specs.declared.module.TypeItem.{TypeItem}
 use Rattle.ir_model.specs.declared.operand.Arg.{Arg}
-use Rattle.ir_model.specs.declared.operand.Callee.{Callee}
-use Rattle.ir_model.specs.declared.operand.Callee.TheVariants as callees
 use Rattle.ir_model.specs.declared.operand.Operand.{Operand}
 use Rattle.ir_model.specs.declared.operand.Operand.TheVariants as operands
 use Rattle.ir_symbols.specs.declared.sym.Sym.{Sym}
 use Rattle.ir_symbols.specs.declared.word.Word.{Word}
-use Rattle.ir_grammar.specs.Phrases.{Phrase, Naming, Locals, ◌⨾◌, ◌∥◌, never, nothing, perhaps, each, some, these, mark, word, flag, commas, plain, comma, behind_comma, listed}
+use Rattle.ir_grammar.specs.Phrases.{Phrase, Naming, Locals, ◌⨾◌, ◌∥◌, never, nothing, perhaps, each, some, flag, commas, plain, comma, behind_comma, listed}
 use Rattle.ir_grammar.specs.Types.{IsInt, IsType, AreFields, IsResult, IsScalar}
-use Rattle.ir_grammar.specs.Attributes.{Balanced, empty, other, nested, Attr, presplit, in_group, plain_attr, IsAttr, attributes, any, any_integer, round_text, curly_text, metadata, pairs}
+use Rattle.ir_grammar.specs.Attributes.{Balanced, empty, other, nested, Attr, presplit, in_group, plain_attr, IsAttr, attributes, any, any_integer, round_text, curly_text, metadata}
 use Rattle.ir_grammar.specs.Values.{local, integer, IsValue, IsTyped, IsArg, IsTarget, IsAddress, IsAligned}
 
 -- ---- phrases of both kinds, by the length of what is left

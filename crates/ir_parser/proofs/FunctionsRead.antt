@@ -1,5 +1,5 @@
 -- Declarations and functions: what is read is of the grammar, and what is of the grammar is read.
-use Rattle.std.proofs.Common.{◌≡◌, ◌<◌, ◌+◌, ◌^◌, ℕ, Bool, true, false, ◌||◌, cond, nat_lt, List, [], ◌∷◌, ◌++◌, map, length, Option, None, refl, sym, ap, subst, ◌∙◌, inl, inr, arith}
+use Rattle.std.proofs.Common.{◌≡◌, ◌<◌, ℕ, Bool, ◌||◌, List, [], ◌∷◌, map, length, Option, None, refl, sym, ap, subst, ◌∙◌, arith}
 use Rattle.std.specs.Prelude.{Some, IfSome}
 use Rattle.coro_base.specs.declared.name.Name.{Name}
 use Rattle.coro_base.specs.declared.name.Name.TheVariants.{Number, Text}
@@ -9,18 +9,16 @@ use Rattle.ir_model.specs.declared.module.Block.{Block}
 use Rattle.ir_model.specs.declared.module.Declaration.{Declaration}
 use Rattle.ir_model.specs.declared.module.Function.{Function}
 use Rattle.ir_model.specs.declared.module.Param.{Param}
-use Rattle.ir_model.specs.declared.module.TypeItem.{TypeItem}
 use Rattle.ir_symbols.specs.declared.sym.Mark.TheVariants as marks
 use Rattle.ir_symbols.specs.declared.sym.Sym.{Sym}
 use Rattle.ir_symbols.specs.declared.sym.Sym.TheVariants as syms
 use Rattle.ir_symbols.specs.declared.word.Word.TheVariants as words
-use Rattle.ir_grammar.specs.Attributes.{Attr, presplit, in_group, plain_attr, IsAttr, attributes, is_one_of, make_coroutine, pairs}
-use Rattle.ir_grammar.specs.Blocks.{AreBlocks}
+use Rattle.ir_grammar.specs.Attributes.{Attr, presplit, in_group, plain_attr, is_one_of, make_coroutine, pairs}
 use Rattle.ir_grammar.specs.Functions as grammar
 use Rattle.ir_grammar.specs.Functions.{IsWrittenName, IsParam, AreParams, IsHead, IsDeclaration, IsParamName, AreNamed, IsFunction}
-use Rattle.ir_grammar.specs.Phrases.{Phrase, ◌⨾◌, each, mark, word, commas}
+use Rattle.ir_grammar.specs.Phrases.{Phrase, ◌⨾◌, each, mark, commas}
 use Rattle.ir_grammar.specs.Types.{IsType, IsResult}
-use Rattle.ir_grammar.specs.Values.{IsPlace, global}
+use Rattle.ir_grammar.specs.Values.{global}
 use Rattle.ir_grammar.proofs.ItemsTake.{param_takes}
 use Rattle.ir_blocks.specs.Blocks.{numbered, blocks_at}
 use Rattle.ir_blocks.specs.Calls.{result_at}
@@ -34,12 +32,12 @@ use Rattle.ir_reader.specs.Types.{type_at}
 use Rattle.ir_reader.specs.Values.{global_at}
 use Rattle.ir_reader.proofs.AttrsRead.{makes}
 use Rattle.ir_reader.proofs.Binding.{bind_found, bind_again}
-use Rattle.ir_reader.proofs.Follow.{EndsAttrs, AttrsFound, attrs_found, attrs_again, behind_attrs_found, behind_attrs_again, pairs_found, pairs_again, pairs_ends, type_starts, result_starts}
+use Rattle.ir_reader.proofs.Follow.{EndsAttrs, AttrsFound, attrs_found, attrs_again, behind_attrs_found, behind_attrs_again, pairs_found, pairs_again, pairs_ends, result_starts}
 use Rattle.ir_reader.proofs.ListsRead.{all_found, all_again}
 use Rattle.ir_reader.proofs.PlacesRead.{place_found, place_again}
 use Rattle.ir_reader.proofs.TypesRead.{type_found, type_again}
 use Rattle.ir_reader.proofs.ValuesRead.{mark_found, mark_again, global_found, global_again}
-use Rattle.ir_parser.specs.Functions.{name_at, param_at, next_param_at, params_at, head_at, declaration_of, declare_at, name_or, counted, with_params, named_params, define_at}
+use Rattle.ir_parser.specs.Functions.{name_at, param_at, next_param_at, params_at, head_at, declare_at, name_or, counted, with_params, named_params, define_at}
 use Rattle.ir_parser.specs.declared.functions.Head.{Head}
 use Rattle.ir_parser.specs.declared.functions.Written.{Written}
 use Rattle.ir_parser.specs.declared.known.Known.{Known}
@@ -214,12 +212,13 @@ declare_found ts =
 pub declare_reads : (d : Declaration) (ts rest : List Sym) → IsDeclaration d (syms.Word words.Declare ∷ ts) rest → (end : List Sym) × (declare_at ts ≡ Some (d, end)) × (EndsAttrs rest → end ≡ rest)
 unfolding declare_at
 declare_reads d ts rest (ps, types, (u, w, (v, head, attrs))) =
-    let same : ts ≡ u = cc in
-    (behind_attrs v,
-    ap declare_at same
-    ∙ bind_again (head_at u) (record { result = d.result; name = d.name; params = map written ps }, v) _ _ (head_again d.result d.name ps u v head)
-    (ap (λ (l : List Ty). Some (record { name = d.name; result = d.result; params = l }, behind_attrs v)) (types_written ps ∙ sym types)),
-    λ ends. behind_attrs_again v rest attrs ends)
+    let same : ts ≡ u = cc in (
+      behind_attrs v,
+      ap declare_at same
+          ∙ bind_again (head_at u) (record { result = d.result; name = d.name; params = map written ps }, v) _ _ (head_again d.result d.name ps u v head)
+          (ap (λ (l : List Ty). Some (record { name = d.name; result = d.result; params = l }, behind_attrs v)) (types_written ps ∙ sym types)),
+      λ ends. behind_attrs_again v rest attrs ends,
+    )
 
 -- ---- the names of parameters
 

@@ -1,11 +1,8 @@
 -- Items: what is read is of the grammar, and what is of the grammar is read.
-use Rattle.std.proofs.Common.{◌≡◌, ◌<◌, ◌≤◌, ℕ, Bool, true, false, ◌||◌, cond, List, [], ◌∷◌, map, length, Option, None, refl, sym, ap, subst, ◌∙◌, inl, inr, arith}
+use Rattle.std.proofs.Common.{◌≡◌, ◌<◌, ℕ, Bool, true, false, cond, List, [], ◌∷◌, length, Option, None, refl, sym, ap, subst, ◌∙◌, inl, inr}
 use Rattle.std.specs.Prelude.{Some, IfSome}
 use Rattle.coro_base.specs.declared.name.Name.{Name}
-use Rattle.ir_lexer.specs.Lists.{all_at, front}
-use Rattle.ir_lexer.proofs.ListSteps.{all_at-some}
 use Rattle.ir_model.specs.Ty.{Ty, Tys, int, ptr, token, array, structure, named}
-use Rattle.ir_model.specs.TypeView.{bits_of}
 use Rattle.ir_model.specs.declared.module.Declaration.{Declaration}
 use Rattle.ir_model.specs.declared.module.Function.{Function}
 use Rattle.ir_model.specs.declared.module.GlobalItem.{GlobalItem}
@@ -17,27 +14,27 @@ use Rattle.ir_symbols.specs.declared.sym.Sym.{Sym}
 use Rattle.ir_symbols.specs.declared.sym.Sym.TheVariants as syms
 use Rattle.ir_symbols.specs.declared.word.Word.{Word}
 use Rattle.ir_symbols.specs.declared.word.Word.TheVariants as words
-use Rattle.ir_grammar.specs.Attributes.{Attr, IsAttr, attributes, Balanced, make_coroutine, metadata, round, curly, round_text, curly_text}
+use Rattle.ir_grammar.specs.Attributes.{Attr, attributes, Balanced, make_coroutine, metadata, round, curly, round_text, curly_text}
 use Rattle.ir_grammar.specs.Functions.{IsDeclaration, IsFunction}
 use Rattle.ir_grammar.specs.Items as grammar
 use Rattle.ir_grammar.specs.Items.{type_item, global_item, declaration, function, group, other, IsAttributes, attributes_item, IsGroup, IsTypeItem, IsKeyword, IsGlobal, IsItem}
-use Rattle.ir_grammar.specs.Phrases.{Phrase, ◌⨾◌, ◌∥◌, each, these, mark, word, perhaps}
+use Rattle.ir_grammar.specs.Phrases.{Phrase, ◌⨾◌, ◌∥◌, these, mark, word, perhaps}
 use Rattle.ir_grammar.specs.Types.{IsType, IsScalar}
 use Rattle.ir_grammar.specs.Values.{IsInitial, IsAligned}
 use Rattle.ir_grammar.proofs.ItemsTake.{item_takes}
 use Rattle.ir_blocks.specs.Instrs.{align_or}
 use Rattle.ir_blocks.proofs.AssignedRead.{aligned_found, aligned_again}
-use Rattle.ir_reader.specs.Attrs.{attrs_at, any_true, behind_attrs, behind_close}
+use Rattle.ir_reader.specs.Attrs.{attrs_at, behind_attrs, behind_close}
 use Rattle.ir_reader.specs.Reading.{◌>>=◌, mark_at, behind_metadata}
 use Rattle.ir_reader.specs.Types.{type_at}
 use Rattle.ir_reader.specs.Values.{align_at, constant_at}
-use Rattle.ir_reader.proofs.AttrsRead.{makes, closed_found, closed_again}
+use Rattle.ir_reader.proofs.AttrsRead.{closed_found, closed_again}
 use Rattle.ir_reader.proofs.Binding.{bind_found, bind_again, found_is}
-use Rattle.ir_reader.proofs.Follow.{EndsAttrs, EndsLine, EndsInstr, line_ends_instr, line_ends_attrs, AttrsFound, attrs_found, attrs_again, behind_attrs_found, behind_attrs_again, metadata_found, metadata_again, metadata_starts}
+use Rattle.ir_reader.proofs.Follow.{EndsAttrs, EndsLine, line_ends_attrs, AttrsFound, attrs_found, attrs_again, behind_attrs_found, behind_attrs_again, metadata_found, metadata_again, metadata_starts}
 use Rattle.ir_reader.proofs.TypesRead.{type_found, type_again}
 use Rattle.ir_reader.proofs.ValuesRead.{IsConstant, constant_found, constant_again, mark_found, mark_again}
 use Rattle.ir_parser.specs.Functions.{declare_at, define_at}
-use Rattle.ir_parser.specs.Items.{skipped, source_at, target_at, comdat_at, kept_group, attributes_at, type_item_at, constant_word, scalar, scalar_at, is_init, init_at, global_item_at, behind_distinct, node_at, metadata_at, worded_at, item_at}
+use Rattle.ir_parser.specs.Items.{skipped, source_at, target_at, comdat_at, kept_group, attributes_at, type_item_at, constant_word, scalar_at, is_init, init_at, global_item_at, behind_distinct, node_at, metadata_at, worded_at, item_at}
 use Rattle.ir_parser.specs.declared.items.Item.{Item}
 use Rattle.ir_parser.specs.declared.items.Item.TheVariants as items
 use Rattle.ir_parser.specs.declared.known.Known.{Known}
@@ -147,7 +144,7 @@ module _ (known : Known) (groups : List (List ℕ)) (same : SameGroups known.gro
       bind_found (constant_word (behind_attrs ts)) _ (λ c. IsKeyword c.0 (behind_attrs ts) c.1) _ (keyword_found (behind_attrs ts)) (λ c h.
       bind_found (scalar_at c.1) _ (λ t. IsScalar t.0 c.1 t.1) _ (scalar_found c.1) (λ t k.
       bind_found (init_at t.1) _ (λ v. IsInitial v.0 t.1 v.1) _ (init_found t.1) (λ v l.
-      (syms.Mark marks.Equals ∷ ts, refl, (ts, refl, (behind_attrs ts, behind_attrs_found ts, (c.1, h, (t.1, k, (v.1, l, ((align_at v.1).1, aligned_found known.types t.0 v.1, metadata_found (align_at v.1).1)))))))))) 
+      (syms.Mark marks.Equals ∷ ts, refl, (ts, refl, (behind_attrs ts, behind_attrs_found ts, (c.1, h, (t.1, k, (v.1, l, ((align_at v.1).1, aligned_found known.types t.0 v.1, metadata_found (align_at v.1).1))))))))))
 
   distinct_found : (ts : List Sym) → perhaps (word words.Distinct) ts (behind_distinct ts)
   distinct_found (syms.Word words.Distinct ∷ ts) = inl refl

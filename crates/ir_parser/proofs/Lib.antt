@@ -3,3 +3,4 @@ pub mod ParamSteps
 pub mod FunctionsRead
 pub mod Retyped
 pub mod ItemsRead
+pub mod TextRead

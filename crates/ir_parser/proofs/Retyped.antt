@@ -1,6 +1,6 @@
 -- What are items of a text with some types and groups are items of a text with others, but for alignments that aren't
 -- written and for which functions are coroutines.
-use Rattle.std.proofs.Common.{◌≡◌, ℕ, Bool, List, [], ◌∷◌, length, Option, None, refl, sym, ap, subst, suc, ◌⊎◌, inl, inr}
+use Rattle.std.proofs.Common.{◌≡◌, ℕ, List, [], ◌∷◌, length, None, refl, ap, subst, suc, ◌⊎◌, inl, inr}
 use Rattle.std.specs.Prelude.{Some}
 use Rattle.ir_model.specs.Ty.{Ty}
 use Rattle.ir_model.specs.declared.instr.Instr.{Instr}
@@ -14,7 +14,7 @@ use Rattle.ir_symbols.specs.declared.sym.Sym.{Sym}
 use Rattle.ir_symbols.specs.declared.sym.Sym.TheVariants as syms
 use Rattle.type_alignments.specs.Alignment.{align_in}
 use Rattle.ir_grammar.specs.Attributes.{make_coroutine}
-use Rattle.ir_grammar.specs.Blocks.{IsLine, IsBody, label, unwritten_label, IsBlock, IsEntry, AreBlocks}
+use Rattle.ir_grammar.specs.Blocks.{IsLine, IsBody, label, unwritten_label, IsBlock, AreBlocks}
 use Rattle.ir_grammar.specs.Functions.{IsFunction}
 use Rattle.ir_grammar.specs.Instructions.{IsInstr}
 use Rattle.ir_grammar.specs.Items.{Item, type_item, global_item, declaration, function, group, other, IsGlobal, IsItem, types_of, groups_of}
@@ -72,9 +72,10 @@ module _ (types more : List TypeItem) where
 
   function_of : (groups others : List (List ℕ)) (f : Function) (ts rest : List Sym) → IsFunction types groups f ts rest → (g : Function) × IsFunction more others g ts rest
   function_of groups others f ts rest h =
-      let bs = all_blocks h.numbers f.blocks (h.names, h.body) (f.names, syms.Mark marks.CloseCurly ∷ rest) h.blocks in
-      (record f { coroutine = make_coroutine others h.attrs; blocks = bs.0 },
-      record { written = h.written; attrs = h.attrs; body = h.body; head = h.head; coroutine = refl; names = h.names; numbers = h.numbers; params = h.params; blocks = bs.1 })
+      let bs = all_blocks h.numbers f.blocks (h.names, h.body) (f.names, syms.Mark marks.CloseCurly ∷ rest) h.blocks in (
+        record f { coroutine = make_coroutine others h.attrs; blocks = bs.0 },
+        record { written = h.written; attrs = h.attrs; body = h.body; head = h.head; coroutine = refl; names = h.names; numbers = h.numbers; params = h.params; blocks = bs.1 },
+      )
 
   global_of : (g : GlobalItem) (ts rest : List Sym) → IsGlobal types g ts rest → (j : GlobalItem) × IsGlobal more j ts rest
   global_of g ts rest (a, name, (b, e, (c, attrs, (d, word, (x, ty, (y, init, (z, al, md))))))) =

@@ -8,4 +8,4 @@ mod known;
 mod tests;
 mod text;
 
-pub use text::{Parsed, parse};
+pub use text::{Parsed, parse, stands_for_one};

@@ -1,10 +1,9 @@
 -- Balanced texts and attributes: what is passed over is of the grammar, and what is of the grammar is passed over.
-use Rattle.std.proofs.Common.{◌≡◌, ℕ, ◌<◌, Bool, true, false, ◌||◌, ◌==◌, List, [], ◌∷◌, ◌++◌, map, length, Option, None, refl, sym, ap, subst, ◌∙◌, append_assoc, inl, inr, unwrap_or, arith}
+use Rattle.std.proofs.Common.{◌≡◌, ℕ, Bool, true, false, List, [], ◌∷◌, Option, None, refl, sym, ap, subst, ◌∙◌, inl, inr, unwrap_or}
 use Rattle.std.specs.Prelude.{Some, IfSome}
-use Rattle.ir_lexer.specs.Lists.{all_at}
-use Rattle.ir_grammar.specs.Phrases.{each, these, mark, word, perhaps}
-use Rattle.ir_grammar.specs.Attributes.{is_bracket, Pair, round, square, curly, Balanced, empty, other, nested, round_text, curly_text, any_integer, Attr, presplit, in_group, plain_attr, IsAttr, attributes}
-use Rattle.ir_reader.specs.Attrs.{behind_close, behind_round, behind_equals, behind_integer, attr_at, any_true, attrs_at, behind_attrs}
+use Rattle.ir_grammar.specs.Phrases.{mark, perhaps}
+use Rattle.ir_grammar.specs.Attributes.{is_bracket, Pair, round, square, curly, Balanced, empty, other, nested, round_text, any_integer, Attr, presplit, in_group, plain_attr, IsAttr}
+use Rattle.ir_reader.specs.Attrs.{behind_close, behind_round, behind_equals, behind_integer, attr_at}
 use Rattle.ir_reader.specs.Groups.{has_group}
 use Rattle.ir_symbols.specs.declared.sym.Mark.{Mark}
 use Rattle.ir_symbols.specs.declared.sym.Mark.TheVariants as marks

@@ -1,6 +1,6 @@
 -- What may follow attributes, instructions and lines (docs/TEXT.md).
-use Rattle.std.proofs.Common.{◌≡◌, ℕ, Bool, true, false, ◌||◌, List, [], ◌∷◌, map, Option, None, refl, sym, ap, subst, ◌∙◌, inl, inr}
-use Rattle.std.specs.Prelude.{Some, IfSome}
+use Rattle.std.proofs.Common.{◌≡◌, ℕ, Bool, List, [], ◌∷◌, map, Option, None, refl, sym, ap, subst, ◌∙◌, inl, inr}
+use Rattle.std.specs.Prelude.{Some}
 use Rattle.ir_grammar.specs.Attributes.{Attr, presplit, in_group, plain_attr, IsAttr, attributes, metadata, pairs}
 use Rattle.ir_grammar.specs.Phrases.{each, these}
 use Rattle.ir_grammar.specs.Types.{IsType, IsResult}

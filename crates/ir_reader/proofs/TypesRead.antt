@@ -3,7 +3,6 @@ use Rattle.std.proofs.Common.{◌≡◌, ℕ, List, [], ◌∷◌, ◌++◌, Opt
 use Rattle.std.specs.Prelude.{Some, IfSome, option_map}
 use Rattle.coro_base.specs.declared.name.Name.{Name}
 use Rattle.ir_model.specs.Ty.{Ty, Tys, int, ptr, token, array, structure, named, none, field, to_tys}
-use Rattle.ir_model.specs.TypeView.{bits_of}
 use Rattle.ir_grammar.specs.Phrases.{◌⨾◌, nothing, mark}
 use Rattle.ir_grammar.specs.Types.{IsType, AreFields}
 use Rattle.ir_reader.specs.Types.{word_type, type_in, type_behind, behind_word, type_at}

@@ -1,9 +1,7 @@
 -- Values: what is read is of the grammar, and what is of the grammar is read.
-use Rattle.std.proofs.Common.{◌≡◌, ℕ, pos, ◌-ℤ◌, List, [], ◌∷◌, Option, None, refl, sym, ap, subst, ◌∙◌, ◌⊎◌, inl, inr}
+use Rattle.std.proofs.Common.{◌≡◌, ℕ, List, [], ◌∷◌, Option, None, refl, sym, ap, ◌∙◌, ◌⊎◌, inl, inr}
 use Rattle.std.specs.Prelude.{Some, IfSome}
 use Rattle.coro_base.specs.declared.name.Name.{Name}
-use Rattle.ir_model.specs.Ty.{Ty}
-use Rattle.ir_model.specs.declared.module.TypeItem.{TypeItem}
 use Rattle.ir_model.specs.declared.operand.Arg.{Arg}
 use Rattle.ir_model.specs.declared.operand.Operand.{Operand}
 use Rattle.ir_model.specs.declared.operand.Operand.TheVariants as operands
@@ -11,16 +9,14 @@ use Rattle.ir_symbols.specs.declared.sym.Mark.{Mark}
 use Rattle.ir_symbols.specs.declared.sym.Mark.TheVariants as marks
 use Rattle.ir_symbols.specs.declared.sym.Sym.{Sym}
 use Rattle.ir_symbols.specs.declared.sym.Sym.TheVariants as syms
-use Rattle.ir_symbols.specs.declared.word.Word.{Word}
 use Rattle.ir_symbols.specs.declared.word.Word.TheVariants as words
-use Rattle.ir_symbols.specs.Sym.{mark_number}
-use Rattle.ir_grammar.specs.Phrases.{Phrase, Naming, Locals, ◌⨾◌, never, nothing, these, word, mark, plain, comma}
+use Rattle.ir_grammar.specs.Phrases.{Phrase, Locals, never, word, mark, plain}
 use Rattle.ir_grammar.specs.Types.{IsType}
-use Rattle.ir_grammar.specs.Values.{IsPlace, local, integer, global, IsValue, IsInitial, IsTyped, IsArg, IsTarget, IsAddress, IsAligned}
+use Rattle.ir_grammar.specs.Values.{IsPlace, local, integer, global, IsValue, IsTyped, IsArg, IsTarget}
 use Rattle.ir_reader.specs.Attrs.{behind_attrs}
 use Rattle.ir_reader.specs.Reading.{◌>>=◌, mark_at}
 use Rattle.ir_reader.specs.Types.{type_at}
-use Rattle.ir_reader.specs.Values.{named_at, local_at, global_at, word_value, constant_at, value_at, typed_at, arg_at, target_at, align_at}
+use Rattle.ir_reader.specs.Values.{named_at, local_at, global_at, constant_at, value_at, typed_at, arg_at, target_at, align_at}
 use Rattle.ir_reader.proofs.Binding.{bind_found, bind_again}
 use Rattle.ir_reader.proofs.Follow.{EndsAttrs, EndsInstr, behind_attrs_found, behind_attrs_again}
 use Rattle.ir_reader.proofs.PlacesRead.{named_found, named_again}
