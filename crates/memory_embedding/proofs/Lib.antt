@@ -1,0 +1,4 @@
+pub mod Matching
+pub mod Written
+pub mod Loads
+pub mod Stores
