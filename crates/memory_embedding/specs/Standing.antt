@@ -1,9 +1,11 @@
 -- A source memory that stands in a target memory.
 use Rattle.std.specs.Prelude.{ℕ, true, false, List, length, get_or, slice_get, Some, ◌+◌, ◌^◌, ◌<◌, ◌≤◌, ◌≡◌, ◌≢◌, ◌⊎◌}
-use Rattle.block_memory.specs.Memory.{Rights, is_live, same_kind}
+use Rattle.block_memory.specs.Memory.{Rights, is_live, may_compare_at, same_kind}
+use Rattle.block_memory.specs.Pointers.{moved}
 use Rattle.block_memory.specs.declared.block.Byte.{Byte}
 use Rattle.block_memory.specs.declared.block.Kind.{Kind}
 use Rattle.block_memory.specs.declared.block.MemoryBlock.{MemoryBlock}
+use Rattle.block_memory.specs.declared.pointer.Offset.{Offset}
 use Rattle.memory_embedding.specs.Pointers.{Home, IsByte, home_of}
 
 abbrev pub IsAlignment : ℕ → Type 0
@@ -53,3 +55,7 @@ pub record AreApart (rights : Rights) (h k : Home) (b c : ℕ) (x y : MemoryBloc
 pub record Embeds (rights target : Rights) (homes : List Home) (m n : List MemoryBlock) : Type 0 where
   pub each : (b : ℕ) (x : MemoryBlock) → slice_get m b ≡ Some x → is_live x.life ≡ true → Stands rights target homes n b x
   pub apart : (b c : ℕ) (x y : MemoryBlock) → b ≢ c → slice_get m b ≡ Some x → slice_get m c ≡ Some y → is_live x.life ≡ true → is_live y.life ≡ true → (home_of homes b).block ≡ (home_of homes c).block → AreApart rights (home_of homes b) (home_of homes c) b c x y
+
+-- a pointer that may be compared with null may be compared so where it was moved to, whatever became of its block
+pub record AreNullsKept (rights target : Rights) (homes : List Home) (m n : List MemoryBlock) : Type 0 where
+  pub each : (b : ℕ) (o : Offset) → (home_of homes b).is_seen ≡ true → may_compare_at rights b (slice_get m b) o ≡ true → may_compare_at target (home_of homes b).block (slice_get n (home_of homes b).block) (moved o (home_of homes b).offset) ≡ true
