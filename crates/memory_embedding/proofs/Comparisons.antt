@@ -1,5 +1,5 @@
 -- Comparisons of pointers.
-use Rattle.std.proofs.Common.{◌≡◌, ◌≢◌, ℕ, ◌+◌, ◌%◌, ◌^◌, ◌<◌, ◌≤◌, ◌⊎◌, Bool, true, false, not, List, Option, Some, None, Result, Ok, Err, refl, sym, ap, ◌∙◌, subst, ⊎_elim, inl, inr, arith, if◌then◌else◌}
+use Rattle.std.proofs.Common.{◌≡◌, ◌≢◌, ℕ, ◌+◌, ◌<◌, ◌≤◌, Bool, true, false, not, List, Option, Some, None, Result, Ok, refl, sym, ap, ◌∙◌, subst, ⊎_elim, arith, if◌then◌else◌}
 use Rattle.std.specs.Prelude.{slice_get, ◌==◌, ◌&&◌, ◌||◌}
 use Rattle.std.proofs.lemmas.Bool.{and_from, and_left, and_parts, and_right, cases_eq, eq-eqb, le-leb, leb-true, lt-ltb, ltb-true, ne_eqb}
 use Rattle.block_memory.specs.Memory.{Rights, check, compare, is_compared, is_inside, is_live, is_within, may_compare, may_compare_at}
@@ -146,3 +146,6 @@ module _ (rights target : Rights) (homes : List Home) (m n : List MemoryBlock) (
       ap (λ (u : Value × Value). compare target n u.0 u.1) (λ i. (hv.1 i, hw.1 i))
       ∙ both_compared b o c p (compared_in rights m b o c p (slice_get m b) (slice_get m c) refl refl k.0) t same
   compare_kept _ v' _ w' t hv hw e = absurd (cc)
+
+pub comparisons_kept : (rights target : Rights) (homes : List Home) (m n : List MemoryBlock) (v v' w w' : Value) (t : Bool) → Embeds rights target homes m n → AreNullsKept rights target homes m n → IsValue homes v v' → IsValue homes w w' → compare rights m v w ≡ Ok t → compare target n v' w' ≡ Ok t
+comparisons_kept rights target homes m n v v' w w' t em nulls hv hw e = compare_kept rights target homes m n em nulls v v' w w' t hv hw e

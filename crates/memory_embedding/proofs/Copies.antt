@@ -1,10 +1,10 @@
 -- Copies.
-use Rattle.std.proofs.Common.{◌≡◌, ◌≢◌, ℕ, zero, suc, ◌+◌, ◌-◌, ◌^◌, ◌<◌, ◌≤◌, ◌⊎◌, Bool, true, false, not, List, length, Option, Some, None, Result, Ok, Err, refl, sym, ap, ◌∙◌, subst, ⊎_elim, inl, inr, arith, if◌then◌else◌, nat_le}
+use Rattle.std.proofs.Common.{◌≡◌, ◌≢◌, ℕ, zero, suc, ◌+◌, ◌-◌, ◌<◌, ◌⊎◌, Bool, true, false, not, List, length, Option, Result, Ok, Err, refl, sym, ap, ◌∙◌, subst, ⊎_elim, inl, inr, arith, if◌then◌else◌, nat_le}
 use Rattle.std.specs.Prelude.{slice_get, nat_lt, ◌==◌, ◌&&◌}
 use Rattle.std.proofs.lemmas.Bool.{and_left, and_right, cases_eq, cases_lt, eq-eqb, le-ltb, lt-ltb, ltb-true, ne_eqb}
 use Rattle.block_memory.proofs.Found.{Found, found}
 use Rattle.block_memory.proofs.Kept.{length-bytes_at}
-use Rattle.block_memory.specs.Memory.{Rights, both, bytes_at, copied, copy, is_constant, is_live, on_ok, overlaps, range, rank, same_kind, write}
+use Rattle.block_memory.specs.Memory.{Rights, both, bytes_at, copied, copy, is_constant, on_ok, overlaps, range, rank, same_kind, write}
 use Rattle.block_memory.specs.Whole.{IsWithin}
 use Rattle.block_memory.specs.declared.block.Kind.{Kind}
 use Rattle.block_memory.specs.declared.block.MemoryBlock.{MemoryBlock}
@@ -13,8 +13,9 @@ use Rattle.block_memory.specs.declared.pointer.Value.{Value}
 use Rattle.coro_base.specs.declared.cause.Cause.{Cause}
 use Rattle.memory_embedding.proofs.Loads.{bytes_kept, found_stands, moved_spot, range_kept}
 use Rattle.memory_embedding.proofs.Stores.{both_write}
+use Rattle.memory_embedding.specs.Kept.{IsCopied}
 use Rattle.memory_embedding.specs.Pointers.{Home, IsValue, home_of}
-use Rattle.memory_embedding.specs.Standing.{AreByteRights, Embeds, IsAlignment, IsOpen}
+use Rattle.memory_embedding.specs.Standing.{AreByteRights, Embeds, IsOpen}
 
 -- two ranges that meet have a byte in common
 common_byte : (p q len : ℕ) → p < q + len → q < p + len → (i : ℕ) × ((j : ℕ) × (i < len × (j < len × (p + i ≡ q + j))))
@@ -80,12 +81,6 @@ module _ (rights target : Rights) (law : AreByteRights rights) (law' : AreByteRi
           ∙ h in
           subst (λ (c : ℕ). overlaps (moved_spot homes a) (record { block = (home_of homes c).block; offset = (home_of homes c).offset + b.offset }) len ≡ false) same there
 
-  -- what a copy gives
-  pub record IsCopied (m' : List MemoryBlock) (to from : Value) (len : ℕ) : Type 0 where
-    pub memory : List MemoryBlock
-    pub copies : copy target n to from len ≡ Ok memory
-    pub stands : Embeds rights target homes m' memory
-
   -- what neither a constant nor an overlap stands against
   record IsFree (constant overlap : Bool) (k m' : List MemoryBlock) : Type 0 where
     no_constant : constant ≡ false
@@ -108,7 +103,7 @@ module _ (rights target : Rights) (law : AreByteRights rights) (law' : AreByteRi
       let whole = st.whole in let within = f.within in let fits = st.fits in
       subst (λ (o : Option MemoryBlock). IsWithin o (moved_spot homes s).offset len) (sym st.there) (omega arith)
 
-  copied_kept : (to from to' from' : Value) (len : ℕ) (a b : Spot) (m' : List MemoryBlock) → range rights m to (suc len) 1 ≡ Ok a → range rights m from (suc len) 1 ≡ Ok b → IsValue homes to to' → IsValue homes from from' → copied m a b (suc len) ≡ Ok m' → IsCopied m' to' from' (suc len)
+  copied_kept : (to from to' from' : Value) (len : ℕ) (a b : Spot) (m' : List MemoryBlock) → range rights m to (suc len) 1 ≡ Ok a → range rights m from (suc len) 1 ≡ Ok b → IsValue homes to to' → IsValue homes from from' → copied m a b (suc len) ≡ Ok m' → IsCopied rights target homes m' n to' from' (suc len)
   copied_kept to from to' from' len a b m' e g ht hf l =
       let f = found rights m to (suc len) 1 a e in
       let h = found rights m from (suc len) 1 b g in
@@ -139,12 +134,15 @@ module _ (rights target : Rights) (law : AreByteRights rights) (law' : AreByteRi
   both_fails len m' c d true e = cc
   both_fails len m' c d false e = cc
 
-  copy_on : (to from to' from' : Value) (len : ℕ) (m' : List MemoryBlock) (r s : Result Spot Cause) → range rights m to (suc len) 1 ≡ r → range rights m from (suc len) 1 ≡ s → IsValue homes to to' → IsValue homes from from' → on_ok (λ (x, y). copied m x y (suc len)) (both r s) ≡ Ok m' → IsCopied m' to' from' (suc len)
+  copy_on : (to from to' from' : Value) (len : ℕ) (m' : List MemoryBlock) (r s : Result Spot Cause) → range rights m to (suc len) 1 ≡ r → range rights m from (suc len) 1 ≡ s → IsValue homes to to' → IsValue homes from from' → on_ok (λ (x, y). copied m x y (suc len)) (both r s) ≡ Ok m' → IsCopied rights target homes m' n to' from' (suc len)
   copy_on to from to' from' len m' (Err c) (Err d) e g ht hf l = absurd (both_fails (suc len) m' c d (nat_le (rank c) (rank d)) l)
   copy_on to from to' from' len m' (Err c) (Ok b) e g ht hf l = absurd (cc)
   copy_on to from to' from' len m' (Ok a) (Err d) e g ht hf l = absurd (cc)
   copy_on to from to' from' len m' (Ok a) (Ok b) e g ht hf l = copied_kept to from to' from' len a b m' e g ht hf l
 
-  pub copy_kept : (to from to' from' : Value) (len : ℕ) (m' : List MemoryBlock) → IsValue homes to to' → IsValue homes from from' → copy rights m to from len ≡ Ok m' → IsCopied m' to' from' len
+  pub copy_kept : (to from to' from' : Value) (len : ℕ) (m' : List MemoryBlock) → IsValue homes to to' → IsValue homes from from' → copy rights m to from len ≡ Ok m' → IsCopied rights target homes m' n to' from' len
   copy_kept to from to' from' zero m' ht hf l = let is : m ≡ m' = cc in record { memory = n; copies = refl; stands = subst (λ (x : List MemoryBlock). Embeds rights target homes x n) is em }
   copy_kept to from to' from' (suc len) m' ht hf l = copy_on to from to' from' len m' (range rights m to (suc len) 1) (range rights m from (suc len) 1) refl refl ht hf l
+
+pub copies_kept : (rights target : Rights) (homes : List Home) (m n m' : List MemoryBlock) (to from to' from' : Value) (len : ℕ) → AreByteRights rights → AreByteRights target → Embeds rights target homes m n → IsValue homes to to' → IsValue homes from from' → copy rights m to from len ≡ Ok m' → IsCopied rights target homes m' n to' from' len
+copies_kept rights target homes m n m' to from to' from' len law law' em ht hf l = copy_kept rights target law law' homes m n em to from to' from' len m' ht hf l

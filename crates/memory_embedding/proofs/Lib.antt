@@ -4,3 +4,6 @@ pub mod Loads
 pub mod Stores
 pub mod Copies
 pub mod Comparisons
+pub mod Homes
+pub mod Changes
+pub mod Itself

@@ -1,21 +1,19 @@
 -- What an access finds in the source it finds in the target, and a load gives what stands for the value.
-use Rattle.std.proofs.Common.{◌≡◌, ◌≢◌, ℕ, zero, suc, ◌+◌, ◌%◌, ◌^◌, ◌<◌, ◌≤◌, Bool, true, false, not, List, length, get_or, take, drop, Option, Some, None, Result, Ok, Err, refl, sym, ap, ◌∙◌, subst, arith, if◌then◌else◌}
-use Rattle.std.specs.Prelude.{slice_get, nat_lt}
+use Rattle.std.proofs.Common.{◌≡◌, ℕ, ◌+◌, ◌%◌, ◌^◌, ◌<◌, ◌≤◌, Bool, true, false, not, List, take, drop, Option, Some, Result, Ok, Err, refl, sym, ap, ◌∙◌, subst, arith, if◌then◌else◌}
+use Rattle.std.specs.Prelude.{slice_get}
 use Rattle.std.proofs.lemmas.Bool.{le-ltb}
 use Rattle.block_memory.proofs.Found.{Found, found}
 use Rattle.block_memory.specs.Memory.{Rights, access_bytes, bytes_at, bytes_in, decode, is_live, load, on_ok, range, range_at}
-use Rattle.block_memory.specs.declared.block.Byte.{Byte}
 use Rattle.block_memory.specs.declared.block.MemoryBlock.{MemoryBlock}
 use Rattle.block_memory.specs.declared.pointer.Access.{Access}
-use Rattle.block_memory.specs.declared.pointer.Offset.{Offset}
 use Rattle.block_memory.specs.declared.pointer.Pointer.{Pointer}
 use Rattle.block_memory.specs.declared.pointer.Spot.{Spot}
 use Rattle.block_memory.specs.declared.pointer.Value.{Value}
 use Rattle.coro_base.specs.declared.cause.Cause.{Cause}
 use Rattle.memory_embedding.proofs.Matching.{cut_stands, decode_kept}
-use Rattle.memory_embedding.proofs.Written.{same_some}
-use Rattle.memory_embedding.specs.Pointers.{AreBytes, Home, IsByte, IsValue, home_of, moved_pointer}
-use Rattle.memory_embedding.specs.Standing.{AreByteRights, Embeds, HasRights, IsAlignment, IsOpen, Stands, byte_of}
+use Rattle.memory_embedding.specs.Kept.{IsLoaded}
+use Rattle.memory_embedding.specs.Pointers.{AreBytes, Home, IsByte, IsValue, home_of}
+use Rattle.memory_embedding.specs.Standing.{AreByteRights, Embeds, IsAlignment, IsOpen, Stands, byte_of}
 
 -- a place of the source in the target
 abbrev pub moved_spot : List Home → Spot → Spot
@@ -46,7 +44,7 @@ module _ (rights target : Rights) (homes : List Home) (m n : List MemoryBlock) (
       let within = f.within in let fits = st.fits in let small = st.small in
       let h' : IsValue homes (Value.Ptr (Pointer.At s.block f.offset)) w = subst (λ (u : Value). IsValue homes u w) f.leads h in
       let bits : (f.offset.bits + (home_of homes s.block).offset) % 2 ^ 64 ≡ (home_of homes s.block).offset + s.offset =
-          ap (λ (o : ℕ). (o + (home_of homes s.block).offset) % 2 ^ 64) f.at ∙ moved_bits s.offset (home_of homes s.block).offset (omega arith) in
+      ap (λ (o : ℕ). (o + (home_of homes s.block).offset) % 2 ^ 64) f.at ∙ moved_bits s.offset (home_of homes s.block).offset (omega arith) in
       h'.1 ∙ ap (λ (k : ℕ). Value.Ptr (Pointer.At (home_of homes s.block).block (record { bits = k }))) bits
 
   pub range_kept : (v w : Value) (len align : ℕ) (s : Spot) → IsAlignment align → IsValue homes v w → range rights m v len align ≡ Ok s → range target n w len align ≡ Ok (moved_spot homes s)
@@ -70,13 +68,7 @@ module _ (rights target : Rights) (homes : List Home) (m n : List MemoryBlock) (
         let e : (home_of homes s.block).offset + (s.offset + i) ≡ (home_of homes s.block).offset + s.offset + i = omega arith in
         subst (λ (k : ℕ). IsByte homes (byte_of f.block (s.offset + i)) (byte_of st.block k)) e (st.bytes (s.offset + i) (omega arith) open_byte))))
 
-    -- what was loaded
-    pub record IsLoaded (w : Value) (what : Access) (align : ℕ) (v : Value) : Type 0 where
-      pub value : Value
-      pub loads : load target n w what align ≡ Ok value
-      pub stands : IsValue homes v value
-
-    load_on : (p w : Value) (what : Access) (align : ℕ) (v : Value) (r : Result Spot Cause) → range rights m p (access_bytes what) align ≡ r → IsAlignment align → IsValue homes p w → on_ok (λ s. Ok (decode what (bytes_at m s (access_bytes what)))) r ≡ Ok v → IsLoaded w what align v
+    load_on : (p w : Value) (what : Access) (align : ℕ) (v : Value) (r : Result Spot Cause) → range rights m p (access_bytes what) align ≡ r → IsAlignment align → IsValue homes p w → on_ok (λ s. Ok (decode what (bytes_at m s (access_bytes what)))) r ≡ Ok v → IsLoaded target homes n w what align v
     load_on p w what align v (Err c) e ok h l = absurd (cc)
     load_on p w what align v (Ok s) e ok h l =
         let f = found rights m p (access_bytes what) align s e in
@@ -87,5 +79,8 @@ module _ (rights target : Rights) (homes : List Home) (m n : List MemoryBlock) (
           stands = subst (λ (u : Value). IsValue homes u (decode what (bytes_at n (moved_spot homes s) (access_bytes what)))) is (decode_kept homes what _ _ (bytes_kept p (access_bytes what) align s f));
         }
 
-    pub load_kept : (p w : Value) (what : Access) (align : ℕ) (v : Value) → IsAlignment align → IsValue homes p w → load rights m p what align ≡ Ok v → IsLoaded w what align v
+    pub load_kept : (p w : Value) (what : Access) (align : ℕ) (v : Value) → IsAlignment align → IsValue homes p w → load rights m p what align ≡ Ok v → IsLoaded target homes n w what align v
     load_kept p w what align v ok h l = load_on p w what align v (range rights m p (access_bytes what) align) refl ok h l
+
+pub loads_kept : (rights target : Rights) (homes : List Home) (m n : List MemoryBlock) (p q : Value) (what : Access) (align : ℕ) (v : Value) → AreByteRights rights → Embeds rights target homes m n → IsAlignment align → IsValue homes p q → load rights m p what align ≡ Ok v → IsLoaded target homes n q what align v
+loads_kept rights target homes m n p q what align v law em ok h l = load_kept rights target homes m n em law p q what align v ok h l

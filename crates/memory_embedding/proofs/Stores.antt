@@ -1,9 +1,9 @@
 -- Writes: into a block of the source and its home alike, and of the target alone where no block of the source stands.
-use Rattle.std.proofs.Common.{◌≡◌, ◌≢◌, ℕ, zero, suc, ◌+◌, ◌-◌, ◌^◌, ◌<◌, ◌≤◌, ◌⊎◌, Bool, true, false, not, List, length, get_or, Option, Some, None, Result, Ok, Err, refl, sym, ap, ◌∙◌, subst, ⊎_elim, inl, inr, arith, if◌then◌else◌}
+use Rattle.std.proofs.Common.{◌≡◌, ◌≢◌, ℕ, ◌+◌, ◌-◌, ◌^◌, ◌<◌, ◌≤◌, ◌⊎◌, Bool, true, false, List, length, get_or, Some, Result, Ok, Err, refl, sym, ap, ◌∙◌, subst, ⊎_elim, inl, inr, arith, if◌then◌else◌}
 use Rattle.std.specs.Prelude.{slice_get}
 use Rattle.std.proofs.lemmas.Bool.{cases_eq, cases_lt}
 use Rattle.block_memory.proofs.Digits.{length-encode}
-use Rattle.block_memory.proofs.Found.{Found, found}
+use Rattle.block_memory.proofs.Found.{found}
 use Rattle.block_memory.proofs.Kept.{length-written}
 use Rattle.block_memory.specs.Memory.{Rights, access_bytes, encode, is_constant, is_live, on_ok, range, same_kind, store, unless_constant, with_block, with_bytes, write, written}
 use Rattle.block_memory.specs.declared.block.Byte.{Byte}
@@ -16,8 +16,9 @@ use Rattle.coro_base.specs.declared.cause.Cause.{Cause}
 use Rattle.memory_embedding.proofs.Loads.{found_stands, moved_spot, range_kept}
 use Rattle.memory_embedding.proofs.Matching.{byte_at, encode_kept}
 use Rattle.memory_embedding.proofs.Written.{changed_elsewhere, changed_here, same_some, written_before, written_behind, written_inside}
+use Rattle.memory_embedding.specs.Kept.{IsStored}
 use Rattle.memory_embedding.specs.Pointers.{AreBytes, Home, IsByte, IsValue, home_of}
-use Rattle.memory_embedding.specs.Standing.{AreApart, AreByteRights, Embeds, HasRights, IsAlignment, IsOpen, Stands, byte_of}
+use Rattle.memory_embedding.specs.Standing.{AreApart, AreByteRights, Embeds, HasRights, IsAlignment, IsAway, IsOpen, Stands, byte_of}
 
 -- a block with other bytes
 abbrev pub refilled : MemoryBlock → List Byte → MemoryBlock
@@ -49,15 +50,11 @@ apart_refilled rights law h k b c x y xs ys a = record {
 module _ (rights target : Rights) (law : AreByteRights rights) (law' : AreByteRights target) (homes : List Home) where
   -- ---- a write elsewhere in the target
 
-  -- no open byte of the block stands where so many bytes are written
-  abbrev pub IsAway : ℕ → MemoryBlock → ℕ → ℕ → ℕ → Type 0
-  IsAway c z B at len = (home_of homes c).block ≡ B → (j : ℕ) → j < z.size → IsOpen rights c z j → ((home_of homes c).offset + j < at) ⊎ (at + len ≤ (home_of homes c).offset + j)
-
   away_kept : (bytes : List Byte) (at : ℕ) (ys : List Byte) (i : ℕ) → at + length ys ≤ length bytes → (i < at) ⊎ (at + length ys ≤ i) → get_or (written bytes at ys) i Byte.Undefined ≡ get_or bytes i Byte.Undefined
   away_kept bytes at ys i le (inl lt) = written_before bytes at ys i (omega arith) lt
   away_kept bytes at ys i le (inr ge) = written_behind bytes at ys i le ge
 
-  stands_same : (n : List MemoryBlock) (c B at : ℕ) (z y : MemoryBlock) (ys : List Byte) (s : Stands rights target homes n c z) → slice_get n B ≡ Some y → at + length ys ≤ y.size → IsAway c z B at (length ys) → (home_of homes c).block ≡ B → Stands rights target homes (with_block n B (with_bytes at ys)) c z
+  stands_same : (n : List MemoryBlock) (c B at : ℕ) (z y : MemoryBlock) (ys : List Byte) (s : Stands rights target homes n c z) → slice_get n B ≡ Some y → at + length ys ≤ y.size → IsAway rights homes c z B at (length ys) → (home_of homes c).block ≡ B → Stands rights target homes (with_block n B (with_bytes at ys)) c z
   stands_same n c B at z y ys s there within away same =
       let is_y : s.block ≡ y = same_some s.block y (sym s.there ∙ ap (slice_get n) same ∙ there) in
       let whole : length y.bytes ≡ y.size = subst (λ (u : MemoryBlock). length u.bytes ≡ u.size) is_y s.whole in
@@ -76,7 +73,7 @@ module _ (rights target : Rights) (law : AreByteRights rights) (law' : AreByteRi
         bytes = λ j lt o. subst (λ (d : Byte). IsByte homes (byte_of z j) d) (sym (away_kept y.bytes at ys ((home_of homes c).offset + j) (omega arith) (away same j lt o))) (subst (λ (u : MemoryBlock). IsByte homes (byte_of z j) (byte_of u ((home_of homes c).offset + j))) is_y (s.bytes j lt o));
       }
 
-  stands_other : (n : List MemoryBlock) (c B : ℕ) (f : MemoryBlock → MemoryBlock) (z : MemoryBlock) → Stands rights target homes n c z → (home_of homes c).block ≢ B → Stands rights target homes (with_block n B f) c z
+  pub stands_other : (n : List MemoryBlock) (c B : ℕ) (f : MemoryBlock → MemoryBlock) (z : MemoryBlock) → Stands rights target homes n c z → (home_of homes c).block ≢ B → Stands rights target homes (with_block n B f) c z
   stands_other n c B f z s ne = record {
     known = s.known;
     block = s.block;
@@ -91,12 +88,12 @@ module _ (rights target : Rights) (law : AreByteRights rights) (law' : AreByteRi
     bytes = s.bytes;
   }
 
-  pub stands_away : (n : List MemoryBlock) (c B at : ℕ) (z y : MemoryBlock) (ys : List Byte) → Stands rights target homes n c z → slice_get n B ≡ Some y → at + length ys ≤ y.size → IsAway c z B at (length ys) → Stands rights target homes (with_block n B (with_bytes at ys)) c z
+  pub stands_away : (n : List MemoryBlock) (c B at : ℕ) (z y : MemoryBlock) (ys : List Byte) → Stands rights target homes n c z → slice_get n B ≡ Some y → at + length ys ≤ y.size → IsAway rights homes c z B at (length ys) → Stands rights target homes (with_block n B (with_bytes at ys)) c z
   stands_away n c B at z y ys s there within away =
       ⊎_elim (λ e. stands_same n c B at z y ys s there within away e) (λ ne. stands_other n c B (with_bytes at ys) z s ne) (cases_eq (home_of homes c).block B)
 
   -- the target writes where no block of the source stands
-  pub private_write : (m n : List MemoryBlock) (B at : ℕ) (y : MemoryBlock) (ys : List Byte) → Embeds rights target homes m n → slice_get n B ≡ Some y → at + length ys ≤ y.size → ((c : ℕ) (z : MemoryBlock) → slice_get m c ≡ Some z → is_live z.life ≡ true → IsAway c z B at (length ys)) → Embeds rights target homes m (with_block n B (with_bytes at ys))
+  pub private_write : (m n : List MemoryBlock) (B at : ℕ) (y : MemoryBlock) (ys : List Byte) → Embeds rights target homes m n → slice_get n B ≡ Some y → at + length ys ≤ y.size → ((c : ℕ) (z : MemoryBlock) → slice_get m c ≡ Some z → is_live z.life ≡ true → IsAway rights homes c z B at (length ys)) → Embeds rights target homes m (with_block n B (with_bytes at ys))
   private_write m n B at y ys em there within away = record {
     each = λ c z is live. stands_away n c B at z y ys (em.each c z is live) there within (away c z is live);
     apart = em.apart;
@@ -159,7 +156,7 @@ module _ (rights target : Rights) (law : AreByteRights rights) (law' : AreByteRi
         }
 
     -- the bytes of other blocks aren't among those that are written
-    others_away : (c : ℕ) (z : MemoryBlock) → c ≢ b → slice_get m c ≡ Some z → is_live z.life ≡ true → IsAway c z H.block (H.offset + o) (length ys)
+    others_away : (c : ℕ) (z : MemoryBlock) → c ≢ b → slice_get m c ≡ Some z → is_live z.life ≡ true → IsAway rights homes c z H.block (H.offset + o) (length ys)
     others_away c z ne is live same j lt op = ⊎_elim
         (λ low. inl low)
         (λ ge. ⊎_elim
@@ -208,12 +205,6 @@ module _ (rights target : Rights) (law : AreByteRights rights) (law' : AreByteRi
 
   -- ---- stores
 
-  -- what a store gives
-  pub record IsStored (m' n : List MemoryBlock) (p v : Value) (what : Access) (align : ℕ) : Type 0 where
-    pub memory : List MemoryBlock
-    pub stores : store target n p v what align ≡ Ok memory
-    pub stands : Embeds rights target homes m' memory
-
   -- what isn't refused for a constant
   record IsWritten (constant : Bool) (m m' : List MemoryBlock) : Type 0 where
     free : constant ≡ false
@@ -223,7 +214,7 @@ module _ (rights target : Rights) (law : AreByteRights rights) (law' : AreByteRi
   is_written true m m' e = absurd (cc)
   is_written false m m' e = record { free = refl; is = cc }
 
-  store_on : (m n m' : List MemoryBlock) (p q v w : Value) (what : Access) (align : ℕ) (r : Result Spot Cause) → Embeds rights target homes m n → IsAlignment align → IsValue homes p q → IsValue homes v w → range rights m p (access_bytes what) align ≡ r → on_ok (λ s. unless_constant m s (write m s (encode (access_bytes what) v))) r ≡ Ok m' → IsStored m' n q w what align
+  store_on : (m n m' : List MemoryBlock) (p q v w : Value) (what : Access) (align : ℕ) (r : Result Spot Cause) → Embeds rights target homes m n → IsAlignment align → IsValue homes p q → IsValue homes v w → range rights m p (access_bytes what) align ≡ r → on_ok (λ s. unless_constant m s (write m s (encode (access_bytes what) v))) r ≡ Ok m' → IsStored rights target homes m' n q w what align
   store_on m n m' p q v w what align (Err c) em ok hp hv e l = absurd (cc)
   store_on m n m' p q v w what align (Ok s) em ok hp hv e l =
       let len = access_bytes what in
@@ -244,5 +235,11 @@ module _ (rights target : Rights) (law : AreByteRights rights) (law' : AreByteRi
         stands = subst (λ (k : List MemoryBlock). Embeds rights target homes k (write n t (encode len w))) wr.is em';
       }
 
-  pub store_kept : (m n m' : List MemoryBlock) (p q v w : Value) (what : Access) (align : ℕ) → Embeds rights target homes m n → IsAlignment align → IsValue homes p q → IsValue homes v w → store rights m p v what align ≡ Ok m' → IsStored m' n q w what align
+  pub store_kept : (m n m' : List MemoryBlock) (p q v w : Value) (what : Access) (align : ℕ) → Embeds rights target homes m n → IsAlignment align → IsValue homes p q → IsValue homes v w → store rights m p v what align ≡ Ok m' → IsStored rights target homes m' n q w what align
   store_kept m n m' p q v w what align em ok hp hv l = store_on m n m' p q v w what align (range rights m p (access_bytes what) align) em ok hp hv refl l
+
+pub stores_kept : (rights target : Rights) (homes : List Home) (m n m' : List MemoryBlock) (p q v w : Value) (what : Access) (align : ℕ) → AreByteRights rights → AreByteRights target → Embeds rights target homes m n → IsAlignment align → IsValue homes p q → IsValue homes v w → store rights m p v what align ≡ Ok m' → IsStored rights target homes m' n q w what align
+stores_kept rights target homes m n m' p q v w what align law law' em ok hp hv l = store_kept rights target law law' homes m n m' p q v w what align em ok hp hv l
+
+pub private_writes_kept : (rights target : Rights) (homes : List Home) (m n : List MemoryBlock) (B at : ℕ) (y : MemoryBlock) (ys : List Byte) → AreByteRights rights → AreByteRights target → Embeds rights target homes m n → slice_get n B ≡ Some y → at + length ys ≤ y.size → ((c : ℕ) (z : MemoryBlock) → slice_get m c ≡ Some z → is_live z.life ≡ true → IsAway rights homes c z B at (length ys)) → Embeds rights target homes m (with_block n B (with_bytes at ys))
+private_writes_kept rights target homes m n B at y ys law law' em there within away = private_write rights target law law' homes m n B at y ys em there within away

@@ -1,5 +1,5 @@
 -- Bytes written into a list, and blocks changed in a memory.
-use Rattle.std.proofs.Common.{◌≡◌, ◌≢◌, ℕ, zero, suc, ◌+◌, ◌-◌, ◌<◌, ◌≤◌, List, [], ◌∷◌, ◌++◌, length, get_or, take, drop, min, Some, refl, sym, ap, ◌∙◌, subst, arith, get_or-drop, get_or-take, get_or-append-add, length-append, length-take}
+use Rattle.std.proofs.Common.{◌≡◌, ◌≢◌, ℕ, zero, suc, ◌+◌, ◌-◌, ◌<◌, ◌≤◌, List, [], ◌∷◌, ◌++◌, length, get_or, take, drop, Some, refl, sym, ap, ◌∙◌, arith, get_or-drop, get_or-take, get_or-append-add, length-append}
 use Rattle.std.proofs.lemmas.List.{get_or_append_left, get_or-append_right, length-take-le}
 use Rattle.std.specs.Prelude.{slice_get}
 use Rattle.block_memory.specs.Memory.{with_block, written}

@@ -47,3 +47,7 @@ AreBytes homes [] [] = Unit {0}
 AreBytes homes [] (d ∷ ds) = ⊥
 AreBytes homes (c ∷ cs) [] = ⊥
 AreBytes homes (c ∷ cs) (d ∷ ds) = IsByte homes c d × AreBytes homes cs ds
+
+-- homes that leave each block where it is into which pointers may be about
+pub record Extends (homes more : List Home) : Type 0 where
+  pub each : (b : ℕ) → (home_of homes b).is_seen ≡ true → home_of more b ≡ home_of homes b

@@ -1,11 +1,12 @@
 -- A source memory that stands in a target memory.
-use Rattle.std.specs.Prelude.{ℕ, true, false, List, length, get_or, slice_get, Some, ◌+◌, ◌^◌, ◌<◌, ◌≤◌, ◌≡◌, ◌≢◌, ◌⊎◌}
+use Rattle.std.specs.Prelude.{ℕ, zero, suc, true, false, List, [], ◌∷◌, length, get_or, slice_get, Some, ◌+◌, ◌^◌, ◌<◌, ◌≤◌, ◌≡◌, ◌≢◌, ◌⊎◌}
 use Rattle.block_memory.specs.Memory.{Rights, is_live, may_compare_at, same_kind}
 use Rattle.block_memory.specs.Pointers.{moved}
 use Rattle.block_memory.specs.declared.block.Byte.{Byte}
 use Rattle.block_memory.specs.declared.block.Kind.{Kind}
 use Rattle.block_memory.specs.declared.block.MemoryBlock.{MemoryBlock}
 use Rattle.block_memory.specs.declared.pointer.Offset.{Offset}
+use Rattle.block_memory.specs.declared.pointer.Pointer.{Pointer}
 use Rattle.memory_embedding.specs.Pointers.{Home, IsByte, home_of}
 
 abbrev pub IsAlignment : ℕ → Type 0
@@ -59,3 +60,19 @@ pub record Embeds (rights target : Rights) (homes : List Home) (m n : List Memor
 -- a pointer that may be compared with null may be compared so where it was moved to, whatever became of its block
 pub record AreNullsKept (rights target : Rights) (homes : List Home) (m n : List MemoryBlock) : Type 0 where
   pub each : (b : ℕ) (o : Offset) → (home_of homes b).is_seen ≡ true → may_compare_at rights b (slice_get m b) o ≡ true → may_compare_at target (home_of homes b).block (slice_get n (home_of homes b).block) (moved o (home_of homes b).offset) ≡ true
+
+-- no byte of the block that the program may touch stands where so many bytes of the target are written
+abbrev pub IsAway : Rights → List Home → ℕ → MemoryBlock → ℕ → ℕ → ℕ → Type 0
+IsAway rights homes c z B at len = (home_of homes c).block ≡ B → (j : ℕ) → j < z.size → IsOpen rights c z j → ((home_of homes c).offset + j < at) ⊎ (at + len ≤ (home_of homes c).offset + j)
+
+-- ---- each block at its own place
+
+-- n homes, each the block of its own number, from the k-th on
+abbrev pub own_homes : ℕ → ℕ → List Home
+own_homes k zero = []
+own_homes k (suc n) = record { block = k; offset = 0; is_seen = true } ∷ own_homes (suc k) n
+
+-- a part of a pointer is one into a block that there is, at an offset of 64 bits
+abbrev pub AreOffsets : ℕ → Byte → Type 0
+AreOffsets n (Byte.Part (Pointer.At b o) k) = (b < n) × (o.bits < 2 ^ 64)
+AreOffsets n _ = Unit {0}

@@ -1,14 +1,10 @@
 //! A source memory standing in a target memory, and what operations keep of that: what the proofs of the passes are about.
 #![tactic(auto)]
 
-ghost use Rattle.std.specs.Prelude.{List};
-ghost use Rattle.block_memory.specs.Memory.{decode};
-ghost use Rattle.block_memory.specs.declared.block.Byte.{Byte as TheByte};
-ghost use Rattle.block_memory.specs.declared.pointer.Access.{Access as TheAccess};
-ghost use Rattle.memory_embedding.specs.Pointers.{AreBytes, Home, IsValue};
+mod blocks;
+mod operations;
 
-/// Bytes that stand for bytes are read as a value that stands for the value.
-#[tactic(auto, using(crate::proofs::Matching::decode_kept))]
-pub fn reading_is_kept()
-    ensures { (homes : List Home) (what : TheAccess) (cs ds : List TheByte) → AreBytes homes cs ds → IsValue homes (decode what cs) (decode what ds) }
-{}
+pub use blocks::{death_is_kept, growth_is_kept, memory_stands_in_itself, new_home_is_kept};
+pub use operations::{
+    comparison_is_kept, copy_is_kept, load_is_kept, private_write_is_kept, store_is_kept,
+};
