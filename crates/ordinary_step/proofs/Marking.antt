@@ -47,12 +47,12 @@ pub marked-more : {A : Type 0} (test : ℕ → A → Bool) (xs : List A) (i : �
 marked-more test xs i x first old new lt e h k =
     record {
       marks = λ name.
-        let so_far = list_any (test name) (take i xs) in
-        let more : list_any (test name) (take (i + 1) xs) ≡ (so_far || test name x) = list_any_more (test name) xs i x lt ∙ ap (λ y. so_far || test name y) (sym e) in
-        k.marks name
-        ∙ ap (λ o. option_map (λ m. m || test name x) o) (h.marks name)
-        ∙ twice (slice_get first name) so_far (test name x)
-        ∙ ap (λ b. option_map (λ m. m || b) (slice_get first name)) (sym more);
+          let so_far = list_any (test name) (take i xs) in
+          let more : list_any (test name) (take (i + 1) xs) ≡ (so_far || test name x) = list_any_more (test name) xs i x lt ∙ ap (λ y. so_far || test name y) (sym e) in
+          k.marks name
+          ∙ ap (λ o. option_map (λ m. m || test name x) o) (h.marks name)
+          ∙ twice (slice_get first name) so_far (test name x)
+          ∙ ap (λ b. option_map (λ m. m || b) (slice_get first name)) (sym more);
     }
 
 mapped : (o p : Option Bool) (t mark : Bool) → o ≡ option_map (λ m. m || t) p → ((m : Bool) → p ≡ Some m → m ≡ false) → o ≡ Some mark → mark ≡ t

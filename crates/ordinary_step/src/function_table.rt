@@ -27,10 +27,7 @@ fn table_of_function(alloc: Global, function: &Function) -> Result<FunctionTable
 }
 
 /// The tables of all functions.
-pub fn all_tables(
-    alloc: Global,
-    functions: &[Function],
-) -> Result<Items<FunctionTable>, AllocError>
+pub fn all_tables(alloc: Global, functions: &[Function]) -> Result<Items<FunctionTable>, AllocError>
     ensures { IfOk result (λ tables. HaveTables functions.now tables) }
 {
     let mut all = Items::new(alloc);

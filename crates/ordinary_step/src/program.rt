@@ -4,10 +4,10 @@ ghost use Rattle.std.specs.Prelude.{◌≡◌, IfOk, Some, None, Option, slice_g
 ghost use Rattle.ir_model.specs.Ty.{ptr};
 ghost use Rattle.ordinary_step.specs.Tables.{FindsFirst, HaveTables};
 
+use crate::function_table::{FunctionTable, all_tables};
 use crate::labels::{position, search};
 use crate::markers::has_markers;
 use crate::names::{NameTable, find, table_of};
-use crate::function_table::{FunctionTable, all_tables};
 use block_memory::{Offset, Pointer, Value};
 use coro_base::{BlockId, FuncId, Items, Name, ValueId};
 use ir_model::{Function, IrType, Module};

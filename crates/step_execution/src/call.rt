@@ -15,7 +15,9 @@ use crate::memory_step::risen;
 use block_memory::{AccessRights, Kind, Pointer, Value};
 use coro_base::{Cause, Data, Event, FuncId, Items, Name, ValueId, Word};
 use ir_model::{Allocator, Arg, Callee, Function, Intrinsic, IrType, Param};
-use ordinary_step::{Effect, Program, Values, World, literal, pointer_to, to_address, value_of_local};
+use ordinary_step::{
+    Effect, Program, Values, World, literal, pointer_to, to_address, value_of_local,
+};
 use std::alloc::{AllocError, Global};
 
 /// Sets the value of the name of a result, where there is one.

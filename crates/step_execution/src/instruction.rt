@@ -13,7 +13,10 @@ use crate::memory_step::{give, load, settle, settle_number, store};
 use block_memory::{AccessRights, Memory, Value};
 use coro_base::{BinOp, Cause, Flags, Pred, ValueId};
 use ir_model::{Instr, IrType, Node, Operand};
-use ordinary_step::{Effect, Program, Values, World, by, choose, compare_at, compute, converted, from_number, moved, to_address, truth};
+use ordinary_step::{
+    Effect, Program, Values, World, by, choose, compare_at, compute, converted, from_number, moved,
+    to_address, truth,
+};
 use std::alloc::{AllocError, Global};
 
 /// A binary operation.

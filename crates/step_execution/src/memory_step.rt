@@ -15,7 +15,10 @@ use block_memory::{AccessRights, BlockId, Kind, Memory, Pointer, Value};
 use coro_base::{Cause, FuncId, ValueId};
 use ir_ints::Num;
 use ir_model::{Arg, IrType, Operand};
-use ordinary_step::{Effect, Program, Slot, Stack, Values, World, access_of, from_number, pointer_to, to_address, to_stored};
+use ordinary_step::{
+    Effect, Program, Slot, Stack, Values, World, access_of, from_number, pointer_to, to_address,
+    to_stored,
+};
 use std::alloc::{AllocError, Global};
 
 /// Whether a number is an alignment.
@@ -124,7 +127,13 @@ fn slot_kind(program: &Program, func: FuncId) -> Kind
 {
     match program.module.functions.get(func) {
         None => Kind::Stack,
-        Some(function) => { if function.coroutine { Kind::Slot } else { Kind::Stack } }
+        Some(function) => {
+            if function.coroutine {
+                Kind::Slot
+            } else {
+                Kind::Stack
+            }
+        }
     }
 }
 
