@@ -1,5 +1,5 @@
 -- The tokens of printed phis, terminators and blocks.
-use Rattle.std.proofs.Common.{◌≡◌, ℕ, Bool, true, false, List, [], ◌∷◌, ◌++◌, append_assoc, append-nil, codes, Option, None, refl}
+use Rattle.std.proofs.Common.{true, false, List, [], ◌∷◌, append_assoc, codes, None, refl}
 use Rattle.std.specs.Prelude.{Some, slice_get}
 use Rattle.coro_base.specs.declared.name.Name.{Name}
 use Rattle.ir_model.specs.declared.instr.Case.{Case}

@@ -1,11 +1,10 @@
 -- The tokens of printed instructions.
-use Rattle.std.proofs.Common.{◌≡◌, ℕ, Bool, true, false, List, [], ◌∷◌, ◌++◌, append_assoc, append-nil, codes, Option, None, refl}
+use Rattle.std.proofs.Common.{◌≡◌, ℕ, Bool, true, false, List, [], ◌∷◌, ◌++◌, append_assoc, codes, Option, None, refl}
 use Rattle.std.specs.Prelude.{Some}
 use Rattle.coro_base.specs.declared.name.Name.{Name}
 use Rattle.coro_base.specs.declared.ops.Flags.{Flags}
 use Rattle.ir_model.specs.Ty.{Ty}
 use Rattle.ir_model.specs.declared.instr.Instr.{Instr}
-use Rattle.ir_model.specs.declared.operand.Arg.{Arg}
 use Rattle.ir_model.specs.declared.operand.Operand.{Operand}
 use Rattle.ir_symbols.specs.declared.word.Word.{Word}
 use Rattle.canonical_text.specs.Instrs.{action_text, address_text, align_text, instr_text, musttail_text, pair_text, set_by, set_text}

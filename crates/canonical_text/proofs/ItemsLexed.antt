@@ -1,5 +1,5 @@
 -- The tokens of printed items and modules.
-use Rattle.std.proofs.Common.{◌≡◌, ℕ, Bool, true, false, List, [], ◌∷◌, ◌++◌, append_assoc, append-nil, codes, refl, sym, ap, ◌∙◌}
+use Rattle.std.proofs.Common.{◌≡◌, ℕ, Bool, true, false, List, [], ◌∷◌, ◌++◌, append_assoc, append-nil, refl, sym, ap, ◌∙◌}
 use Rattle.std.specs.Prelude.{Some}
 use Rattle.coro_base.specs.declared.name.Name.{Name}
 use Rattle.ir_model.specs.Ty.{Ty}
@@ -18,9 +18,9 @@ use Rattle.canonical_text.specs.ItemSymbols.{IsPrintable, declaration_symbols, d
 use Rattle.canonical_text.specs.Written.{AreWritten}
 use Rattle.canonical_text.proofs.BlocksLexed.{blocks_lexed}
 use Rattle.canonical_text.proofs.InstrsLexed.{align_lexed}
-use Rattle.canonical_text.proofs.Lexed.{Lexed, empty, global, join, local, same_symbols, spaced, stops, then, unfree}
+use Rattle.canonical_text.proofs.Lexed.{Lexed, empty, global, join, local, same_symbols, spaced, stops, then}
 use Rattle.canonical_text.proofs.OperandsLexed.{local_lexed, operand_lexed, result_lexed}
-use Rattle.canonical_text.proofs.Steps.{before, said_as}
+use Rattle.canonical_text.proofs.Steps.{said_as}
 use Rattle.canonical_text.proofs.TypesLexed.{type_lexed}
 use Rattle.canonical_text.proofs.WordsLexed.{comma_space, curly_close_line, curly_open_line, declare_lexed, define_lexed, equals_space, kind_lexed, line, presplit_lexed, round_close, round_line, round_open, space, type_word_lexed}
 

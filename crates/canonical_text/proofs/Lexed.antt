@@ -1,5 +1,5 @@
 -- Texts whose tokens are known, whatever follows that can't prolong the last.
-use Rattle.std.proofs.Common.{◌≡◌, ℕ, suc, ◌+◌, ◌<◌, ◌^◌, Bool, true, false, ◌||◌, List, [], ◌∷◌, ◌++◌, ◌==◌, length, Option, None, refl, sym, ap, subst, ◌∙◌, append_assoc, append-nil, arith, decimal}
+use Rattle.std.proofs.Common.{◌≡◌, ℕ, ◌+◌, ◌<◌, ◌^◌, Bool, true, false, ◌||◌, List, [], ◌∷◌, ◌++◌, ◌==◌, length, Option, None, refl, sym, ap, subst, ◌∙◌, append_assoc, append-nil, arith, decimal}
 use Rattle.std.specs.Prelude.{Some as Just}
 use Rattle.std.proofs.lemmas.List.{length-append}
 use Rattle.coro_base.specs.declared.name.Name.{Name}
@@ -13,13 +13,13 @@ use Rattle.ir_lexer.specs.declared.token.Kind.TheVariants as kinds
 use Rattle.ir_symbols.specs.Listing.{symbols_of}
 use Rattle.ir_symbols.specs.Names.{name_of}
 use Rattle.ir_symbols.specs.Numbers.{fitting, value_of}
-use Rattle.ir_symbols.specs.Sym.{integer_of, mark_of_byte, negative, positive, sym_of}
+use Rattle.ir_symbols.specs.Sym.{mark_of_byte, negative, positive, sym_of}
 use Rattle.ir_symbols.specs.Words.{word_of}
 use Rattle.ir_symbols.specs.declared.sym.Sym.{Sym}
 use Rattle.ir_symbols.specs.declared.sym.Sym.TheVariants as syms
 use Rattle.ir_symbols.proofs.Values.{at_end}
 use Rattle.canonical_text.specs.Operands.{spelled}
-use Rattle.canonical_text.specs.Written.{AreWritten, IsNamed}
+use Rattle.canonical_text.specs.Written.{AreWritten}
 use Rattle.canonical_text.proofs.Decimals.{decimal_is}
 use Rattle.canonical_text.proofs.Spellings.{before_last_is, spelling_read, spelling_token}
 use Rattle.canonical_text.proofs.Steps.{before, blank_said, token_said}
@@ -48,11 +48,11 @@ before_before xs ys text = ap (λ (l : List Sym). record { symbols = l; whole = 
 pub join : {f g : Bool} {a b : List ℕ} {xs ys : List Sym} → Lexed f a xs → Lexed g b ys → ((rest : List ℕ) → (g || stops rest) ≡ true → (f || stops (b ++ rest)) ≡ true) → Lexed g (a ++ b) (xs ++ ys)
 join {f} {g} {a} {b} {xs} {ys} first second fits = record {
   says = λ rest written h.
-    let parts = written_parts xs ys written in
-    ap symbols_of (append_assoc a b rest)
-    ∙ first.says (b ++ rest) parts.0 (fits rest h)
-    ∙ ap (before xs) (second.says rest parts.1 h)
-    ∙ before_before xs ys rest;
+      let parts = written_parts xs ys written in
+      ap symbols_of (append_assoc a b rest)
+      ∙ first.says (b ++ rest) parts.0 (fits rest h)
+      ∙ ap (before xs) (second.says rest parts.1 h)
+      ∙ before_before xs ys rest;
 }
 
 stops_on : (b rest : List ℕ) (f : Bool) → (f || stops b) ≡ true → (f || stops (b ++ rest)) ≡ true

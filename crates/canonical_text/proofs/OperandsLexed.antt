@@ -1,6 +1,6 @@
 -- The tokens of printed operands.
-use Rattle.std.proofs.Common.{◌≡◌, ℕ, suc, Bool, true, false, List, [], ◌∷◌, ◌++◌, codes, Option, None, refl}
-use Rattle.std.specs.Prelude.{ℤ, pos, negsuc, Some, slice_get}
+use Rattle.std.proofs.Common.{◌≡◌, ℕ, suc, true, false, List, [], ◌∷◌, ◌++◌, codes, Option, None, refl}
+use Rattle.std.specs.Prelude.{pos, negsuc, Some, slice_get}
 use Rattle.coro_base.specs.declared.name.Name.{Name}
 use Rattle.ir_model.specs.Table.{allocator_word, intrinsic_word}
 use Rattle.ir_model.specs.Ty.{Ty}

@@ -1,5 +1,5 @@
 -- The canonical spelling of a name is a name of the grammar's tokens, and is read back.
-use Rattle.std.proofs.Common.{◌≡◌, ℕ, ◌+◌, ◌-◌, ◌*◌, ◌/◌, ◌%◌, ◌^◌, ◌<◌, ◌≤◌, inl, inr, Bool, true, false, cond, not, ◌&&◌, ◌||◌, ◌==◌, nat_lt, nat_le, List, [], ◌∷◌, ◌++◌, length, take, Option, None, refl, sym, ap, ◌∙◌, arith, decimal}
+use Rattle.std.proofs.Common.{◌≡◌, ℕ, ◌+◌, ◌-◌, ◌*◌, ◌/◌, ◌%◌, ◌^◌, ◌<◌, ◌≤◌, inl, inr, Bool, true, false, not, ◌||◌, ◌==◌, nat_lt, List, [], ◌∷◌, ◌++◌, length, take, refl, sym, ap, ◌∙◌, arith, decimal}
 use Rattle.std.specs.Prelude.{Some as Just}
 use Rattle.std.specs.List.{list_all}
 use Rattle.std.proofs.lemmas.Bool.{cases_lt, eqb-true, ltb-true, lt-ltb, false≢true, and_parts, or_left, or_parts, ne_eqb}
@@ -11,8 +11,8 @@ use Rattle.ir_lexer.specs.Bytes.{is_digit, is_name_byte as is_token_byte}
 use Rattle.ir_lexer.specs.Lists.{all_at, front}
 use Rattle.ir_lexer.specs.Token.{Each, Some, is_inside, IsName as IsNameToken}
 use Rattle.ir_lexer.proofs.ListSteps.{all_at-some}
-use Rattle.ir_symbols.specs.Names.{byte_at, escaped_at, has_zero, hex_value, inside as before_last, is_empty, is_hex, name_of, number_name, plain_name, text_name, unescaped}
-use Rattle.ir_symbols.specs.Numbers.{are_digits, value_of}
+use Rattle.ir_symbols.specs.Names.{byte_at, has_zero, hex_value, inside as before_last, is_hex, name_of, number_name, text_name, unescaped}
+use Rattle.ir_symbols.specs.Numbers.{value_of}
 use Rattle.canonical_text.proofs.Decimals.{Each-append, are_digits-each, decimal_is}
 use Rattle.canonical_text.proofs.Tokens.{digits_are_names}
 

@@ -1,13 +1,12 @@
 -- A blank or a token at the front of a text.
-use Rattle.std.proofs.Common.{◌≡◌, ℕ, suc, ◌+◌, ◌<◌, ◌≤◌, Bool, true, false, cond, List, [], ◌∷◌, ◌++◌, length, take, drop, ◌==◌, ◌||◌, refl, sym, ap, ◌∙◌, arith, Option, None, eq-eqb}
-use Rattle.std.specs.Prelude.{Some, map}
-use Rattle.std.proofs.lemmas.Bool.{eqb-true, eqb-false, ne_eqb}
+use Rattle.std.proofs.Common.{◌≡◌, ℕ, suc, ◌+◌, ◌<◌, ◌≤◌, Bool, true, false, cond, List, [], ◌∷◌, ◌++◌, length, take, drop, ◌==◌, ◌||◌, refl, sym, ap, ◌∙◌, arith, Option, None}
+use Rattle.std.specs.Prelude.{Some}
+use Rattle.std.proofs.lemmas.Bool.{eqb-true}
 use Rattle.std.proofs.lemmas.Bool.Decides.{nat_tests}
-use Rattle.std.proofs.lemmas.List.{length-append, length-drop, drop_at, length-take-le}
+use Rattle.std.proofs.lemmas.List.{length-append, length-drop, drop_at}
 use Rattle.ir_lexer.specs.Bytes.{is_blank as is_blank_byte}
-use Rattle.ir_lexer.specs.Lists.{all_at, front}
 use Rattle.ir_lexer.specs.Scan.{blank_len, comment_len, token_at}
-use Rattle.ir_lexer.specs.Tokens.{cut, first_token, tokens}
+use Rattle.ir_lexer.specs.Tokens.{cut, first_token}
 use Rattle.ir_lexer.specs.declared.token.Kind.{Kind}
 use Rattle.ir_lexer.proofs.ListSteps.{all_at-some, all_at-none}
 use Rattle.ir_lexer.proofs.Tokens.{longest_token, longest_some}

@@ -1,17 +1,17 @@
 -- A token before a byte that can't prolong it is the token at the front.
-use Rattle.std.proofs.Common.{◌≡◌, ℕ, suc, ◌+◌, ◌<◌, ◌≤◌, inl, inr, Bool, true, false, cond, not, ◌&&◌, List, [], ◌∷◌, ◌++◌, length, drop, ◌==◌, nat_lt, ◌||◌, zero, refl, sym, ap, subst, ◌∙◌, append_assoc, arith, Option, None}
+use Rattle.std.proofs.Common.{◌≡◌, ℕ, suc, ◌+◌, ◌<◌, inl, inr, Bool, true, false, not, ◌&&◌, List, [], ◌∷◌, ◌++◌, length, ◌==◌, nat_lt, ◌||◌, zero, refl, sym, ap, subst, ◌∙◌, append_assoc, arith, Option}
 use Rattle.std.specs.Prelude.{Some as Just}
 use Rattle.std.specs.List.{prefix_len}
-use Rattle.std.proofs.lemmas.Bool.{and_parts, lt-ltb, both_ways, or_left, or_right, or_parts}
+use Rattle.std.proofs.lemmas.Bool.{and_parts, lt-ltb, or_left, or_right, or_parts}
 use Rattle.std.proofs.lemmas.Bool.Decides.{nat_tests}
 use Rattle.std.proofs.lemmas.Grind.{common_steps}
 use Rattle.std.proofs.Math.Dec.{eqb-suc-zero}
 use Rattle.std.proofs.lemmas.List.{length-append, drop_at}
 use Rattle.ir_lexer.specs.Bytes.{is_digit, is_name_byte, is_word_start, is_mark}
-use Rattle.ir_lexer.specs.Scan.{close_len, any_name_len, begins_colon, behind, is_label, plain_token_at, token_at}
-use Rattle.ir_lexer.specs.Token.{Each, Some, is_inside, IsQuoted, IsName}
+use Rattle.ir_lexer.specs.Scan.{any_name_len, behind, is_label, plain_token_at, token_at}
+use Rattle.ir_lexer.specs.Token.{Each, Some, is_inside, IsName}
 use Rattle.ir_lexer.specs.declared.token.Kind.{Kind}
-use Rattle.ir_lexer.specs.declared.token.Kind.TheVariants.{Label, Word, Int, String, Local, Global, Group, Meta, Mark}
+use Rattle.ir_lexer.specs.declared.token.Kind.TheVariants.{Label, Word, Int, Local, Global, Mark}
 use Rattle.ir_lexer.proofs.Fronts.{other_byte, prefix_len-stop, close_len-append, any_name_len-colon}
 
 -- a byte that prolongs no name, number or word, and makes no label of them

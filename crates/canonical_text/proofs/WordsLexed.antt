@@ -1,19 +1,17 @@
 -- The written-out words, with the blanks and marks beside them.
-use Rattle.std.proofs.Common.{◌≡◌, ℕ, Bool, true, false, List, [], ◌∷◌, ◌++◌, codes, refl}
+use Rattle.std.proofs.Common.{Bool, true, false, [], ◌∷◌, codes, refl}
 use Rattle.coro_base.specs.declared.ops.BinOp.{BinOp}
 use Rattle.coro_base.specs.declared.ops.CastOp.{CastOp}
 use Rattle.coro_base.specs.declared.ops.Pred.{Pred}
 use Rattle.ir_model.specs.declared.ir_type.IntWidth.{IntWidth}
 use Rattle.ir_symbols.specs.Words.{word_of}
-use Rattle.ir_symbols.specs.declared.sym.Sym.{Sym}
-use Rattle.ir_symbols.specs.declared.word.Word.{Word}
 use Rattle.ir_symbols.specs.declared.word.Word.TheVariants as words
 use Rattle.canonical_text.specs.Items.{kind_word}
 use Rattle.canonical_text.specs.ItemSymbols.{kind_of}
 use Rattle.canonical_text.specs.Marks.{word, equals, comma, open_round, close_round, open_square, close_square, open_curly, close_curly}
 use Rattle.canonical_text.specs.Words.{binary_word, cast_word, pred_word}
 use Rattle.canonical_text.proofs.Lexed.{Lexed}
-use Rattle.canonical_text.proofs.Pieces.{Piece, gap, sign, name, fitting, spelled_word}
+use Rattle.canonical_text.proofs.Pieces.{gap, sign, name, fitting, spelled_word}
 
 pub binary_lexed : (op : BinOp) → Lexed false (binary_word op) (word (words.Bin op) ∷ [])
 unfolding word_of

@@ -1,5 +1,5 @@
 -- The symbols of phis, terminators and blocks.
-use Rattle.std.specs.Prelude.{ℕ, Option, Some, None, List, [], ◌∷◌, ◌++◌, slice_get}
+use Rattle.std.specs.Prelude.{Some, None, List, [], ◌∷◌, ◌++◌, slice_get}
 use Rattle.canonical_text.specs.InstrSymbols.{instr_symbols}
 use Rattle.canonical_text.specs.Marks.{word, equals, comma, open_square, close_square}
 use Rattle.canonical_text.specs.OperandSymbols.{local_symbol, operand_symbol, arg_symbols, label_symbols}

@@ -1,5 +1,5 @@
 -- The text of phis, terminators and blocks.
-use Rattle.std.specs.Prelude.{ℕ, Option, Some, None, List, [], ◌∷◌, ◌++◌, codes}
+use Rattle.std.specs.Prelude.{ℕ, Some, None, List, [], ◌∷◌, ◌++◌, codes}
 use Rattle.coro_base.specs.declared.name.Name.{Name}
 use Rattle.ir_model.specs.declared.instr.Case.{Case}
 use Rattle.ir_model.specs.declared.instr.Incoming.{Incoming}

@@ -1,5 +1,5 @@
 -- The text of instructions.
-use Rattle.std.specs.Prelude.{ℕ, Bool, Option, Some, None, List, [], ◌∷◌, ◌++◌, codes, decimal, if◌then◌else◌}
+use Rattle.std.specs.Prelude.{ℕ, Bool, Option, Some, None, List, [], ◌++◌, codes, decimal, if◌then◌else◌}
 use Rattle.coro_base.specs.declared.name.Name.{Name}
 use Rattle.ir_model.specs.Ty.{Ty}
 use Rattle.ir_model.specs.declared.instr.Instr.{Instr}

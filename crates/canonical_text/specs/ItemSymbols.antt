@@ -1,5 +1,5 @@
 -- The symbols of items and modules.
-use Rattle.std.specs.Prelude.{ℕ, Bool, Some, List, [], ◌∷◌, ◌++◌, if◌then◌else◌}
+use Rattle.std.specs.Prelude.{Bool, Some, List, [], ◌∷◌, ◌++◌, if◌then◌else◌}
 use Rattle.canonical_text.specs.BlockSymbols.{blocks_symbols}
 use Rattle.canonical_text.specs.InstrSymbols.{align_symbols, flag_symbols}
 use Rattle.canonical_text.specs.Marks.{word, equals, comma, open_round, close_round, open_curly, close_curly}

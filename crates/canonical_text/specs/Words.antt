@@ -1,5 +1,5 @@
 -- The words of instructions.
-use Rattle.std.specs.Prelude.{ℕ, Bool, true, false, List, [], ◌++◌, codes, if◌then◌else◌}
+use Rattle.std.specs.Prelude.{ℕ, Bool, List, [], ◌++◌, codes, if◌then◌else◌}
 use Rattle.coro_base.specs.declared.ops.BinOp.{BinOp}
 use Rattle.coro_base.specs.declared.ops.CastOp.{CastOp}
 use Rattle.coro_base.specs.declared.ops.Flags.{Flags}

@@ -1,5 +1,5 @@
 -- Symbols that can be written.
-use Rattle.std.specs.Prelude.{ℕ, ◌<◌, ◌^◌, Option, Some, None, List, [], ◌∷◌}
+use Rattle.std.specs.Prelude.{◌<◌, ◌^◌, Option, Some, None, List, [], ◌∷◌}
 use Rattle.coro_base.specs.declared.name.Name.{Name}
 use Rattle.coro_names.specs.Spelling.{IsName}
 use Rattle.ir_symbols.specs.declared.sym.Sym.{Sym}

@@ -28,10 +28,7 @@ fn frames_are_printed_and_read(rt: HostRuntime) -> Result<(), Fail> {
         b"; frame @f size 24 align 8 index 16\n; frames\n; frame @f size x",
     ];
     for text in one_frame {
-        assert!(rt;
-            read_frames(alloc, text)?
-                == Some(frame(alloc)?)
-        );
+        assert!(rt; read_frames(alloc, text)? == Some(frame(alloc)?));
     }
     let none: [&[u8]; 3] = [b"", b"; frames", b" ; frame @f size x"];
     for text in none {

@@ -1,10 +1,7 @@
 //! The text of items and modules.
 
-ghost use Rattle.std.specs.Prelude.{◌≡◌, ℕ, List, true, ◌++◌, OnOk, IfOk};
-ghost use Rattle.ir_symbols.specs.Listing.{symbols_of};
-ghost use Rattle.ir_grammar.specs.Text.{StandsFor};
-ghost use Rattle.printed_grammar.specs.Bytes.{AreBytes};
-ghost use Rattle.canonical_text.specs.ItemSymbols.{IsPrintable, module_symbols};
+ghost use Rattle.std.specs.Prelude.{◌≡◌, ◌++◌, OnOk, IfOk};
+ghost use Rattle.printed_grammar.specs.ReadBack.{IsReadBack};
 ghost use Rattle.canonical_text.specs.Items.{coroutine_text, declaration_text, declarations_text, function_text, functions_text, global_item_text, global_items_text, head_text, kind_word, module_text, more_params_text, more_types_text, param_text, params_text, type_item_text, type_items_text, types_text};
 
 use crate::blocks::push_blocks;
@@ -176,14 +173,12 @@ fn push_functions(functions: &[Function], out: &mut Vec<u8>) -> Result<(), Alloc
     Ok(())
 }
 
-/// The canonical text of a module. A local whose position is past its function's names is written without a name. Where the
-/// module is printable (its names are names, its numbers below 2^64), the tokens of the text say the module's symbols.
+/// The canonical text of a module. A local whose position is past its function's names is written without a name.
 /// Where some text stands for the module, so does this one: it is read back as the same module.
-#[tactic(auto, using(canonical_text::proofs::ItemsLexed::module_lexed, printed_grammar::proofs::Whole::stands_again))]
+#[tactic(auto, using(printed_grammar::proofs::Whole::read_back))]
 pub fn print_module(alloc: Global, module: &Module) -> Result<Vec<u8>, AllocError>
     ensures text { IfOk result (λ text. text.items ≡ module_text «module».now) }
-    ensures read_back { (text : List ℕ) → AreBytes text → StandsFor text «module».now → IfOk result (λ printed. StandsFor printed.items «module».now) }
-    ensures lexed { IsPrintable «module».now → IfOk result (λ text. symbols_of text.items ≡ record { symbols = module_symbols «module».now; whole = true }) }
+    ensures read_back { IfOk result (λ text. IsReadBack text.items «module».now) }
 {
     let mut out = Vec::new(alloc);
     push_type_items(module.types.as_slice(), &mut out)?;

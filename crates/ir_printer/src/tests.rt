@@ -361,7 +361,7 @@ fn unnamed_module(alloc: Global) -> Result<Module, AllocError> {
 }
 
 #[test]
-fn modules_are_printed(rt: HostRuntime) -> Result<(), Fail> {
+fn a_quoted_name_is_printed(rt: HostRuntime) -> Result<(), Fail> {
     let alloc = rt.alloc();
     let unnamed: [&[u8]; 4] = [
         b"define i32 @\"a b\"(i32 %0) {",
@@ -371,6 +371,12 @@ fn modules_are_printed(rt: HostRuntime) -> Result<(), Fail> {
     ];
     let text = print_module(alloc, &unnamed_module(alloc)?)?;
     assert_eq!(rt; text.as_slice(), lines(alloc, &unnamed)?.as_slice());
+    Ok(())
+}
+
+#[test]
+fn modules_are_printed(rt: HostRuntime) -> Result<(), Fail> {
+    let alloc = rt.alloc();
     let sample: [&[u8]; 34] = [
         b"%T = type { i32, ptr }",
         b"%U = type {}",

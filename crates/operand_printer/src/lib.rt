@@ -6,8 +6,8 @@ mod types;
 mod words;
 
 pub use operands::{
-    push_arg, push_args, push_callee, push_global, push_label, push_local, push_more_args, push_name,
-    push_operand, push_result,
+    push_arg, push_args, push_callee, push_global, push_label, push_local, push_more_args,
+    push_name, push_operand, push_result,
 };
 pub use types::{push_number, push_type};
 pub use words::{binary_word, cast_word, pred_word, push_flag, push_flags};

@@ -1,11 +1,11 @@
 -- A phrase that stands in a text, and the same phrase as it is printed.
-use Rattle.std.proofs.Common.{◌≡◌, ℕ, zero, suc, ◌<◌, ◌^◌, inl, inr, List, [], ◌∷◌, ◌++◌, append_assoc, append-nil, length, Option, None, refl, sym, ap, subst, ◌∙◌}
-use Rattle.std.specs.Prelude.{Some, slice_get, ◌⊎◌}
+use Rattle.std.proofs.Common.{◌≡◌, ◌<◌, ◌^◌, inl, inr, List, [], ◌∷◌, ◌++◌, append_assoc, Option, None, refl, sym, ap, subst}
+use Rattle.std.specs.Prelude.{Some}
 use Rattle.coro_base.specs.declared.name.Name.{Name}
 use Rattle.coro_names.specs.Spelling.{IsName}
 use Rattle.ir_symbols.specs.declared.sym.Sym.{Sym}
 use Rattle.ir_symbols.specs.declared.sym.Sym.TheVariants as syms
-use Rattle.canonical_text.specs.Written.{AreWritten, IsNamed, IsWritten}
+use Rattle.canonical_text.specs.Written.{AreWritten}
 use Rattle.ir_grammar.specs.Phrases.{Phrase, Naming, Locals, ◌⨾◌, ◌∥◌, nothing, each, these, plain}
 
 -- ---- symbols of a text

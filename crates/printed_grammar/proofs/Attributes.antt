@@ -1,12 +1,11 @@
 -- What is read and not kept leaves sound symbols behind it.
-use Rattle.std.proofs.Common.{◌≡◌, ℕ, inl, inr, List, [], ◌∷◌, ◌++◌, refl, subst}
-use Rattle.std.specs.Prelude.{Bool, false, ◌⊎◌}
+use Rattle.std.proofs.Common.{List, [], ◌∷◌, refl}
 use Rattle.ir_symbols.specs.declared.sym.Mark.TheVariants as marks
 use Rattle.ir_symbols.specs.declared.sym.Sym.{Sym}
 use Rattle.ir_symbols.specs.declared.sym.Sym.TheVariants as syms
 use Rattle.ir_symbols.specs.declared.word.Word.TheVariants as words
-use Rattle.ir_grammar.specs.Attributes.{Attr, presplit, in_group, plain_attr, Balanced, empty, other, nested, IsAttr, any, any_integer, attributes, curly_text, is_bracket, metadata, pairs, round_text}
-use Rattle.ir_grammar.specs.Phrases.{Phrase, ◌⨾◌, ◌∥◌, each, mark, nothing, perhaps, these, word}
+use Rattle.ir_grammar.specs.Attributes.{Attr, presplit, in_group, plain_attr, Balanced, empty, other, nested, IsAttr, any, any_integer, attributes, curly_text, metadata, pairs, round_text}
+use Rattle.ir_grammar.specs.Phrases.{Phrase, ◌⨾◌, each, mark, nothing, perhaps, these, word}
 use Rattle.printed_grammar.proofs.Again.{Again, AreSound, Leaves, left_out, leaves_each, leaves_nothing, leaves_or, leaves_seq, leaves_these}
 
 balanced_left : {ts rest : List Sym} → Balanced ts rest → AreSound ts → AreSound rest

@@ -1,6 +1,6 @@
 -- Phis, terminators and blocks as they are printed.
-use Rattle.std.proofs.Common.{◌≡◌, ℕ, inl, inr, List, [], ◌∷◌, ◌++◌, append_assoc, append-nil, Option, None, refl, sym, ap, subst, ◌∙◌}
-use Rattle.std.specs.Prelude.{Some, slice_get}
+use Rattle.std.proofs.Common.{ℕ, List, [], ◌∷◌, ◌++◌, append_assoc, append-nil, None}
+use Rattle.std.specs.Prelude.{Some}
 use Rattle.coro_base.specs.declared.name.Name.{Name}
 use Rattle.ir_model.specs.declared.instr.Case.{Case}
 use Rattle.ir_model.specs.declared.instr.Incoming.{Incoming}
@@ -13,15 +13,13 @@ use Rattle.ir_model.specs.declared.module.Block.{Block}
 use Rattle.ir_model.specs.declared.module.TypeItem.{TypeItem}
 use Rattle.ir_symbols.specs.declared.sym.Mark.TheVariants as marks
 use Rattle.ir_symbols.specs.declared.sym.Sym.{Sym}
-use Rattle.ir_symbols.specs.declared.sym.Sym.TheVariants as syms
 use Rattle.ir_symbols.specs.declared.word.Word.TheVariants as words
 use Rattle.canonical_text.specs.BlockSymbols.{all_incoming_symbols, block_symbols, blocks_symbols, case_symbols, cases_symbols, incoming_symbols, instrs_symbols, more_incoming_symbols, phi_symbols, phis_symbols, term_symbols}
 use Rattle.canonical_text.specs.InstrSymbols.{instr_symbols}
 use Rattle.ir_grammar.specs.Attributes.{metadata}
-use Rattle.ir_grammar.specs.Blocks.{AreBlocks, IsBlock, IsBody, IsCase, IsEntry, IsIncoming, IsLine, IsPhi, IsPhiLine, IsTerminator, label}
-use Rattle.ir_grammar.specs.Phrases.{Phrase, Naming, Locals, ◌⨾◌, ◌∥◌, behind_comma, comma, each, listed, mark, plain, word}
-use Rattle.ir_grammar.specs.Types.{IsType}
-use Rattle.printed_grammar.proofs.Again.{Again, AgainIn, nothing_in, plain_in, same_in, seq, seq_in}
+use Rattle.ir_grammar.specs.Blocks.{AreBlocks, IsBlock, IsBody, IsCase, IsEntry, IsIncoming, IsLine, IsPhi, IsPhiLine, IsTerminator}
+use Rattle.ir_grammar.specs.Phrases.{Locals, behind_comma, each, listed, plain}
+use Rattle.printed_grammar.proofs.Again.{AgainIn, nothing_in, plain_in, same_in, seq, seq_in}
 use Rattle.printed_grammar.proofs.Attributes.{metadata_again}
 use Rattle.printed_grammar.proofs.Instructions.{comma_again, instr_again, named_result, typed_again}
 use Rattle.printed_grammar.proofs.Names.{entry_label_again, label_again, local_again, mark_again, target_again, value_again, word_again}

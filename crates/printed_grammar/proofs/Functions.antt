@@ -1,5 +1,5 @@
 -- Declarations and functions as they are printed.
-use Rattle.std.proofs.Common.{◌≡◌, ℕ, ◌<◌, ◌^◌, inl, inr, List, [], ◌∷◌, ◌++◌, append_assoc, append-nil, Option, None, refl, sym, ap, subst, ◌∙◌}
+use Rattle.std.proofs.Common.{◌≡◌, ℕ, List, [], ◌∷◌, ◌++◌, append_assoc, append-nil, Option, None, refl, sym, ap, subst, ◌∙◌}
 use Rattle.std.specs.Prelude.{Some, Bool, true, false, map, slice_get}
 use Rattle.coro_base.specs.declared.name.Name.{Name}
 use Rattle.coro_names.specs.Spelling.{IsName}
@@ -17,14 +17,11 @@ use Rattle.canonical_text.specs.InstrSymbols.{flag_symbols}
 use Rattle.canonical_text.specs.ItemSymbols.{declaration_symbols, function_symbols, head_symbols, more_params_symbols, more_types_symbols, param_symbols, params_symbols, types_symbols}
 use Rattle.canonical_text.specs.OperandSymbols.{result_symbols}
 use Rattle.canonical_text.specs.TypeSymbols.{type_symbols}
-use Rattle.canonical_text.specs.Written.{AreWritten}
 use Rattle.ir_grammar.specs.Attributes.{Attr, IsAttr, attributes, make_coroutine, pairs, presplit}
 use Rattle.ir_grammar.specs.Blocks.{AreBlocks}
-use Rattle.ir_grammar.specs.Functions.{AreNamed, AreParams, IsDeclaration, IsFunction, IsHead, IsParam, IsParamName, IsWrittenName, Written, counted}
-use Rattle.ir_grammar.specs.Phrases.{Phrase, ◌⨾◌, commas, each, mark, nothing, these, word}
-use Rattle.ir_grammar.specs.Types.{IsResult, IsType}
-use Rattle.ir_grammar.specs.Values.{IsPlace, global}
-use Rattle.printed_grammar.proofs.Again.{Again, AgainIn, AreSound, Extends, Leaves, fixed, leaves_nothing, leaves_these, nothing_again, same, seq, written_both}
+use Rattle.ir_grammar.specs.Functions.{AreNamed, IsDeclaration, IsFunction, IsHead, IsParam, IsParamName, IsWrittenName, Written, counted}
+use Rattle.ir_grammar.specs.Phrases.{Phrase, ◌⨾◌, commas, each, mark, word}
+use Rattle.printed_grammar.proofs.Again.{Again, AgainIn, AreSound, Extends, leaves_nothing, leaves_these, nothing_again, same, seq, written_both}
 use Rattle.printed_grammar.proofs.Attributes.{attributes_again, leaves_attrs, pairs_again}
 use Rattle.printed_grammar.proofs.Blocks.{blocks_again}
 use Rattle.printed_grammar.proofs.Instructions.{flag_written}

@@ -1,6 +1,6 @@
 -- Instructions as they are printed.
-use Rattle.std.proofs.Common.{◌≡◌, ℕ, inl, inr, List, [], ◌∷◌, ◌++◌, append_assoc, append-nil, Option, None, refl, sym, ap, subst, ◌∙◌}
-use Rattle.std.specs.Prelude.{Some, Bool, true, false, ◌⊎◌, codes}
+use Rattle.std.proofs.Common.{◌≡◌, ℕ, inr, List, [], ◌∷◌, ◌++◌, append_assoc, append-nil, Option, None, refl, sym, ap, subst}
+use Rattle.std.specs.Prelude.{Some, Bool, true, false}
 use Rattle.coro_base.specs.declared.name.Name.{Name}
 use Rattle.coro_base.specs.declared.ops.BinOp.{BinOp}
 use Rattle.coro_base.specs.declared.ops.BinOp.TheVariants as ops
@@ -24,16 +24,16 @@ use Rattle.ir_symbols.specs.declared.sym.Sym.{Sym}
 use Rattle.ir_symbols.specs.declared.sym.Sym.TheVariants as syms
 use Rattle.ir_symbols.specs.declared.word.Word.{Word}
 use Rattle.ir_symbols.specs.declared.word.Word.TheVariants as words
-use Rattle.canonical_text.specs.InstrSymbols.{action_symbols, address_symbols, align_symbols, flag_symbols, flags_symbols, instr_symbols, set_symbols}
+use Rattle.canonical_text.specs.InstrSymbols.{address_symbols, flag_symbols, flags_symbols, instr_symbols, set_symbols}
 use Rattle.canonical_text.specs.OperandSymbols.{arg_symbols, args_symbols, callee_symbol, global_symbol, more_args_symbols, operand_symbol, result_symbols}
 use Rattle.canonical_text.specs.TypeSymbols.{type_symbols}
 use Rattle.canonical_text.specs.Written.{AreWritten}
 use Rattle.ir_grammar.specs.Attributes.{attributes}
 use Rattle.ir_grammar.specs.Instructions.{AreArgs, AreFlags, AreWraps, IsCall, IsCallee, IsCast, IsInstr, IsNamed, IsOperation, IsTail, IsWrap, MayBeDisjoint, MayBeExact, WithoutFlags, Wrap, has_nsw, has_nuw, nsw, nuw}
-use Rattle.ir_grammar.specs.Phrases.{Phrase, Naming, Locals, ◌⨾◌, ◌∥◌, behind_comma, comma, each, flag, listed, mark, nothing, plain, some, these, word}
-use Rattle.ir_grammar.specs.Types.{IsType, IsResult}
-use Rattle.ir_grammar.specs.Values.{IsAddress, IsAligned, IsArg, IsTyped, IsValue, global, local}
-use Rattle.printed_grammar.proofs.Again.{Again, AgainIn, AreSound, Extends, Leaves, fixed, leaves_each, leaves_nothing, leaves_or, leaves_these, left_out, nothing_again, nothing_in, plain_in, same, same_in, seq, seq_in, written_both}
+use Rattle.ir_grammar.specs.Phrases.{Naming, Locals, ◌⨾◌, behind_comma, comma, each, flag, plain, some, word}
+use Rattle.ir_grammar.specs.Types.{IsResult}
+use Rattle.ir_grammar.specs.Values.{IsAddress, IsArg, IsTyped, IsValue, global}
+use Rattle.printed_grammar.proofs.Again.{Again, AgainIn, AreSound, Leaves, fixed, leaves_each, leaves_nothing, leaves_or, leaves_these, left_out, nothing_again, nothing_in, plain_in, same, same_in, seq, seq_in}
 use Rattle.printed_grammar.proofs.Attributes.{attributes_again}
 use Rattle.printed_grammar.proofs.Names.{global_again, local_again, mark_again, value_again, word_again}
 use Rattle.printed_grammar.proofs.Types.{AreNarrow, aligned_again, result_again, type_again, type_narrow}

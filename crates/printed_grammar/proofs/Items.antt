@@ -1,7 +1,7 @@
 -- Items as they are printed: all types, then all globals, declarations and functions.
-use Rattle.std.proofs.Common.{◌≡◌, ℕ, ◌≤◌, inl, inr, List, [], ◌∷◌, ◌++◌, append_assoc, append-nil, Option, None, refl, sym, ap, subst, ◌∙◌}
+use Rattle.std.proofs.Common.{◌≡◌, ℕ, List, [], ◌∷◌, ◌++◌, append_assoc, append-nil, refl, sym, ap, subst, ◌∙◌}
 use Rattle.std.specs.Prelude.{Some, Bool, true, false}
-use Rattle.ir_model.specs.Ty.{Ty, Tys, structure}
+use Rattle.ir_model.specs.Ty.{Ty, structure}
 use Rattle.ir_model.specs.declared.module.Declaration.{Declaration}
 use Rattle.ir_model.specs.declared.module.Function.{Function}
 use Rattle.ir_model.specs.declared.module.GlobalItem.{GlobalItem}
@@ -11,15 +11,14 @@ use Rattle.ir_symbols.specs.declared.sym.Mark.TheVariants as marks
 use Rattle.ir_symbols.specs.declared.sym.Sym.{Sym}
 use Rattle.ir_symbols.specs.declared.sym.Sym.TheVariants as syms
 use Rattle.ir_symbols.specs.declared.word.Word.TheVariants as words
-use Rattle.canonical_text.specs.ItemSymbols.{IsPrintable, declaration_symbols, declarations_symbols, function_symbols, functions_symbols, global_item_symbols, global_items_symbols, kind_of, module_symbols, type_item_symbols, type_items_symbols}
+use Rattle.canonical_text.specs.ItemSymbols.{IsPrintable, declarations_symbols, functions_symbols, global_item_symbols, global_items_symbols, kind_of, module_symbols, type_item_symbols, type_items_symbols}
 use Rattle.canonical_text.specs.TypeSymbols.{type_symbols}
 use Rattle.canonical_text.specs.Written.{AreWritten}
 use Rattle.ir_grammar.specs.Attributes.{Attr, IsAttr, curly_text, round_text}
 use Rattle.ir_grammar.specs.Functions.{IsDeclaration, IsFunction}
 use Rattle.ir_grammar.specs.Items.{AreItems, IsAttributes, IsGlobal, IsGroup, IsItem, IsKeyword, IsTypeItem, Item, attributes_item, comdat_item, declaration, declarations_of, function, functions_of, global_item, globals_of, group, groups_of, metadata_item, module_of, other, source_item, target_item, type_item, types_of}
 use Rattle.ir_grammar.specs.Phrases.{Phrase, ◌⨾◌, ◌∥◌, each, mark, nothing, perhaps, these, word}
-use Rattle.ir_grammar.specs.Types.{IsType}
-use Rattle.printed_grammar.proofs.Again.{Again, AreSound, Leaves, leaves_each, leaves_nothing, leaves_or, leaves_seq, leaves_these, same, seq, these_again, written_both}
+use Rattle.printed_grammar.proofs.Again.{Again, AreSound, Leaves, leaves_nothing, leaves_or, leaves_seq, leaves_these, same, seq, these_again, written_both}
 use Rattle.printed_grammar.proofs.Attributes.{attributes_again, leaves_attrs, leaves_curly, leaves_round, metadata_again}
 use Rattle.printed_grammar.proofs.Functions.{declaration_again, function_again}
 use Rattle.printed_grammar.proofs.Names.{global_again, initial_again, mark_again, word_again}

@@ -7,4 +7,5 @@ pub mod Blocks
 pub mod Functions
 pub mod Items
 pub mod Sound
+pub mod Bytes
 pub mod Whole

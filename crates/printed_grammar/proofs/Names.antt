@@ -1,5 +1,5 @@
 -- Locals, labels and values as they are printed.
-use Rattle.std.proofs.Common.{◌≡◌, ℕ, ◌-◌, nat_lt, true, zero, suc, ◌<◌, ◌^◌, inl, inr, List, [], ◌∷◌, ◌++◌, append_assoc, append-nil, length, Option, None, refl, sym, ap, subst, ◌∙◌, arith}
+use Rattle.std.proofs.Common.{◌≡◌, ℕ, ◌-◌, nat_lt, true, zero, suc, inl, inr, List, [], ◌∷◌, ◌++◌, append_assoc, length, Option, refl, sym, ap, subst, ◌∙◌, arith}
 use Rattle.std.specs.Prelude.{Some, slice_get, ◌⊎◌, ℤ, pos, negsuc, ◌-ℤ◌}
 use Rattle.coro_base.specs.declared.name.Name.{Name}
 use Rattle.coro_names.specs.Spelling.{IsName}
@@ -8,15 +8,15 @@ use Rattle.ir_model.specs.declared.operand.Operand.TheVariants as operands
 use Rattle.ir_symbols.specs.declared.sym.Sym.{Sym}
 use Rattle.ir_symbols.specs.declared.sym.Sym.TheVariants as syms
 use Rattle.ir_symbols.specs.declared.word.Word.TheVariants as words
-use Rattle.canonical_text.specs.Written.{AreWritten, IsNamed, IsWritten}
+use Rattle.canonical_text.specs.Written.{IsNamed, IsWritten}
 use Rattle.canonical_text.specs.OperandSymbols.{global_symbol, label_symbols, local_symbol, number_symbol, operand_symbol}
 use Rattle.ir_grammar.specs.Blocks.{label, unwritten_label}
-use Rattle.ir_grammar.specs.Phrases.{Phrase, Naming, Locals, ◌⨾◌, ◌∥◌, these, mark, plain, word}
+use Rattle.ir_grammar.specs.Phrases.{Locals, ◌∥◌, these, mark, word}
 use Rattle.std.proofs.lemmas.Bool.{lt-ltb}
 use Rattle.ir_symbols.specs.declared.sym.Mark.{Mark}
 use Rattle.ir_symbols.specs.declared.word.Word.{Word}
-use Rattle.ir_grammar.specs.Values.{IsInitial, IsNew, IsPlace, IsTarget, IsValue, StandsAt, global, integer, local}
-use Rattle.printed_grammar.proofs.Again.{Again, AgainIn, AreSound, Extends, IsNamedSoundly, fixed, first_in, plain_in, seq_in, these_again}
+use Rattle.ir_grammar.specs.Values.{IsInitial, IsPlace, IsTarget, IsValue, StandsAt, global, integer, local}
+use Rattle.printed_grammar.proofs.Again.{Again, AgainIn, AreSound, Extends, fixed, first_in, plain_in, seq_in, these_again}
 
 -- ---- positions
 

@@ -1,23 +1,22 @@
 -- What the tokens of a text say: names that are names, and numbers below 2^64.
-use Rattle.std.proofs.Common.{◌≡◌, ℕ, zero, suc, ◌+◌, ◌-◌, ◌*◌, ◌<◌, ◌≤◌, ◌^◌, Bool, true, false, cond, not, ◌&&◌, ◌||◌, ◌==◌, nat_lt, nat_le, List, [], ◌∷◌, ◌++◌, length, take, drop, Option, None, refl, sym, ap, subst, ◌∙◌, arith}
+use Rattle.std.proofs.Common.{◌≡◌, ℕ, zero, suc, ◌+◌, ◌-◌, ◌*◌, ◌<◌, ◌^◌, Bool, true, false, cond, ◌&&◌, ◌==◌, nat_lt, List, [], ◌∷◌, length, take, drop, Option, None, refl, subst, arith}
 use Rattle.std.specs.Prelude.{Some, map}
 use Rattle.std.specs.List.{list_all}
-use Rattle.std.proofs.lemmas.Bool.{and_from, and_parts, ltb-true, lt-ltb, eqb-false, or_parts}
+use Rattle.std.proofs.lemmas.Bool.{and_from, and_parts, ltb-true, lt-ltb, eqb-false}
 use Rattle.std.proofs.lemmas.Bool.Decides.{nat_tests}
 use Rattle.std.proofs.Math.Dec.{eqb-suc-zero}
 use Rattle.coro_base.specs.declared.name.Name.{Name}
-use Rattle.coro_names.specs.Spelling.{IsName, is_name_byte, is_name_text}
-use Rattle.ir_lexer.specs.Lists.{all_at, front, is_shorter, up_to, when}
+use Rattle.coro_names.specs.Spelling.{is_name_byte}
+use Rattle.ir_lexer.specs.Lists.{front, is_shorter, up_to, when}
 use Rattle.ir_lexer.specs.Scan.{blank_len, token_at}
 use Rattle.ir_lexer.specs.Tokens.{cut, first_token, tokens}
 use Rattle.ir_lexer.specs.declared.token.Kind.{Kind}
 use Rattle.ir_lexer.specs.declared.token.Kind.TheVariants as kinds
-use Rattle.ir_symbols.specs.Listing.{said, symbols_of}
-use Rattle.ir_symbols.specs.Names.{byte_at, escaped_at, has_zero, hex_value, inside, is_empty, is_hex, name_of, number_name, plain_name, text_name, unescaped}
+use Rattle.ir_symbols.specs.Listing.{symbols_of}
+use Rattle.ir_symbols.specs.Names.{byte_at, escaped_at, has_zero, hex_value, inside, is_hex, name_of, number_name, plain_name, text_name, unescaped}
 use Rattle.ir_symbols.specs.Numbers.{are_digits, fitting, value_of}
 use Rattle.ir_symbols.specs.Sym.{behind_first, integer_of, negative, positive, sym_of}
 use Rattle.ir_symbols.specs.declared.sym.Sym.{Sym}
-use Rattle.ir_symbols.specs.declared.sym.Sym.TheVariants as syms
 use Rattle.printed_grammar.specs.Bytes.{AreBytes}
 use Rattle.printed_grammar.proofs.Again.{AreSound, IsNamedSoundly, IsSound}
 

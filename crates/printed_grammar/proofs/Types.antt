@@ -1,8 +1,8 @@
 -- Types as they are printed; what is known of the types of a text, and of their alignments.
-use Rattle.std.proofs.Common.{◌≡◌, ℕ, zero, suc, max, ◌+◌, ◌-◌, ◌*◌, ◌/◌, ◌<◌, ◌≤◌, ◌^◌, inl, inr, List, [], ◌∷◌, ◌++◌, append_assoc, append-nil, Option, None, refl, sym, ap, subst, ◌∙◌, arith}
+use Rattle.std.proofs.Common.{◌≡◌, ℕ, zero, suc, max, ◌≤◌, inl, inr, List, [], ◌∷◌, ◌++◌, append_assoc, append-nil, Option, None, refl, sym, ap, subst, ◌∙◌, arith}
 use Rattle.std.specs.Prelude.{Some, Bool, true, false, cond, option_map}
 use Rattle.coro_base.specs.declared.name.Name.{Name}
-use Rattle.ir_model.specs.Layout.{Extent, extent_at, extent_in, extent_of, extent_or, extent_then, fields_extent, no_fields, of_type, padded, array_extent, type_named, with_field, bytes_of_width}
+use Rattle.ir_model.specs.Layout.{Extent, extent_at, extent_in, extent_of, extent_or, extent_then, fields_extent, no_fields, of_type, padded, array_extent, type_named, with_field}
 use Rattle.ir_model.specs.Names.{same_name}
 use Rattle.ir_model.specs.Ty.{Ty, Tys, int, ptr, token, array, structure, named, none, field}
 use Rattle.ir_model.specs.TypeView.{bits_of}
@@ -16,11 +16,10 @@ use Rattle.type_alignments.specs.Alignment.{align_in}
 use Rattle.canonical_text.specs.OperandSymbols.{result_symbols}
 use Rattle.canonical_text.specs.TypeSymbols.{int_symbol, type_symbols, fields_symbols}
 use Rattle.canonical_text.specs.InstrSymbols.{align_symbols}
-use Rattle.canonical_text.specs.Written.{AreWritten, IsWritten}
-use Rattle.ir_grammar.specs.Phrases.{Phrase, ◌⨾◌, these, mark, word}
+use Rattle.canonical_text.specs.Written.{IsWritten}
 use Rattle.ir_grammar.specs.Types.{AreFields, IsInt, IsResult, IsScalar, IsType}
 use Rattle.ir_grammar.specs.Values.{IsAligned}
-use Rattle.printed_grammar.proofs.Again.{Again, AreSound, fixed, leaves_nothing, leaves_these, nothing_again, same, seq, sound_behind, these_again}
+use Rattle.printed_grammar.proofs.Again.{Again, leaves_nothing, leaves_these, nothing_again, same, seq, these_again}
 use Rattle.printed_grammar.proofs.Names.{mark_again, word_again}
 
 -- ---- types again

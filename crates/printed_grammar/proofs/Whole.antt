@@ -1,15 +1,16 @@
 -- The canonical text of a module that a text stands for stands for it.
-use Rattle.std.proofs.Common.{◌≡◌, ℕ, Bool, true, List, [], refl, sym, ap, subst, ◌∙◌}
+use Rattle.std.proofs.Common.{◌≡◌, ℕ, List, [], sym, ap, subst}
 use Rattle.ir_model.specs.declared.module.Module.{Module}
 use Rattle.ir_symbols.specs.Listing.{symbols_of}
 use Rattle.ir_symbols.specs.declared.listing.Symbols.{Symbols}
 use Rattle.ir_symbols.specs.declared.sym.Sym.{Sym}
 use Rattle.canonical_text.specs.Items.{module_text}
-use Rattle.canonical_text.specs.ItemSymbols.{IsPrintable, module_symbols}
+use Rattle.canonical_text.specs.ItemSymbols.{IsPrintable}
 use Rattle.canonical_text.proofs.ItemsLexed.{module_lexed}
-use Rattle.ir_grammar.specs.Items.{AreItems, Item, module_of}
+use Rattle.ir_grammar.specs.Items.{AreItems}
 use Rattle.ir_grammar.specs.Text.{StandsFor}
 use Rattle.printed_grammar.specs.Bytes.{AreBytes}
+use Rattle.printed_grammar.specs.ReadBack.{IsReadBack}
 use Rattle.printed_grammar.proofs.Items.{IsPrinted, items_kept, items_of, printed_items}
 use Rattle.printed_grammar.proofs.Sound.{text_symbols_sound}
 
@@ -31,3 +32,6 @@ stands_again text m bytes h = stands m (printed text m bytes h)
 
 pub is_printable : (text : List ℕ) (m : Module) → AreBytes text → StandsFor text m → IsPrintable m
 is_printable text m bytes h = (printed text m bytes h).printable
+
+pub read_back : (printed : List ℕ) (m : Module) → printed ≡ module_text m → IsReadBack printed m
+read_back printed m e = subst (λ (l : List ℕ). IsReadBack l m) (sym e) (record { stands = λ text bytes h. stands_again text m bytes h; lexed = λ p. module_lexed m p })

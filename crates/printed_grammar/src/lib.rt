@@ -13,3 +13,10 @@ pub fn printed_again()
     ensures again { (text : List ℕ) (m : Module) → AreBytes text → StandsFor text m → StandsFor (module_text m) m }
     ensures printable { (text : List ℕ) (m : Module) → AreBytes text → StandsFor text m → IsPrintable m }
 {}
+
+/// A text of a program is a text of bytes.
+pub fn text_is_bytes(text: &[u8])
+    ensures { AreBytes text.now }
+{
+    let _bytes = text;
+}
