@@ -1,7 +1,7 @@
 -- A blank or a token at the front of a text.
-use Rattle.std.proofs.Common.{◌≡◌, ℕ, suc, ◌+◌, ◌<◌, ◌≤◌, Bool, true, false, cond, List, [], ◌∷◌, ◌++◌, length, take, drop, ◌==◌, ◌||◌, refl, sym, ap, ◌∙◌, arith, Option, None}
+use Rattle.std.proofs.Common.{◌≡◌, ℕ, zero, suc, not, append_assoc, ◌+◌, ◌<◌, ◌≤◌, Bool, true, false, cond, List, [], ◌∷◌, ◌++◌, length, take, drop, ◌==◌, ◌||◌, refl, sym, ap, ◌∙◌, arith, Option, None}
 use Rattle.std.specs.Prelude.{Some}
-use Rattle.std.proofs.lemmas.Bool.{eqb-true}
+use Rattle.std.proofs.lemmas.Bool.{and_parts, eqb-true}
 use Rattle.std.proofs.lemmas.Bool.Decides.{nat_tests}
 use Rattle.std.proofs.lemmas.List.{length-append, length-drop, drop_at}
 use Rattle.ir_lexer.specs.Bytes.{is_blank as is_blank_byte}
@@ -11,6 +11,7 @@ use Rattle.ir_lexer.specs.declared.token.Kind.{Kind}
 use Rattle.ir_lexer.proofs.ListSteps.{all_at-some, all_at-none}
 use Rattle.ir_lexer.proofs.Tokens.{longest_token, longest_some}
 use Rattle.ir_symbols.specs.Listing.{is_blank, said, symbols_of}
+use Rattle.canonical_text.specs.Lines.{lacks}
 use Rattle.ir_symbols.specs.Sym.{sym_of}
 use Rattle.ir_symbols.specs.declared.listing.Symbols.{Symbols}
 use Rattle.ir_symbols.specs.declared.sym.Sym.{Sym}
@@ -85,29 +86,54 @@ first_shorter text k w rest e =
     let less = found_shorter (drop (blank_len text) text) k w rest _ refl e in
     omega (arith, length-drop (blank_len text) text, less)
 
-blank_first : (b : ℕ) (rest : List ℕ) → is_blank_byte b ≡ true → first_token (b ∷ rest) ≡ first_token rest
+not_true : (t : Bool) → not t ≡ true → t ≡ false
+not_true true h = absurd cc
+not_true false h = refl
+
+drop_past : (w rest : List ℕ) (n k : ℕ) → k ≡ length w + n → drop k (w ++ rest) ≡ drop n rest
+drop_past [] rest n k e = let same : k ≡ n = omega (arith, e) in ap (λ (m : ℕ). drop m rest) same
+drop_past (b ∷ bs) rest n zero e = absurd (omega (arith, e))
+drop_past (b ∷ bs) rest n (suc k) e = drop_past bs rest n k (omega (arith, e))
+
+-- blanks and comments at the front
+skipped_first : (w rest : List ℕ) → blank_len (w ++ rest) ≡ length w + blank_len rest → first_token (w ++ rest) ≡ first_token rest
 unfolding first_token
-blank_first b rest e =
-    let one : 1 + blank_len rest ≡ suc (blank_len rest) = omega arith in
-    let len : blank_len (b ∷ rest) ≡ suc (blank_len rest) = rw e one in
-    ap (λ (n : ℕ). cut (drop n (b ∷ rest)) (token_at (drop n (b ∷ rest)))) len
+skipped_first w rest e = ap (λ (l : List ℕ). cut l (token_at l)) (drop_past w rest (blank_len rest) (blank_len (w ++ rest)) e)
 
-blank_same : (b : ℕ) (rest : List ℕ) → is_blank_byte b ≡ true → is_blank (b ∷ rest) ≡ is_blank rest
-blank_same b rest e = rw e (sums (blank_len rest) (length rest))
+skipped_same : (w rest : List ℕ) → blank_len (w ++ rest) ≡ length w + blank_len rest → is_blank (w ++ rest) ≡ is_blank rest
+skipped_same w rest e = rw (e, length-append w rest) (sums (length w) (blank_len rest) (length rest))
   where
-    sums : (m n : ℕ) → (1 + m == suc n) ≡ (m == n)
-    sums m n = grind (arith, nat_tests)
+    sums : (k m n : ℕ) → (k + m == k + n) ≡ (m == n)
+    sums k m n = grind (arith, nat_tests)
 
--- a blank at the front says nothing
-pub blank_said : (b : ℕ) (rest : List ℕ) → is_blank_byte b ≡ true → symbols_of (b ∷ rest) ≡ symbols_of rest
-blank_said b rest e = split (first_token rest) refl
+-- they say nothing
+pub skipped_said : (w rest : List ℕ) → blank_len (w ++ rest) ≡ length w + blank_len rest → symbols_of (w ++ rest) ≡ symbols_of rest
+skipped_said w rest e = split (first_token rest) refl
   where
-    split : (o : Option ((Kind × List ℕ) × List ℕ)) → first_token rest ≡ o → symbols_of (b ∷ rest) ≡ symbols_of rest
+    split : (o : Option ((Kind × List ℕ) × List ℕ)) → first_token rest ≡ o → symbols_of (w ++ rest) ≡ symbols_of rest
     split None f =
-        ap said (all_at-none first_token (b ∷ rest) (blank_first b rest e ∙ f))
-        ∙ ap (λ (t : Bool). said_as [] t) (blank_same b rest e)
+        ap said (all_at-none first_token (w ++ rest) (skipped_first w rest e ∙ f))
+        ∙ ap (λ (t : Bool). said_as [] t) (skipped_same w rest e)
         ∙ sym (ap said (all_at-none first_token rest f))
     split (Some x) f =
         let less : length x.1 < length rest = first_shorter rest x.0.0 x.0.1 x.1 f in
-        ap said (all_at-some first_token (b ∷ rest) x.0 x.1 (blank_first b rest e ∙ f) (omega (arith, less)))
+        ap said (all_at-some first_token (w ++ rest) x.0 x.1 (skipped_first w rest e ∙ f) (omega (arith, less, length-append w rest)))
         ∙ sym (ap said (all_at-some first_token rest x.0 x.1 f less))
+
+-- a blank at the front says nothing
+pub blank_said : (b : ℕ) (rest : List ℕ) → is_blank_byte b ≡ true → symbols_of (b ∷ rest) ≡ symbols_of rest
+blank_said b rest e = skipped_said (b ∷ []) rest (rw e (omega arith))
+
+line_len : (line rest : List ℕ) → lacks 10 line ≡ true → comment_len (line ++ 10 ∷ rest) ≡ suc (length line) + blank_len rest
+line_len [] rest h = omega arith
+line_len (b ∷ bs) rest h =
+    let parts = and_parts (not (b == 10)) (lacks 10 bs) h in
+    let other : (b == 10) ≡ false = not_true (b == 10) parts.0 in
+    rw other (omega (arith, line_len bs rest parts.1))
+
+-- a comment and its line feed say nothing
+pub comment_said : (line rest : List ℕ) → lacks 10 line ≡ true → symbols_of ((59 ∷ line ++ 10 ∷ []) ++ rest) ≡ symbols_of rest
+comment_said line rest h =
+    let len : length (line ++ 10 ∷ []) ≡ length line + 1 = length-append line (10 ∷ []) in
+    let same : comment_len ((line ++ 10 ∷ []) ++ rest) ≡ suc (length line) + blank_len rest = ap comment_len (append_assoc line (10 ∷ []) rest) ∙ line_len line rest h in
+    skipped_said (59 ∷ line ++ 10 ∷ []) rest (omega (arith, same, len))

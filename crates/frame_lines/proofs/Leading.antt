@@ -12,7 +12,7 @@ use Rattle.std.proofs.lemmas.Str.Parse.{digit_from_value}
 use Rattle.coro_base.specs.declared.name.Name.{Name}
 use Rattle.coro_names.specs.Spelling.{IsName, escaped, hex_digit, inside, is_bare, is_digit, is_plain, is_start, spelling, text_spelling}
 use Rattle.frame_lines.specs.Frames.{AreFrames, IsFrame, Lead, begins_comment, frame_line, frames_text, number_text}
-use Rattle.frame_lines.specs.Lines.{lacks}
+use Rattle.canonical_text.specs.Lines.{lacks}
 use Rattle.frame_lines.specs.declared.frames.FrameLine.{FrameLine}
 
 -- ---- bytes that a list lacks

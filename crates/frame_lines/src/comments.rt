@@ -2,7 +2,7 @@
 
 ghost use Rattle.std.specs.Prelude.{◌≡◌, ◌<◌, ◌^◌, ◌++◌, ◌∷◌, ℕ, Bool, true, List, IfOk, IfSome, MatchOption, Some, decimal};
 ghost use Rattle.frame_lines.specs.Frames.{IsFrame, Lead, begins_comment, frame_line, number_text};
-ghost use Rattle.frame_lines.specs.Lines.{lacks};
+ghost use Rattle.canonical_text.specs.Lines.{lacks};
 ghost use Rattle.frame_lines.specs.declared.frames.FrameLine.{FrameLine};
 
 use crate::frames::{FrameLine, push_frame};

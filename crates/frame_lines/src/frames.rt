@@ -1,7 +1,8 @@
 //! Frame lines: what a coroutine's frame is, as comments before the text of a lowered module.
 
-ghost use Rattle.std.specs.Prelude.{◌≡◌, ◌++◌, OnOk, IfOk};
-ghost use Rattle.frame_lines.specs.Frames.{frame_line, frames_text, number_text};
+ghost use Rattle.std.specs.Prelude.{◌≡◌, ℕ, List, ◌++◌, OnOk, IfOk};
+ghost use Rattle.ir_symbols.specs.Listing.{symbols_of};
+ghost use Rattle.frame_lines.specs.Frames.{AreFrames, frame_line, frames_text, number_text};
 
 use coro_base::Name;
 use operand_printer::{push_global, push_number};
@@ -41,14 +42,24 @@ pub fn push_frame(frame: &FrameLine, out: &mut Vec<u8>) -> Result<(), AllocError
     push_numbered(b"index", frame.index, out)
 }
 
-/// The frame lines of these frames, in order, each ended by a line feed.
-pub fn print_frames(alloc: Global, frames: &[FrameLine]) -> Result<Vec<u8>, AllocError>
-    ensures { IfOk result (λ text. text.items ≡ frames_text frames.now) }
+/// Writes frame lines, each ended by a line feed.
+fn push_frames(frames: &[FrameLine], out: &mut Vec<u8>) -> Result<(), AllocError>
+    ensures { OnOk result (out.new.items ≡ out.old.items ++ frames_text frames.now) }
 {
-    let mut out = Vec::new(alloc);
     for frame in frames {
-        push_frame(frame, &mut out)?;
+        push_frame(frame, out)?;
         out.push(b'\n')?;
     }
+    Ok(())
+}
+
+/// The frame lines of these frames, in order, each ended by a line feed. They are comments: before any text they say nothing.
+#[tactic(auto, using(crate::proofs::Said::frames_said))]
+pub fn print_frames(alloc: Global, frames: &[FrameLine]) -> Result<Vec<u8>, AllocError>
+    ensures text { IfOk result (λ text. text.items ≡ frames_text frames.now) }
+    ensures comments { AreFrames frames.now → (text : List ℕ) → IfOk result (λ lines. symbols_of (lines.items ++ text) ≡ symbols_of text) }
+{
+    let mut out = Vec::new(alloc);
+    push_frames(frames, &mut out)?;
     Ok(out)
 }

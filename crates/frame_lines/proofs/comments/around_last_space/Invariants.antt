@@ -1,5 +1,5 @@
 use Rattle.std.proofs.Common.{◌≡◌, true, List, ℕ, ◌++◌, length}
-use Rattle.frame_lines.specs.Lines.{lacks}
+use Rattle.canonical_text.specs.Lines.{lacks}
 use Rattle.frame_lines.proofs.comments.around_last_space.Given as goal
 
 abbrev pub invariant-loop-last : goal.invariant-loop-last

@@ -1,5 +1,5 @@
 use Rattle.std.proofs.Common.{◌≡◌, true, List, ℕ, ◌++◌, length}
-use Rattle.frame_lines.specs.Lines.{lacks}
+use Rattle.canonical_text.specs.Lines.{lacks}
 use Rattle.frame_lines.proofs.comments.first_line.Given as goal
 
 abbrev pub invariant-loop-first : goal.invariant-loop-first
