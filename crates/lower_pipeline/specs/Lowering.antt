@@ -15,8 +15,8 @@ use Rattle.ir_model.specs.declared.operand.Intrinsic.{Intrinsic}
 use Rattle.ir_parser.specs.Parse.{read_module}
 use Rattle.ir_parser.specs.declared.text.Parsed.{Parsed}
 use Rattle.ir_printer.specs.Items.{module_text}
-use Rattle.ir_printer.specs.Frames.{frames_text}
-use Rattle.ir_printer.specs.declared.frames.FrameLine.{FrameLine}
+use Rattle.frame_lines.specs.Frames.{frames_text}
+use Rattle.frame_lines.specs.declared.frames.FrameLine.{FrameLine}
 use Rattle.lower_pipeline.specs.Served.{count_by, unserved}
 use Rattle.lower_pipeline.specs.declared.whole.Lowering.{Lowering}
 
