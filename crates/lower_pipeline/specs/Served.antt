@@ -1,5 +1,6 @@
 -- What the lowering serves so far: coroutines without allocas and without explicit saves, whose suspends aren't final, and whose values are used in the blocks in which they are made.
 use Rattle.std.specs.Prelude.{ℕ, Bool, true, false, not, List, [], length, Some, None, Option, is_some, ◌+◌, ◌&&◌, ◌||◌, ◌∷◌, if◌then◌else◌, ◌==◌}
+use Rattle.coro_base.specs.declared.outcome.Item.{Item}
 use Rattle.coro_base.specs.declared.outcome.Place.{Place}
 use Rattle.ir_model.specs.Names.{declaration_named, function_named, same_intrinsic}
 use Rattle.ir_model.specs.declared.instr.Instr.{Instr}
@@ -70,7 +71,7 @@ or_place None other = other
 
 abbrev pub place_unless : Bool → ℕ → ℕ → ℕ → Option Place
 place_unless true func block at = None
-place_unless false func block at = Some (record { item = func; block = Some block; instr = Some at })
+place_unless false func block at = Some (record { item = Item.Function func; block = Some block; instr = Some at })
 
 abbrev pub unserved_phis : Bool → Homes → ℕ → ℕ → ℕ → List Phi → Option Place
 unserved_phis coroutine h func block at [] = None
@@ -124,7 +125,7 @@ is_alone m k f = is_position (function_named m f.name) k && not (is_some (declar
 
 abbrev pub place_of : Bool → ℕ → Option Place
 place_of true func = None
-place_of false func = Some (record { item = func; block = None; instr = None })
+place_of false func = Some (record { item = Item.Function func; block = None; instr = None })
 
 abbrev pub unserved_function : Module → ℕ → Function → Option Place
 unserved_function m k f =

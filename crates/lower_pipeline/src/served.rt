@@ -4,7 +4,7 @@ ghost use Rattle.std.specs.Prelude.{◌≡◌, ◌+◌, IfOk, length};
 ghost use Rattle.lower_pipeline.specs.Served.{is_none, is_false, is_plain_suspend, intrinsic_served, is_served, is_known, calls_known, serves, serves_phi, serves_term, place_unless, unserved_phis, unserved_instrs, unserved_block, unserved_blocks, is_call_of, count_in, count_by, has_one, is_whole, is_position, is_alone, place_of, unserved_function, unserved_functions, unserved};
 
 use crate::homes::{Homes, homes_of};
-use coro_base::{BlockId, FuncId, Place};
+use coro_base::{BlockId, FuncId, Item, Place};
 use ir_model::{Arg, Block, Callee, Function, Instr, Intrinsic, Operand, Phi, is_same_intrinsic};
 use ordinary_step::Program;
 use std::alloc::{AllocError, Global};
@@ -111,7 +111,7 @@ fn place_unless(serves: bool, func: FuncId, block: BlockId, at: usize) -> Option
         None
     } else {
         Some(Place {
-            item: func,
+            item: Item::Function(func),
             block: Some(block),
             instr: Some(at),
         })
@@ -302,7 +302,7 @@ fn place_of(is_fine: bool, func: FuncId) -> Option<Place>
         None
     } else {
         Some(Place {
-            item: func,
+            item: Item::Function(func),
             block: None,
             instr: None,
         })

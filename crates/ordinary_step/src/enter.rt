@@ -10,7 +10,7 @@ ghost use Rattle.ordinary_step.specs.Effects.{with_taken};
 use crate::operand::Values;
 use crate::program::Program;
 use block_memory::Value;
-use coro_base::{BlockId, Cause, FuncId, Items, Outcome, Place, ValueId};
+use coro_base::{BlockId, Cause, FuncId, Item, Items, Outcome, Place, ValueId};
 use ir_model::{Block, Function, Incoming, Operand, Param, Phi};
 use smallvec::SmallVec;
 use std::alloc::{AllocError, Global};
@@ -161,7 +161,7 @@ pub fn place_at(func: FuncId, function: &Function, block: BlockId, at: usize) ->
 {
     match phi_count(function, block).checked_add(at) {
         Some(instr) => Some(Place {
-            item: func,
+            item: Item::Function(func),
             block: Some(block),
             instr: Some(instr),
         }),
