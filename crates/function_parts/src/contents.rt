@@ -1,6 +1,6 @@
 //! Tests of the types, operands and labels that stand in the parts of a function.
 
-ghost use Rattle.std.specs.Prelude.{◌≡◌, ◌++◌, ◌∷◌, [], ℕ, Bool, map, option_to_list};
+ghost use Rattle.std.specs.Prelude.{◌≡◌, ◌++◌, ◌∷◌, [], ℕ, Bool, IfOk, map, option_to_list};
 ghost use Rattle.std.specs.List.{list_all};
 ghost use Rattle.ir_model.specs.Ty.{Ty};
 ghost use Rattle.ir_model.specs.declared.operand.Operand.{Operand as TheOperand};
@@ -9,6 +9,7 @@ ghost use Rattle.function_parts.specs.Contents.{arg_types, instr_types, ending_t
 
 use coro_base::ValueId;
 use ir_model::{Arg, Callee, Case, Function, Incoming, Instr, IrType, Operand, Param, Terminator};
+use std::alloc::AllocError;
 
 /// A test of types.
 pub trait TypeTest: Sized {
@@ -24,8 +25,8 @@ pub trait OperandTest: Sized {
     ghost operand_passes: { Self → TheOperand → Bool };
 
     /// Whether the operand passes.
-    fn passes(&self, operand: &Operand) -> bool
-        ensures { result ≡ operand_passes self.now operand.now };
+    fn passes(&self, operand: &Operand) -> Result<bool, AllocError>
+        ensures { IfOk result (λ b. b ≡ operand_passes self.now operand.now) };
 }
 
 /// A test of labels.
@@ -145,85 +146,95 @@ fn all_types_pass<T: TypeTest>(test: &T, types: &[IrType]) -> bool
 
 // ---- operands
 
-fn args_pass<T: OperandTest>(test: &T, args: &[Arg]) -> bool
-    ensures { result ≡ list_all (T.operand_passes test.now) (arg_operands args.now) }
+fn both_pass<T: OperandTest>(
+    test: &T,
+    left: &Operand,
+    right: &Operand,
+) -> Result<bool, AllocError>
+    ensures { IfOk result (λ b. b ≡ list_all (T.operand_passes test.now) (left.now ∷ right.now ∷ [])) }
 {
-    for arg in args {
-        if !test.passes(&arg.value) {
-            return false;
-        }
-    }
-    true
+    Ok(test.passes(left)? && test.passes(right)?)
 }
 
-fn callee_passes<T: OperandTest>(test: &T, callee: &Callee) -> bool
-    ensures { result ≡ list_all (T.operand_passes test.now) (callee_operands callee.now) }
+fn args_pass<T: OperandTest>(test: &T, args: &[Arg]) -> Result<bool, AllocError>
+    ensures { IfOk result (λ b. b ≡ list_all (T.operand_passes test.now) (arg_operands args.now)) }
+{
+    for arg in args {
+        if !test.passes(&arg.value)? {
+            return Ok(false);
+        }
+    }
+    Ok(true)
+}
+
+fn callee_passes<T: OperandTest>(test: &T, callee: &Callee) -> Result<bool, AllocError>
+    ensures { IfOk result (λ b. b ≡ list_all (T.operand_passes test.now) (callee_operands callee.now)) }
 {
     match callee {
         Callee::Local(id) => test.passes(&Operand::Local(*id)),
-        _ => true,
+        _ => Ok(true),
     }
 }
 
 /// Whether all operands of an instruction pass.
-pub fn instr_operands_pass<T: OperandTest>(test: &T, instr: &Instr) -> bool
-    ensures { result ≡ list_all (T.operand_passes test.now) (instr_operands instr.now) }
+pub fn instr_operands_pass<T: OperandTest>(test: &T, instr: &Instr) -> Result<bool, AllocError>
+    ensures { IfOk result (λ b. b ≡ list_all (T.operand_passes test.now) (instr_operands instr.now)) }
 {
     match instr {
-        Instr::Binary { left, right, .. } => test.passes(left) && test.passes(right),
-        Instr::Icmp { left, right, .. } => test.passes(left) && test.passes(right),
+        Instr::Binary { left, right, .. } => both_pass(test, left, right),
+        Instr::Icmp { left, right, .. } => both_pass(test, left, right),
         Instr::Select { cond, yes, no, .. } => {
-            test.passes(cond) && (test.passes(&yes.value) && test.passes(&no.value))
+            Ok(test.passes(cond)? && both_pass(test, &yes.value, &no.value)?)
         }
         Instr::Cast { arg, .. } => test.passes(&arg.value),
-        Instr::Alloca { .. } => true,
+        Instr::Alloca { .. } => Ok(true),
         Instr::Load { address, .. } => test.passes(address),
-        Instr::Store { arg, address, .. } => test.passes(&arg.value) && test.passes(address),
+        Instr::Store { arg, address, .. } => both_pass(test, &arg.value, address),
         Instr::Gep { base, indices, .. } => {
-            test.passes(base) && args_pass(test, indices.as_slice())
+            Ok(test.passes(base)? && args_pass(test, indices.as_slice())?)
         }
         Instr::Call { callee, args, .. } => {
-            callee_passes(test, callee) && args_pass(test, args.as_slice())
+            Ok(callee_passes(test, callee)? && args_pass(test, args.as_slice())?)
         }
     }
 }
 
 /// Whether all operands of a phi pass.
-pub fn incoming_operands_pass<T: OperandTest>(test: &T, incoming: &[Incoming]) -> bool
-    ensures { result ≡ list_all (T.operand_passes test.now) (map (λ i. i.value) incoming.now) }
+pub fn incoming_operands_pass<T: OperandTest>(test: &T, incoming: &[Incoming]) -> Result<bool, AllocError>
+    ensures { IfOk result (λ b. b ≡ list_all (T.operand_passes test.now) (map (λ i. i.value) incoming.now)) }
 {
     for one in incoming {
-        if !test.passes(&one.value) {
-            return false;
+        if !test.passes(&one.value)? {
+            return Ok(false);
         }
     }
-    true
+    Ok(true)
 }
 
-fn case_operands_pass<T: OperandTest>(test: &T, cases: &[Case]) -> bool
-    ensures { result ≡ list_all (T.operand_passes test.now) (map (λ k. k.arg.value) cases.now) }
+fn case_operands_pass<T: OperandTest>(test: &T, cases: &[Case]) -> Result<bool, AllocError>
+    ensures { IfOk result (λ b. b ≡ list_all (T.operand_passes test.now) (map (λ k. k.arg.value) cases.now)) }
 {
     for case in cases {
-        if !test.passes(&case.arg.value) {
-            return false;
+        if !test.passes(&case.arg.value)? {
+            return Ok(false);
         }
     }
-    true
+    Ok(true)
 }
 
 /// Whether all operands of a terminator pass.
-pub fn ending_operands_pass<T: OperandTest>(test: &T, term: &Terminator) -> bool
-    ensures { result ≡ list_all (T.operand_passes test.now) (ending_operands term.now) }
+pub fn ending_operands_pass<T: OperandTest>(test: &T, term: &Terminator) -> Result<bool, AllocError>
+    ensures { IfOk result (λ b. b ≡ list_all (T.operand_passes test.now) (ending_operands term.now)) }
 {
     match term {
-        Terminator::Jump(_) => true,
+        Terminator::Jump(_) => Ok(true),
         Terminator::Branch { cond, .. } => test.passes(cond),
         Terminator::Switch { arg, cases, .. } => {
-            test.passes(&arg.value) && case_operands_pass(test, cases.as_slice())
+            Ok(test.passes(&arg.value)? && case_operands_pass(test, cases.as_slice())?)
         }
-        Terminator::Ret(None) => true,
+        Terminator::Ret(None) => Ok(true),
         Terminator::Ret(Some(arg)) => test.passes(&arg.value),
-        Terminator::Unreachable => true,
+        Terminator::Unreachable => Ok(true),
     }
 }
 

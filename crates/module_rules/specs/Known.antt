@@ -1,6 +1,6 @@
 -- Names that aren't known (rule N2).
-use Rattle.std.specs.Prelude.{ℕ, Bool, true, false, not, List, [], Some, None, Option, is_some, option_to_list, ◌&&◌, ◌||◌, ◌∷◌, ◌++◌, if◌then◌else◌}
-use Rattle.std.specs.List.{list_all}
+use Rattle.std.specs.Prelude.{ℕ, Bool, true, false, not, List, [], Some, None, Option, is_some, option_to_list, ◌&&◌, ◌||◌, ◌∷◌, ◌++◌, ◌==◌}
+use Rattle.std.specs.List.{list_all, list_any}
 use Rattle.coro_base.specs.declared.name.Name.{Name}
 use Rattle.coro_base.specs.declared.outcome.Place.{Place}
 use Rattle.function_parts.specs.Contents.{part_labels, part_operands, part_types}
@@ -16,7 +16,7 @@ use Rattle.ir_model.specs.declared.module.Module.{Module}
 use Rattle.ir_model.specs.declared.operand.Allocator.{Allocator}
 use Rattle.ir_model.specs.declared.operand.Callee.{Callee}
 use Rattle.ir_model.specs.declared.operand.Operand.{Operand}
-use Rattle.module_rules.specs.Definitions.{has_number, type_position}
+use Rattle.module_rules.specs.Definitions.{type_position}
 use Rattle.module_rules.specs.Items.{Sentence}
 
 -- ---- types
@@ -61,24 +61,22 @@ knows_address m n = knows_name m n || is_intrinsic (callee_named n)
 
 -- ---- locals
 
--- the names of the labels among these, put before others
-abbrev pub with_labels : List ℕ → List Definition → List ℕ
-with_labels names [] = names
-with_labels names (d ∷ ds) = with_labels (if d.is_label then d.name ∷ names else names) ds
+abbrev pub is_kind : Bool → Definition → Bool
+is_kind true d = d.is_label
+is_kind false d = not d.is_label
 
--- the names of the values among these, put before others
-abbrev pub with_values : List ℕ → List Definition → List ℕ
-with_values names [] = names
-with_values names (d ∷ ds) = with_values (if d.is_label then names else d.name ∷ names) ds
+-- a label, or a value, with this name is among the definitions
+abbrev pub is_defined : Bool → List Definition → ℕ → Bool
+is_defined label ds n = list_any (λ d. is_kind label d && (d.name == n)) ds
 
-abbrev pub values_of : ℕ → Function → List ℕ
-values_of k f = with_values [] (locals_of k f)
+abbrev pub is_value : ℕ → Function → ℕ → Bool
+is_value k f n = is_defined false (locals_of k f) n
 
-abbrev pub labels_of : ℕ → Function → List ℕ
-labels_of k f = with_labels [] (locals_of k f)
+abbrev pub is_label : ℕ → Function → ℕ → Bool
+is_label k f n = is_defined true (locals_of k f) n
 
-abbrev pub knows_operand : Module → List ℕ → Operand → Bool
-knows_operand m values (Operand.Local v) = has_number values v
+abbrev pub knows_operand : Module → (ℕ → Bool) → Operand → Bool
+knows_operand m values (Operand.Local v) = values v
 knows_operand m values (Operand.Global n) = knows_address m n
 knows_operand m values x = true
 
@@ -89,21 +87,21 @@ knows_called m x = true
 -- ---- the rule
 
 -- a part names what isn't known, given the values and the labels of its function
-abbrev pub names_unknown : Module → List ℕ → List ℕ → Place → Part → Bool
+abbrev pub names_unknown : Module → (ℕ → Bool) → (ℕ → Bool) → Place → Part → Bool
 names_unknown m values labels place part =
     not (list_all (knows_type m) (part_types part)
     && (list_all (knows_operand m values) (part_operands part)
-    && (list_all (has_number labels) (part_labels part) && knows_called m part)))
+    && (list_all labels (part_labels part) && knows_called m part)))
 
 abbrev pub first_unknown : Module → ℕ → Function → Option Place
-first_unknown m k f = first_part (names_unknown m (values_of k f) (labels_of k f)) (parts_of k f)
+first_unknown m k f = first_part (names_unknown m (is_value k f) (is_label k f)) (parts_of k f)
 
 -- N2: a type, label, value, function or global name isn't known
 abbrev pub unknown_names : Module → Sentence
 unknown_names m =
     record {
       on_type = λ k t. not (knows_type m t.ty);
-      on_global = λ k g. not (knows_type m g.ty && knows_operand m [] g.init);
+      on_global = λ k g. not (knows_type m g.ty && knows_operand m (λ n. false) g.init);
       on_declaration = λ k d. not (list_all (knows_type m) (option_to_list d.result ++ d.params));
       in_function = first_unknown m
     }

@@ -2,6 +2,7 @@ pub mod Items
 pub mod Depth
 pub mod Heights
 pub mod Limits
+pub mod Numbers
 pub mod Definitions
 pub mod Known
 pub mod Reserved
