@@ -1,0 +1,9 @@
+pub mod Phrases
+pub mod Types
+pub mod Attributes
+pub mod Values
+pub mod Instructions
+pub mod Blocks
+pub mod Functions
+pub mod Items
+pub mod Text
