@@ -117,7 +117,7 @@ fn commands_answer(rt: HostRuntime) -> Result<(), Fail> {
             b"define i32 @main() { %x = call i32 @g() ret i32 %x }",
             1,
             "",
-            "refused X1 at @main %0 0\n",
+            "refused N2 at @main %0 0\n",
         ),
     ];
     for (line, text, code, out, err) in cases {
@@ -162,5 +162,201 @@ fn faults_are_told(rt: HostRuntime) -> Result<(), Fail> {
     )?;
     assert_eq!(rt; left.code, 6);
     assert_eq!(rt; left.out.as_slice(), b"print(1)\nprint(2".as_slice());
+    Ok(())
+}
+
+#[test]
+fn module_rules_refuse(rt: HostRuntime) -> Result<(), Fail> {
+    let cases: [(&str, &str); 45] = [
+        (
+            "%T = type { %T }",
+            "refused L1 at %T\n",
+        ),
+        (
+            "%A = type { %B } %B = type { i8, [2 x %A] }",
+            "refused L1 at %A\n",
+        ),
+        (
+            "%A = type { i8 } %B = type { %A }",
+            "",
+        ),
+        (
+            "%T = type {} %T = type {}",
+            "refused N1 at %T\n",
+        ),
+        (
+            "%T = type {} @T = global i8 0",
+            "",
+        ),
+        (
+            "@x = global i8 0 @x = global i8 0",
+            "refused N1 at @x\n",
+        ),
+        (
+            "@x = global i8 0 declare void @x()",
+            "refused N1 at @x\n",
+        ),
+        (
+            "define void @f() { ret void } declare void @f()",
+            "refused N1 at @f\n",
+        ),
+        (
+            "define void @f(i8 %a, i8 %a) { ret void }",
+            "refused N1 at @f\n",
+        ),
+        (
+            "define void @f(i8 %a) { a: ret void }",
+            "refused N1 at @f %a\n",
+        ),
+        (
+            "define void @f(i8 %a) { %b = add i8 %a, %a %b = add i8 1, 1 ret void }",
+            "refused N1 at @f %0 1\n",
+        ),
+        (
+            "define void @f(i8 %a) { %b = add i8 %a, %a %c = add i8 1, 1 ret void }",
+            "",
+        ),
+        (
+            "%T = type { %U }",
+            "refused N2 at %T\n",
+        ),
+        (
+            "@x = global ptr @y",
+            "refused N2 at @x\n",
+        ),
+        (
+            "@x = global ptr @x",
+            "",
+        ),
+        (
+            "declare i8 @f(%T)",
+            "refused N2 at @f\n",
+        ),
+        (
+            "define void @f() { %p = alloca [2 x %T] ret void }",
+            "refused N2 at @f %0 0\n",
+        ),
+        (
+            "define i8 @f() { ret i8 %a }",
+            "refused N2 at @f %0 0\n",
+        ),
+        (
+            "define i8 @f() { a: ret i8 %a }",
+            "refused N2 at @f %a 0\n",
+        ),
+        (
+            "define void @f(i1 %a) { br i1 %a, label %a, label %b b: ret void }",
+            "refused N2 at @f %0 0\n",
+        ),
+        (
+            "define void @f(i1 %a) { br i1 %a, label %b, label %b b: ret void }",
+            "",
+        ),
+        (
+            "define ptr @f() { %p = call ptr @malloc(i32 1) ret ptr %p }",
+            "refused N2 at @f %0 0\n",
+        ),
+        (
+            "define void @f(ptr %p) { call void @llvm.coro.resume(ptr %p) ret void }",
+            "",
+        ),
+        (
+            "define void @f(ptr %p) { call void @llvm.trap() ret void }",
+            "refused N2 at @f %0 0\n",
+        ),
+        (
+            "define void @free(ptr %p) { ret void }",
+            "refused N3 at @free\n",
+        ),
+        (
+            "@llvm.x = global i8 0",
+            "refused N3 at @llvm.x\n",
+        ),
+        (
+            "@llvmx = global i8 0",
+            "",
+        ),
+        (
+            "define void @f() { %$c.x = add i8 1, 1 ret void }",
+            "refused N3 at @f %0 0\n",
+        ),
+        (
+            "define void @f() { %$cx = add i8 1, 1 ret void }",
+            "",
+        ),
+        (
+            "define void @llvm() presplitcoroutine { ret void }",
+            "refused N3 at @llvm\n",
+        ),
+        (
+            "define void @llvm() { ret void }",
+            "",
+        ),
+        (
+            "declare void @f.resume() define void @f() presplitcoroutine { ret void }",
+            "refused N3 at @f.resume\n",
+        ),
+        (
+            "declare void @f.resume() define void @f() { ret void }",
+            "",
+        ),
+        (
+            "define void @0() presplitcoroutine { ret void } @0.noalloc = global i8 0",
+            "refused N3 at @\"0.noalloc\"\n",
+        ),
+        (
+            "declare ptr @malloc(i8)",
+            "refused Y2 at @malloc\n",
+        ),
+        (
+            "declare ptr @malloc(i64)",
+            "",
+        ),
+        (
+            "declare i8 @g(i8) define void @f() { call void @g(i8 1) ret void }",
+            "refused Y2 at @f %0 0\n",
+        ),
+        (
+            "declare void @g(i8) define void @f() { call void @g(i8 1, i8 1) ret void }",
+            "refused Y2 at @f %0 0\n",
+        ),
+        (
+            "@g = global i8 0 define void @f() { call void @g() ret void }",
+            "refused Y2 at @f %0 0\n",
+        ),
+        (
+            "declare ptr @malloc(i64) define void @f() { %p = call ptr @malloc(i32 1) ret void }",
+            "refused Y2 at @f %0 0\n",
+        ),
+        (
+            "define void @f(ptr %p) { call void @llvm.memcpy.p0.p0.i32(ptr %p, ptr %p, i32 1, i1 true) ret void }",
+            "refused Y2 at @f %0 0\n",
+        ),
+        (
+            "define void @f(ptr %p) { call void @llvm.memcpy.p0.p0.i32(ptr %p, ptr %p, i32 1, i1 0) ret void }",
+            "",
+        ),
+        (
+            "define void @f(ptr %p) { %q = call ptr @llvm.coro.promise(ptr %p, i32 32, i1 true) ret void }",
+            "refused Y2 at @f %0 0\n",
+        ),
+        (
+            "define void @f() { br label %x } %T = type { i8 } %T = type { i8 }",
+            "refused N1 at %T\n",
+        ),
+        (
+            "define i8 @f() { ret i8 %a } define void @f() { ret void }",
+            "refused N1 at @f\n",
+        ),
+    ];
+    for (text, err) in cases {
+        let left = run(rt.alloc(), "lower", text.as_bytes(), 0, 0)?;
+        let told = if err.is_empty() && left.err.starts_with(b"refused X1") {
+            "".as_bytes()
+        } else {
+            left.err.as_slice()
+        };
+        assert_eq!(rt; told, err.as_bytes(), "{text}");
+    }
     Ok(())
 }
