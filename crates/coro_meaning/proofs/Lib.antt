@@ -1,0 +1,13 @@
+pub mod OfCalls
+pub mod Acting
+pub mod Iterating
+pub mod Settings
+pub mod Walks
+pub mod Finals
+pub mod Freeing
+pub mod Operands
+pub mod Beginning
+pub mod Slots
+pub mod Leaving
+pub mod Promises
+pub mod Sleeping
