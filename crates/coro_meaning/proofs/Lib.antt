@@ -11,3 +11,6 @@ pub mod Slots
 pub mod Leaving
 pub mod Promises
 pub mod Sleeping
+pub mod MarkTables
+pub mod FramePositions
+pub mod Looked

@@ -147,8 +147,8 @@ fn enter_plainly(
     }
 }
 
-/// The branch to a label.
-pub fn go_to(
+/// The branch to a label, by a look at the windows of its function.
+fn go_by_windows(
     alloc: Global,
     given: &SourceProgram,
     state: &mut State,
@@ -174,5 +174,23 @@ pub fn go_to(
                 enter_plainly(alloc, given, state, label)
             }
         }
+    }
+}
+
+/// The branch to a label.
+pub fn go_to(
+    alloc: Global,
+    given: &SourceProgram,
+    state: &mut State,
+    label: ValueId,
+) -> Result<(), Stop>
+    ensures done { OnOk result (go_to_label (given_of given.now) state.old label ≡ Ok state.new) }
+    ensures refused { IfErr result (λ stop. IsStop stop (go_to_label (given_of given.now) state.old label)) }
+    ensures kept { OnErr result (state.new ≡ state.old) }
+{
+    if given.may_be_left(state.top.func, state.top.block) {
+        go_by_windows(alloc, given, state, label)
+    } else {
+        enter_plainly(alloc, given, state, label)
     }
 }

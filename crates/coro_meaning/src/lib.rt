@@ -18,6 +18,7 @@ mod shape;
 mod starting;
 mod state;
 mod stepping;
+mod table;
 
 pub use machine::SourceMachine;
 pub use program::SourceProgram;

@@ -1,16 +1,19 @@
 //! A module as a source machine runs it.
 
-ghost use Rattle.std.specs.Prelude.{◌≡◌, ◌==◌, IfOk};
+ghost use Rattle.std.specs.Prelude.{◌≡◌, ◌==◌, IfOk, filter, false, []};
+ghost use Rattle.ir_paths.specs.declared.point.Point.{Point as ThePoint};
 ghost use Rattle.std.specs.List.{list_any};
 ghost use Rattle.ir_model.specs.Names.{function_at};
 ghost use Rattle.ir_paths.specs.Slots.{promise_of as promise_of_function};
-ghost use Rattle.ir_paths.specs.Windows.{suspend_of as suspend_of_save, resume_label as resume_label_of, destroy_label as destroy_label_of};
+ghost use Rattle.ir_paths.specs.Windows.{leaves, suspend_of as suspend_of_save, resume_label as resume_label_of, destroy_label as destroy_label_of};
 ghost use Rattle.coro_meaning.specs.State.{facts_at, frame_of};
+ghost use Rattle.coro_meaning.specs.Tables.{AreFramesOf, HaveSourceTables, frame_or as frame_or_none};
 ghost use Rattle.coro_meaning.specs.Source.{has_final as has_final_of, is_final as is_final_point};
 
 use crate::points::{destroy_label, is_final, resume_label};
 use crate::shape::{has_final, promise_of, suspend_of};
-use coro_base::{FuncId, Items, ValueId};
+use crate::table::{SourceTable, all_tables, frames_by_function};
+use coro_base::{BlockId, FuncId, Items, ValueId};
 use ir_model::{Frame, Module};
 use ir_paths::{Facts, Point};
 use ordinary_step::Program;
@@ -23,6 +26,10 @@ pub struct SourceProgram {
     pub program: Program,
     pub sizes: Items<Frame>,
     pub facts: Items<Facts>,
+    tables: Items<SourceTable>,
+    frames: Items<Option<Frame>>,
+    ghost tables_found: { HaveSourceTables program.module.functions facts tables },
+    ghost frames_found: { AreFramesOf sizes frames },
 }
 
 fn copied_frames(alloc: Global, frames: &[Frame]) -> Result<Items<Frame>, AllocError>
@@ -44,6 +51,20 @@ fn find_frame(frames: &[Frame], func: FuncId) -> Frame
         coroutine: func,
         size: 0,
         align: 0,
+    }
+}
+
+/// A frame, or that of no size.
+fn frame_or(func: FuncId, found: Option<Frame>) -> Frame
+    ensures { result ≡ frame_or_none func found }
+{
+    match found {
+        None => Frame {
+            coroutine: func,
+            size: 0,
+            align: 0,
+        },
+        Some(frame) => frame,
     }
 }
 
@@ -74,10 +95,15 @@ impl SourceProgram {
     {
         let program = Program::new(alloc, code, answers)?;
         let sizes = copied_frames(alloc, sizes)?;
+        let tables = all_tables(alloc, program.module.functions.as_slice(), &facts)?;
+        let count = program.module.functions.len();
+        let frames = frames_by_function(alloc, count, sizes.as_slice())?;
         Ok(SourceProgram {
             program,
             sizes,
             facts,
+            tables,
+            frames,
         })
     }
 
@@ -85,16 +111,51 @@ impl SourceProgram {
     pub fn frame(&self, func: FuncId) -> Frame
         ensures { result ≡ frame_of self.now.sizes func }
     {
-        find_frame(self.sizes.as_slice(), func)
+        match self.frames.get(func) {
+            None => find_frame(self.sizes.as_slice(), func),
+            Some(found) => frame_or(func, *found),
+        }
+    }
+
+    /// Whether an alloca of the function at a position is listed as a ramp slot.
+    fn is_listed(&self, func: FuncId, alloca: ValueId) -> bool
+        ensures { result ≡ list_any (λ a. a == alloca) (facts_at self.now.facts func).ramp_slots }
+    {
+        match self.facts.get(func) {
+            None => false,
+            Some(facts) => has_value(facts.ramp_slots.as_slice(), alloca),
+        }
     }
 
     /// Whether an alloca of the function at a position is a ramp slot.
     pub fn is_ramp_slot(&self, func: FuncId, alloca: ValueId) -> bool
         ensures { result ≡ list_any (λ a. a == alloca) (facts_at self.now.facts func).ramp_slots }
     {
-        match self.facts.get(func) {
-            None => false,
-            Some(facts) => has_value(facts.ramp_slots.as_slice(), alloca),
+        match self.program.module.functions.get(func) {
+            None => self.is_listed(func, alloca),
+            Some(_) => match self.tables.get(func) {
+                None => self.is_listed(func, alloca),
+                Some(table) => match table.ramp_slots.get(alloca) {
+                    None => self.is_listed(func, alloca),
+                    Some(mark) => *mark,
+                },
+            },
+        }
+    }
+
+    /// Whether an edge from a block of the function at a position may leave a window.
+    pub fn may_be_left(&self, func: FuncId, block: BlockId) -> bool
+        ensures { (p q : ThePoint) → p.block ≡ block → result ≡ false → filter (λ w. leaves p q w) (facts_at self.now.facts func).windows ≡ [] }
+    {
+        match self.program.module.functions.get(func) {
+            None => true,
+            Some(_) => match self.tables.get(func) {
+                None => true,
+                Some(table) => match table.windows.get(block) {
+                    None => true,
+                    Some(mark) => *mark,
+                },
+            },
         }
     }
 }
@@ -116,7 +177,10 @@ impl SourceProgram {
     {
         match self.program.module.functions.get(func) {
             None => false,
-            Some(function) => has_final(function),
+            Some(function) => match self.tables.get(func) {
+                None => has_final(function),
+                Some(table) => table.has_final,
+            },
         }
     }
 
@@ -156,7 +220,10 @@ impl SourceProgram {
     {
         match self.program.module.functions.get(func) {
             None => None,
-            Some(function) => promise_of(function),
+            Some(function) => match self.tables.get(func) {
+                None => promise_of(function),
+                Some(table) => table.promise,
+            },
         }
     }
 }

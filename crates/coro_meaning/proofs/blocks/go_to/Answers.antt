@@ -1,16 +1,15 @@
-use Rattle.std.proofs.Common.{◌∙◌, sym}
-use Rattle.std.specs.Prelude.{filter}
-use Rattle.ir_paths.specs.Windows.{leaves}
+use Rattle.std.proofs.Common.{◌∙◌, refl, sym}
+use Rattle.ir_paths.specs.Paths.{entry_point}
 use Rattle.coro_meaning.specs.SourceEffects.{given_of}
-use Rattle.coro_meaning.proofs.Leaving.{leaving, leaving-refused}
+use Rattle.coro_meaning.specs.State.{function_of, point_of}
+use Rattle.coro_meaning.proofs.Looked.{plainly-done, plainly-refused}
 use Rattle.coro_meaning.proofs.blocks.go_to.Goals as goal
 
-pub returns-then-leaves_any-clause-refused : goal.returns-then-leaves_any-clause-refused
-returns-then-leaves_any-clause-refused c =
+pub returns-else-may_be_left-clause-done : goal.returns-else-may_be_left-clause-done
+returns-else-may_be_left-clause-done c =
     let g = given_of c.args.given.now in
     let s = c.args.state.now in
-    let p = c.point_of-p.result in
-    let ws = c.as_slice-windows.result.now in
-    leaving-refused g s c.args.label c.leave.result (filter (λ w. leaves p (record { block = c.position.result; at = 0 }) w) ws)
-    (leaving g s c.args.label c.position.result p c.in-Some.facts.now ws c.point_of-p.ensures c.position.ensures c.in-Some.ensures c.as_slice-windows.ensures (sym c.if-leaves_any.true ∙ c.leaves_any.ensures))
-    c.leave.ensures.refused
+    plainly-done g s c.enter_plainly.new.state c.args.label c.enter_plainly.result (c.may_be_left.ensures (point_of s) (entry_point (function_of g s) c.args.label) refl c.if-may_be_left.false) c.enter_plainly.ensures.done
+
+pub returns-else-may_be_left-clause-refused : goal.returns-else-may_be_left-clause-refused
+returns-else-may_be_left-clause-refused c = plainly-refused (given_of c.args.given.now) c.args.state.now c.args.label c.enter_plainly.result c.enter_plainly.ensures.refused
