@@ -1,14 +1,13 @@
 //! The text of phis, terminators and blocks.
 
 ghost use Rattle.std.specs.Prelude.{◌≡◌, ◌++◌, OnOk, codes};
-ghost use Rattle.ir_printer.specs.Blocks.{all_incoming_text, block_text, blocks_text, case_text, cases_text, incoming_text, instrs_text, more_incoming_text, phi_text, phis_text, term_text};
-ghost use Rattle.ir_printer.specs.Operands.{arg_text, label_text, operand_text};
+ghost use Rattle.canonical_text.specs.Blocks.{all_incoming_text, block_text, blocks_text, case_text, cases_text, incoming_text, instrs_text, more_incoming_text, phi_text, phis_text, term_text};
+ghost use Rattle.canonical_text.specs.Operands.{arg_text, label_text, operand_text};
 
 use crate::instrs::push_instr;
-use crate::operands::{push_arg, push_label, push_local, push_name, push_operand};
-use crate::types::push_type;
 use coro_base::{Name, ValueId};
 use ir_model::{Arg, Block, Case, Incoming, Instr, Operand, Phi, Terminator};
+use operand_printer::{push_arg, push_label, push_local, push_name, push_operand, push_type};
 use std::alloc::AllocError;
 
 fn push_incoming(names: &[Name], incoming: &Incoming, out: &mut Vec<u8>) -> Result<(), AllocError>

@@ -1,18 +1,17 @@
 //! The text of instructions.
 
 ghost use Rattle.std.specs.Prelude.{◌≡◌, ◌++◌, OnOk, codes};
-ghost use Rattle.ir_printer.specs.Instrs.{action_text, address_text, align_text, instr_text, musttail_text, pair_text, set_by, set_text};
-ghost use Rattle.ir_printer.specs.Operands.{arg_text, args_text, callee_text, more_args_text, operand_text, result_text};
-ghost use Rattle.ir_printer.specs.Types.{type_text};
-ghost use Rattle.ir_printer.specs.Words.{flag_text};
+ghost use Rattle.canonical_text.specs.Instrs.{action_text, address_text, align_text, instr_text, musttail_text, pair_text, set_by, set_text};
+ghost use Rattle.canonical_text.specs.Operands.{arg_text, args_text, callee_text, more_args_text, operand_text, result_text};
+ghost use Rattle.canonical_text.specs.Types.{type_text};
+ghost use Rattle.canonical_text.specs.Words.{flag_text};
 
-use crate::operands::{
-    push_arg, push_args, push_callee, push_local, push_more_args, push_operand, push_result,
-};
-use crate::types::{push_number, push_type};
-use crate::words::{binary_word, cast_word, pred_word, push_flag, push_flags};
 use coro_base::{Name, ValueId};
 use ir_model::{Arg, Callee, Instr, IrType, Operand};
+use operand_printer::{
+    binary_word, cast_word, pred_word, push_arg, push_args, push_callee, push_flag, push_flags,
+    push_local, push_more_args, push_number, push_operand, push_result, push_type,
+};
 use std::alloc::AllocError;
 
 /// The name that an instruction sets.

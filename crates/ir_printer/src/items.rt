@@ -1,15 +1,15 @@
 //! The text of items and modules.
 
 ghost use Rattle.std.specs.Prelude.{◌≡◌, ◌++◌, OnOk, IfOk};
-ghost use Rattle.ir_printer.specs.Items.{coroutine_text, declaration_text, declarations_text, function_text, functions_text, global_item_text, global_items_text, head_text, kind_word, module_text, more_params_text, more_types_text, param_text, params_text, type_item_text, type_items_text, types_text};
+ghost use Rattle.printed_grammar.specs.ReadBack.{IsReadBack};
+ghost use Rattle.canonical_text.specs.Items.{coroutine_text, declaration_text, declarations_text, function_text, functions_text, global_item_text, global_items_text, head_text, kind_word, module_text, more_params_text, more_types_text, param_text, params_text, type_item_text, type_items_text, types_text};
 
 use crate::blocks::push_blocks;
 use crate::instrs::push_align;
-use crate::operands::{push_global, push_local, push_operand, push_result};
-use crate::types::push_type;
 use coro_base::Name;
 use coro_names::print_name;
 use ir_model::{Declaration, Function, GlobalItem, IrType, Module, Param, TypeItem};
+use operand_printer::{push_global, push_local, push_operand, push_result, push_type};
 use std::alloc::{AllocError, Global};
 
 fn push_type_item(item: &TypeItem, out: &mut Vec<u8>) -> Result<(), AllocError>
@@ -174,8 +174,11 @@ fn push_functions(functions: &[Function], out: &mut Vec<u8>) -> Result<(), Alloc
 }
 
 /// The canonical text of a module. A local whose position is past its function's names is written without a name.
+/// Where some text stands for the module, so does this one: it is read back as the same module.
+#[tactic(auto, using(printed_grammar::proofs::Whole::read_back))]
 pub fn print_module(alloc: Global, module: &Module) -> Result<Vec<u8>, AllocError>
-    ensures { IfOk result (λ text. text.items ≡ module_text «module».now) }
+    ensures text { IfOk result (λ text. text.items ≡ module_text «module».now) }
+    ensures read_back { IfOk result (λ text. IsReadBack text.items «module».now) }
 {
     let mut out = Vec::new(alloc);
     push_type_items(module.types.as_slice(), &mut out)?;

@@ -6,16 +6,10 @@
 #![tactic(auto)]
 
 mod blocks;
-mod comments;
-mod frames;
 mod instrs;
 mod items;
-mod operands;
 #[cfg(test)]
 mod tests;
-mod types;
-mod words;
 
-pub use comments::read_frames;
-pub use frames::{FrameLine, print_frames};
+pub use frame_lines::{FrameLine, print_frames, read_frames};
 pub use items::print_module;

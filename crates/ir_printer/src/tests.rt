@@ -1,4 +1,4 @@
-use crate::{FrameLine, print_frames, print_module, read_frames};
+use crate::print_module;
 use coro_base::{BinOp, CastOp, Flags, Items, Name, Pred, Short, Text};
 use ir_model::{
     Allocator, Arg, Block, Callee, Case, Declaration, Function, GlobalItem, Incoming, Instr,
@@ -361,7 +361,7 @@ fn unnamed_module(alloc: Global) -> Result<Module, AllocError> {
 }
 
 #[test]
-fn modules_are_printed(rt: HostRuntime) -> Result<(), Fail> {
+fn a_quoted_name_is_printed(rt: HostRuntime) -> Result<(), Fail> {
     let alloc = rt.alloc();
     let unnamed: [&[u8]; 4] = [
         b"define i32 @\"a b\"(i32 %0) {",
@@ -371,6 +371,12 @@ fn modules_are_printed(rt: HostRuntime) -> Result<(), Fail> {
     ];
     let text = print_module(alloc, &unnamed_module(alloc)?)?;
     assert_eq!(rt; text.as_slice(), lines(alloc, &unnamed)?.as_slice());
+    Ok(())
+}
+
+#[test]
+fn modules_are_printed(rt: HostRuntime) -> Result<(), Fail> {
+    let alloc = rt.alloc();
     let sample: [&[u8]; 34] = [
         b"%T = type { i32, ptr }",
         b"%U = type {}",
@@ -409,57 +415,5 @@ fn modules_are_printed(rt: HostRuntime) -> Result<(), Fail> {
     ];
     let text = print_module(alloc, &sample_module(alloc)?)?;
     assert_eq!(rt; text.as_slice(), lines(alloc, &sample)?.as_slice());
-    Ok(())
-}
-
-#[test]
-fn frames_are_printed_and_read(rt: HostRuntime) -> Result<(), Fail> {
-    let alloc = rt.alloc();
-    let frames = one(
-        alloc,
-        FrameLine {
-            name: named(alloc, b"f")?,
-            size: 24,
-            align: 8,
-            index: 16,
-        },
-    )?;
-    let line = b"; frame @f size 24 align 8 index 16\n";
-    assert_eq!(rt;
-        print_frames(alloc, frames.as_slice())?.as_slice(),
-        line.as_slice()
-    );
-    let one_frame: [&[u8]; 2] = [
-        b"; frame @f size 24 align 8 index 16\n",
-        b"; frame @f size 24 align 8 index 16\n; frames\n; frame @f size x",
-    ];
-    for text in one_frame {
-        assert!(rt;
-            read_frames(alloc, text)?
-                == Some(one(
-                    alloc,
-                    FrameLine {
-                        name: named(alloc, b"f")?,
-                        size: 24,
-                        align: 8,
-                        index: 16,
-                    }
-                )?)
-        );
-    }
-    let none: [&[u8]; 3] = [b"", b"; frames", b" ; frame @f size x"];
-    for text in none {
-        assert!(rt; read_frames(alloc, text)? == Some(Items::new(alloc)));
-    }
-    let wrong: [&[u8]; 5] = [
-        b"; frame @f size x",
-        b"; frame @f size 24 align 8 index 16",
-        b"; frame @f size 024 align 8 index 16\n",
-        b"; frame @\"f\" size 24 align 8 index 16\n",
-        b"; frame @f size 18446744073709551616 align 8 index 16\n",
-    ];
-    for text in wrong {
-        assert!(rt; read_frames(alloc, text)?.is_none());
-    }
     Ok(())
 }

@@ -11,7 +11,7 @@ ghost use Rattle.plain_meaning.specs.PlainEffects.{IsStop, given_of};
 use crate::effects::{Stop, act};
 use crate::state::PlainState;
 use block_memory::OwnerRights;
-use coro_base::{Cause, Outcome, Place, ValueId};
+use coro_base::{Cause, Item, Outcome, Place, ValueId};
 use ir_model::{Function, Instr, IrType};
 use ordinary_step::{Program, Slot};
 use std::alloc::{AllocError, Global};
@@ -184,7 +184,7 @@ fn go(alloc: Global, program: &Program, state: &mut PlainState) -> Result<(), Al
         Some(function) => advance(alloc, program, state, function),
         None => {
             let place = Place {
-                item: state.top.func,
+                item: Item::Function(state.top.func),
                 block: Some(state.top.block),
                 instr: Some(state.top.at),
             };

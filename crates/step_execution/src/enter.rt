@@ -9,7 +9,7 @@ ghost use Rattle.ordinary_step.specs.Step.{incoming_from as incoming_from_label,
 ghost use Rattle.ordinary_step.specs.Effects.{with_taken};
 
 use block_memory::Value;
-use coro_base::{BlockId, Cause, FuncId, Items, Outcome, Place, ValueId};
+use coro_base::{BlockId, Cause, FuncId, Item, Items, Outcome, Place, ValueId};
 use ir_model::{Block, Function, Incoming, Operand, Param, Phi};
 use ordinary_step::{Program, Values};
 use smallvec::SmallVec;
@@ -161,7 +161,7 @@ pub fn place_at(func: FuncId, function: &Function, block: BlockId, at: usize) ->
 {
     match phi_count(function, block).checked_add(at) {
         Some(instr) => Some(Place {
-            item: func,
+            item: Item::Function(func),
             block: Some(block),
             instr: Some(instr),
         }),

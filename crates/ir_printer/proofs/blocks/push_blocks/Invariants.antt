@@ -1,5 +1,5 @@
 use Rattle.std.proofs.Common.{◌≡◌, ◌++◌, drop}
-use Rattle.ir_printer.specs.Blocks.{blocks_text}
+use Rattle.canonical_text.specs.Blocks.{blocks_text}
 use Rattle.ir_printer.proofs.blocks.push_blocks.Given as goal
 
 abbrev pub invariant-loop-block : goal.invariant-loop-block

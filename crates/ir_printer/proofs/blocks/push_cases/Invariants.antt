@@ -1,5 +1,5 @@
 use Rattle.std.proofs.Common.{◌≡◌, ◌++◌, drop}
-use Rattle.ir_printer.specs.Blocks.{cases_text}
+use Rattle.canonical_text.specs.Blocks.{cases_text}
 use Rattle.ir_printer.proofs.blocks.push_cases.Given as goal
 
 abbrev pub invariant-loop-case : goal.invariant-loop-case

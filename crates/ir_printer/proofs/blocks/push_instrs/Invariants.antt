@@ -1,5 +1,5 @@
 use Rattle.std.proofs.Common.{◌≡◌, ◌++◌, drop}
-use Rattle.ir_printer.specs.Blocks.{instrs_text}
+use Rattle.canonical_text.specs.Blocks.{instrs_text}
 use Rattle.ir_printer.proofs.blocks.push_instrs.Given as goal
 
 abbrev pub invariant-loop-instr : goal.invariant-loop-instr

@@ -1,5 +1,5 @@
 use Rattle.std.proofs.Common.{◌≡◌, ◌++◌, drop}
-use Rattle.ir_printer.specs.Blocks.{more_incoming_text}
+use Rattle.canonical_text.specs.Blocks.{more_incoming_text}
 use Rattle.ir_printer.proofs.blocks.push_more_incoming.Given as goal
 
 abbrev pub invariant-loop-incoming : goal.invariant-loop-incoming

@@ -1,5 +1,5 @@
 use Rattle.std.proofs.Common.{◌≡◌, ◌++◌, drop}
-use Rattle.ir_printer.specs.Blocks.{phis_text}
+use Rattle.canonical_text.specs.Blocks.{phis_text}
 use Rattle.ir_printer.proofs.blocks.push_phis.Given as goal
 
 abbrev pub invariant-loop-phi : goal.invariant-loop-phi

@@ -1,5 +1,5 @@
 use Rattle.std.proofs.Common.{◌≡◌, ◌++◌, drop}
-use Rattle.ir_printer.specs.Items.{functions_text}
+use Rattle.canonical_text.specs.Items.{functions_text}
 use Rattle.ir_printer.proofs.items.push_functions.Given as goal
 
 abbrev pub invariant-loop-function : goal.invariant-loop-function

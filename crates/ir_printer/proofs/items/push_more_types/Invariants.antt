@@ -1,5 +1,5 @@
 use Rattle.std.proofs.Common.{◌≡◌, ◌++◌, drop}
-use Rattle.ir_printer.specs.Items.{more_types_text}
+use Rattle.canonical_text.specs.Items.{more_types_text}
 use Rattle.ir_printer.proofs.items.push_more_types.Given as goal
 
 abbrev pub invariant-loop-ty : goal.invariant-loop-ty

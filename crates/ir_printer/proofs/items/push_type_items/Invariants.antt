@@ -1,5 +1,5 @@
 use Rattle.std.proofs.Common.{◌≡◌, ◌++◌, drop}
-use Rattle.ir_printer.specs.Items.{type_items_text}
+use Rattle.canonical_text.specs.Items.{type_items_text}
 use Rattle.ir_printer.proofs.items.push_type_items.Given as goal
 
 abbrev pub invariant-loop-item : goal.invariant-loop-item

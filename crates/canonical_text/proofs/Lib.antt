@@ -1,0 +1,12 @@
+pub mod Steps
+pub mod Tokens
+pub mod Decimals
+pub mod Spellings
+pub mod Lexed
+pub mod Pieces
+pub mod WordsLexed
+pub mod TypesLexed
+pub mod OperandsLexed
+pub mod InstrsLexed
+pub mod BlocksLexed
+pub mod ItemsLexed

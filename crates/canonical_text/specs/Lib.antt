@@ -1,0 +1,14 @@
+pub mod Lines
+pub mod Types
+pub mod Words
+pub mod Operands
+pub mod Instrs
+pub mod Blocks
+pub mod Items
+pub mod Written
+pub mod Marks
+pub mod TypeSymbols
+pub mod OperandSymbols
+pub mod InstrSymbols
+pub mod BlockSymbols
+pub mod ItemSymbols

@@ -1,0 +1,14 @@
+//! The canonical text of modules as a definition, what its tokens say, and that these are the tokens of the text.
+#![tactic(auto)]
+
+ghost use Rattle.std.specs.Prelude.{◌≡◌, true};
+ghost use Rattle.ir_model.specs.declared.module.Module.{Module};
+ghost use Rattle.ir_symbols.specs.Listing.{symbols_of};
+ghost use Rattle.canonical_text.specs.Items.{module_text};
+ghost use Rattle.canonical_text.specs.ItemSymbols.{module_symbols, IsPrintable};
+
+/// The tokens of a printable module's canonical text say what its symbols are, and are all of the text.
+#[tactic(auto, using(crate::proofs::ItemsLexed::module_lexed))]
+pub fn canonical_text_is_lexed()
+    ensures { (m : Module) → IsPrintable m → symbols_of (module_text m) ≡ record { symbols = module_symbols m; whole = true } }
+{}

@@ -1,0 +1,11 @@
+pub mod Again
+pub mod Names
+pub mod Types
+pub mod Attributes
+pub mod Instructions
+pub mod Blocks
+pub mod Functions
+pub mod Items
+pub mod Sound
+pub mod Bytes
+pub mod Whole
