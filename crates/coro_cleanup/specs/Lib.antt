@@ -1,1 +1,3 @@
 pub mod Cleanup
+pub mod Cleanable
+pub mod Free

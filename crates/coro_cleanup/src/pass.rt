@@ -1,7 +1,12 @@
 //! The pass over blocks, functions and the module.
 
-ghost use Rattle.std.specs.Prelude.{◌≡◌, IfOk, map, filter};
+ghost use Rattle.std.specs.Prelude.{◌≡◌, ℕ, ℤ, true, List, IfOk, map, filter};
+ghost use Rattle.agreement.specs.Agreements.{AgreesWithin};
+ghost use Rattle.coro_base.specs.declared.outcome.Word.{Word as TheWord};
+ghost use Rattle.coro_cleanup.specs.Cleanable.{IsCleanable};
 ghost use Rattle.coro_cleanup.specs.Cleanup.{is_coro, is_kept_instr, is_kept_callee, is_kept_declaration, clean_block, clean_function, clean_module};
+ghost use Rattle.coro_cleanup.specs.Free.{calls_id_alone, is_free_module};
+ghost use Rattle.plain_meaning.specs.Plain.{PlainAt};
 
 use coro_base::{Data, Items};
 use ir_model::{Block, Callee, Declaration, Function, Instr, Intrinsic, Module, callee_of};
@@ -119,9 +124,13 @@ fn clean_functions(alloc: Global, functions: &[Function]) -> Result<Items<Functi
 }
 
 /// The module without the calls of `coro.id` and without the declarations of the coro intrinsics ("Coroutines in LLVM",
-/// the pass CoroCleanup). Functions keep their names and types; types and globals stay.
+/// the pass CoroCleanup). Functions keep their names and types; types and globals stay. Where the source calls no coro
+/// intrinsic but `coro.id`, the result calls and declares none. Of a module as the pass before leaves it each run agrees
+/// with the same run of the result, step by step, but for the steps of `coro.id`.
 pub fn clean(alloc: Global, source: &Module) -> Result<Module, AllocError>
-    ensures { IfOk result (λ x. x ≡ clean_module source.now) }
+    ensures cleaned { IfOk result (λ x. x ≡ clean_module source.now) }
+    ensures free { IfOk result (λ x. calls_id_alone source.now ≡ true → is_free_module x ≡ true) }
+    ensures agrees { IfOk result (λ x. IsCleanable source.now → (entry : ℕ) (args : List TheWord) (answers : List ℤ) → AgreesWithin 1 (PlainAt source.now entry args answers) (PlainAt x entry args answers)) }
 {
     Ok(Module {
         types: source.types.copied(alloc)?,

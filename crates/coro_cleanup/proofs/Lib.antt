@@ -1,0 +1,5 @@
+mod Kept
+mod Parts
+mod States
+pub mod Simulation
+pub mod Freed

@@ -1,0 +1,9 @@
+pub mod Matching
+pub mod Written
+pub mod Loads
+pub mod Stores
+pub mod Copies
+pub mod Comparisons
+pub mod Homes
+pub mod Changes
+pub mod Itself
