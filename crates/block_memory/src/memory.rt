@@ -1,13 +1,13 @@
 //! The list of all blocks.
 
-ghost use Rattle.std.specs.Prelude.{◌≡◌, ◌<◌, [], length, slice_get, MatchOption, None, Some, OnOk, OnErr, IfOk, IfErr, Ok, Err};
-ghost use Rattle.block_memory.specs.Memory.{fresh, start, end, disown, seal, killed, kill, own, owned_to, with_block, bytes_at, range, write, is_constant};
+ghost use Rattle.std.specs.Prelude.{◌≡◌, ◌<◌, ◌==◌, ◌&&◌, [], length, slice_get, MatchOption, None, Some, OnOk, OnErr, IfOk, IfErr, Ok, Err};
+ghost use Rattle.block_memory.specs.Memory.{fresh, may_be_owned, start, end, disown, seal, killed, kill, own, owned_to, with_block, bytes_at, range, write, is_constant};
 ghost use Rattle.block_memory.specs.Whole.{IsWithin};
 
 use crate::between::{copy_down, copy_up};
 use crate::block::{Byte, Kind, Life, MemoryBlock};
 use crate::contents::Contents;
-use crate::pointer::{BlockId, Pointer, Spot, Value};
+use crate::pointer::{BlockId, Offset, Pointer, Spot, Value};
 use crate::range::range_at;
 use crate::rights::AccessRights;
 use coro_base::Cause;
@@ -165,21 +165,31 @@ impl Memory {
         Ok(())
     }
 
+    /// Whether the start of a block that may be owned to a number of bytes lies at an offset of a block.
+    pub fn may_own(&self, block: BlockId, offset: Offset, n: u64, kind: Kind) -> bool
+        ensures { result ≡ (offset.bits == 0) && may_be_owned kind n (slice_get self.now block) }
+    {
+        match self.blocks.get(block) {
+            None => false,
+            Some(x) => offset.bits == 0 && x.may_be_owned(kind, n),
+        }
+    }
+
     /// The block of a kind that may be owned to a number of bytes.
     fn ownable(&self, p: Value, n: u64, kind: Kind) -> Result<BlockId, Cause>
         ensures found { IfOk result (λ b. own self.now p n kind ≡ Ok (with_block self.now b (owned_to n))) }
         ensures refused { IfErr result (λ c. own self.now p n kind ≡ Err c) }
     {
-        let Value::Ptr(Pointer::At(block, offset)) = p else {
-            return Err(Cause::Begin);
-        };
-        match self.blocks.get(block) {
-            Some(x) if offset.bits == 0 && x.may_be_owned(kind, n) => Ok(block),
+        match p {
+            Value::Ptr(Pointer::At(block, offset)) if self.may_own(block, offset, n, kind) => {
+                Ok(block)
+            }
             _ => Err(Cause::Begin),
         }
     }
 
-    fn own_at(&mut self, block: BlockId, n: u64)
+    /// Lets a block be owned to a number of bytes.
+    pub fn own_at(&mut self, block: BlockId, n: u64)
         ensures { self.new ≡ with_block self.old block (owned_to n) }
     {
         if block < self.blocks.len() {

@@ -17,7 +17,7 @@ pub use data::{Data, are_same};
 pub use items::Items;
 pub use name::Name;
 pub use ops::{BinOp, CastOp, Flags, Pred};
-pub use outcome::{BlockId, Event, FuncId, Outcome, Place, SlotId, SuspendId, ValueId, Word};
+pub use outcome::{BlockId, Event, FuncId, Item, Outcome, Place, SlotId, SuspendId, ValueId, Word};
 pub use rule::Rule;
 pub use short::Short;
 pub use status::{Options, Status};

@@ -36,11 +36,24 @@ pub struct Event {
     pub args: Items<Word>,
 }
 
+/// An item of a module: its kind, and its position among the items of that kind.
+#[derive(Clone, Copy, Debug, PartialEq, Eq, Drop)]
+pub enum Item {
+    /// A named type.
+    Type(usize),
+    /// A global.
+    Global(usize),
+    /// A function that is declared only.
+    Declaration(usize),
+    /// A defined function.
+    Function(FuncId),
+}
+
 /// A place of a module, all by position: an item, and of a function a block and an instruction, counted from 0 with the
 /// phis before it, the terminator last.
 #[derive(Clone, Copy, Debug, PartialEq, Eq, Drop)]
 pub struct Place {
-    pub item: usize,
+    pub item: Item,
     pub block: Option<BlockId>,
     pub instr: Option<usize>,
 }

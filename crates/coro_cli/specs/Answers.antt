@@ -25,6 +25,9 @@ use Rattle.ir_parser.specs.declared.text.Parsed.{Parsed}
 use Rattle.lower_pipeline.specs.Lowering.{lowering_of}
 use Rattle.lower_pipeline.specs.declared.whole.Lowered.{Lowered}
 use Rattle.lower_pipeline.specs.declared.whole.Lowering.{Lowering}
+use Rattle.module_rules.specs.Order.{module_refusal}
+use Rattle.module_rules.specs.declared.order.Refusal.{Refusal}
+use Rattle.module_rules.specs.declared.order.Stage.{Stage}
 use Rattle.plain_meaning.specs.Plain.{PlainGiven, plain_state_at}
 
 -- ---- answers
@@ -132,9 +135,13 @@ run_or m w (Some call) = run_answer m w.answers call w.steps
 abbrev pub run_module : Module → RunWords → Answer
 run_module m w = run_or m w (entry_call m w.entry w.args)
 
+abbrev pub checked_run : Option Refusal → Module → RunWords → Answer
+checked_run (Some r) m w = refused m r.rule r.place
+checked_run None m w = run_module m w
+
 abbrev pub text_answer : Parsed → RunWords → Answer
 text_answer (Parsed.Syntax items) w = told Verdict.Refused (syntax_text items)
-text_answer (Parsed.Module m) w = run_module m w
+text_answer (Parsed.Module m) w = checked_run (module_refusal Stage.Plain m) m w
 
 -- the source says whether the entry is callable; the lowered module runs the function of that name
 abbrev pub run_lowered : Lowered → RunWords → Answer

@@ -2,7 +2,9 @@
 
 ghost use Rattle.std.specs.Prelude.{◌≡◌, IfOk, List, ℕ};
 ghost use Rattle.coro_report.specs.Report.{syntax_text};
-ghost use Rattle.coro_cli.specs.Answers.{shown, told, refused, lower_answer, run_verdict, run_answer, not_callable, run_module, text_answer, run_lowered, lowered_answer, run_in, answer};
+ghost use Rattle.module_rules.specs.Order.{module_refusal};
+ghost use Rattle.module_rules.specs.declared.order.Stage.{Stage};
+ghost use Rattle.coro_cli.specs.Answers.{shown, told, refused, lower_answer, run_verdict, run_answer, not_callable, run_module, checked_run, text_answer, run_lowered, lowered_answer, run_in, answer};
 
 use crate::entry::entry_call;
 use crate::verdict::{Answer, EntryCall, Verdict};
@@ -12,6 +14,7 @@ use coro_words::{Form, RunWords, Words};
 use ir_model::Module;
 use ir_parser::{Parsed, parse};
 use lower_pipeline::{Lowered, Lowering, lower};
+use module_rules::{Stage, module_refusal};
 use plain_meaning::PlainMachine;
 use std::alloc::{AllocError, Global};
 
@@ -101,12 +104,21 @@ fn run_module(alloc: Global, code: Module, words: &RunWords) -> Result<Answer, A
     }
 }
 
+fn checked_run(alloc: Global, source: Module, words: &RunWords) -> Result<Answer, AllocError>
+    ensures { IfOk result (λ a. a ≡ checked_run (module_refusal Stage.Plain source) source words.now) }
+{
+    match module_refusal(alloc, Stage::Plain, &source)? {
+        Some(refusal) => refused(alloc, &source, refusal.rule, refusal.place),
+        None => run_module(alloc, source, words),
+    }
+}
+
 fn text_answer(alloc: Global, parsed: Parsed, words: &RunWords) -> Result<Answer, AllocError>
     ensures { IfOk result (λ a. a ≡ text_answer parsed words.now) }
 {
     match parsed {
         Parsed::Syntax { items } => syntax_fault(alloc, items),
-        Parsed::Module(source) => run_module(alloc, source, words),
+        Parsed::Module(source) => checked_run(alloc, source, words),
     }
 }
 

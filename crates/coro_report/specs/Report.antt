@@ -1,9 +1,10 @@
 -- The lines that the program writes of places, events and outcomes.
-use Rattle.std.specs.Prelude.{ℕ, List, [], codes, decimal, slice_get, ℤ, pos, negsuc, nat_lt, ◌-◌, ◌*◌, Some, None, Option, ◌∷◌, ◌++◌, if◌then◌else◌, ◌==◌}
+use Rattle.std.specs.Prelude.{ℕ, List, [], codes, decimal, slice_get, ℤ, pos, negsuc, nat_lt, ◌-◌, ◌*◌, Some, None, Option, option_map, ◌∷◌, ◌++◌, if◌then◌else◌, ◌==◌}
 use Rattle.std.specs.Fmt.{signed_decimal}
 use Rattle.coro_base.specs.Words.{cause_word, rule_word}
 use Rattle.coro_base.specs.declared.name.Name.{Name}
 use Rattle.coro_base.specs.declared.outcome.Event.{Event}
+use Rattle.coro_base.specs.declared.outcome.Item.{Item}
 use Rattle.coro_base.specs.declared.outcome.Outcome.{Outcome}
 use Rattle.coro_base.specs.declared.outcome.Place.{Place}
 use Rattle.coro_base.specs.declared.outcome.Word.{Word}
@@ -21,11 +22,18 @@ abbrev pub name_text : Option Name → List ℕ
 name_text None = []
 name_text (Some n) = spelling n
 
-abbrev pub function_text : Option Function → List ℕ
-function_text None = codes "@"
-function_text (Some f) = codes "@" ++ spelling f.name
+-- an item: `%T` of a type, `@x` of all others
+abbrev pub item_text : Module → Item → List ℕ
+item_text m (Item.Type k) = codes "%" ++ name_text (option_map (λ t. t.name) (slice_get m.types k))
+item_text m (Item.Global k) = codes "@" ++ name_text (option_map (λ g. g.name) (slice_get m.globals k))
+item_text m (Item.Declaration k) = codes "@" ++ name_text (option_map (λ d. d.name) (slice_get m.declarations k))
+item_text m (Item.Function k) = codes "@" ++ name_text (option_map (λ f. f.name) (slice_get m.functions k))
 
--- ---- places: `@f`, `@f %block` or `@f %block N`
+-- ---- places: `%T`, `@x`, `@f`, `@f %block` or `@f %block N`
+
+abbrev pub function_of : Module → Item → Option Function
+function_of m (Item.Function k) = slice_get m.functions k
+function_of m _ = None
 
 abbrev pub label_text : Function → Option Block → List ℕ
 label_text f None = []
@@ -43,11 +51,9 @@ abbrev pub instr_text : Option ℕ → List ℕ
 instr_text None = []
 instr_text (Some n) = codes " " ++ decimal n
 
--- the place of a function, of a block of it, or of an instruction there
+-- the place of an item, of a block of a function, or of an instruction there
 abbrev pub place_text : Module → Place → List ℕ
-place_text m p =
-    let f = slice_get m.functions p.item in
-    function_text f ++ block_text f p.block ++ instr_text p.instr
+place_text m p = item_text m p.item ++ block_text (function_of m p.item) p.block ++ instr_text p.instr
 
 -- ---- values
 

@@ -1,12 +1,12 @@
 //! Places as they are written.
 
-ghost use Rattle.std.specs.Prelude.{◌≡◌, ◌++◌, OnOk, slice_get};
-ghost use Rattle.coro_report.specs.Report.{name_text, function_text, label_text, in_function, block_text, instr_text, place_text};
+ghost use Rattle.std.specs.Prelude.{◌≡◌, ◌++◌, OnOk, codes, option_map, slice_get};
+ghost use Rattle.coro_report.specs.Report.{name_text, item_text, function_of, label_text, in_function, block_text, instr_text, place_text};
 
 use crate::word::push_number;
-use coro_base::{BlockId, FuncId, Name, Place, ValueId};
+use coro_base::{BlockId, FuncId, Item, Name, Place, ValueId};
 use coro_names::print_name;
-use ir_model::{Function, Module};
+use ir_model::{Declaration, Function, GlobalItem, Module, TypeItem};
 use std::alloc::AllocError;
 
 fn push_name_at(out: &mut Vec<u8>, names: &[Name], at: ValueId) -> Result<(), AllocError>
@@ -18,13 +18,62 @@ fn push_name_at(out: &mut Vec<u8>, names: &[Name], at: ValueId) -> Result<(), Al
     }
 }
 
-fn push_function(out: &mut Vec<u8>, source: &Module, func: FuncId) -> Result<(), AllocError>
-    ensures { OnOk result (out.new.items ≡ out.old.items ++ function_text (slice_get source.now.functions func)) }
+fn push_type(out: &mut Vec<u8>, types: &[TypeItem], at: usize) -> Result<(), AllocError>
+    ensures { OnOk result (out.new.items ≡ out.old.items ++ codes "%" ++ name_text (option_map (λ t. t.name) (slice_get types.now at))) }
+{
+    out.extend_from_slice(b"%")?;
+    match types.get(at) {
+        None => Ok(()),
+        Some(item) => print_name(&item.name, out),
+    }
+}
+
+fn push_global(out: &mut Vec<u8>, globals: &[GlobalItem], at: usize) -> Result<(), AllocError>
+    ensures { OnOk result (out.new.items ≡ out.old.items ++ codes "@" ++ name_text (option_map (λ g. g.name) (slice_get globals.now at))) }
 {
     out.extend_from_slice(b"@")?;
-    match source.functions.get(func) {
+    match globals.get(at) {
+        None => Ok(()),
+        Some(global) => print_name(&global.name, out),
+    }
+}
+
+fn push_declared(
+    out: &mut Vec<u8>,
+    declarations: &[Declaration],
+    at: usize,
+) -> Result<(), AllocError>
+    ensures { OnOk result (out.new.items ≡ out.old.items ++ codes "@" ++ name_text (option_map (λ d. d.name) (slice_get declarations.now at))) }
+{
+    out.extend_from_slice(b"@")?;
+    match declarations.get(at) {
+        None => Ok(()),
+        Some(declaration) => print_name(&declaration.name, out),
+    }
+}
+
+fn push_function(
+    out: &mut Vec<u8>,
+    functions: &[Function],
+    func: FuncId,
+) -> Result<(), AllocError>
+    ensures { OnOk result (out.new.items ≡ out.old.items ++ codes "@" ++ name_text (option_map (λ f. f.name) (slice_get functions.now func))) }
+{
+    out.extend_from_slice(b"@")?;
+    match functions.get(func) {
         None => Ok(()),
         Some(function) => print_name(&function.name, out),
+    }
+}
+
+fn push_item(out: &mut Vec<u8>, source: &Module, item: Item) -> Result<(), AllocError>
+    ensures { OnOk result (out.new.items ≡ out.old.items ++ item_text source.now item) }
+{
+    match item {
+        Item::Type(at) => push_type(out, source.types.as_slice(), at),
+        Item::Global(at) => push_global(out, source.globals.as_slice(), at),
+        Item::Declaration(at) => push_declared(out, source.declarations.as_slice(), at),
+        Item::Function(func) => push_function(out, source.functions.as_slice(), func),
     }
 }
 
@@ -54,16 +103,19 @@ fn push_in_function(
 fn push_block(
     out: &mut Vec<u8>,
     source: &Module,
-    func: FuncId,
+    item: Item,
     block: Option<BlockId>,
 ) -> Result<(), AllocError>
-    ensures { OnOk result (out.new.items ≡ out.old.items ++ block_text (slice_get source.now.functions func) block) }
+    ensures { OnOk result (out.new.items ≡ out.old.items ++ block_text (function_of source.now item) block) }
 {
     match block {
         None => Ok(()),
         Some(block) => {
             out.extend_from_slice(b" %")?;
-            push_in_function(out, source, func, block)
+            match item {
+                Item::Function(func) => push_in_function(out, source, func, block),
+                _ => Ok(()),
+            }
         }
     }
 }
@@ -80,11 +132,12 @@ fn push_instr(out: &mut Vec<u8>, instr: Option<usize>) -> Result<(), AllocError>
     }
 }
 
-/// Adds the place of a function (`@f`), of a block of it (`@f %block`), or of an instruction there (`@f %block N`).
+/// Adds the place of a type (`%T`), of a global or a function (`@x`), of a block of a function (`@f %block`), or of an
+/// instruction there (`@f %block N`).
 pub fn push_place(out: &mut Vec<u8>, source: &Module, place: Place) -> Result<(), AllocError>
     ensures { OnOk result (out.new.items ≡ out.old.items ++ place_text source.now place) }
 {
-    push_function(out, source, place.item)?;
+    push_item(out, source, place.item)?;
     push_block(out, source, place.item, place.block)?;
     push_instr(out, place.instr)
 }

@@ -1,1 +1,4 @@
 pub mod Empty
+pub mod Takes
+pub mod LinesTake
+pub mod ItemsTake

@@ -1,3 +1,6 @@
-pub mod ListTurns
-pub mod ParamSteps
 pub mod ItemSteps
+pub mod ParamSteps
+pub mod FunctionsRead
+pub mod Retyped
+pub mod ItemsRead
+pub mod TextRead

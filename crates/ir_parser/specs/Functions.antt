@@ -5,8 +5,8 @@ use Rattle.ir_lexer.specs.Lists.{all_at, front}
 use Rattle.ir_model.specs.declared.module.Declaration.{Declaration}
 use Rattle.ir_model.specs.declared.module.Function.{Function}
 use Rattle.ir_model.specs.declared.module.Param.{Param}
-use Rattle.ir_parser.specs.Blocks.{numbered, blocks_at}
-use Rattle.ir_parser.specs.Calls.{result_at}
+use Rattle.ir_blocks.specs.Blocks.{numbered, blocks_at}
+use Rattle.ir_blocks.specs.Calls.{result_at}
 use Rattle.ir_parser.specs.declared.functions.Head.{Head}
 use Rattle.ir_parser.specs.declared.functions.Written.{Written}
 use Rattle.ir_parser.specs.declared.known.Known.{Known}

@@ -8,7 +8,7 @@ use Rattle.ir_model.specs.declared.module.Module.{Module}
 use Rattle.ir_model.specs.declared.operand.Operand.{Operand}
 use Rattle.ir_model.specs.declared.operand.Operand.TheVariants as operands
 use Rattle.ir_parser.specs.Functions.{declare_at, define_at}
-use Rattle.ir_parser.specs.Instrs.{align_or}
+use Rattle.ir_blocks.specs.Instrs.{align_or}
 use Rattle.ir_parser.specs.declared.items.Draft.{Draft}
 use Rattle.ir_parser.specs.declared.items.Item.{Item}
 use Rattle.ir_parser.specs.declared.items.Item.TheVariants as items

@@ -1,8 +1,5 @@
 pub mod Known
-pub mod Instrs
-pub mod Calls
-pub mod Terminators
-pub mod Blocks
 pub mod Functions
 pub mod Items
 pub mod Parse
+pub mod Reading

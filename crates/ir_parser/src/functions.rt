@@ -5,10 +5,9 @@ ghost use Rattle.ir_lexer.specs.Lists.{all_at, front};
 ghost use Rattle.ir_reader.specs.Reading.{Gives};
 ghost use Rattle.ir_parser.specs.Functions.{name_at, param_at, next_param_at, params_at, head_at, declaration_of, declare_at, name_or, counted, named_params, define_at};
 
-use crate::blocks::{blocks_of, numbered};
-use crate::calls::result_of;
 use crate::known::Known;
 use coro_base::{Items, Name};
+use ir_blocks::{blocks_of, numbered, result_of};
 use ir_model::{Declaration, Function, IrType, Param};
 use ir_reader::{
     Locals, ReadError, attrs_of, behind_attrs, global_of, mark_of, name_of, pairs_of, type_of,

@@ -5,9 +5,9 @@ ghost use Rattle.ir_reader.specs.Reading.{Gives};
 ghost use Rattle.ir_parser.specs.Items.{source_at, target_at, comdat_at, kept_group, attributes_at, type_item_at, constant_word, scalar, scalar_at, is_init, init_at, global_item_at, behind_distinct, node_at, metadata_at, declaration_at, function_at, worded_at, item_at, items_at};
 
 use crate::functions::{declare_of, define_of};
-use crate::instrs::align_or;
 use crate::known::Known;
 use coro_base::Items;
+use ir_blocks::align_or;
 use ir_model::{Declaration, Function, GlobalItem, IrType, Module, Operand, TypeItem};
 use ir_reader::{
     Groups, ReadError, align_of, attrs_of, balanced_of, behind_attrs, constant_of, mark_of,

@@ -1,16 +1,11 @@
 //! Reads a module from its text.
 #![tactic(auto)]
 
-mod blocks;
-mod calls;
 mod functions;
-mod instrs;
 mod items;
 mod known;
-mod loops;
-mod terminators;
 #[cfg(test)]
 mod tests;
 mod text;
 
-pub use text::{Parsed, parse};
+pub use text::{Parsed, parse, stands_for_one};

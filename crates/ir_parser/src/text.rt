@@ -1,8 +1,11 @@
 //! Reads a whole text.
 
-ghost use Rattle.std.specs.Prelude.{◌≡◌, IfOk};
+ghost use Rattle.std.specs.Prelude.{◌≡◌, ℕ, List, IfOk};
+ghost use Rattle.ir_grammar.specs.Text.{StandsFor};
+ghost use Rattle.ir_model.specs.declared.module.Module.{Module};
 ghost use Rattle.ir_parser.specs.Known.{nothing};
 ghost use Rattle.ir_parser.specs.Items.{items_at};
+ghost use Rattle.ir_parser.specs.Reading.{IsReading};
 ghost use Rattle.ir_parser.specs.Parse.{module_at, is_all, answer, read_symbols, read_module};
 
 use crate::items::{Draft, items_of};
@@ -75,12 +78,30 @@ fn read_symbols(alloc: Global, symbols: &Symbols) -> Result<Parsed, AllocError>
     answer_of(alloc, first, is_all(rest, symbols.whole), all)
 }
 
-/// Reads the module that a text of LLVM's assembly language stands for (its integer subset, with coroutines), or tells
-/// with how many whole items the text begins.
+/// The reading function's answer.
 #[tactic(auto, unfolding(crate::specs::Parse::read_module))]
-pub fn parse(alloc: Global, text: &[u8]) -> Result<Parsed, AllocError>
+fn read(alloc: Global, text: &[u8]) -> Result<Parsed, AllocError>
     ensures { IfOk result (λ p. p ≡ read_module text.now) }
 {
     let symbols = symbols_of(alloc, text)?;
     read_symbols(alloc, &symbols)
 }
+
+/// Reads the module that a text of LLVM's assembly language stands for (its integer subset, with coroutines), or tells
+/// with how many whole items the text begins.
+#[tactic(auto, using(crate::proofs::TextRead::reading_of))]
+pub fn parse(alloc: Global, text: &[u8]) -> Result<Parsed, AllocError>
+    // What is told is what the grammar says: the text stands for the module, or for none.
+    ensures reading { IfOk result (λ p. IsReading text.now p) }
+    // Nothing of the grammar is refused, nor taken for another module.
+    ensures told { IfOk result (λ p. (m : Module) → StandsFor text.now m → p ≡ Parsed.Module m) }
+    // The same as a function.
+    ensures value { IfOk result (λ p. p ≡ read_module text.now) }
+{
+    read(alloc, text)
+}
+
+/// A text stands for one module at most.
+pub fn stands_for_one()
+    ensures { (text : List ℕ) (m n : Module) → StandsFor text m → StandsFor text n → m ≡ n }
+{}

@@ -2,3 +2,10 @@ pub mod AttrSteps
 pub mod BracketSteps
 pub mod TypeSteps
 pub mod ManySteps
+pub mod Binding
+pub mod PlacesRead
+pub mod TypesRead
+pub mod AttrsRead
+pub mod ListsRead
+pub mod Follow
+pub mod ValuesRead

@@ -47,7 +47,7 @@ module _ {A : Type 0} (begins : List Sym → Bool) (p : List Name → List Sym �
 
   -- ---- the next one, a fault, and the end
 
-  many-more : (ns ns' : List Name) (ts rest : List Sym) (x : A) → begins ts ≡ true → p ns ts ≡ Some (x, ns', rest) → length rest < length ts → many_at begins p ns ts ≡ after (x ∷ []) (many_at begins p ns' rest)
+  pub many-more : (ns ns' : List Name) (ts rest : List Sym) (x : A) → begins ts ≡ true → p ns ts ≡ Some (x, ns', rest) → length rest < length ts → many_at begins p ns ts ≡ after (x ∷ []) (many_at begins p ns' rest)
   many-more ns ns' [] rest x b e less = absurd (omega arith)
   many-more ns ns' (t ∷ ts) rest x b e less =
       ap (λ (c : Bool). cond c (p ns (t ∷ ts) >>= go (length ts) (t ∷ ts)) (Some ([], ns, t ∷ ts))) b
@@ -68,7 +68,7 @@ module _ {A : Type 0} (begins : List Sym → Bool) (p : List Name → List Sym �
       ∙ ap (λ (o : Option (A × List Name × List Sym)). o >>= go (length ts) (t ∷ ts)) e
       ∙ not_shorter (length ts) (t ∷ ts) (x, ns', rest) (is_shorter rest (t ∷ ts)) refl more
 
-  many-end : (ns : List Name) (ts : List Sym) → begins ts ≡ false → many_at begins p ns ts ≡ Some ([], ns, ts)
+  pub many-end : (ns : List Name) (ts : List Sym) → begins ts ≡ false → many_at begins p ns ts ≡ Some ([], ns, ts)
   many-end ns [] b = ap (λ (c : Bool). cond c None (Some ([], ns, []))) b
   many-end ns (t ∷ ts) b = ap (λ (c : Bool). cond c (p ns (t ∷ ts) >>= go (length ts) (t ∷ ts)) (Some ([], ns, t ∷ ts))) b
 

@@ -18,6 +18,9 @@ use Rattle.ir_printer.specs.Items.{module_text}
 use Rattle.frame_lines.specs.Frames.{frames_text}
 use Rattle.frame_lines.specs.declared.frames.FrameLine.{FrameLine}
 use Rattle.lower_pipeline.specs.Served.{count_by, unserved}
+use Rattle.module_rules.specs.Order.{module_refusal}
+use Rattle.module_rules.specs.declared.order.Refusal.{Refusal}
+use Rattle.module_rules.specs.declared.order.Stage.{Stage}
 use Rattle.lower_pipeline.specs.declared.whole.Lowering.{Lowering}
 
 -- the layout of a coroutine whose frame holds the index alone
@@ -52,13 +55,22 @@ lowered_text m = frames_text (map (frame_line m) (layouts_of m).coroutines) ++ m
 
 -- ---- what the lowering of a text comes to
 
-abbrev pub lowered_or : Module → Option Place → Lowering
-lowered_or m (Some place) = Lowering.Refused m Rule.X1 place
+abbrev pub or_unserved : Option Refusal → Option Place → Option Refusal
+or_unserved (Some r) place = Some r
+or_unserved None (Some place) = Some (record { rule = Rule.X1; place = place })
+or_unserved None None = None
+
+-- what a source is refused for: the first broken of the module rules, else the first place that isn't served so far
+abbrev pub refusal_of : Module → Option Refusal
+refusal_of m = or_unserved (module_refusal Stage.Source m) (unserved m)
+
+abbrev pub lowered_or : Module → Option Refusal → Lowering
+lowered_or m (Some r) = Lowering.Refused m r.rule r.place
 lowered_or m None = Lowering.Done (record { text = lowered_text m; «module» = lowered_module m; source = m; layouts = layouts_of m })
 
 abbrev pub lowering_of_parsed : Parsed → Lowering
 lowering_of_parsed (Parsed.Syntax items) = Lowering.Syntax items
-lowering_of_parsed (Parsed.Module m) = lowered_or m (unserved m)
+lowering_of_parsed (Parsed.Module m) = lowered_or m (refusal_of m)
 
 -- the lowering of a text
 abbrev pub lowering_of : List ℕ → Lowering

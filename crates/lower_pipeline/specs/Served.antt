@@ -1,7 +1,9 @@
 -- What the lowering serves so far: coroutines without allocas and without explicit saves, whose suspends aren't final, and whose values are used in the blocks in which they are made.
-use Rattle.std.specs.Prelude.{ℕ, Bool, true, false, not, List, [], length, Some, None, Option, is_some, ◌+◌, ◌&&◌, ◌||◌, ◌∷◌, if◌then◌else◌, ◌==◌}
+use Rattle.std.specs.Prelude.{ℕ, Bool, true, false, List, [], length, Some, None, Option, ◌+◌, ◌&&◌, ◌∷◌, if◌then◌else◌, ◌==◌}
+use Rattle.coro_base.specs.declared.outcome.Item.{Item}
 use Rattle.coro_base.specs.declared.outcome.Place.{Place}
-use Rattle.ir_model.specs.Names.{declaration_named, function_named, same_intrinsic}
+use Rattle.ir_model.specs.Names.{same_intrinsic}
+use Rattle.function_parts.specs.Parts.{or_place}
 use Rattle.ir_model.specs.declared.instr.Instr.{Instr}
 use Rattle.ir_model.specs.declared.instr.Phi.{Phi}
 use Rattle.ir_model.specs.declared.module.Block.{Block}
@@ -40,19 +42,10 @@ is_served (Instr.Alloca r ty align) = false
 is_served (Instr.Call r must_tail ty (Callee.Intrinsic i) args) = intrinsic_served i args
 is_served i = true
 
--- what is called by a name is defined or declared
-abbrev pub is_known : Module → Callee → Bool
-is_known m (Callee.Named n) = is_some (function_named m n) || is_some (declaration_named m n)
-is_known m _ = true
-
-abbrev pub calls_known : Module → Instr → Bool
-calls_known m (Instr.Call r must_tail ty callee args) = is_known m callee
-calls_known m i = true
-
 -- of a coroutine the served instructions whose values are made in their block; of other functions all
-abbrev pub serves : Module → Bool → Homes → ℕ → Instr → Bool
-serves m true h block i = calls_known m i && (is_served i && instr_stays h block i)
-serves m false h block i = calls_known m i
+abbrev pub serves : Bool → Homes → ℕ → Instr → Bool
+serves true h block i = is_served i && instr_stays h block i
+serves false h block i = true
 
 abbrev pub serves_phi : Bool → Homes → ℕ → Phi → Bool
 serves_phi true h block p = phi_stays h block p
@@ -64,34 +57,30 @@ serves_term false h b block = true
 
 -- ---- the first place that isn't served
 
-abbrev pub or_place : Option Place → Option Place → Option Place
-or_place (Some p) other = Some p
-or_place None other = other
-
 abbrev pub place_unless : Bool → ℕ → ℕ → ℕ → Option Place
 place_unless true func block at = None
-place_unless false func block at = Some (record { item = func; block = Some block; instr = Some at })
+place_unless false func block at = Some (record { item = Item.Function func; block = Some block; instr = Some at })
 
 abbrev pub unserved_phis : Bool → Homes → ℕ → ℕ → ℕ → List Phi → Option Place
 unserved_phis coroutine h func block at [] = None
 unserved_phis coroutine h func block at (p ∷ ps) =
     or_place (place_unless (serves_phi coroutine h block p) func block at) (unserved_phis coroutine h func block (at + 1) ps)
 
-abbrev pub unserved_instrs : Module → Bool → Homes → ℕ → ℕ → ℕ → List Instr → Option Place
-unserved_instrs m coroutine h func block at [] = None
-unserved_instrs m coroutine h func block at (i ∷ is) =
-    or_place (place_unless (serves m coroutine h block i) func block at) (unserved_instrs m coroutine h func block (at + 1) is)
+abbrev pub unserved_instrs : Bool → Homes → ℕ → ℕ → ℕ → List Instr → Option Place
+unserved_instrs coroutine h func block at [] = None
+unserved_instrs coroutine h func block at (i ∷ is) =
+    or_place (place_unless (serves coroutine h block i) func block at) (unserved_instrs coroutine h func block (at + 1) is)
 
-abbrev pub unserved_block : Module → Bool → Homes → ℕ → ℕ → Block → Option Place
-unserved_block m coroutine h func block b =
+abbrev pub unserved_block : Bool → Homes → ℕ → ℕ → Block → Option Place
+unserved_block coroutine h func block b =
     or_place (unserved_phis coroutine h func block 0 b.phis)
-    (or_place (unserved_instrs m coroutine h func block (length b.phis) b.instrs)
+    (or_place (unserved_instrs coroutine h func block (length b.phis) b.instrs)
     (place_unless (serves_term coroutine h b block) func block (length b.phis + length b.instrs)))
 
-abbrev pub unserved_blocks : Module → Bool → Homes → ℕ → ℕ → List Block → Option Place
-unserved_blocks m coroutine h func block [] = None
-unserved_blocks m coroutine h func block (b ∷ bs) =
-    or_place (unserved_block m coroutine h func block b) (unserved_blocks m coroutine h func (block + 1) bs)
+abbrev pub unserved_blocks : Bool → Homes → ℕ → ℕ → List Block → Option Place
+unserved_blocks coroutine h func block [] = None
+unserved_blocks coroutine h func block (b ∷ bs) =
+    or_place (unserved_block coroutine h func block b) (unserved_blocks coroutine h func (block + 1) bs)
 
 -- ---- functions
 
@@ -114,26 +103,17 @@ has_one f i = count_by i f.blocks == 1
 abbrev pub is_whole : Function → Bool
 is_whole f = if f.coroutine then has_one f Intrinsic.CoroId && (has_one f Intrinsic.CoroBegin && has_one f Intrinsic.CoroEnd) else true
 
-abbrev pub is_position : Option ℕ → ℕ → Bool
-is_position None k = false
-is_position (Some j) k = j == k
-
--- no other item has the function's name
-abbrev pub is_alone : Module → ℕ → Function → Bool
-is_alone m k f = is_position (function_named m f.name) k && not (is_some (declaration_named m f.name))
-
 abbrev pub place_of : Bool → ℕ → Option Place
 place_of true func = None
-place_of false func = Some (record { item = func; block = None; instr = None })
+place_of false func = Some (record { item = Item.Function func; block = None; instr = None })
 
-abbrev pub unserved_function : Module → ℕ → Function → Option Place
-unserved_function m k f =
-    or_place (place_of (is_alone m k f && is_whole f) k) (unserved_blocks m f.coroutine (homes_of f) k 0 f.blocks)
+abbrev pub unserved_function : ℕ → Function → Option Place
+unserved_function k f = or_place (place_of (is_whole f) k) (unserved_blocks f.coroutine (homes_of f) k 0 f.blocks)
 
-abbrev pub unserved_functions : Module → ℕ → List Function → Option Place
-unserved_functions m k [] = None
-unserved_functions m k (f ∷ fs) = or_place (unserved_function m k f) (unserved_functions m (k + 1) fs)
+abbrev pub unserved_functions : ℕ → List Function → Option Place
+unserved_functions k [] = None
+unserved_functions k (f ∷ fs) = or_place (unserved_function k f) (unserved_functions (k + 1) fs)
 
 -- the first place of the text that the lowering doesn't serve so far
 abbrev pub unserved : Module → Option Place
-unserved m = unserved_functions m 0 m.functions
+unserved m = unserved_functions 0 m.functions

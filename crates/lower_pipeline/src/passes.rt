@@ -3,12 +3,13 @@
 ghost use Rattle.std.specs.Prelude.{◌≡◌, ◌++◌, IfOk, OnOk};
 ghost use Rattle.lower_pipeline.specs.Lowering.{layout_of, layouts_from, layouts_of, lowered_module};
 
-use crate::served::{count_by, next};
+use crate::served::count_by;
 use coro_base::{FuncId, Items};
 use coro_cleanup::clean;
 use coro_split::split;
 use early_lower::early;
 use frame_layout::{Layout, Layouts, index_alone};
+use function_parts::next;
 use ir_model::{Function, Intrinsic, Module};
 use std::alloc::{AllocError, Global};
 

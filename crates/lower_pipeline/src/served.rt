@@ -1,12 +1,14 @@
 //! The first place that the lowering doesn't serve so far.
 
 ghost use Rattle.std.specs.Prelude.{◌≡◌, ◌+◌, IfOk, length};
-ghost use Rattle.lower_pipeline.specs.Served.{is_none, is_false, is_plain_suspend, intrinsic_served, is_served, is_known, calls_known, serves, serves_phi, serves_term, place_unless, unserved_phis, unserved_instrs, unserved_block, unserved_blocks, is_call_of, count_in, count_by, has_one, is_whole, is_position, is_alone, place_of, unserved_function, unserved_functions, unserved};
+ghost use Rattle.lower_pipeline.specs.Served.{is_none, is_false, is_plain_suspend, intrinsic_served, is_served, serves, serves_phi, serves_term, place_unless, unserved_phis, unserved_instrs, unserved_block, unserved_blocks, is_call_of, count_in, count_by, has_one, is_whole, place_of, unserved_function, unserved_functions, unserved};
 
 use crate::homes::{Homes, homes_of};
-use coro_base::{BlockId, FuncId, Place};
-use ir_model::{Arg, Block, Callee, Function, Instr, Intrinsic, Operand, Phi, is_same_intrinsic};
-use ordinary_step::Program;
+use coro_base::{BlockId, FuncId, Item, Place};
+use function_parts::next;
+use ir_model::{
+    Arg, Block, Callee, Function, Instr, Intrinsic, Module, Operand, Phi, is_same_intrinsic,
+};
 use std::alloc::{AllocError, Global};
 
 fn is_none(operand: &Operand) -> bool
@@ -56,40 +58,10 @@ fn is_served(instr: &Instr) -> bool
     }
 }
 
-fn is_known(program: &Program, callee: &Callee) -> bool
-    ensures { result ≡ is_known program.now.«module» callee.now }
+fn serves(is_coroutine: bool, homes: &Homes, block: BlockId, instr: &Instr) -> bool
+    ensures { result ≡ serves is_coroutine homes.now block instr.now }
 {
-    match callee {
-        Callee::Named(name) => {
-            program.function_named(name).is_some() || program.declaration_named(name).is_some()
-        }
-        _ => true,
-    }
-}
-
-fn calls_known(program: &Program, instr: &Instr) -> bool
-    ensures { result ≡ calls_known program.now.«module» instr.now }
-{
-    match instr {
-        Instr::Call { callee, .. } => is_known(program, callee),
-        _ => true,
-    }
-}
-
-fn serves(
-    program: &Program,
-    is_coroutine: bool,
-    homes: &Homes,
-    block: BlockId,
-    instr: &Instr,
-) -> bool
-    ensures { result ≡ serves program.now.«module» is_coroutine homes.now block instr.now }
-{
-    if is_coroutine {
-        calls_known(program, instr) && (is_served(instr) && homes.instr_stays(block, instr))
-    } else {
-        calls_known(program, instr)
-    }
+    !is_coroutine || (is_served(instr) && homes.instr_stays(block, instr))
 }
 
 fn serves_phi(is_coroutine: bool, homes: &Homes, block: BlockId, phi: &Phi) -> bool
@@ -111,20 +83,10 @@ fn place_unless(serves: bool, func: FuncId, block: BlockId, at: usize) -> Option
         None
     } else {
         Some(Place {
-            item: func,
+            item: Item::Function(func),
             block: Some(block),
             instr: Some(at),
         })
-    }
-}
-
-/// The place behind a place.
-pub fn next(at: usize) -> Result<usize, AllocError>
-    ensures { IfOk result (λ n. n ≡ at + 1) }
-{
-    match at.checked_add(1) {
-        Some(next) => Ok(next),
-        None => Err(AllocError),
     }
 }
 
@@ -149,7 +111,6 @@ fn unserved_phis(
 }
 
 fn unserved_instrs(
-    program: &Program,
     is_coroutine: bool,
     homes: &Homes,
     func: FuncId,
@@ -157,11 +118,11 @@ fn unserved_instrs(
     first: usize,
     instrs: &[Instr],
 ) -> Result<Option<Place>, AllocError>
-    ensures { IfOk result (λ p. p ≡ unserved_instrs program.now.«module» is_coroutine homes.now func block first instrs.now) }
+    ensures { IfOk result (λ p. p ≡ unserved_instrs is_coroutine homes.now func block first instrs.now) }
 {
     let mut at = first;
     for instr in instrs {
-        let is_fine = serves(program, is_coroutine, homes, block, instr);
+        let is_fine = serves(is_coroutine, homes, block, instr);
         let place = place_unless(is_fine, func, block, at);
         if place.is_some() {
             return Ok(place);
@@ -181,21 +142,20 @@ fn behind(phis: usize, instrs: usize) -> Result<usize, AllocError>
 }
 
 fn unserved_block(
-    program: &Program,
     is_coroutine: bool,
     homes: &Homes,
     func: FuncId,
     at: BlockId,
     block: &Block,
 ) -> Result<Option<Place>, AllocError>
-    ensures { IfOk result (λ p. p ≡ unserved_block program.now.«module» is_coroutine homes.now func at block.now) }
+    ensures { IfOk result (λ p. p ≡ unserved_block is_coroutine homes.now func at block.now) }
 {
     let phis = block.phis.as_slice();
     let instrs = block.instrs.as_slice();
     if let Some(place) = unserved_phis(is_coroutine, homes, func, at, phis)? {
         return Ok(Some(place));
     }
-    let found = unserved_instrs(program, is_coroutine, homes, func, at, phis.len(), instrs)?;
+    let found = unserved_instrs(is_coroutine, homes, func, at, phis.len(), instrs)?;
     if let Some(place) = found {
         return Ok(Some(place));
     }
@@ -209,17 +169,16 @@ fn unserved_block(
 }
 
 fn unserved_blocks(
-    program: &Program,
     is_coroutine: bool,
     homes: &Homes,
     func: FuncId,
     blocks: &[Block],
 ) -> Result<Option<Place>, AllocError>
-    ensures { IfOk result (λ p. p ≡ unserved_blocks program.now.«module» is_coroutine homes.now func 0 blocks.now) }
+    ensures { IfOk result (λ p. p ≡ unserved_blocks is_coroutine homes.now func 0 blocks.now) }
 {
     let mut at = 0;
     for block in blocks {
-        if let Some(place) = unserved_block(program, is_coroutine, homes, func, at, block)? {
+        if let Some(place) = unserved_block(is_coroutine, homes, func, at, block)? {
             return Ok(Some(place));
         }
         at = next(at)?;
@@ -279,22 +238,6 @@ fn is_whole(function: &Function) -> Result<bool, AllocError>
     Ok(ids && (begins && ends))
 }
 
-fn is_position(position: Option<FuncId>, func: FuncId) -> bool
-    ensures { result ≡ is_position position func }
-{
-    match position {
-        None => false,
-        Some(k) => k == func,
-    }
-}
-
-fn is_alone(program: &Program, func: FuncId, function: &Function) -> bool
-    ensures { result ≡ is_alone program.now.«module» func function.now }
-{
-    is_position(program.function_named(&function.name), func)
-        && program.declaration_named(&function.name).is_none()
-}
-
 fn place_of(is_fine: bool, func: FuncId) -> Option<Place>
     ensures { result ≡ place_of is_fine func }
 {
@@ -302,7 +245,7 @@ fn place_of(is_fine: bool, func: FuncId) -> Option<Place>
         None
     } else {
         Some(Place {
-            item: func,
+            item: Item::Function(func),
             block: None,
             instr: None,
         })
@@ -311,28 +254,26 @@ fn place_of(is_fine: bool, func: FuncId) -> Option<Place>
 
 fn unserved_function(
     alloc: Global,
-    program: &Program,
     func: FuncId,
     function: &Function,
 ) -> Result<Option<Place>, AllocError>
-    ensures { IfOk result (λ p. p ≡ unserved_function program.now.«module» func function.now) }
+    ensures { IfOk result (λ p. p ≡ unserved_function func function.now) }
 {
-    let is_fine = is_whole(function)?;
-    if let Some(place) = place_of(is_alone(program, func, function) && is_fine, func) {
+    if let Some(place) = place_of(is_whole(function)?, func) {
         return Ok(Some(place));
     }
     let homes = homes_of(alloc, function)?;
     let blocks = function.blocks.as_slice();
-    unserved_blocks(program, function.coroutine, &homes, func, blocks)
+    unserved_blocks(function.coroutine, &homes, func, blocks)
 }
 
 /// The first place of the text that the lowering doesn't serve so far, none where it serves the whole module.
-pub fn unserved(alloc: Global, program: &Program) -> Result<Option<Place>, AllocError>
-    ensures { IfOk result (λ p. p ≡ unserved program.now.«module») }
+pub fn unserved(alloc: Global, source: &Module) -> Result<Option<Place>, AllocError>
+    ensures { IfOk result (λ p. p ≡ unserved source.now) }
 {
     let mut at = 0;
-    for function in program.module.functions.as_slice() {
-        if let Some(place) = unserved_function(alloc, program, at, function)? {
+    for function in source.functions.as_slice() {
+        if let Some(place) = unserved_function(alloc, at, function)? {
             return Ok(Some(place));
         }
         at = next(at)?;

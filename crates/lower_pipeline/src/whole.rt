@@ -1,8 +1,7 @@
 //! The lowering of a text.
 
 ghost use Rattle.std.specs.Prelude.{◌≡◌, ◌++◌, IfOk, map, slice_get};
-ghost use Rattle.lower_pipeline.specs.Served.{unserved};
-ghost use Rattle.lower_pipeline.specs.Lowering.{name_of, frame_line, lowered_text, lowered_or, lowering_of};
+ghost use Rattle.lower_pipeline.specs.Lowering.{name_of, frame_line, lowered_text, lowered_or, lowering_of, refusal_of};
 
 use crate::passes::{layouts_of, lowered_module};
 use crate::served::unserved;
@@ -11,7 +10,7 @@ use frame_layout::{Layout, Layouts};
 use ir_model::Module;
 use ir_parser::{Parsed, parse};
 use ir_printer::{FrameLine, print_frames, print_module};
-use ordinary_step::Program;
+use module_rules::{Refusal, Stage, module_refusal};
 use std::alloc::{AllocError, Global};
 
 /// What the lowering of an accepted module gives: its text (a frame line per coroutine, then the canonical text of the
@@ -80,15 +79,29 @@ fn lower_served(alloc: Global, source: Module) -> Result<Lowered, AllocError>
     })
 }
 
-/// Lowers a module, or tells the first place that isn't served.
-pub fn lower_module(alloc: Global, source: Module) -> Result<Lowering, AllocError>
-    ensures { IfOk result (λ l. l ≡ lowered_or source (unserved source)) }
+/// The rule by which a source is refused, and the place: the first broken of the module rules, or else `X1` at the first
+/// place that isn't served so far.
+fn refusal_of(alloc: Global, source: &Module) -> Result<Option<Refusal>, AllocError>
+    ensures { IfOk result (λ r. r ≡ refusal_of source.now) }
 {
-    let program = Program::new(alloc, source, &[])?;
-    let place = unserved(alloc, &program)?;
-    let Program { module: source, .. } = program;
-    match place {
-        Some(place) => Ok(Lowering::Refused(source, Rule::X1, place)),
+    if let Some(refusal) = module_refusal(alloc, Stage::Source, source)? {
+        return Ok(Some(refusal));
+    }
+    match unserved(alloc, source)? {
+        None => Ok(None),
+        Some(place) => Ok(Some(Refusal {
+            rule: Rule::X1,
+            place,
+        })),
+    }
+}
+
+/// Lowers a module, or tells the rule that it breaks first.
+pub fn lower_module(alloc: Global, source: Module) -> Result<Lowering, AllocError>
+    ensures { IfOk result (λ l. l ≡ lowered_or source (refusal_of source)) }
+{
+    match refusal_of(alloc, &source)? {
+        Some(refusal) => Ok(Lowering::Refused(source, refusal.rule, refusal.place)),
         None => Ok(Lowering::Done(lower_served(alloc, source)?)),
     }
 }

@@ -57,6 +57,13 @@ pub record Embeds (rights target : Rights) (homes : List Home) (m n : List Memor
   pub each : (b : ℕ) (x : MemoryBlock) → slice_get m b ≡ Some x → is_live x.life ≡ true → Stands rights target homes n b x
   pub apart : (b c : ℕ) (x y : MemoryBlock) → b ≢ c → slice_get m b ≡ Some x → slice_get m c ≡ Some y → is_live x.life ≡ true → is_live y.life ≡ true → (home_of homes b).block ≡ (home_of homes c).block → AreApart rights (home_of homes b) (home_of homes c) b c x y
 
+-- there is a block with so many bytes from the home's offset on
+pub record HasBounds (n : List MemoryBlock) (h : Home) (size : ℕ) : Type 0 where
+  pub block : MemoryBlock
+  pub there : slice_get n h.block ≡ Some block
+  pub fits : h.offset + size ≤ block.size
+  pub small : block.size < 2 ^ 64
+
 -- a pointer that may be compared with null may be compared so where it was moved to, whatever became of its block
 pub record AreNullsKept (rights target : Rights) (homes : List Home) (m n : List MemoryBlock) : Type 0 where
   pub each : (b : ℕ) (o : Offset) → (home_of homes b).is_seen ≡ true → may_compare_at rights b (slice_get m b) o ≡ true → may_compare_at target (home_of homes b).block (slice_get n (home_of homes b).block) (moved o (home_of homes b).offset) ≡ true
@@ -64,6 +71,10 @@ pub record AreNullsKept (rights target : Rights) (homes : List Home) (m n : List
 -- no byte of the block that the program may touch stands where so many bytes of the target are written
 abbrev pub IsAway : Rights → List Home → ℕ → MemoryBlock → ℕ → ℕ → ℕ → Type 0
 IsAway rights homes c z B at len = (home_of homes c).block ≡ B → (j : ℕ) → j < z.size → IsOpen rights c z j → ((home_of homes c).offset + j < at) ⊎ (at + len ≤ (home_of homes c).offset + j)
+
+-- whatever became of a block, its home has the room that the block has
+pub record AreBoundsKept (homes : List Home) (m n : List MemoryBlock) : Type 0 where
+  pub each : (b : ℕ) (x : MemoryBlock) → (home_of homes b).is_seen ≡ true → slice_get m b ≡ Some x → HasBounds n (home_of homes b) x.size
 
 -- ---- each block at its own place
 

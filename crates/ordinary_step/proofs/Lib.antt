@@ -2,8 +2,6 @@ pub mod Tables
 pub mod LabelPositions
 pub mod Numbers
 pub mod Lists
-pub mod Types
-pub mod Words
 pub mod Extents
-pub mod Globals
 pub mod Parts
+pub mod Marking

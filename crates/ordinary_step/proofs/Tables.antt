@@ -1,19 +1,22 @@
 -- The first element that passes a test, one element further; names are told apart by their test.
-use Rattle.std.proofs.Common.{◌≡◌, ℕ, zero, suc, ◌+◌, ◌<◌, Bool, true, false, cond, ◌&&◌, List, [], ◌∷◌, length, take, get_or, refl, ap, sym, ◌∙◌, arith, Option, Some, None, inl, inr}
+use Rattle.std.proofs.Common.{◌≡◌, ℕ, zero, suc, ◌+◌, ◌<◌, Bool, true, false, cond, ◌&&◌, List, [], ◌∷◌, length, take, get_or, refl, ap, sym, subst, ◌∙◌, arith, length-append, Option, Some, None, inl, inr}
 use Rattle.std.proofs.lemmas.Bool.{eqb-true, eq-eqb, false≢true}
-use Rattle.std.specs.Prelude.{option_map, if◌then◌else◌, ◌==◌, slice_get, ◌++◌, ◌⊎◌}
+use Rattle.std.specs.Prelude.{option_map, if◌then◌else◌, ◌==◌, slice_get, unwrap_or, ◌++◌, ◌⊎◌}
 use Rattle.coro_base.specs.declared.name.Name.{Name}
 use Rattle.coro_base.specs.declared.name.Name.TheVariants.{Number, Text}
 use Rattle.coro_base.specs.contracts.name.NamePartialEq.TheImpl.{eq-value}
 use Rattle.std.specs.Map.{lookup}
 use Rattle.std.specs.Cmp.Lexicographic.{pointwise}
-use Rattle.ir_model.specs.Names.{first_where, position_of, same_name, same_text}
+use Rattle.ir_model.specs.Names.{first_where, function_at, no_function, same_name, same_text}
 use Rattle.std.proofs.lemmas.Option.{slice_get-get_or}
 use Rattle.ir_model.specs.declared.module.Function.{Function}
+use Rattle.ir_model.specs.declared.module.Module.{Module}
 use Rattle.ir_model.specs.declared.module.TypeItem.{TypeItem}
 use Rattle.ir_model.specs.Ty.{Ty}
 use Rattle.ir_model.specs.Layout.{type_named}
-use Rattle.ordinary_step.specs.Tables.{or_at, HasPositions}
+use Rattle.ordinary_step.specs.Step.{has_markers}
+use Rattle.ordinary_step.specs.Tables.{or_at, HaveTables, IsTableOf}
+use Rattle.ordinary_step.specs.declared.function_table.FunctionTable.{FunctionTable}
 
 or_at-suc : (o : Option ℕ) (b : Bool) (i : ℕ) → option_map suc (or_at o b i) ≡ or_at (option_map suc o) b (suc i)
 or_at-suc (Some k) b i = refl
@@ -137,8 +140,8 @@ some-same : {A : Type 0} {x y : A} → Some x ≡ Some y → x ≡ y
 some-same e = cc
 
 -- what the table of one function more has
-abbrev pub HasEach : List Function → List (List ℕ) → Type 0
-HasEach functions tables = (func : ℕ) (f : Function) (table : List ℕ) → slice_get functions func ≡ Some f → slice_get tables func ≡ Some table → (label block : ℕ) → slice_get table label ≡ Some block → block ≡ position_of f label
+abbrev pub HasEach : List Function → List FunctionTable → Type 0
+HasEach functions tables = (func : ℕ) (f : Function) (table : FunctionTable) → slice_get functions func ≡ Some f → slice_get tables func ≡ Some table → IsTableOf f table
 
 slice_get-push : {A : Type 0} (xs : List A) (v : A) (i : ℕ) (w : A) → slice_get (xs ++ v ∷ []) i ≡ Some w → ((i ≡ length xs) × (w ≡ v)) ⊎ (slice_get xs i ≡ Some w)
 slice_get-push [] v zero w h = inl (refl, cc)
@@ -146,17 +149,24 @@ slice_get-push [] v (suc i) w h = absurd cc
 slice_get-push (x ∷ xs) v zero w h = inr h
 slice_get-push (x ∷ xs) v (suc i) w h = elim (slice_get-push xs v i w h) [ inl p ↦ inl (ap suc p.0, p.1) | inr q ↦ inr q ]
 
-pub each-more : (functions : List Function) (at : ℕ) (tables next : List (List ℕ)) (function : Function) (table : List ℕ) → at < length functions → function ≡ get_or functions at function → length tables ≡ at → next ≡ tables ++ table ∷ [] → HasPositions function table → HasEach functions tables → HasEach functions next
-each-more functions at tables next function table lt is len e has h func f t gf gt label block gb =
-    let gt' : slice_get (tables ++ table ∷ []) func ≡ Some t = ap (λ (l : List (List ℕ)). slice_get l func) (sym e) ∙ gt in
+pub length-more : {A : Type 0} (xs next : List A) (x : A) (at : ℕ) → length xs ≡ at → next ≡ xs ++ x ∷ [] → length next ≡ at + 1
+length-more xs next x at e is = ap length is ∙ length-append xs (x ∷ []) ∙ ap (λ n. n + 1) e
+
+pub each-more : (functions : List Function) (at : ℕ) (tables next : List FunctionTable) (function : Function) (table : FunctionTable) → at < length functions → function ≡ get_or functions at function → length tables ≡ at → next ≡ tables ++ table ∷ [] → IsTableOf function table → HasEach functions tables → HasEach functions next
+each-more functions at tables next function table lt is len e has h func f t gf gt =
+    let gt' : slice_get (tables ++ table ∷ []) func ≡ Some t = ap (λ (l : List FunctionTable). slice_get l func) (sym e) ∙ gt in
     elim (slice_get-push tables table func t gt') [
       | inl p ↦
           let at-is : func ≡ at = p.0 ∙ len in
           let got : slice_get functions func ≡ Some function = ap (slice_get functions) at-is ∙ slice_get-get_or functions at function lt ∙ ap Some (sym is) in
           let same : function ≡ f = some-same (sym got ∙ gf) in
-          has.positions label block (ap (λ (l : List ℕ). slice_get l label) (sym p.1) ∙ gb) ∙ ap (λ (g : Function). position_of g label) same
-      | inr q ↦ h func f t gf q label block gb
+          subst (λ (g : Function). IsTableOf g t) same (subst (λ (u : FunctionTable). IsTableOf function u) (sym p.1) has)
+      | inr q ↦ h func f t gf q
     ]
+
+pub mark-is : (m : Module) (tables : List FunctionTable) (func : ℕ) (f : Function) (table : FunctionTable) (name : ℕ) (mark : Bool) → HaveTables m.functions tables → slice_get m.functions func ≡ Some f → slice_get tables func ≡ Some table → slice_get table.markers name ≡ Some mark → mark ≡ has_markers (function_at m func) name
+mark-is m tables func f table name mark h gf gt gm =
+    (h.each func f table gf gt).markers.marks name mark gm ∙ ap (λ o. has_markers (unwrap_or o no_function) name) (sym gf)
 
 -- the type of a name, by its position
 type-none-by : (b : Bool) (o : Option ℕ) (t : Ty) (rest : Option Ty) → (None ≡ o → None ≡ rest) → None ≡ (if b then Some 0 else option_map suc o) → None ≡ (if b then Some t else rest)

@@ -10,6 +10,7 @@ use Rattle.coro_base.specs.declared.cause.Cause.{Cause}
 use Rattle.coro_base.specs.declared.ops.CastOp.{CastOp}
 use Rattle.coro_base.specs.declared.ops.Pred.{Pred}
 use Rattle.coro_base.specs.declared.outcome.Outcome.{Outcome}
+use Rattle.coro_base.specs.declared.outcome.Item.{Item}
 use Rattle.coro_base.specs.declared.outcome.Place.{Place}
 use Rattle.coro_base.specs.declared.outcome.Word.{Word}
 use Rattle.ir_ints.specs.Numbers.{binary, cast, icmp}
@@ -67,7 +68,7 @@ label_of (Some b) = b.label
 
 -- the place of an instruction, which counts the block's phis too
 abbrev pub place_at : ℕ → Function → ℕ → ℕ → Place
-place_at func f block at = record { item = func; block = Some block; instr = Some (length (phis_of (slice_get f.blocks block)) + at) }
+place_at func f block at = record { item = Item.Function func; block = Some block; instr = Some (length (phis_of (slice_get f.blocks block)) + at) }
 
 -- ---- what an instruction works on, and what comes of it
 

@@ -2,9 +2,11 @@
 
 ghost use Rattle.std.specs.Prelude.{◌≡◌, IfOk, Some, None, Option, slice_get, ℕ, List, ◌+◌, ◌<◌, length};
 ghost use Rattle.ir_model.specs.Ty.{ptr};
-ghost use Rattle.ordinary_step.specs.Tables.{FindsFirst, HaveAllPositions};
+ghost use Rattle.ordinary_step.specs.Tables.{FindsFirst, HaveTables};
 
-use crate::labels::{position, positions_of, search};
+use crate::function_table::{FunctionTable, all_tables};
+use crate::labels::{position, search};
+use crate::markers::has_markers;
 use crate::names::{NameTable, find, table_of};
 use block_memory::{Offset, Pointer, Value};
 use coro_base::{BlockId, FuncId, Items, Name, ValueId};
@@ -20,14 +22,14 @@ pub struct Program {
     globals: NameTable,
     declarations: NameTable,
     types: NameTable,
-    labels: Items<Items<BlockId>>,
+    tables: Items<FunctionTable>,
     pointer: IrType,
     ghost pointer_is: { pointer ≡ ptr },
     ghost functions_first: { FindsFirst (λ f. f.name) module.functions functions },
     ghost globals_first: { FindsFirst (λ g. g.name) module.globals globals },
     ghost declarations_first: { FindsFirst (λ d. d.name) module.declarations declarations },
     ghost types_first: { FindsFirst (λ t. t.name) module.types types },
-    ghost labels_found: { HaveAllPositions module.functions labels },
+    ghost tables_found: { HaveTables module.functions tables },
 }
 
 impl Program {
@@ -35,7 +37,7 @@ impl Program {
     ghost use Rattle.ir_model.specs.Layout.{type_named};
     ghost use Rattle.std.specs.Option.{option_copied};
     ghost use Rattle.ordinary_step.specs.Values.{address_of};
-    ghost use Rattle.ordinary_step.specs.Step.{answer};
+    ghost use Rattle.ordinary_step.specs.Step.{answer, has_markers as has_markers_of};
 
     /// A module with its tables.
     pub fn new(alloc: Global, code: Module, answers: &[i128]) -> Result<Self, AllocError>
@@ -46,7 +48,7 @@ impl Program {
         let globals = table_of(alloc, code.globals.as_slice())?;
         let declarations = table_of(alloc, code.declarations.as_slice())?;
         let types = table_of(alloc, code.types.as_slice())?;
-        let labels = all_positions(alloc, code.functions.as_slice())?;
+        let tables = all_tables(alloc, code.functions.as_slice())?;
         let answers = copied_answers(alloc, answers)?;
         Ok(Program {
             module: code,
@@ -55,7 +57,7 @@ impl Program {
             globals,
             declarations,
             types,
-            labels,
+            tables,
             pointer: IrType::pointer(),
         })
     }
@@ -119,9 +121,25 @@ impl Program {
     {
         match self.module.functions.get(func) {
             None => 0,
-            Some(function) => match self.labels.get(func) {
+            Some(function) => match self.tables.get(func) {
                 None => search(function.blocks.as_slice(), label),
-                Some(table) => position(function, table, label),
+                Some(table) => position(function, &table.labels, label),
+            },
+        }
+    }
+
+    /// Whether the alloca with a name has markers in the function at a position.
+    pub fn has_markers(&self, func: FuncId, name: ValueId) -> bool
+        ensures { result ≡ has_markers_of (function_at self.now.module func) name }
+    {
+        match self.module.functions.get(func) {
+            None => false,
+            Some(function) => match self.tables.get(func) {
+                None => has_markers(function, name),
+                Some(table) => match table.markers.get(name) {
+                    None => has_markers(function, name),
+                    Some(mark) => *mark,
+                },
             },
         }
     }
@@ -146,17 +164,6 @@ impl Program {
             None => Value::Poison,
         }
     }
-}
-
-/// The tables of all functions.
-fn all_positions(alloc: Global, functions: &[Function]) -> Result<Items<Items<BlockId>>, AllocError>
-    ensures { IfOk result (λ tables. HaveAllPositions functions.now tables) }
-{
-    let mut all = Items::new(alloc);
-    for function in functions {
-        all.push(positions_of(alloc, function)?)?;
-    }
-    Ok(all)
 }
 
 fn copied_answers(alloc: Global, answers: &[i128]) -> Result<Items<i128>, AllocError>

@@ -35,6 +35,13 @@ impl<T> Stack<T> {
         self.values.len()
     }
 
+    /// The values, the first one last.
+    pub fn as_slice(&self) -> &[T]
+        ensures { reverse result.now ≡ self.now }
+    {
+        self.values.as_slice()
+    }
+
     /// Puts a value in front. A list that finds no memory stays as it was.
     pub fn push(&mut self, value: T) -> Result<(), AllocFailed<T>>
         ensures ok { OnOk result (self.new ≡ value ∷ self.old) }

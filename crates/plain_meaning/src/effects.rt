@@ -1,8 +1,7 @@
 //! What a plain machine does by the effect of an instruction.
 
-ghost use Rattle.std.specs.Prelude.{◌≡◌, ◌+◌, IfErr, IfOk, OnOk, OnErr, Ok, Err, IsFalse, slice_get, ℕ, Option, ◌∷◌, codes, true, false};
+ghost use Rattle.std.specs.Prelude.{◌≡◌, ◌+◌, IfErr, IfOk, OnOk, OnErr, Ok, Err, IsFalse, ℕ, Option, ◌∷◌, codes, true, false};
 ghost use Rattle.ir_model.specs.Names.{function_at, is_noalloc as is_noalloc_name, ends_in};
-ghost use Rattle.ordinary_step.specs.Step.{label_of, values_in, entry_values as entry_values_of};
 ghost use Rattle.ordinary_step.specs.Effects.{is_new_slot};
 ghost use Rattle.ordinary_step.specs.declared.effect.Effect.{Effect as TheEffect};
 ghost use Rattle.plain_meaning.specs.Plain.{PlainGiven, plain_go_to, plain_call, plain_called, plain_returned, plain_pop, plain_settled, plain_work, counted};
@@ -10,13 +9,13 @@ ghost use Rattle.plain_meaning.specs.PlainEffects.{plain_effect, IsStop, given_o
 
 use crate::state::{PlainActivation, PlainState};
 use block_memory::Value;
-use coro_base::{BlockId, Cause, FuncId, Items, Name, ValueId};
+use coro_base::{Cause, FuncId, Name, ValueId};
 use ir_model::Intrinsic;
-use ordinary_step::{
-    Effect, Program, Stack, Values, deallocate, entry_values, kill_slots, outcome_of, risen,
-    set_result, take_phis,
-};
+use ordinary_step::{Effect, Program, Stack};
 use std::alloc::{AllocError, Global};
+use step_execution::{
+    deallocate, enter_label, first_values, kill_slots, outcome_of, risen, set_result,
+};
 
 /// Why a step stops.
 #[derive(Clone, Copy, Debug, Drop)]
@@ -33,40 +32,6 @@ fn go_on(state: &mut PlainState, next: usize)
     state.top.at = next;
 }
 
-/// The label of a block, 0 where there is no such block.
-fn block_label(program: &Program, func: FuncId, block: BlockId) -> ValueId
-    ensures { result ≡ label_of (slice_get (function_at program.now.«module» func).blocks block) }
-{
-    match program.module.functions.get(func) {
-        None => 0,
-        Some(function) => match function.blocks.get(block) {
-            None => 0,
-            Some(block) => block.label,
-        },
-    }
-}
-
-/// Takes the phis of a block that is entered from a label.
-fn enter_block(
-    alloc: Global,
-    program: &Program,
-    func: FuncId,
-    values: &mut Values,
-    block: BlockId,
-    label: ValueId,
-) -> Result<(), AllocError>
-    ensures done { OnOk result (values.new ≡ values_in program.now.«module» (slice_get (function_at program.now.«module» func).blocks block) label values.old) }
-    ensures kept { OnErr result (values.new ≡ values.old) }
-{
-    match program.module.functions.get(func) {
-        None => Ok(()),
-        Some(function) => match function.blocks.get(block) {
-            None => Ok(()),
-            Some(block) => take_phis(alloc, program, values, block, label),
-        },
-    }
-}
-
 /// Enters the block of a label.
 fn go_to(
     alloc: Global,
@@ -78,27 +43,11 @@ fn go_to(
     ensures kept { OnErr result (state.new ≡ state.old) }
 {
     let func = state.top.func;
-    let from = block_label(program, func, state.top.block);
-    let block = program.position(func, label);
-    enter_block(alloc, program, func, &mut state.top.values, block, from)?;
+    let from = state.top.block;
+    let block = enter_label(alloc, program, func, from, &mut state.top.values, label)?;
     state.top.block = block;
     state.top.at = 0;
     Ok(())
-}
-
-/// The values of a function at its entry.
-fn first_values(
-    alloc: Global,
-    program: &Program,
-    func: FuncId,
-    args: &[Value],
-) -> Result<Values, AllocError>
-    ensures { IfOk result (λ values. values ≡ entry_values_of (function_at program.now.«module» func) args.now) }
-{
-    match program.module.functions.get(func) {
-        None => Ok(Items::new(alloc)),
-        Some(function) => entry_values(alloc, function, args),
-    }
 }
 
 /// An activation at the entry of a function.

@@ -8,8 +8,9 @@ use crate::effects::called;
 use crate::state::PlainState;
 use block_memory::Value;
 use coro_base::{FuncId, Items, Outcome, Word};
-use ordinary_step::{Program, Stack, first_world};
+use ordinary_step::{Program, Stack};
 use std::alloc::{AllocError, Global};
+use step_execution::first_world;
 
 fn values_of_words(alloc: Global, words: &[Word]) -> Result<Items<Value>, AllocError>
     ensures { IfOk result (λ all. all ≡ map TheValue.Int words.now) }

@@ -11,10 +11,11 @@ ghost use Rattle.plain_meaning.specs.PlainEffects.{IsStop, given_of};
 use crate::effects::{Stop, act};
 use crate::state::PlainState;
 use block_memory::OwnerRights;
-use coro_base::{Cause, Outcome, Place, ValueId};
+use coro_base::{Cause, Item, Outcome, Place, ValueId};
 use ir_model::{Function, Instr, IrType};
-use ordinary_step::{Program, Slot, execute, make_slot, place_at, terminate};
+use ordinary_step::{Program, Slot};
 use std::alloc::{AllocError, Global};
+use step_execution::{execute, make_slot, place_at, terminate};
 
 /// Executes an alloca, whose slot is put down first.
 fn alloca(
@@ -22,13 +23,11 @@ fn alloca(
     program: &Program,
     state: &mut PlainState,
     next: usize,
-    function: &Function,
     name: ValueId,
     ty: &IrType,
     align: u64,
 ) -> Result<(), Stop>
     requires behind { next ≡ state.old.top.at + 1 }
-    requires own { function.now ≡ plain_function (given_of program.now) state.old }
     ensures done { OnOk result (plain_act (given_of program.now) state.old (instr_action (plain_context (given_of program.now) state.old) (plain_work state.old) (TheInstr.Alloca name ty.now align)) ≡ Ok state.new) }
     ensures refused { IfErr result (λ stop. IsStop stop (plain_act (given_of program.now) state.old (instr_action (plain_context (given_of program.now) state.old) (plain_work state.old) (TheInstr.Alloca name ty.now align)))) }
     ensures kept { OnErr result (state.new ≡ state.old) }
@@ -43,7 +42,7 @@ fn alloca(
     let made = make_slot(
         alloc,
         program,
-        function,
+        state.top.func,
         &mut state.world,
         &mut state.top.values,
         name,
@@ -102,18 +101,16 @@ fn instruction(
     program: &Program,
     state: &mut PlainState,
     next: usize,
-    function: &Function,
     instr: &Instr,
 ) -> Result<(), Stop>
     requires behind { next ≡ state.old.top.at + 1 }
-    requires own { function.now ≡ plain_function (given_of program.now) state.old }
     ensures done { OnOk result (plain_act (given_of program.now) state.old (instr_action (plain_context (given_of program.now) state.old) (plain_work state.old) instr.now) ≡ Ok state.new) }
     ensures refused { IfErr result (λ stop. IsStop stop (plain_act (given_of program.now) state.old (instr_action (plain_context (given_of program.now) state.old) (plain_work state.old) instr.now))) }
     ensures kept { OnErr result (state.new ≡ state.old) }
 {
     match instr {
         Instr::Alloca { result, ty, align } => {
-            alloca(alloc, program, state, next, function, *result, ty, *align)
+            alloca(alloc, program, state, next, *result, ty, *align)
         }
         _ => perform(alloc, program, state, next, instr),
     }
@@ -136,7 +133,7 @@ fn proceed(
     match function.blocks.get(state.top.block) {
         None => Err(Stop::Undefined(Cause::Unreachable)),
         Some(block) => match block.instrs.get(state.top.at) {
-            Some(instr) => instruction(alloc, program, state, next, function, instr),
+            Some(instr) => instruction(alloc, program, state, next, instr),
             None => {
                 if state.top.at == block.instrs.len() {
                     let effect = terminate(program, &state.top.values, &block.term);
@@ -187,7 +184,7 @@ fn go(alloc: Global, program: &Program, state: &mut PlainState) -> Result<(), Al
         Some(function) => advance(alloc, program, state, function),
         None => {
             let place = Place {
-                item: state.top.func,
+                item: Item::Function(state.top.func),
                 block: Some(state.top.block),
                 instr: Some(state.top.at),
             };

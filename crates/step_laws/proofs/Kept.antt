@@ -90,7 +90,7 @@ module _ (m k : Module) (types : k.types ≡ m.types) where
   inner_kept [] ty d = refl
   inner_kept (i ∷ is) ty d = on_from (part_at k (unnamed k ty) i) (part_at m (unnamed m ty) i) d is (both_kept ty i) (inner_kept is (part_at k (unnamed k ty) i).1 (plus d (part_at k (unnamed k ty) i).0))
 
-  distance_kept : (ty : Ty) (is : List (Option ℕ)) → distance k ty is ≡ distance m ty is
+  pub distance_kept : (ty : Ty) (is : List (Option ℕ)) → distance k ty is ≡ distance m ty is
   distance_kept ty [] = refl
   distance_kept ty (i ∷ is) = inner_kept is ty (times (capped (size_of k ty)) i) ∙ ap (λ z. inner_distance m ty (times (capped z) i) is) (size_kept ty)
 

@@ -1,0 +1,4 @@
+pub mod Instrs
+pub mod Calls
+pub mod Terminators
+pub mod Blocks

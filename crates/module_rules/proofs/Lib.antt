@@ -1,0 +1,4 @@
+pub mod Depths
+pub mod Marks
+pub mod PartNames
+pub mod Types

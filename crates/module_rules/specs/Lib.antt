@@ -1,0 +1,11 @@
+pub mod Items
+pub mod Depth
+pub mod Heights
+pub mod Limits
+pub mod Numbers
+pub mod Definitions
+pub mod Known
+pub mod Reserved
+pub mod Wants
+pub mod Signatures
+pub mod Order
