@@ -1,7 +1,6 @@
 //! The text of items and modules.
 
 ghost use Rattle.std.specs.Prelude.{◌≡◌, ◌++◌, OnOk, IfOk};
-ghost use Rattle.name_order.specs.InOrder.{IsReadInOrder};
 ghost use Rattle.printed_grammar.specs.ReadBack.{IsReadBack};
 ghost use Rattle.canonical_text.specs.Items.{coroutine_text, declaration_text, declarations_text, function_text, functions_text, global_item_text, global_items_text, head_text, kind_word, module_text, more_params_text, more_types_text, param_text, params_text, type_item_text, type_items_text, types_text};
 
@@ -175,13 +174,11 @@ fn push_functions(functions: &[Function], out: &mut Vec<u8>) -> Result<(), Alloc
 }
 
 /// The canonical text of a module. A local whose position is past its function's names is written without a name.
-/// Where some text stands for the module, so does this one: it is read back as the same module. Of a module whose names
-/// stand in another order than its text has them, it is read back as the module with its names in that order.
-#[tactic(auto, using(printed_grammar::proofs::Whole::read_back, name_order::proofs::Modules::read_in_order))]
+/// Where some text stands for the module, so does this one: it is read back as the same module.
+#[tactic(auto, using(printed_grammar::proofs::Whole::read_back))]
 pub fn print_module(alloc: Global, module: &Module) -> Result<Vec<u8>, AllocError>
     ensures text { IfOk result (λ text. text.items ≡ module_text «module».now) }
     ensures read_back { IfOk result (λ text. IsReadBack text.items «module».now) }
-    ensures in_order { IfOk result (λ text. IsReadInOrder text.items «module».now) }
 {
     let mut out = Vec::new(alloc);
     push_type_items(module.types.as_slice(), &mut out)?;

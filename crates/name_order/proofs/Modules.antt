@@ -29,7 +29,6 @@ use Rattle.ir_grammar.specs.Items.{AreItems, IsGlobal, IsKeyword, IsTypeItem}
 use Rattle.ir_grammar.specs.Phrases.{◌⨾◌, commas, each, mark, word}
 use Rattle.ir_grammar.specs.Text.{StandsFor}
 use Rattle.ir_grammar.specs.Values.{IsInitial}
-use Rattle.name_order.specs.InOrder.{IsReadInOrder}
 use Rattle.name_order.specs.Order.{function_order, module_order, param_order}
 use Rattle.name_order.specs.Places.{each_order, placed_if}
 use Rattle.name_order.specs.Shape as shape
@@ -191,6 +190,3 @@ stands_in_order m h p =
       are = subst (λ (l : List Sym). AreItems (items_of (module_order m)) l []) (sym (ap (λ (s : Symbols). s.symbols) lexed)) (items_ordered m h);
       kept = sym (items_kept (module_order m));
     }
-
-pub read_in_order : (printed : List ℕ) (m : Module) → printed ≡ module_text m → IsReadInOrder printed m
-read_in_order printed m e = subst (λ (l : List ℕ). IsReadInOrder l m) (sym e) (record { stands = λ h p. stands_in_order m h p })
