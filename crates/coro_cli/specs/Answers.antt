@@ -159,6 +159,6 @@ run_in Form.Lowered bytes w = lowered_answer (lowering_of bytes) w
 -- ---- the commands
 
 -- what the words' command answers to these bytes
-abbrev pub answer : Words → List ℕ → Answer
+unfoldable pub answer : Words → List ℕ → Answer
 answer (Words.Lower plain) bytes = lower_answer (lowering_of bytes)
 answer (Words.Run w) bytes = run_in w.form bytes w

@@ -153,6 +153,7 @@ fn run_in(alloc: Global, bytes: &[u8], words: &RunWords) -> Result<Answer, Alloc
 }
 
 /// What a command answers to the bytes of its input.
+#[tactic(auto, unfolding(crate::specs::Answers::answer))]
 pub fn answer(alloc: Global, words: &Words, bytes: &[u8]) -> Result<Answer, AllocError>
     ensures { IfOk result (λ a. a ≡ answer words.now bytes.now) }
 {

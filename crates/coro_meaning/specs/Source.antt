@@ -1,6 +1,6 @@
 -- The meaning of a source, which keeps a suspended coroutine as a whole activation.
 use Rattle.std.specs.Prelude.{ℕ, Bool, true, false, not, List, [], map, length, ℤ, pos, negsuc, is_none, slice_get, Some, None, Ok, Err, filter, find, Option, Result, unwrap_or, option_map, option_and_then, ◌+◌, ◌&&◌, ◌||◌, ◌∷◌, ◌++◌, if◌then◌else◌, ◌==◌}
-use Rattle.block_memory.specs.Memory.{disown, is_live, own, owner_rights, start}
+use Rattle.block_memory.specs.Memory.{disown, is_live, killed, own, owner_rights}
 use Rattle.block_memory.specs.declared.block.Kind.{Kind}
 use Rattle.block_memory.specs.declared.block.MemoryBlock.{MemoryBlock}
 use Rattle.block_memory.specs.declared.pointer.Pointer.{Pointer}
@@ -133,9 +133,21 @@ with_new_slots ramp_slots (Some (i, x)) s slots =
     (with_instance s i (record x { slots = filter (λ slot. not (is_among ramp_slots slot)) slots ++ x.slots }))
     (filter (is_among ramp_slots) slots ++ s.top.slots)
 
+-- an instance whose slots have died
+abbrev pub is_over : Instance → Bool
+is_over x = is_finished x.status || x.freed
+
+-- a coroutine slot that comes to such an instance is dead at once
+abbrev pub kill_late : List ℕ → Option (ℕ × Instance) → State → Slot → State
+kill_late ramp_slots None s slot = s
+kill_late ramp_slots (Some (i, x)) s slot =
+    if is_over x && not (is_among ramp_slots slot) then with_memory s (killed s.world.memory slot.block) else s
+
 -- a new slot is the activation's before begin, and then by its class
 abbrev pub new_slot : Given → State → Slot → State
-new_slot g s slot = with_new_slots (own_facts g s).ramp_slots (own_instance s) s (slot ∷ [])
+new_slot g s slot =
+    let ramp_slots = (own_facts g s).ramp_slots in
+    with_new_slots ramp_slots (own_instance s) (kill_late ramp_slots (own_instance s) s slot) (slot ∷ [])
 
 -- ---- begin
 
@@ -209,12 +221,6 @@ is_final f suspend = is_final_call (instr_at f suspend)
 abbrev pub has_final : Function → Bool
 has_final f = list_any (is_final f) (points_where (is_call_of Intrinsic.CoroSuspend) f)
 
--- the suspend and the kept values of a Suspended instance
-abbrev pub suspension : Status → Option (Point × Env)
-suspension Status.Running = None
-suspension (Status.Suspended suspend values) = Some (suspend, values)
-suspension Status.Finished = None
-
 -- an activation of an instance with the kept values, as it stands at the suspend
 abbrev pub resumed : ℕ → Instance → Point → Env → Activation
 resumed i x suspend values =
@@ -238,30 +244,40 @@ Continues = State → ℕ → Instance → Point → Env → (label : ℕ) → S
 abbrev pub continue : Given → Continues
 continue g s i x suspend values label = enter_block g (push (with_status s i x Status.Running) (resumed i x suspend values)) label
 
--- a suspended instance, by its frame address
-abbrev pub with_suspended : {A : Type 0} → State → Value → (ℕ → Instance → Point → Env → Result A Cause) → Result A Cause
-with_suspended s p go =
-    and_then (found Cause.Frame (instance_at s.instances p)) (λ (i, x).
-    and_then (found Cause.State (suspension x.status)) (λ (suspend, values).
-    go i x suspend values))
+-- a suspended instance with its number, its suspend and its kept values
+pub record Sleeper : Type 0 where
+  pub number : ℕ
+  pub instance : Instance
+  pub suspend : Point
+  pub values : Env
+
+abbrev pub sleeper_of : ℕ → Instance → Status → Result Sleeper Cause
+sleeper_of i x Status.Running = Err Cause.State
+sleeper_of i x (Status.Suspended suspend values) = Ok (record { number = i; instance = x; suspend = suspend; values = values })
+sleeper_of i x Status.Finished = Err Cause.State
+
+-- the suspended instance of a frame address
+abbrev pub sleeper_at : State → Value → Result Sleeper Cause
+sleeper_at s p = and_then (found Cause.Frame (instance_at s.instances p)) (λ (i, x). sleeper_of i x x.status)
 
 -- a resume goes on at the label of 0, but at no final suspend
 abbrev pub resume : Given → Continues → State → Value → Result State Cause
 resume g go s p =
-    with_suspended s p (λ i x suspend values.
-    let f = function_at g.code x.coroutine in
-    ok_if (not (is_final f suspend)) Cause.State (go s i x suspend values (resume_label f suspend)))
+    and_then (sleeper_at s p) (λ y.
+    let f = function_at g.code y.instance.coroutine in
+    ok_if (not (is_final f y.suspend)) Cause.State (go s y.number y.instance y.suspend y.values (resume_label f y.suspend)))
 
 -- a destroy goes on at the label of 1
 abbrev pub destroy : Given → Continues → State → Value → Result State Cause
 destroy g go s p =
-    with_suspended s p (λ i x suspend values. Ok (go s i x suspend values (destroy_label (function_at g.code x.coroutine) suspend)))
+    and_then (sleeper_at s p) (λ y.
+    Ok (go s y.number y.instance y.suspend y.values (destroy_label (function_at g.code y.instance.coroutine) y.suspend)))
 
 abbrev pub done_at : Given → State → Option ℕ → Value → Result State Cause
 done_at g s result p =
-    with_suspended s p (λ i x suspend values.
-    let f = function_at g.code x.coroutine in
-    ok_if (has_final f) Cause.State (gives s result (truth_value (is_final f suspend))))
+    and_then (sleeper_at s p) (λ y.
+    let f = function_at g.code y.instance.coroutine in
+    ok_if (has_final f) Cause.State (gives s result (truth_value (is_final f y.suspend))))
 
 -- ---- the promise
 
@@ -283,7 +299,7 @@ abbrev pub promise_of_frame : Given → State → Value → Result Value Cause
 promise_of_frame g s p =
     and_then (found Cause.Frame (instance_at s.instances p)) (λ (i, x).
     and_then (found Cause.Promise (promise_block g x)) (λ b.
-    ok_if (not (is_finished x.status || x.freed)) Cause.Dead (pointer_to b)))
+    ok_if (not (is_over x)) Cause.Dead (pointer_to b)))
 
 -- from a live promise back to its frame
 abbrev pub frame_of_promise : Given → State → Value → Result Value Cause
@@ -415,5 +431,9 @@ abbrev pub state_at : Given → ℕ → List Word → ℕ → State
 state_at g entry args n = iterate (step g) n (first_state g.code entry args)
 
 -- what is seen of it
+abbrev pub SeenOf : Given → ℕ → List Word → ℕ → Seen
+SeenOf g entry args n = let s = state_at g entry args n in seen_of g.code s.world s.outcome
+
+-- what is seen of a source run after n steps
 abbrev pub SourceAt : Module → List Frame → ℕ → List Word → List ℤ → ℕ → Seen
-SourceAt m sizes entry args answers n = let s = state_at (given m sizes answers) entry args n in seen_of m s.world s.outcome
+SourceAt m sizes entry args answers n = SeenOf (given m sizes answers) entry args n

@@ -1,6 +1,26 @@
-//! The meaning of a source, which keeps a suspended coroutine as a whole activation.
+//! The meaning of a source, which keeps a suspended coroutine as a whole activation ("Coroutines in LLVM"), and the machine
+//! that runs it.
 #![tactic(auto)]
 
+mod blocks;
+mod calls;
+mod effects;
+mod ending;
+mod frames;
+mod instances;
+mod machine;
+mod points;
+mod program;
+mod progress;
+mod promise;
+mod resuming;
+mod shape;
+mod starting;
 mod state;
+mod stepping;
+mod table;
 
-pub use state::{Activation, Instance, Mode, Saved, State, Status};
+pub use machine::SourceMachine;
+pub use program::SourceProgram;
+pub use progress::Progress;
+pub use state::{Activation, Instance, Instances, Mode, Saved, State, Status};

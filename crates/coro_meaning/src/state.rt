@@ -4,6 +4,7 @@ use block_memory::{BlockId, Value};
 use coro_base::{FuncId, Items, Outcome, ValueId};
 use ir_paths::Point;
 use ordinary_step::{Slot, Stack, World};
+use std::marker::Model;
 
 /// How an activation came to be. In a framed run a ramp may be given its frame's address, and a resumed activation may
 /// still be entering a label, from a block, as it executes its function's allocas.
@@ -48,6 +49,21 @@ pub struct Instance {
     pub freed: bool,
 }
 
+/// The started coroutines, in the order of their begins.
+#[derive(Drop)]
+pub struct Instances {
+    pub(crate) list: Vec<Instance>,
+}
+
+impl Model for Instances {
+    ghost use Rattle.std.specs.Prelude.{List};
+    ghost use Rattle.coro_meaning.specs.declared.state.Instance.{Instance as TheInstance};
+
+    ghost Value = { List TheInstance };
+
+    ghost view = { λ x. x.list.items };
+}
+
 /// A function in execution, at an instruction of a block. The value that it returns goes to `result` of the activation
 /// below. Its slots are the newest first.
 #[derive(Drop)]
@@ -67,7 +83,7 @@ pub struct Activation {
 #[derive(Drop)]
 pub struct State {
     pub world: World,
-    pub instances: Items<Instance>,
+    pub instances: Instances,
     pub top: Activation,
     pub below: Stack<Activation>,
     pub outcome: Outcome,

@@ -52,11 +52,7 @@ fn push_declared(
     }
 }
 
-fn push_function(
-    out: &mut Vec<u8>,
-    functions: &[Function],
-    func: FuncId,
-) -> Result<(), AllocError>
+fn push_function(out: &mut Vec<u8>, functions: &[Function], func: FuncId) -> Result<(), AllocError>
     ensures { OnOk result (out.new.items ≡ out.old.items ++ codes "@" ++ name_text (option_map (λ f. f.name) (slice_get functions.now func))) }
 {
     out.extend_from_slice(b"@")?;

@@ -146,11 +146,7 @@ fn all_types_pass<T: TypeTest>(test: &T, types: &[IrType]) -> bool
 
 // ---- operands
 
-fn both_pass<T: OperandTest>(
-    test: &T,
-    left: &Operand,
-    right: &Operand,
-) -> Result<bool, AllocError>
+fn both_pass<T: OperandTest>(test: &T, left: &Operand, right: &Operand) -> Result<bool, AllocError>
     ensures { IfOk result (λ b. b ≡ list_all (T.operand_passes test.now) (left.now ∷ right.now ∷ [])) }
 {
     Ok(test.passes(left)? && test.passes(right)?)
@@ -200,7 +196,10 @@ pub fn instr_operands_pass<T: OperandTest>(test: &T, instr: &Instr) -> Result<bo
 }
 
 /// Whether all operands of a phi pass.
-pub fn incoming_operands_pass<T: OperandTest>(test: &T, incoming: &[Incoming]) -> Result<bool, AllocError>
+pub fn incoming_operands_pass<T: OperandTest>(
+    test: &T,
+    incoming: &[Incoming],
+) -> Result<bool, AllocError>
     ensures { IfOk result (λ b. b ≡ list_all (T.operand_passes test.now) (map (λ i. i.value) incoming.now)) }
 {
     for one in incoming {

@@ -3,3 +3,4 @@ pub mod ListSteps
 pub mod OneKind
 pub mod Tokens
 pub mod FirstTokens
+pub mod ListedTokens

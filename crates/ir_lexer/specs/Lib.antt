@@ -5,3 +5,4 @@ pub mod Kinds
 pub mod Lists
 pub mod Next
 pub mod Tokens
+pub mod Listed

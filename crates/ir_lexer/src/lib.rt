@@ -2,7 +2,9 @@
 #![tactic(auto)]
 
 mod bytes;
+mod law;
 mod scan;
 mod token;
 
+pub use law::{text_has_one_list_of_tokens, token_is_of_one_kind};
 pub use token::{Kind, Next, Span, Token, next_token};

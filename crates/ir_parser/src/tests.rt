@@ -2,6 +2,7 @@
 
 use crate::text::{Parsed, parse};
 use coro_base::Name;
+use ir_lexer::{Next, next_token};
 use ir_model::{Instr, Operand, Terminator};
 use std::test::Fail;
 
@@ -80,5 +81,66 @@ fn parts_of_functions(rt: HostRuntime) -> Result<(), Fail> {
     };
     assert_eq!(rt; *align, 4);
     assert!(rt; matches!(address, Operand::Local(0)));
+    Ok(())
+}
+
+/// The items of a worked module.
+static ITEMS: [&str; 5] = [
+    "declare void @print(i32)\n",
+    "declare ptr @malloc(i32)\n",
+    "declare void @free(ptr)\n",
+    "define ptr @f(i32 %n) presplitcoroutine {\n\
+    entry:\n\
+    %id = call token @llvm.coro.id(i32 0, ptr null, ptr null, ptr null)\n\
+    %size = call i32 @llvm.coro.size.i32()\n\
+    %m = call ptr @malloc(i32 %size)\n\
+    %h = call ptr @llvm.coro.begin(token %id, ptr %m)\n\
+    call void @print(i32 %n)\n\
+    %s = call i8 @llvm.coro.suspend(token none, i1 false)\n\
+    switch i8 %s, label %end [ i8 0, label %again i8 1, label %clean ]\n\
+    again:\n\
+    call void @print(i32 2)\n\
+    br label %clean\n\
+    clean:\n\
+    %fm = call ptr @llvm.coro.free(token %id, ptr %h)\n\
+    call void @free(ptr %fm)\n\
+    br label %end\n\
+    end:\n\
+    %e = call i1 @llvm.coro.end(ptr %h, i1 false, token none)\n\
+    ret ptr %h\n\
+    }\n",
+    "define i32 @main() {\n\
+    entry:\n\
+    %h = call ptr @f(i32 1)\n\
+    call void @llvm.coro.resume(ptr %h)\n\
+    ret i32 0\n\
+    }\n",
+];
+
+/// A text that is cut behind a token stands for a module where that token is the last of an item, and else begins with the
+/// items before.
+#[test]
+fn cut_texts(rt: HostRuntime) -> Result<(), Fail> {
+    let mut text: Vec<u8> = Vec::new(rt.alloc());
+    for (before, item) in ITEMS.iter().enumerate() {
+        let mut at = 0;
+        for _ in 0..item.len() {
+            if at > item.len() {
+                break;
+            }
+            let Next::Tok(token) = next_token(item.as_bytes(), at) else {
+                break;
+            };
+            for byte in item.as_bytes().iter().take(token.span.end).skip(at) {
+                text.push(*byte)?;
+            }
+            at = token.span.end;
+            let whole = next_token(item.as_bytes(), at) == Next::End;
+            match parse(rt.alloc(), text.as_slice())? {
+                Parsed::Module(_) => assert!(rt; whole),
+                Parsed::Syntax { items } => assert!(rt; !whole && items == before),
+            }
+        }
+    }
     Ok(())
 }

@@ -127,4 +127,3 @@ within-by false (Some k) i n h e = let z : i ≡ suc k = cc in omega (arith, h k
 pub first_where-within : {A : Type 0} (test : A → Bool) (xs : List A) (i : ℕ) → Some i ≡ first_where test xs → i < length xs
 first_where-within test [] i e = absurd cc
 first_where-within test (x ∷ xs) i e = within-by (test x) (first_where test xs) i (length xs) (λ k h. first_where-within test xs k h) e
-

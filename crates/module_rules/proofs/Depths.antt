@@ -142,8 +142,8 @@ after_by types reach k h (t ∷ ts) =
     let one : k + 1 ≡ suc k = add-one k in
     let same : fits_by reach k ≡ fits types k = λ i u. h u i in
     let here : height_after reach k t.ty (height_to types k t.ty) ≡ height_to types (suc k) t.ty =
-        ap (λ (p : Ty → Bool). if nat_le (height_to types k t.ty) 64 then height_to types k t.ty else (if parts_pass p t.ty then k + 1 else 65)) same
-        ∙ ap (λ (n : ℕ). if nat_le (height_to types k t.ty) 64 then height_to types k t.ty else (if parts_pass (fits types k) t.ty then n else 65)) one in
+    ap (λ (p : Ty → Bool). if nat_le (height_to types k t.ty) 64 then height_to types k t.ty else (if parts_pass p t.ty then k + 1 else 65)) same
+    ∙ ap (λ (n : ℕ). if nat_le (height_to types k t.ty) 64 then height_to types k t.ty else (if parts_pass (fits types k) t.ty then n else 65)) one in
     ap (λ (n : ℕ). n ∷ heights_after reach k ts (map (λ u. height_to types k u.ty) ts)) here
     ∙ ap (λ (l : List ℕ). height_to types (suc k) t.ty ∷ l) (after_by types reach k h ts)
 

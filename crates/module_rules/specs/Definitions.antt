@@ -40,5 +40,5 @@ second_definitions m =
       on_type = λ k t. not (is_position (type_position m t.name) k);
       on_global = λ k g. not (is_position (global_named m g.name) k);
       on_declaration = λ k d. is_some (global_named m d.name) || not (is_position (declaration_named m d.name) k);
-      in_function = first_second m
+      in_function = first_second m;
     }

@@ -103,5 +103,5 @@ unknown_names m =
       on_type = λ k t. not (knows_type m t.ty);
       on_global = λ k g. not (knows_type m g.ty && knows_operand m (λ n. false) g.init);
       on_declaration = λ k d. not (list_all (knows_type m) (option_to_list d.result ++ d.params));
-      in_function = first_unknown m
+      in_function = first_unknown m;
     }

@@ -67,5 +67,5 @@ limits stage m =
       on_type = λ k t. not (is_shallow m.types t.ty);
       on_global = λ k g. is_past stage 65535 k || not (is_shallow m.types g.ty);
       on_declaration = λ k d. is_past stage 65535 k || not (all_fit m (option_to_list d.result ++ d.params));
-      in_function = first_past stage m
+      in_function = first_past stage m;
     }

@@ -82,5 +82,5 @@ reserved_names stage m =
       on_type = λ k t. false;
       on_global = λ k g. is_reserved g.name || (is_source stage && is_part m g.name);
       on_declaration = λ k d. is_source stage && is_part m d.name;
-      in_function = first_reserved stage m
+      in_function = first_reserved stage m;
     }

@@ -99,5 +99,5 @@ other_types m =
       on_type = λ k t. false;
       on_global = λ k g. false;
       on_declaration = λ k d. not (fits_table d (callee_named d.name));
-      in_function = first_otherwise m
+      in_function = first_otherwise m;
     }

@@ -90,10 +90,7 @@ fn first_function<R: ModuleRule>(
 
 /// The first place of a module that breaks the rule: over types, then globals, then declarations, then functions, each in
 /// order of the text.
-pub fn first_place<R: ModuleRule>(
-    rule: &R,
-    source: &Module,
-) -> Result<Option<Place>, AllocError>
+pub fn first_place<R: ModuleRule>(rule: &R, source: &Module) -> Result<Option<Place>, AllocError>
     ensures { IfOk result (λ p. p ≡ first_place_of (R.says rule.now) source.now) }
 {
     if let Some(place) = first_type(rule, source.types.as_slice())? {

@@ -150,7 +150,14 @@ impl Limits<'_> {
     fn is_function_past(&self, func: FuncId) -> Result<bool, AllocError>
         ensures { IfOk result (λ b. b ≡ is_past self.now.stage 65535 (length self.now.depths.names.now.source.now.declarations + func)) }
     {
-        match self.depths.names.source.declarations.len().checked_add(func) {
+        match self
+            .depths
+            .names
+            .source
+            .declarations
+            .len()
+            .checked_add(func)
+        {
             None => Err(AllocError),
             Some(at) => Ok(is_past(self.stage, MOST_ITEMS, at)),
         }

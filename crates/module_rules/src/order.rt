@@ -38,11 +38,7 @@ fn broken(rule: Rule, place: Place) -> Option<Refusal>
     Some(Refusal { rule, place })
 }
 
-fn over_limits(
-    alloc: Global,
-    stage: Stage,
-    names: &Names<'_>,
-) -> Result<Option<Place>, AllocError>
+fn over_limits(alloc: Global, stage: Stage, names: &Names<'_>) -> Result<Option<Place>, AllocError>
     ensures { IfOk result (λ p. p ≡ first_place_of (limits stage names.now.source.now) names.now.source.now) }
 {
     let depths = Depths::new(alloc, names)?;
@@ -54,11 +50,7 @@ fn over_limits(
     first_place(&rule, names.source)
 }
 
-fn reserved(
-    alloc: Global,
-    stage: Stage,
-    names: &Names<'_>,
-) -> Result<Option<Place>, AllocError>
+fn reserved(alloc: Global, stage: Stage, names: &Names<'_>) -> Result<Option<Place>, AllocError>
     ensures { IfOk result (λ p. p ≡ first_place_of (reserved_names stage names.now.source.now) names.now.source.now) }
 {
     let rule = ReservedNames::new(alloc, stage, names)?;

@@ -218,8 +218,10 @@ impl OtherTypes<'_> {
                 Ok(is_wanted && self.fits_named(ty, args, &name))
             }
             Callee::Intrinsic(intrinsic) => {
-                Ok(is_result(intrinsic_result(*intrinsic), ty)
-                    && are_wanted(intrinsic_params(*intrinsic), args))
+                Ok(
+                    is_result(intrinsic_result(*intrinsic), ty)
+                        && are_wanted(intrinsic_params(*intrinsic), args),
+                )
             }
             Callee::Local(_) => Ok(true),
         }
@@ -244,7 +246,10 @@ impl FunctionRule for OtherTypes<'_> {
     fn breaks_instr(&self, _place: Place, instr: &Instr) -> Result<bool, AllocError> {
         match instr {
             Instr::Call {
-                ty, callee, args, ..
+                ty,
+                callee,
+                args,
+                ..
             } => Ok(!self.fits_callee(ty, args.as_slice(), callee)?),
             _ => Ok(false),
         }

@@ -43,64 +43,88 @@ const TOKEN: Wanted = Wanted {
     ty: Basic::Token,
     value: Demand::Any,
 };
+
 const POINTER: Wanted = Wanted {
     ty: Basic::Ptr,
     value: Demand::Any,
 };
+
 const NULL: Wanted = Wanted {
     ty: Basic::Ptr,
     value: Demand::Null,
 };
+
 const FLAG: Wanted = Wanted {
     ty: Basic::I1,
     value: Demand::Flag,
 };
+
 const FALSE: Wanted = Wanted {
     ty: Basic::I1,
     value: Demand::False,
 };
+
 const NO_TOKEN: Wanted = Wanted {
     ty: Basic::Token,
     value: Demand::None,
 };
+
 const ID_ALIGN: Wanted = Wanted {
     ty: Basic::I32,
     value: Demand::AlignOrZero,
 };
+
 const PROMISE_ALIGN: Wanted = Wanted {
     ty: Basic::I32,
     value: Demand::Align,
 };
+
 const COUNT: Wanted = Wanted {
     ty: Basic::I64,
     value: Demand::Number,
 };
+
 const I32: Wanted = Wanted {
     ty: Basic::I32,
     value: Demand::Any,
 };
+
 const I64: Wanted = Wanted {
     ty: Basic::I64,
     value: Demand::Any,
 };
+
 const SIZE: Wanted = Wanted {
     ty: Basic::Size,
     value: Demand::Any,
 };
 
 const NOTHING: [Wanted; 0] = [];
+
 const ID: [Wanted; 4] = [ID_ALIGN, POINTER, NULL, NULL];
+
 const A_TOKEN: [Wanted; 1] = [TOKEN];
+
 const A_POINTER: [Wanted; 1] = [POINTER];
+
 const TOKEN_AND_POINTER: [Wanted; 2] = [TOKEN, POINTER];
+
 const SUSPEND: [Wanted; 2] = [TOKEN, FLAG];
+
 const END: [Wanted; 3] = [POINTER, FALSE, NO_TOKEN];
+
 const PROMISE: [Wanted; 3] = [POINTER, PROMISE_ALIGN, FLAG];
+
 const MARKER: [Wanted; 2] = [COUNT, POINTER];
+
 const MEMCPY_I64: [Wanted; 4] = [POINTER, POINTER, I64, FALSE];
+
 const MEMCPY_I32: [Wanted; 4] = [POINTER, POINTER, I32, FALSE];
+
 const A_SIZE: [Wanted; 1] = [SIZE];
+
 const AN_I64: [Wanted; 1] = [I64];
+
 const POINTER_AND_I64: [Wanted; 2] = [POINTER, I64];
 
 /// The type that an intrinsic gives, none for void.

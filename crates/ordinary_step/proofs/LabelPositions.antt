@@ -52,7 +52,7 @@ found-nowhere label blocks at e h =
     sym (leading-is label blocks ∙ k)
 
 -- what an element is after another was set
-slice_get-set : {A : Type 0} (xs : List A) (i j : ℕ) (v w : A) → slice_get (slice_set xs i v) j ≡ Some w → ((j ≡ i) × (w ≡ v)) ⊎ ((slice_get xs j ≡ Some w) × (j ≡ i → ⊥))
+pub slice_get-set : {A : Type 0} (xs : List A) (i j : ℕ) (v w : A) → slice_get (slice_set xs i v) j ≡ Some w → ((j ≡ i) × (w ≡ v)) ⊎ ((slice_get xs j ≡ Some w) × (j ≡ i → ⊥))
 slice_get-set [] i j v w h = absurd cc
 slice_get-set (x ∷ xs) zero zero v w h = inl (refl, cc)
 slice_get-set (x ∷ xs) zero (suc j) v w h = inr (h, λ e. omega arith)

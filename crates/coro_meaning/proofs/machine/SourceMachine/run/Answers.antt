@@ -1,0 +1,18 @@
+use Rattle.std.proofs.Common.{◌≡◌, ◌∙◌, ap}
+use Rattle.ordinary_step.specs.Runs.{iterate}
+use Rattle.coro_meaning.specs.Machines.{SourceRun}
+use Rattle.coro_meaning.specs.Source.{first_state, state_at, step}
+use Rattle.coro_meaning.specs.State.{Given}
+use Rattle.coro_meaning.specs.declared.state.State.{State}
+use Rattle.coro_meaning.proofs.Iterating.{iterate-more}
+use Rattle.coro_meaning.proofs.machine.SourceMachine.run.Goals as goal
+
+pub returns-clause-seen : goal.returns-clause-seen
+returns-clause-seen c = λ g entry args k h.
+    let is = ap (λ (r : SourceRun). r.given) h in
+    let at = ap (λ (r : SourceRun). r.state) h in
+    ap (λ (s : State). s.outcome)
+    (c.in_ok-run_state.ensures.done
+    ∙ ap (λ (x : Given). iterate (step x) c.args.n c.args.self.now.state) is
+    ∙ ap (λ (s : State). iterate (step g) c.args.n s) at
+    ∙ iterate-more (step g) k c.args.n (first_state g.code entry args))

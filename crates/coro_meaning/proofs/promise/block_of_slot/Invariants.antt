@@ -1,0 +1,14 @@
+use Rattle.std.proofs.Common.{◌≡◌, ℕ, ◌≤◌, length, reverse, take}
+use Rattle.std.specs.Prelude.{find, ◌==◌}
+use Rattle.coro_meaning.specs.Source.{block_of_slot}
+use Rattle.coro_meaning.proofs.promise.block_of_slot.Given as goal
+
+abbrev pub invariant-loop-left : goal.invariant-loop-left
+invariant-loop-left l =
+    record {
+      within : l.left ≤ length l.oldest_first;
+      rest : block_of_slot (reverse l.oldest_first) l.alloca ≡ block_of_slot (reverse (take l.left l.oldest_first)) l.alloca;
+    }
+
+abbrev pub decreases-loop-left : goal.decreases-loop-left
+decreases-loop-left l = l.left
