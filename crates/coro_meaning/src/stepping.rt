@@ -17,7 +17,7 @@ use crate::promise::is_over;
 use crate::shape::{args_of, result_of};
 use crate::state::State;
 use block_memory::{BlockId, Memory, OwnerRights};
-use coro_base::{Cause, Outcome, Place, ValueId};
+use coro_base::{Cause, Item, Outcome, Place, ValueId};
 use ir_model::{Function, Instr, IrType};
 use ordinary_step::Slot;
 use std::alloc::{AllocError, Global};
@@ -306,7 +306,7 @@ fn go(alloc: Global, given: &SourceProgram, state: &mut State) -> Result<(), All
         Some(function) => advance(alloc, given, state, function),
         None => {
             let place = Place {
-                item: state.top.func,
+                item: Item::Function(state.top.func),
                 block: Some(state.top.block),
                 instr: Some(state.top.at),
             };
