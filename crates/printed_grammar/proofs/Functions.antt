@@ -28,12 +28,12 @@ use Rattle.printed_grammar.proofs.Instructions.{flag_written}
 use Rattle.printed_grammar.proofs.Names.{global_again, mark_again, place_extends, place_found, word_again}
 use Rattle.printed_grammar.proofs.Types.{AreNarrow, result_again, type_again}
 
-abbrev next_param : Written → Phrase
+abbrev pub next_param : Written → Phrase
 next_param p = mark marks.Comma ⨾ IsParam p
 
 -- ---- parameters of declarations
 
-abbrev unnamed : List Ty → List Written
+abbrev pub unnamed : List Ty → List Written
 unnamed [] = []
 unnamed (t ∷ ts) = (t, None) ∷ unnamed ts
 
@@ -54,7 +54,7 @@ all_unnamed : (ps : List Written) (ts rest : List Sym) → commas IsParam ps ts 
 all_unnamed [] ts rest d = nothing_again d
 all_unnamed (p ∷ ps) ts rest d = seq (unnamed_again p ts d.0 d.1) (more_unnamed ps d.0 rest d.2)
 
-types_again : (ts : List Ty) → ts ≡ map (λ p. p.0) (unnamed ts)
+pub types_again : (ts : List Ty) → ts ≡ map (λ p. p.0) (unnamed ts)
 types_again [] = refl
 types_again (t ∷ ts) = ap (λ (l : List Ty). t ∷ l) (types_again ts)
 
@@ -89,11 +89,11 @@ declaration_again d ts rest g =
 
 -- ---- parameters of functions
 
-abbrev written_of : List Name → List Param → List Written
+abbrev pub written_of : List Name → List Param → List Written
 written_of names [] = []
 written_of names (p ∷ ps) = (p.ty, slice_get names p.name) ∷ written_of names ps
 
-named_extends : (names : List Name) (ws : List Written) (ps : List Param) (k : ℕ) (ns : List Name) (k_end : ℕ) (ns_end : List Name) → AreNamed ws ps k ns k_end ns_end → Extends names ns_end → Extends names ns
+pub named_extends : (names : List Name) (ws : List Written) (ps : List Param) (k : ℕ) (ns : List Name) (k_end : ℕ) (ns_end : List Name) → AreNamed ws ps k ns k_end ns_end → Extends names ns_end → Extends names ns
 named_extends names [] [] k ns k_end ns_end h e = subst (λ (l : List Name). Extends names l) (sym h.1) e
 named_extends names [] (p ∷ ps) k ns k_end ns_end h e = absurd h
 named_extends names (w ∷ ws) [] k ns k_end ns_end h e = absurd h
@@ -147,7 +147,7 @@ params_again names (w ∷ ws) (p ∷ ps) k ns k_end ns_end h e ts rest d =
 
 -- ---- functions
 
-abbrev printed_attrs : Bool → List Attr
+abbrev pub printed_attrs : Bool → List Attr
 printed_attrs true = presplit ∷ []
 printed_attrs false = []
 
@@ -158,12 +158,12 @@ attrs_again c attrs ts rest d = record { left = leaves_attrs attrs ts rest d; wr
     turn true behind = (behind, refl, refl)
     turn false behind = refl
 
-coroutine_again : (groups : List (List ℕ)) (c : Bool) → c ≡ make_coroutine groups (printed_attrs c)
+pub coroutine_again : (groups : List (List ℕ)) (c : Bool) → c ≡ make_coroutine groups (printed_attrs c)
 coroutine_again groups true = refl
 coroutine_again groups false = refl
 
 -- a function's names are its names
-whole_names : (names : List Name) → Extends names names
+pub whole_names : (names : List Name) → Extends names names
 whole_names names = record { more = []; is = sym (append-nil names) }
 
 pub function_again : (types : List TypeItem) (groups others : List (List ℕ)) (f : Function) (ts rest : List Sym) → AreNarrow types → IsFunction types groups f ts rest → Again (IsFunction types others f) (function_symbols f) ts rest

@@ -189,7 +189,7 @@ or_named n m (Some i) a e = absurd cc
 or_named n m None (Some a) e = absurd cc
 or_named n m None None e = cc
 
-named_is : (m n : Name) → callees.Named m ≡ callee_named n → m ≡ n
+pub named_is : (m n : Name) → callees.Named m ≡ callee_named n → m ≡ n
 named_is m (Name.Number k) e = cc
 named_is m (Name.Text t) e = or_named (Name.Text t) m (intrinsic_in all_intrinsics t) (allocator_in all_allocators t) e
 

@@ -240,6 +240,22 @@ pub record IsPrinted (m : Module) : Type 0 where
 type_parts : (m : Module) → types_of (items_of m) ≡ m.types
 type_parts m = ap (λ (n : Module). n.types) (items_kept m)
 
+-- symbols that stand for the parts of a module, each kind as its items
+pub items_are : (m : Module) (a b c e : List Sym) → ((behind : List Sym) → each IsTypeItem m.types (a ++ behind) behind) → ((behind : List Sym) → each (IsGlobal m.types) m.globals (b ++ behind) behind)
+    → ((behind : List Sym) → each IsDeclaration m.declarations (c ++ behind) behind) → ((behind : List Sym) → each (IsFunction m.types []) m.functions (e ++ behind) behind) → AreItems (items_of m) (a ++ b ++ c ++ e) []
+items_are m a b c e ts gs ds fs =
+    let functions : each (IsItem m.types []) (with_functions m.functions) (e ++ []) [] = each_functions m.types [] m.functions (e ++ []) [] (fs []) in
+    let declared : each (IsItem m.types []) (with_declarations m.declarations (with_functions m.functions)) (c ++ (e ++ [])) [] =
+    each_declarations m.types [] m.declarations (with_functions m.functions) (c ++ (e ++ [])) (e ++ []) [] (ds (e ++ [])) functions in
+    let global : each (IsItem m.types []) (with_globals m.globals (with_declarations m.declarations (with_functions m.functions))) (b ++ (c ++ (e ++ []))) [] =
+    each_globals m.types [] m.globals (with_declarations m.declarations (with_functions m.functions)) (b ++ (c ++ (e ++ []))) (c ++ (e ++ [])) [] (gs (c ++ (e ++ []))) declared in
+    let all : each (IsItem m.types []) (items_of m) (a ++ (b ++ (c ++ (e ++ [])))) [] =
+    each_types m.types [] m.types (with_globals m.globals (with_declarations m.declarations (with_functions m.functions))) (a ++ (b ++ (c ++ (e ++ [])))) (b ++ (c ++ (e ++ []))) [] (ts (b ++ (c ++ (e ++ [])))) global in
+    let together : a ++ (b ++ (c ++ (e ++ []))) ≡ a ++ b ++ c ++ e = simp (append_assoc, append-nil) in
+    let shown : each (IsItem m.types []) (items_of m) (a ++ b ++ c ++ e) [] = subst (λ (l : List Sym). each (IsItem m.types []) (items_of m) l []) together all in
+    let grouped : each (IsItem m.types (groups_of (items_of m))) (items_of m) (a ++ b ++ c ++ e) [] = subst (λ (g : List (List ℕ)). each (IsItem m.types g) (items_of m) (a ++ b ++ c ++ e) []) (sym (no_groups m)) shown in
+    subst (λ (l : List TypeItem). each (IsItem l (groups_of (items_of m))) (items_of m) (a ++ b ++ c ++ e) []) (sym (type_parts m)) grouped
+
 all_printed : (m : Module) → Printed (each IsTypeItem m.types) (type_items_symbols m.types) → Printed (each (IsGlobal m.types) m.globals) (global_items_symbols m.globals)
     → Printed (each IsDeclaration m.declarations) (declarations_symbols m.declarations) → Printed (each (IsFunction m.types []) m.functions) (functions_symbols m.functions) → IsPrinted m
 all_printed m ts gs ds fs =
@@ -247,19 +263,9 @@ all_printed m ts gs ds fs =
     let b = global_items_symbols m.globals in
     let c = declarations_symbols m.declarations in
     let e = functions_symbols m.functions in
-    let functions : each (IsItem m.types []) (with_functions m.functions) (e ++ []) [] = each_functions m.types [] m.functions (e ++ []) [] (fs.again []) in
-    let declared : each (IsItem m.types []) (with_declarations m.declarations (with_functions m.functions)) (c ++ (e ++ [])) [] =
-    each_declarations m.types [] m.declarations (with_functions m.functions) (c ++ (e ++ [])) (e ++ []) [] (ds.again (e ++ [])) functions in
-    let global : each (IsItem m.types []) (with_globals m.globals (with_declarations m.declarations (with_functions m.functions))) (b ++ (c ++ (e ++ []))) [] =
-    each_globals m.types [] m.globals (with_declarations m.declarations (with_functions m.functions)) (b ++ (c ++ (e ++ []))) (c ++ (e ++ [])) [] (gs.again (c ++ (e ++ []))) declared in
-    let all : each (IsItem m.types []) (items_of m) (a ++ (b ++ (c ++ (e ++ [])))) [] =
-    each_types m.types [] m.types (with_globals m.globals (with_declarations m.declarations (with_functions m.functions))) (a ++ (b ++ (c ++ (e ++ [])))) (b ++ (c ++ (e ++ []))) [] (ts.again (b ++ (c ++ (e ++ [])))) global in
-    let together : a ++ (b ++ (c ++ (e ++ []))) ≡ module_symbols m = simp (append_assoc, append-nil) in
-    let shown : each (IsItem m.types []) (items_of m) (module_symbols m) [] = subst (λ (l : List Sym). each (IsItem m.types []) (items_of m) l []) together all in
-    let grouped : each (IsItem m.types (groups_of (items_of m))) (items_of m) (module_symbols m) [] = subst (λ (g : List (List ℕ)). each (IsItem m.types g) (items_of m) (module_symbols m) []) (sym (no_groups m)) shown in
     record {
       printable = written_both (a ++ b ++ c) e (written_both (a ++ b) c (written_both a b ts.written gs.written) ds.written) fs.written;
-      are = subst (λ (l : List TypeItem). each (IsItem l (groups_of (items_of m))) (items_of m) (module_symbols m) []) (sym (type_parts m)) grouped;
+      are = items_are m a b c e ts.again gs.again ds.again fs.again;
     }
 
 -- What some items stand for is printed as items that stand for it.

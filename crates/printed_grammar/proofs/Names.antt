@@ -84,7 +84,7 @@ target_again names i s end d =
 pub global_again : (n : Name) (ts rest : List Sym) → global n ts rest → Again (global n) (global_symbol n ∷ []) ts rest
 global_again n ts rest d = these_again (global_symbol n ∷ []) ts rest d (λ h. (h.0, tt))
 
-minus_suc : (n : ℕ) → pos 0 -ℤ pos (suc n) ≡ negsuc n
+pub minus_suc : (n : ℕ) → pos 0 -ℤ pos (suc n) ≡ negsuc n
 minus_suc n =
     let less : nat_lt 0 (suc n) ≡ true = lt-ltb 0 (suc n) (omega arith) in
     let one : suc n - 1 ≡ n = omega arith in

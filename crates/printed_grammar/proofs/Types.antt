@@ -24,7 +24,7 @@ use Rattle.printed_grammar.proofs.Names.{mark_again, word_again}
 
 -- ---- types again
 
-width_symbol : (w : IntWidth) → int_symbol (bits_of w) ≡ syms.Word (words.Int w)
+pub width_symbol : (w : IntWidth) → int_symbol (bits_of w) ≡ syms.Word (words.Int w)
 width_symbol IntWidth.I1 = refl
 width_symbol IntWidth.I8 = refl
 width_symbol IntWidth.I16 = refl
@@ -41,7 +41,7 @@ int_again bits ts rest d =
     }
 
 -- what stands between the brackets of a structure
-abbrev inner_symbols : Tys → List Sym
+abbrev pub inner_symbols : Tys → List Sym
 inner_symbols none = []
 inner_symbols (field t fs) = type_symbols t ++ fields_symbols fs
 

@@ -1,0 +1,5 @@
+pub mod Holds
+pub mod Parts
+pub mod Bodies
+pub mod Modules
+pub mod Shaped

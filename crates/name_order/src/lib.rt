@@ -1,0 +1,21 @@
+//! Modules whose names stand in another order than their text has them: what their canonical text stands for.
+#![tactic(auto)]
+
+ghost use Rattle.std.specs.Prelude.{ℕ, List};
+ghost use Rattle.canonical_text.specs.Items.{module_text};
+ghost use Rattle.canonical_text.specs.ItemSymbols.{IsPrintable};
+ghost use Rattle.ir_grammar.specs.Text.{StandsFor};
+ghost use Rattle.ir_model.specs.declared.module.Module.{Module};
+ghost use Rattle.name_order.specs.Order.{module_order};
+ghost use Rattle.name_order.specs.Shape.{IsShaped};
+
+/// The canonical text of a printable module whose parts are parts of the grammar stands for the module with the names of each
+/// function in the order of their first occurrence.
+pub fn printed_in_order()
+    ensures { (m : Module) → IsShaped m → IsPrintable m → StandsFor (module_text m) (module_order m) }
+{}
+
+/// A module that some text stands for has the shape.
+pub fn texts_have_the_shape()
+    ensures { (text : List ℕ) (m : Module) → StandsFor text m → IsShaped m }
+{}
