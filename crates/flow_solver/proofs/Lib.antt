@@ -1,0 +1,5 @@
+pub mod Ending
+pub mod Lists
+pub mod Moving
+pub mod Raising
+pub mod Filing

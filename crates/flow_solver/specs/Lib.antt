@@ -1,0 +1,4 @@
+pub mod Domain
+pub mod Outgoing
+pub mod Paths
+pub mod Steps

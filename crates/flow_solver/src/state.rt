@@ -1,0 +1,72 @@
+//! Where a solver stands.
+
+ghost use Rattle.std.specs.Prelude.{◌≡◌, ◌<◌, OnOk, IfOk, length, replicate, false, [], Some, slice_get};
+ghost use Rattle.flow_solver.specs.Steps.{AreFacts, IsRaised};
+
+use crate::flow::Flow;
+use coro_base::Items;
+use std::alloc::{AllocError, Global};
+use std::collections::VecDeque;
+
+/// The facts found so far, and the nodes whose edges are still to be followed.
+#[derive(Drop)]
+pub struct State<T> {
+    pub facts: Items<T>,
+    /// For each node whether it is in the list of those to be visited.
+    pub waiting: Items<bool>,
+    pub todo: VecDeque<usize>,
+}
+
+/// Bottom at each node, and none to be visited.
+pub fn blank<F: Flow>(alloc: Global, flow: &F, nodes: usize) -> Result<State<F::Fact>, AllocError>
+    ensures facts { IfOk result (λ s. s.facts ≡ replicate nodes (F.domain flow.now).bottom) }
+    ensures waiting { IfOk result (λ s. s.waiting ≡ replicate nodes false) }
+    ensures todo { IfOk result (λ s. s.todo.items ≡ []) }
+{
+    let mut facts = Items::new(alloc);
+    let mut waiting = Items::new(alloc);
+    for _ in 0..nodes {
+        facts.push(flow.bottom(alloc)?)?;
+        waiting.push(false)?;
+    }
+    Ok(State {
+        facts,
+        waiting,
+        todo: VecDeque::new(alloc),
+    })
+}
+
+/// The fact of a node.
+pub fn fact_at<T>(state: &State<T>, node: usize) -> &T
+    requires { node < length state.now.facts }
+    ensures { slice_get state.now.facts node ≡ Some result.now }
+{
+    &state.facts.as_slice()[node]
+}
+
+/// Joins a fact to that of a node. Where that says more than before, the node is to be visited.
+pub fn raise<F: Flow>(
+    alloc: Global,
+    flow: &F,
+    state: &mut State<F::Fact>,
+    node: usize,
+    fact: &F::Fact,
+) -> Result<(), AllocError>
+    requires node { node < length state.old.facts }
+    requires waiting { length state.old.waiting ≡ length state.old.facts }
+    requires facts { AreFacts (F.domain flow.now) state.old.facts }
+    requires fact { (F.domain flow.now).IsFact fact.now }
+    ensures { OnOk result (IsRaised (F.domain flow.now) node fact.now state.old.facts state.new.facts state.old.waiting state.new.waiting state.old.todo.items state.new.todo.items) }
+{
+    let old = &state.facts.as_slice()[node];
+    let joined = flow.join(alloc, old, fact)?;
+    if flow.same(&joined, old) {
+        return Ok(());
+    }
+    if !state.waiting.as_slice()[node] {
+        state.todo.push_back(node)?;
+        state.waiting.set(node, true);
+    }
+    state.facts.set(node, joined);
+    Ok(())
+}
