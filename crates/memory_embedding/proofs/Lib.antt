@@ -7,3 +7,4 @@ pub mod Comparisons
 pub mod Homes
 pub mod Changes
 pub mod Itself
+pub mod Mirrored

@@ -1,9 +1,10 @@
 -- A source memory that stands in a target memory.
-use Rattle.std.specs.Prelude.{ℕ, zero, suc, true, false, List, [], ◌∷◌, length, get_or, slice_get, Some, ◌+◌, ◌^◌, ◌<◌, ◌≤◌, ◌≡◌, ◌≢◌, ◌⊎◌}
+use Rattle.std.specs.Prelude.{ℕ, zero, suc, true, false, List, [], ◌∷◌, length, get_or, replicate, slice_get, Some, None, ◌+◌, ◌^◌, ◌<◌, ◌≤◌, ◌≡◌, ◌≢◌, ◌⊎◌}
 use Rattle.block_memory.specs.Memory.{Rights, is_live, may_compare_at, same_kind}
 use Rattle.block_memory.specs.Pointers.{moved}
 use Rattle.block_memory.specs.declared.block.Byte.{Byte}
 use Rattle.block_memory.specs.declared.block.Kind.{Kind}
+use Rattle.block_memory.specs.declared.block.Life.{Life}
 use Rattle.block_memory.specs.declared.block.MemoryBlock.{MemoryBlock}
 use Rattle.block_memory.specs.declared.pointer.Offset.{Offset}
 use Rattle.block_memory.specs.declared.pointer.Pointer.{Pointer}
@@ -75,6 +76,15 @@ IsAway rights homes c z B at len = (home_of homes c).block ≡ B → (j : ℕ) �
 -- whatever became of a block, its home has the room that the block has
 pub record AreBoundsKept (homes : List Home) (m n : List MemoryBlock) : Type 0 where
   pub each : (b : ℕ) (x : MemoryBlock) → (home_of homes b).is_seen ≡ true → slice_get m b ≡ Some x → HasBounds n (home_of homes b) x.size
+
+-- ---- fresh blocks
+
+abbrev pub blank_block : ℕ → ℕ → Kind → MemoryBlock
+blank_block size align kind = record { size = size; align = align; kind = kind; life = Life.Live; owned = None; bytes = replicate size Byte.Undefined }
+
+-- what may be done with a fresh block of the source may be done with one of the target
+pub record HasFreshRights (rights target : Rights) : Type 0 where
+  pub each : (b c size align : ℕ) (kind : Kind) → HasRights rights target (record { block = c; offset = 0; is_seen = true }) b (blank_block size align kind) (blank_block size align kind)
 
 -- ---- each block at its own place
 

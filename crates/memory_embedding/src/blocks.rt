@@ -1,11 +1,12 @@
 //! Blocks that come, move and die.
 
-ghost use Rattle.std.specs.Prelude.{ℕ, true, false, List, Some, length, slice_get, ◌≡◌, ◌≢◌, ◌≤◌, ◌<◌, ◌^◌, ◌++◌};
-ghost use Rattle.block_memory.specs.Memory.{Rights, is_live, owner_rights, with_block};
+ghost use Rattle.std.specs.Prelude.{ℕ, true, false, List, [], ◌∷◌, Some, length, slice_get, ◌≡◌, ◌≢◌, ◌≤◌, ◌<◌, ◌^◌, ◌++◌};
+ghost use Rattle.block_memory.specs.Memory.{Rights, fresh, is_live, owner_rights, with_block};
+ghost use Rattle.block_memory.specs.declared.block.Kind.{Kind as TheKind};
 ghost use Rattle.block_memory.specs.declared.block.MemoryBlock.{MemoryBlock as Block};
 ghost use Rattle.memory_embedding.specs.Pointers.{Extends, Home, home_of};
 ghost use Rattle.block_memory.specs.Whole.{AreWhole};
-ghost use Rattle.memory_embedding.specs.Standing.{AreApart, AreByteRights, AreOffsets, Embeds, Stands, byte_of, own_homes};
+ghost use Rattle.memory_embedding.specs.Standing.{AreApart, AreByteRights, AreOffsets, Embeds, HasFreshRights, Stands, byte_of, own_homes};
 
 /// The target may have more blocks.
 #[tactic(auto, using(crate::proofs::Changes::target_grows))]
@@ -30,4 +31,15 @@ pub fn new_home_is_kept()
 pub fn memory_stands_in_itself()
     ensures rights { AreByteRights owner_rights }
     ensures stands { (m : List Block) → AreWhole m → ((b : ℕ) (x : Block) → slice_get m b ≡ Some x → x.size < 2 ^ 64) → ((b i : ℕ) (x : Block) → slice_get m b ≡ Some x → AreOffsets (length m) (byte_of x i)) → Embeds owner_rights owner_rights (own_homes 0 (length m)) m m }
+{}
+
+/// Both may make a fresh block.
+pub fn fresh_is_kept()
+    ensures { (rights target : Rights) → HasFreshRights rights target → (homes : List Home) (m n : List Block) (size align : ℕ) (kind : TheKind) → length homes ≡ length m → size < 2 ^ 64 → Embeds rights target homes m n → Embeds rights target (homes ++ record { block = length n; offset = 0; is_seen = true } ∷ []) (fresh m size align kind) (fresh n size align kind) }
+{}
+
+/// Both may change a block that stands alone in its home, where it stands afterwards too: it lives again, ends, is killed,
+/// owned, disowned or sealed.
+pub fn mirrored_change_is_kept()
+    ensures { (rights target : Rights) → AreByteRights rights → AreByteRights target → (homes : List Home) (m n : List Block) (b : ℕ) (f g : Block → Block) → Embeds rights target homes m n → ((c : ℕ) (z : Block) → c ≢ b → slice_get m c ≡ Some z → is_live z.life ≡ true → (home_of homes c).block ≢ (home_of homes b).block) → ((x : Block) → slice_get (with_block m b f) b ≡ Some x → is_live x.life ≡ true → Stands rights target homes (with_block n (home_of homes b).block g) b x) → Embeds rights target homes (with_block m b f) (with_block n (home_of homes b).block g) }
 {}
