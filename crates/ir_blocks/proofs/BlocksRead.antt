@@ -69,7 +69,7 @@ effect_front false ts us vs (inr (inr tail)) e = rw (tail ∙ e) (refl, refl, re
 instr_front : (types : List TypeItem) (i : Instr) (s end : Locals) → IsInstr types i s end → Front true s.1
 instr_front types (instrs.Binary r op f t a b) s end (m, h, (v, (e, (u, w, ty)), values)) = named_front r (words.Bin op) s m w.0 h w.1 tt
 instr_front types (instrs.Icmp r p t a b) s end (m, h, (v, (e, (u, w, ty)), values)) = named_front r words.Icmp s m u h w tt
-instr_front types (instrs.Select r c x y) s end (m, h, (v, (e, (u, w, w1)), values)) = named_front r words.Select s m u h w tt
+instr_front types (instrs.Select r c x y) s end (m, h, (v, (e, (u, w, ty)), values)) = named_front r words.Select s m u h w tt
 instr_front types (instrs.Cast r casts.Zext nneg a t) s end (m, h, (v, (e, c), values)) = named_front r (words.Cast casts.Zext) s m c.0 h c.1 tt
 instr_front types (instrs.Cast r casts.Trunc nneg a t) s end (m, h, (v, (e, c), values)) = named_front r (words.Cast casts.Trunc) s m v.1 h c.1 tt
 instr_front types (instrs.Cast r casts.Sext nneg a t) s end (m, h, (v, (e, c), values)) = named_front r (words.Cast casts.Sext) s m v.1 h c.1 tt

@@ -128,8 +128,8 @@ instr_again types (instrs.Binary r op f t a b) s end (m, h, (v, (e, (u, op_is, t
     named_step types r (words.Bin op) s m op_is.0 h op_is.1 ∙ binary_again r op f t a b m.0 op_is.0 u v end op_is.2 ty e values
 instr_again types (instrs.Icmp r p t a b) s end (m, h, (v, (e, (u, w, (x, p_is, ty))), values)) ends =
     named_step types r words.Icmp s m u h w ∙ icmp_again r p t a b m.0 u x v end p_is ty e values
-instr_again types (instrs.Select r c x y) s end (m, h, (v, (e, (u, w, w1)), values)) ends =
-    named_step types r words.Select s m u h w ∙ select_again r c x y m.0 u v end w1 e values
+instr_again types (instrs.Select r c x y) s end (m, h, (v, (e, (u, w, ty)), values)) ends =
+    named_step types r words.Select s m u h w ∙ select_again r c x y m.0 u v end ty e values
 instr_again types (instrs.Cast r op nneg a t) s end (m, h, (v, (e, c), values)) ends =
     let w = cast_word op nneg m.1 v.1 c in
     named_step types r (words.Cast op) s m w.0 h w.1 ∙ cast_again r op nneg a t m.0 m.1 w.0 v end c w.1 e values
