@@ -27,7 +27,7 @@ use Rattle.lower_pipeline.specs.declared.whole.Lowered.{Lowered}
 use Rattle.lower_pipeline.specs.declared.whole.Lowering.{Lowering}
 use Rattle.module_rules.specs.Order.{module_refusal}
 use Rattle.module_rules.specs.declared.order.Refusal.{Refusal}
-use Rattle.module_rules.specs.declared.order.Stage.{Stage}
+use Rattle.name_rules.specs.declared.stage.Stage.{Stage}
 use Rattle.plain_meaning.specs.Plain.{PlainGiven, plain_state_at}
 
 -- ---- answers

@@ -3,7 +3,7 @@
 ghost use Rattle.std.specs.Prelude.{◌≡◌, IfOk, List, ℕ};
 ghost use Rattle.coro_report.specs.Report.{syntax_text};
 ghost use Rattle.module_rules.specs.Order.{module_refusal};
-ghost use Rattle.module_rules.specs.declared.order.Stage.{Stage};
+ghost use Rattle.name_rules.specs.declared.stage.Stage.{Stage};
 ghost use Rattle.coro_cli.specs.Answers.{shown, told, refused, lower_answer, run_verdict, run_answer, not_callable, run_module, checked_run, text_answer, run_lowered, lowered_answer, run_in, answer};
 
 use crate::entry::entry_call;

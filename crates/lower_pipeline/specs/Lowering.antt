@@ -20,7 +20,7 @@ use Rattle.frame_lines.specs.declared.frames.FrameLine.{FrameLine}
 use Rattle.lower_pipeline.specs.Served.{count_by, unserved}
 use Rattle.module_rules.specs.Order.{module_refusal}
 use Rattle.module_rules.specs.declared.order.Refusal.{Refusal}
-use Rattle.module_rules.specs.declared.order.Stage.{Stage}
+use Rattle.name_rules.specs.declared.stage.Stage.{Stage}
 use Rattle.lower_pipeline.specs.declared.whole.Lowering.{Lowering}
 
 -- the layout of a coroutine whose frame holds the index alone

@@ -3,14 +3,14 @@ use Rattle.std.specs.Prelude.{List, [], Some, None, Option, ◌∷◌}
 use Rattle.coro_base.specs.declared.outcome.Place.{Place}
 use Rattle.coro_base.specs.declared.rule.Rule.{Rule}
 use Rattle.ir_model.specs.declared.module.Module.{Module}
-use Rattle.module_rules.specs.Definitions.{second_definitions}
-use Rattle.module_rules.specs.Items.{first_place}
-use Rattle.module_rules.specs.Known.{unknown_names}
-use Rattle.module_rules.specs.Limits.{limits}
-use Rattle.module_rules.specs.Reserved.{reserved_names}
-use Rattle.module_rules.specs.Signatures.{other_types}
+use Rattle.name_rules.specs.Definitions.{second_definitions}
+use Rattle.name_rules.specs.Items.{first_place}
+use Rattle.name_rules.specs.Known.{unknown_names}
+use Rattle.type_rules.specs.Limits.{limits}
+use Rattle.name_rules.specs.Reserved.{reserved_names}
+use Rattle.type_rules.specs.Signatures.{other_types}
 use Rattle.module_rules.specs.declared.order.Refusal.{Refusal}
-use Rattle.module_rules.specs.declared.order.Stage.{Stage}
+use Rattle.name_rules.specs.declared.stage.Stage.{Stage}
 
 abbrev pub or_refusal : Rule → Option Place → Option Refusal → Option Refusal
 or_refusal rule (Some place) other = Some (record { rule = rule; place = place })

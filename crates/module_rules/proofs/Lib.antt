@@ -1,4 +1,0 @@
-pub mod Depths
-pub mod Marks
-pub mod PartNames
-pub mod Types

@@ -1,0 +1,5 @@
+pub mod Depth
+pub mod Heights
+pub mod Limits
+pub mod Signatures
+pub mod Wants

@@ -1,0 +1,12 @@
+//! The limits of a module (L1), and the types of calls and of what is called (Y2).
+#![tactic(auto)]
+
+mod depth;
+mod heights;
+mod limits;
+mod signatures;
+mod wants;
+
+pub use limits::first_past_limit;
+pub use signatures::first_other_type;
+pub use wants::{Basic, Demand, Wanted};
