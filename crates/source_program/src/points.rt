@@ -50,11 +50,13 @@ pub fn instr_at(function: &Function, p: Point) -> Option<&Instr>
     }
 }
 
+/// Whether an operand is the constant true of type i1, whose literals may also be 1 and -1.
 pub fn is_true(operand: &Operand) -> bool
     ensures { result ≡ is_true_operand operand.now }
 {
     match operand {
         Operand::True => true,
+        Operand::Number(number) => *number == 1 || *number == -1,
         _ => false,
     }
 }
