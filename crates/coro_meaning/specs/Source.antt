@@ -9,7 +9,7 @@ use Rattle.coro_base.specs.declared.cause.Cause.{Cause}
 use Rattle.coro_base.specs.declared.outcome.Outcome.{Outcome}
 use Rattle.coro_base.specs.declared.outcome.Word.{Word}
 use Rattle.coro_meaning.specs.State.{frame_address_of, function_of, gives, instance_at, is_finished, is_suspended, next, or_undefined, own_facts, own_frame, own_instance, point_of, settled, with_instance, with_left, with_memory, with_slots, with_status, work_of}
-use Rattle.source_program.specs.Given.{Given}
+use Rattle.source_program.specs.Given.{Given, has_final, is_final, is_true}
 use Rattle.coro_meaning.specs.declared.state.Activation.{Activation}
 use Rattle.coro_meaning.specs.declared.state.Instance.{Instance}
 use Rattle.coro_meaning.specs.declared.state.Mode.{Mode}

@@ -18,6 +18,7 @@ use Rattle.ir_paths.specs.declared.point.Facts.{Facts}
 use Rattle.ir_paths.specs.declared.point.Point.{Point}
 use Rattle.ordinary_step.specs.Step.{Work, place_at, set_result}
 use Rattle.ordinary_step.specs.declared.world.Slot.{Slot}
+use Rattle.source_program.specs.Given.{Given, facts_at, frame_of}
 
 -- ---- what the topmost activation has
 
