@@ -1,9 +1,9 @@
 -- Extents whose sizes are cut off are those of the types, cut off.
-use Rattle.std.proofs.Common.{◌≡◌, ℕ, zero, suc, min, max, ◌+◌, ◌-◌, ◌*◌, ◌/◌, ◌%◌, ◌≤◌, ◌<◌, refl, ap, sym, ◌∙◌, arith, Option, Some, None, inl, inr}
+use Rattle.std.proofs.Common.{◌≡◌, ℕ, zero, suc, max, ◌+◌, ◌-◌, ◌*◌, ◌≤◌, refl, ap, sym, ◌∙◌, arith, Option, Some, None, inl, inr}
 use Rattle.std.specs.Prelude.{option_map, ◌^◌, ◌⊎◌}
 use Rattle.std.proofs.Math.Nat.{suc-mul, zero-mul}
 use Rattle.coro_base.specs.declared.name.Name.{Name}
-use Rattle.ir_model.specs.Layout.{Extent as LayoutExtent, array_extent, extent_in, extent_then, fields_extent, no_fields, padded, plain_extent, rounded_up, with_field, bytes_of_width}
+use Rattle.ir_model.specs.Layout.{Extent as LayoutExtent, array_extent, extent_in, extent_then, fields_extent, no_fields, padded, rounded_up, with_field}
 use Rattle.ir_model.specs.Ty.{Ty, Tys, array, field, int, named, none, ptr, structure, token}
 use Rattle.type_sizes.specs.Cut.{capped, cut, cut_up, cut_array, cut_field, cut_padded, cut_start, cut_then, cut_fields, cut_in}
 use Rattle.type_sizes.specs.declared.extent.Extent.{Extent}

@@ -1,14 +1,14 @@
 -- The table has the extents of the named types.
-use Rattle.std.proofs.Common.{◌≡◌, ℕ, zero, suc, ◌+◌, ◌-◌, ◌<◌, ◌≤◌, Bool, true, false, List, [], ◌∷◌, map, refl, ap, sym, ◌∙◌, arith, Option, Some, None, add-one}
-use Rattle.std.specs.Prelude.{option_map, slice_get, if◌then◌else◌}
+use Rattle.std.proofs.Common.{◌≡◌, ℕ, zero, suc, ◌+◌, ◌-◌, ◌<◌, Bool, true, false, List, [], ◌∷◌, map, refl, ap, sym, ◌∙◌, arith, Option, Some, None, add-one}
+use Rattle.std.specs.Prelude.{option_map, if◌then◌else◌}
 use Rattle.coro_base.specs.declared.name.Name.{Name}
 use Rattle.ir_model.specs.Layout.{Extent as LayoutExtent, extent_at, extent_in, extent_of, extent_or, of_type, size_of, type_named}
 use Rattle.ir_model.specs.Names.{first_where, same_name}
 use Rattle.ir_model.specs.Ty.{Ty}
 use Rattle.ir_model.specs.declared.module.Module.{Module}
 use Rattle.ir_model.specs.declared.module.TypeItem.{TypeItem}
-use Rattle.type_sizes.specs.Cut.{capped, cut, cut_in, cut_whole}
-use Rattle.type_sizes.specs.Levels.{extent_at_position, full_table, joined, known, next_table, table_at}
+use Rattle.type_sizes.specs.Cut.{capped, cut, cut_whole}
+use Rattle.type_sizes.specs.Levels.{extent_at_position, full_table, known, next_table, table_at}
 use Rattle.type_sizes.specs.declared.extent.Extent.{Extent}
 use Rattle.type_sizes.proofs.Cuts.{cut-in}
 

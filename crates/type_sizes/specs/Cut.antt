@@ -1,5 +1,5 @@
 -- Extents whose sizes are cut off at 2^64 - 1.
-use Rattle.std.specs.Prelude.{ℕ, zero, suc, min, max, List, [], Some, None, Option, option_map, ◌+◌, ◌-◌, ◌*◌, ◌^◌}
+use Rattle.std.specs.Prelude.{ℕ, zero, suc, min, max, Some, None, Option, option_map, ◌+◌, ◌-◌, ◌*◌, ◌^◌}
 use Rattle.coro_base.specs.declared.name.Name.{Name}
 use Rattle.ir_model.specs.Layout.{Extent as LayoutExtent, bytes_of_width, rounded_up}
 use Rattle.ir_model.specs.Ty.{Ty, Tys, array, field, int, named, none, ptr, structure, token}

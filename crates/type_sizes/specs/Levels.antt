@@ -1,5 +1,5 @@
 -- The extents of named types in a table.
-use Rattle.std.specs.Prelude.{ℕ, zero, suc, List, [], Some, None, Option, map, slice_get}
+use Rattle.std.specs.Prelude.{ℕ, zero, suc, List, Some, None, Option, map, slice_get}
 use Rattle.coro_base.specs.declared.name.Name.{Name}
 use Rattle.ir_model.specs.Names.{first_where, same_name}
 use Rattle.ir_model.specs.declared.module.TypeItem.{TypeItem}

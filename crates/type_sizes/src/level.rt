@@ -25,12 +25,7 @@ fn known(names: &Names<'_>, table: &[Option<Extent>], name: &Name) -> Option<Ext
 
 /// The extent of a type, down through at most so many brackets, by the extents of the named types.
 #[cycle(extent)]
-fn extent_in(
-    names: &Names<'_>,
-    table: &[Option<Extent>],
-    depth: u32,
-    ty: &IrType,
-) -> Option<Extent>
+fn extent_in(names: &Names<'_>, table: &[Option<Extent>], depth: u32, ty: &IrType) -> Option<Extent>
     ensures { result ≡ cut_in (known_in names.now.source.now.types table.now) depth ty.now }
 {
     if depth == 0 {
@@ -73,11 +68,7 @@ fn fields_extent(
 
 /// The extent of a type, as deep as types may be.
 #[tactic(auto, unfolding(crate::specs::Cut::cut_whole))]
-pub fn whole_extent(
-    names: &Names<'_>,
-    table: &[Option<Extent>],
-    ty: &IrType,
-) -> Option<Extent>
+pub fn whole_extent(names: &Names<'_>, table: &[Option<Extent>], ty: &IrType) -> Option<Extent>
     ensures { result ≡ cut_whole (known_in names.now.source.now.types table.now) ty.now }
 {
     extent_in(names, table, 64, ty)

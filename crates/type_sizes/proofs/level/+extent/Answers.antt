@@ -1,10 +1,9 @@
-use Rattle.std.proofs.Common.{◌≡◌, ◌∙◌, ap, sym, ◌-◌, Some, Option}
+use Rattle.std.proofs.Common.{◌≡◌, ◌∙◌, ap, sym, ◌-◌, Some}
 use Rattle.std.specs.Prelude.{option_map}
 use Rattle.ir_model.specs.Ty.{structure, to_tys}
 use Rattle.ir_model.specs.TypeView.{ty_of}
 use Rattle.type_sizes.specs.Cut.{cut_in, cut_fields, cut_padded, cut_start}
 use Rattle.type_sizes.specs.Levels.{known}
-use Rattle.type_sizes.specs.declared.extent.Extent.{Extent}
 use Rattle.type_sizes.proofs.Cuts.{of_structure}
 use Rattle.type_sizes.proofs.level.+extent.Goals as goal
 

@@ -1,6 +1,5 @@
-use Rattle.std.proofs.Common.{arith, ap, ◌∙◌, List, Option}
+use Rattle.std.proofs.Common.{arith, ap, ◌∙◌}
 use Rattle.type_sizes.specs.Levels.{next_table}
-use Rattle.type_sizes.specs.declared.extent.Extent.{Extent}
 use Rattle.type_sizes.proofs.Tables.{table_turn, table_done, table_steady}
 use Rattle.type_sizes.proofs.level.table_of.Goals as goal
 

@@ -1,7 +1,4 @@
-use Rattle.std.proofs.Common.{◌∙◌, ap, List, Option}
-use Rattle.type_sizes.specs.Cut.{cut_in}
-use Rattle.type_sizes.specs.Levels.{known}
-use Rattle.type_sizes.specs.declared.extent.Extent.{Extent}
+use Rattle.std.proofs.Common.{◌∙◌}
 use Rattle.type_sizes.proofs.Tables.{size_none, size_some}
 use Rattle.type_sizes.proofs.sizes.Sizes.size_of.Goals as goal
 
