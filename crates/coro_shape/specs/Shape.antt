@@ -1,5 +1,5 @@
 -- The shape of a coroutine, and the rules by which it has one.
-use Rattle.std.specs.Prelude.{ℕ, slice_get, Some, None, Option, unwrap_or}
+use Rattle.std.specs.Prelude.{ℕ, Some, None, Option, unwrap_or, ◌≡◌}
 use Rattle.coro_base.specs.declared.outcome.Place.{Place}
 use Rattle.coro_base.specs.declared.rule.Rule.{Rule}
 use Rattle.coro_shape.specs.Calls.{value_of_first}
@@ -41,3 +41,8 @@ answer_in func f =
 
 abbrev pub answer_of : Module → ℕ → Answer
 answer_of m func = answer_in func (function_at m func)
+
+-- the id of a shape is the token of the function's first id
+abbrev pub HasToken : Function → Answer → Type 0
+HasToken f (Answer.Shape s) = value_of_first Intrinsic.CoroId f ≡ Some s.id
+HasToken f (Answer.Refused rule place) = Unit {0}

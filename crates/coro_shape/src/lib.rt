@@ -9,6 +9,8 @@ mod promise;
 mod shape;
 mod suspends;
 mod switches;
+#[cfg(test)]
+mod tests;
 mod uses;
 
 pub use calls::{first_call, is_call_of, is_true, operand_of, value_of_first};

@@ -2,7 +2,7 @@
 
 ghost use Rattle.std.specs.Prelude.{◌≡◌, IfOk, IsTrue};
 ghost use Rattle.ir_model.specs.Names.{function_at};
-ghost use Rattle.coro_shape.specs.Shape.{shape_in, answer_in, answer_of};
+ghost use Rattle.coro_shape.specs.Shape.{shape_in, answer_in, answer_of, HasToken};
 
 use crate::calls::value_of_first;
 use crate::one_of_each::first_wrong_call;
@@ -101,9 +101,11 @@ fn answer_in(alloc: Global, func: FuncId, function: &Function) -> Result<Answer,
 }
 
 /// The shape of a coroutine of the module, or the first rule of K2, K3, K4, K10 and K11 that it breaks, with the place.
+#[tactic(auto, using(crate::proofs::Tokens::token_is))]
 pub fn shape_of(alloc: Global, source: &Module, func: FuncId) -> Result<Answer, AllocError>
     requires { IsTrue (function_at source.now func).coroutine }
-    ensures { IfOk result (λ a. a ≡ answer_of source.now func) }
+    ensures answer { IfOk result (λ a. a ≡ answer_of source.now func) }
+    ensures token { IfOk result (λ a. HasToken (function_at source.now func) a) }
 {
     match source.functions.get(func) {
         None => unreachable!(),
