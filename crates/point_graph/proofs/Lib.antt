@@ -1,0 +1,8 @@
+pub mod LabelPositions
+pub mod Tests
+pub mod Marking
+pub mod Growing
+pub mod Neighbours
+pub mod Filing
+pub mod Settling
+pub mod Paths

@@ -1,0 +1,4 @@
+pub mod Rows
+pub mod Edges
+pub mod Search
+pub mod Reached
