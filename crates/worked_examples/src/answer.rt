@@ -25,7 +25,7 @@ fn words_of(alloc: Global, line: &str) -> Result<Vec<String>, AllocError> {
 }
 
 /// What the program answers to the words of a line and an input.
-pub fn answer(alloc: Global, line: &str, text: &[u8]) -> Result<Answer, AllocError> {
+pub fn ask(alloc: Global, line: &str, text: &[u8]) -> Result<Answer, AllocError> {
     let words = words_of(alloc, line)?;
     let mut input = ByteSource::new(Vec::from_slice(alloc, text)?, 4096, Vec::new(alloc));
     let mut out = ByteSink::with_room(alloc, 1_048_576, 4096, Vec::new(alloc))?;

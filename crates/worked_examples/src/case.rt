@@ -6,7 +6,7 @@
 //! that begin with `#` say nothing.
 
 use crate::again::is_read_again;
-use crate::answer::answer;
+use crate::answer::ask;
 use anyhow::{Result, bail};
 use std::alloc::{AllocError, Global};
 use std::fs;
@@ -62,7 +62,7 @@ impl Case {
         } else if line == "more" {
             self.goes_on = true;
         } else if !line.is_empty() && !line.starts_with("#") {
-            bail!(in self.out.allocator(); "a line that says nothing: {line}");
+            bail!("a line that says nothing: {line}");
         }
         Ok(())
     }
@@ -82,7 +82,7 @@ impl Case {
         let is_so = if self.words.as_str() == "again" {
             is_read_again(rt.alloc(), &text)?
         } else {
-            let given = answer(rt.alloc(), self.words.as_str(), &text)?;
+            let given = ask(rt.alloc(), self.words.as_str(), &text)?;
             given.code == self.code && self.is_out(&given.out) && given.err.as_slice() == self.err.as_bytes()
         };
         if !is_so {

@@ -1,8 +1,9 @@
 //! Modules of a line, each with what refuses it.
 //!
-//! A line is `MODULE~REFUSAL`: what standard error holds where the module is lowered, or nothing where no rule refuses it.
+//! A line is `MODULE~ANSWER`: the answer is what standard error holds where the module is lowered, or nothing where no rule
+//! refuses it. Lines that begin with `#` say nothing.
 
-use crate::answer::answer;
+use crate::answer::ask;
 use anyhow::Result;
 
 /// Whether a module is accepted, though perhaps not served yet.
@@ -10,10 +11,12 @@ fn is_accepted(err: &[u8]) -> bool {
     err.is_empty() || err.starts_with(b"refused X1")
 }
 
-/// Lowers the module of a line, and writes where it is answered otherwise.
-pub fn run(rt: &HostRuntime, line: &str) -> Result<()> {
-    let (text, told) = line.split_once('~').unwrap_or((line, ""));
-    let given = answer(rt.alloc(), "lower", text.as_bytes())?;
+/// Lowers the module of a line, and writes where it is answered otherwise. Whether the line has a module.
+pub fn run(rt: &HostRuntime, line: &str) -> Result<bool> {
+    let Some((text, told)) = line.split_once('~') else {
+        return Ok(false);
+    };
+    let given = ask(rt.alloc(), "lower", text.as_bytes())?;
     let wanted = format!(in rt.alloc(); "{told}\n")?;
     let is_so = if told.is_empty() {
         is_accepted(&given.err)
@@ -23,5 +26,5 @@ pub fn run(rt: &HostRuntime, line: &str) -> Result<()> {
     if !is_so {
         println!(rt; "{line}: otherwise")?;
     }
-    Ok(())
+    Ok(true)
 }
