@@ -56,7 +56,7 @@ shape_refusal Stage.Source k f =
 shape_refusal Stage.Plain k f = None
 
 -- the first broken rule of a function
-abbrev pub function_refusal : Stage → Module → ℕ → Function → Option Refusal
+unfoldable pub function_refusal : Stage → Module → ℕ → Function → Option Refusal
 function_refusal stage m k f =
     or_later (value_refusal stage m k f)
     (or_later (placing_refusal stage m k f)
@@ -70,11 +70,11 @@ functions_refusal stage m k (f ∷ fs) = or_later (function_refusal stage m k f)
 -- ---- the whole order
 
 -- the rules behind the module rules: those of globals, then those of the functions in order of the text
-abbrev pub items_refusal : Stage → Module → Option Refusal
+unfoldable pub items_refusal : Stage → Module → Option Refusal
 items_refusal stage m =
     or_refusal Rule.Y4 (first_place misaligned_globals m)
     (functions_refusal stage m 0 m.functions)
 
 -- the first broken rule of a module, with its first place
-abbrev pub refusal : Stage → Module → Option Refusal
+unfoldable pub refusal : Stage → Module → Option Refusal
 refusal stage m = or_later (module_refusal stage m) (items_refusal stage m)

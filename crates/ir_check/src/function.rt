@@ -127,6 +127,7 @@ fn shape_refusal(
 }
 
 /// The first broken rule of a function.
+#[tactic(auto, unfolding(crate::specs::Order::function_refusal))]
 pub fn function_refusal(
     alloc: Global,
     stage: Stage,

@@ -34,6 +34,7 @@ fn functions_refusal(
 }
 
 /// The rules behind the module rules: those of globals, then those of the functions.
+#[tactic(auto, unfolding(crate::specs::Order::items_refusal))]
 fn named_refusal(
     alloc: Global,
     stage: Stage,
@@ -61,6 +62,7 @@ fn items_refusal(
 
 /// The first broken rule of a module, with its first place, in the one order of refusals: the module rules, the rules of
 /// globals, then for each function in order of the text its rules.
+#[tactic(auto, unfolding(crate::specs::Order::refusal))]
 pub fn first_refusal(
     alloc: Global,
     stage: Stage,
