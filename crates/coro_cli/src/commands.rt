@@ -14,7 +14,8 @@ use coro_words::{Form, RunWords, Words};
 use ir_model::Module;
 use ir_parser::{Parsed, parse};
 use lower_pipeline::{Lowered, Lowering, lower};
-use module_rules::{Stage, module_refusal};
+use module_rules::module_refusal;
+use name_rules::Stage;
 use plain_meaning::PlainMachine;
 use std::alloc::{AllocError, Global};
 

@@ -10,7 +10,8 @@ use frame_layout::{Layout, Layouts};
 use ir_model::Module;
 use ir_parser::{Parsed, parse};
 use ir_printer::{FrameLine, print_frames, print_module};
-use module_rules::{Refusal, Stage, module_refusal};
+use module_rules::{Refusal, module_refusal};
+use name_rules::Stage;
 use std::alloc::{AllocError, Global};
 
 /// What the lowering of an accepted module gives: its text (a frame line per coroutine, then the canonical text of the

@@ -1,0 +1,8 @@
+pub mod Calls
+pub mod Places
+pub mod Uses
+pub mod OneOfEach
+pub mod Switches
+pub mod Suspends
+pub mod Promise
+pub mod Shape
