@@ -1,5 +1,5 @@
 -- A function's answers from those of its calls.
-use Rattle.std.proofs.Common.{◌≡◌, ℕ, ◌+◌, ◌<◌, Bool, List, length, map, Ok, Err, Result, IfOk, refl, sym, ap, ◌∙◌, subst}
+use Rattle.std.proofs.Common.{◌≡◌, ℕ, ◌+◌, ◌<◌, Bool, List, length, Ok, Err, Result, IfOk, sym, ap, ◌∙◌, subst}
 use Rattle.std.specs.Prelude.{slice_get, Some}
 use Rattle.bit_reach.specs.Reaching.{AnswersAt, StartAt}
 use Rattle.block_paths.proofs.Bounds.{has_nodes}

@@ -1,5 +1,5 @@
 -- Marks, and numbers told in their order.
-use Rattle.std.proofs.Common.{◌≡◌, ◌≢◌, ℕ, zero, suc, ◌+◌, ◌<◌, ◌≤◌, ◌⊎◌, Bool, true, false, List, [], ◌∷◌, ◌++◌, length, take, get_or, replicate, Some, refl, sym, ap, ◌∙◌, subst, ⊎_elim, inl, inr, arith}
+use Rattle.std.proofs.Common.{◌≡◌, ℕ, ◌+◌, ◌<◌, ◌≤◌, Bool, true, false, List, [], ◌∷◌, ◌++◌, length, take, get_or, replicate, Some, sym, ap, ◌∙◌, subst, ⊎_elim, arith}
 use Rattle.std.specs.Prelude.{slice_get, slice_set}
 use Rattle.std.specs.List.Sorted.{IsStrictlyIncreasing}
 use Rattle.std.proofs.lemmas.Bool.{cases_eq, cases_lt, false≢true}
@@ -29,13 +29,13 @@ pub one_marked : (nodes block : ℕ) (blocks : List ℕ) (marks : List Bool) →
 one_marked nodes block blocks marks m = record {
   marks_length = length-set marks block true ∙ m.marks_length;
   marks_listed = λ b at. ⊎_elim
-    (λ here. subst (λ x. IsListed x (blocks ++ block ∷ [])) (sym here.0) (listed_last block blocks))
-    (λ there. listed_front b blocks (block ∷ []) (m.marks_listed b there.0))
-    (set_cases marks block b true true at);
+      (λ here. subst (λ x. IsListed x (blocks ++ block ∷ [])) (sym here.0) (listed_last block blocks))
+      (λ there. listed_front b blocks (block ∷ []) (m.marks_listed b there.0))
+      (set_cases marks block b true true at);
   is_marked = λ b lt h. ⊎_elim
-    (λ here. let len = m.marks_length in let within : block < length marks = omega (arith, here, lt, len) in ap (slice_get (slice_set marks block true)) here ∙ set_here marks block true within)
-    (λ other. ⊎_elim (λ old. set_other marks block b true other ∙ m.is_marked b lt old) (λ same. absurd (other same)) (listed_cases b block blocks h))
-    (cases_eq b block);
+      (λ here. let len = m.marks_length in let within : block < length marks = omega (arith, here, lt, len) in ap (slice_get (slice_set marks block true)) here ∙ set_here marks block true within)
+      (λ other. ⊎_elim (λ old. set_other marks block b true other ∙ m.is_marked b lt old) (λ same. absurd (other same)) (listed_cases b block blocks h))
+      (cases_eq b block);
 }
 
 pub more_marked : (nodes i : ℕ) (blocks : List ℕ) (marks marks2 : List Bool) → i < length blocks → marks2 ≡ slice_set marks (get_or blocks i 0) true → AreMarked nodes (take i blocks) marks → AreMarked nodes (take (i + 1) blocks) marks2
@@ -83,9 +83,9 @@ told_here words at blocks has t = record {
   below = λ b h. ⊎_elim (λ old. let lt = t.below b old in omega (arith, lt)) (λ same. omega (arith, same)) (listed_cases b at blocks h);
   has_bit = λ b h. ⊎_elim (λ old. t.has_bit b old) (λ same. subst (λ x. HasBit (word_at words x) 0) (sym same) has) (listed_cases b at blocks h);
   listed = λ b lt h. ⊎_elim
-    (λ less. listed_front b blocks (at ∷ []) (t.listed b less h))
-    (λ more. let same : b ≡ at = omega (arith, lt, more) in subst (λ x. IsListed x (blocks ++ at ∷ [])) (sym same) (listed_last at blocks))
-    (cases_lt b at);
+      (λ less. listed_front b blocks (at ∷ []) (t.listed b less h))
+      (λ more. let same : b ≡ at = omega (arith, lt, more) in subst (λ x. IsListed x (blocks ++ at ∷ [])) (sym same) (listed_last at blocks))
+      (cases_lt b at);
 }
 
 pub not_told : (words : List ℕ) (at : ℕ) (blocks : List ℕ) → (HasBit (word_at words at) 0 → ⊥) → AreTold words at blocks → AreTold words (at + 1) blocks
@@ -94,7 +94,7 @@ not_told words at blocks none t = record {
   below = λ b h. let lt = t.below b h in omega (arith, lt);
   has_bit = t.has_bit;
   listed = λ b lt h. ⊎_elim
-    (λ less. t.listed b less h)
-    (λ more. let same : b ≡ at = omega (arith, lt, more) in absurd (none (subst (λ x. HasBit (word_at words x) 0) same h)))
-    (cases_lt b at);
+      (λ less. t.listed b less h)
+      (λ more. let same : b ≡ at = omega (arith, lt, more) in absurd (none (subst (λ x. HasBit (word_at words x) 0) same h)))
+      (cases_lt b at);
 }

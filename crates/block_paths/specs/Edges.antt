@@ -1,5 +1,5 @@
 -- The blocks of a function as a graph.
-use Rattle.std.specs.Prelude.{ℕ, suc, List, [], map, length, slice_get, Some, None, Option, ◌+◌, ◌∷◌, ◌++◌}
+use Rattle.std.specs.Prelude.{ℕ, List, [], map, length, slice_get, Some, None, Option, ◌+◌, ◌∷◌, ◌++◌}
 use Rattle.flow_solver.specs.declared.graph.Graph.{Graph}
 use Rattle.ir_model.specs.Names.{position_of}
 use Rattle.ir_model.specs.declared.module.Block.{Block}

@@ -108,10 +108,7 @@ fn add_block(
     add_edges(at, to.as_slice(), edges)
 }
 
-fn all_edges(
-    alloc: Global,
-    function: &Function,
-) -> Result<Items<(usize, usize)>, AllocError>
+fn all_edges(alloc: Global, function: &Function) -> Result<Items<(usize, usize)>, AllocError>
     ensures { IfOk result (λ edges. edges ≡ block_edges function.now) }
 {
     let table = positions_of(alloc, function)?;

@@ -1,4 +1,4 @@
-use Rattle.std.proofs.Common.{◌≤◌, ap, length, arith}
+use Rattle.std.proofs.Common.{ap, length, arith}
 use Rattle.block_paths.proofs.Bounds.{all_there}
 use Rattle.block_paths.proofs.edges.all_edges.Goals as goal
 
