@@ -1,0 +1,3 @@
+pub mod Firsts
+pub mod Pushed
+pub mod TokenRows
