@@ -2,11 +2,14 @@
 //! saves (rule K6; "Coroutines in LLVM", "llvm.coro.save").
 #![tactic(auto)]
 
+mod labels;
 mod outside;
 mod points;
 mod sets;
 mod tokens;
+mod windows;
 
 pub use outside::first_outside;
 pub use points::{place_of, point_of, points_where};
 pub use sets::PointSet;
+pub use windows::first_wrong_window;
