@@ -35,7 +35,8 @@ fn is_second_true(args: &[Arg]) -> bool
     }
 }
 
-fn is_final(instr: &Instr) -> bool
+/// Whether the second operand of a call is true: of a suspend, whether it is final.
+pub fn is_final(instr: &Instr) -> bool
     ensures { result ≡ is_final instr.now }
 {
     match instr {

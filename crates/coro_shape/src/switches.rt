@@ -65,7 +65,8 @@ fn end_label(function: &Function) -> Option<ValueId>
     }
 }
 
-fn is_number(number: u64, operand: &Operand) -> bool
+/// Whether the operand is the number.
+pub fn is_number(number: u64, operand: &Operand) -> bool
     ensures { result ≡ is_number number operand.now }
 {
     match operand {

@@ -1,0 +1,4 @@
+pub mod Firsts
+pub mod Pushed
+pub mod TokenRows
+pub mod Between

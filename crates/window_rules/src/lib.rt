@@ -1,0 +1,15 @@
+//! What stands where in a coroutine, by paths: nothing of it before begin or after the end (rule K5), and the windows of
+//! saves (rule K6; "Coroutines in LLVM", "llvm.coro.save").
+#![tactic(auto)]
+
+mod labels;
+mod outside;
+mod points;
+mod sets;
+mod tokens;
+mod windows;
+
+pub use outside::first_outside;
+pub use points::{place_of, point_of, points_where};
+pub use sets::PointSet;
+pub use windows::first_wrong_window;
