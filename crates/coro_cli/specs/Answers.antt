@@ -22,10 +22,10 @@ use Rattle.ir_model.specs.declared.module.Module.{Module}
 use Rattle.ir_model.specs.declared.module.Param.{Param}
 use Rattle.ir_parser.specs.Parse.{read_module}
 use Rattle.ir_parser.specs.declared.text.Parsed.{Parsed}
-use Rattle.lower_pipeline.specs.Lowering.{lowering_of}
+use Rattle.lower_pipeline.specs.Lowering.{IsLowering}
 use Rattle.lower_pipeline.specs.declared.whole.Lowered.{Lowered}
 use Rattle.lower_pipeline.specs.declared.whole.Lowering.{Lowering}
-use Rattle.ir_check.specs.Order.{refusal}
+use Rattle.ir_check.specs.Refused.{IsRefused}
 use Rattle.module_rules.specs.declared.order.Refusal.{Refusal}
 use Rattle.name_rules.specs.declared.stage.Stage.{Stage}
 use Rattle.plain_meaning.specs.Plain.{PlainGiven, plain_state_at}
@@ -139,9 +139,15 @@ abbrev pub checked_run : Option Refusal → Module → RunWords → Answer
 checked_run (Some r) m w = refused m r.rule r.place
 checked_run None m w = run_module m w
 
-abbrev pub text_answer : Parsed → RunWords → Answer
-text_answer (Parsed.Syntax items) w = told Verdict.Refused (syntax_text items)
-text_answer (Parsed.Module m) w = checked_run (refusal Stage.Plain m) m w
+-- a plain module checked and run
+pub record IsCheckedRun (m : Module) (w : RunWords) (a : Answer) : Type 0 where
+  pub refusal : Option Refusal
+  pub refused : IsRefused Stage.Plain m refusal
+  pub is : a ≡ checked_run refusal m w
+
+abbrev pub IsTextAnswer : Parsed → RunWords → Answer → Type 0
+IsTextAnswer (Parsed.Syntax items) w a = a ≡ told Verdict.Refused (syntax_text items)
+IsTextAnswer (Parsed.Module m) w a = IsCheckedRun m w a
 
 -- the source says whether the entry is callable; the lowered module runs the function of that name
 abbrev pub run_lowered : Lowered → RunWords → Answer
@@ -152,13 +158,19 @@ lowered_answer (Lowering.Syntax items) w = told Verdict.Refused (syntax_text ite
 lowered_answer (Lowering.Refused m rule place) w = refused m rule place
 lowered_answer (Lowering.Done l) w = run_lowered l w
 
-abbrev pub run_in : Form → List ℕ → RunWords → Answer
-run_in Form.Text bytes w = text_answer (read_module bytes) w
-run_in Form.Lowered bytes w = lowered_answer (lowering_of bytes) w
-
 -- ---- the commands
 
+-- what is made of the lowering of the bytes
+pub record IsMadeOf (bytes : List ℕ) (make : Lowering → Answer) (a : Answer) : Type 0 where
+  pub lowering : Lowering
+  pub lowered : IsLowering bytes lowering
+  pub is : a ≡ make lowering
+
+abbrev pub IsRunAnswer : Form → List ℕ → RunWords → Answer → Type 0
+IsRunAnswer Form.Text bytes w a = IsTextAnswer (read_module bytes) w a
+IsRunAnswer Form.Lowered bytes w a = IsMadeOf bytes (λ l. lowered_answer l w) a
+
 -- what the words' command answers to these bytes
-unfoldable pub answer : Words → List ℕ → Answer
-answer (Words.Lower plain) bytes = lower_answer (lowering_of bytes)
-answer (Words.Run w) bytes = run_in w.form bytes w
+unfoldable pub IsAnswer : Words → List ℕ → Answer → Type 0
+IsAnswer (Words.Lower plain) bytes a = IsMadeOf bytes lower_answer a
+IsAnswer (Words.Run w) bytes a = IsRunAnswer w.form bytes w a

@@ -3,7 +3,7 @@ use Rattle.std.specs.Prelude.{◌≡◌, ◌≢◌, ◌⊎◌, ℕ, true, List, 
 use Rattle.std.specs.List.{list_any}
 use Rattle.std.specs.Io.KnownBytes.{Appends, Consumes, IsAtEnd, Keeps}
 use Rattle.coro_base.specs.declared.status.Status.{Status}
-use Rattle.coro_cli.specs.Answers.{answer, verdict_status}
+use Rattle.coro_cli.specs.Answers.{IsAnswer, verdict_status}
 use Rattle.coro_cli.specs.declared.verdict.Answer.{Answer}
 use Rattle.coro_words.specs.Asked.{asks_help}
 use Rattle.coro_words.specs.declared.words.Words.{Words}
@@ -22,18 +22,20 @@ pub record Tells (s : Sides) (text : List ℕ) : Type 0 where
   pub out : Keeps s.out s.out-new
   pub err : Appends s.err s.err-new text
 
--- the outputs got what is answered, with its status
-pub record Gives (s : Sides) (a : Answer) (status : Status) : Type 0 where
-  pub ends : verdict_status a.verdict ≡ status
-  pub out : Appends s.out s.out-new a.out
-  pub err : Appends s.err s.err-new a.err
+-- the outputs got what the words' command answers to the bytes, with its status
+pub record Gives (w : Words) (bytes : List ℕ) (out out-new err err-new : Option (List ℕ)) (status : Status) : Type 0 where
+  pub answer : Answer
+  pub is : IsAnswer w bytes answer
+  pub ends : verdict_status answer.verdict ≡ status
+  pub out : Appends out out-new answer.out
+  pub err : Appends err err-new answer.err
 
--- the input was read to its end, and the outputs got what the words' command answers to it
+-- the input was read to its end, and the outputs got the answer to it
 pub record Answers (w : Words) (s : Sides) (status : Status) : Type 0 where
   pub bytes : List ℕ
   pub read : Consumes s.left s.left-new bytes
   pub at_end : IsAtEnd s.left-new
-  pub gives : Gives s (answer w bytes) status
+  pub gives : Gives w bytes s.out s.out-new s.err s.err-new status
 
 -- a status that isn't want of memory, nor a fault of a sink
 abbrev pub IsTold : Status → Type 0

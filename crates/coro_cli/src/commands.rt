@@ -2,16 +2,15 @@
 
 ghost use Rattle.std.specs.Prelude.{◌≡◌, IfOk, List, ℕ};
 ghost use Rattle.coro_report.specs.Report.{syntax_text};
-ghost use Rattle.ir_check.specs.Order.{refusal as refusal_of};
-ghost use Rattle.name_rules.specs.declared.stage.Stage.{Stage};
-ghost use Rattle.coro_cli.specs.Answers.{shown, told, refused, lower_answer, run_verdict, run_answer, not_callable, run_module, checked_run, text_answer, run_lowered, lowered_answer, run_in, answer};
+ghost use Rattle.coro_words.specs.declared.words.Form.{Form};
+ghost use Rattle.coro_cli.specs.Answers.{shown, told, refused, lower_answer, run_verdict, run_answer, not_callable, run_module, checked_run, IsTextAnswer, IsCheckedRun, run_lowered, lowered_answer, IsRunAnswer, IsMadeOf, IsAnswer};
 
 use crate::entry::entry_call;
 use crate::verdict::{Answer, EntryCall, Verdict};
 use coro_base::{Items, Outcome, Place, Rule};
 use coro_report::{not_callable_text, refused_text, run_text, syntax_text};
 use coro_words::{Form, RunWords, Words};
-use ir_check::{Stage, first_refusal};
+use ir_check::{Refusal, Stage, first_refusal};
 use ir_model::Module;
 use ir_parser::{Parsed, parse};
 use lower_pipeline::{Lowered, Lowering, lower};
@@ -104,17 +103,31 @@ fn run_module(alloc: Global, code: Module, words: &RunWords) -> Result<Answer, A
     }
 }
 
-fn checked_run(alloc: Global, source: Module, words: &RunWords) -> Result<Answer, AllocError>
-    ensures { IfOk result (λ a. a ≡ checked_run (refusal_of Stage.Plain source) source words.now) }
+/// Runs a plain module whose first broken rule is told.
+fn run_unless(
+    alloc: Global,
+    source: Module,
+    words: &RunWords,
+    refusal: Option<Refusal>,
+) -> Result<Answer, AllocError>
+    ensures { IfOk result (λ a. a ≡ checked_run refusal source words.now) }
 {
-    match first_refusal(alloc, Stage::Plain, &source)? {
+    match refusal {
         Some(refusal) => refused(alloc, &source, refusal.rule, refusal.place),
         None => run_module(alloc, source, words),
     }
 }
 
+#[tactic(auto, using(crate::proofs::Told::checked_by))]
+fn checked_run(alloc: Global, source: Module, words: &RunWords) -> Result<Answer, AllocError>
+    ensures { IfOk result (λ a. IsCheckedRun source words.now a) }
+{
+    let refusal = first_refusal(alloc, Stage::Plain, &source)?;
+    run_unless(alloc, source, words, refusal)
+}
+
 fn text_answer(alloc: Global, parsed: Parsed, words: &RunWords) -> Result<Answer, AllocError>
-    ensures { IfOk result (λ a. a ≡ text_answer parsed words.now) }
+    ensures { IfOk result (λ a. IsTextAnswer parsed words.now a) }
 {
     match parsed {
         Parsed::Syntax { items } => syntax_fault(alloc, items),
@@ -143,22 +156,45 @@ fn lowered_answer(alloc: Global, lowering: Lowering, words: &RunWords) -> Result
     }
 }
 
+fn run_text_form(alloc: Global, bytes: &[u8], words: &RunWords) -> Result<Answer, AllocError>
+    ensures { IfOk result (λ a. IsRunAnswer Form.Text bytes.now words.now a) }
+{
+    let parsed = parse(alloc, bytes)?;
+    text_answer(alloc, parsed, words)
+}
+
+#[tactic(auto, using(crate::proofs::Told::run_by))]
+fn run_lowered_form(alloc: Global, bytes: &[u8], words: &RunWords) -> Result<Answer, AllocError>
+    ensures { IfOk result (λ a. IsRunAnswer Form.Lowered bytes.now words.now a) }
+{
+    let lowering = lower(alloc, bytes)?;
+    lowered_answer(alloc, lowering, words)
+}
+
 fn run_in(alloc: Global, bytes: &[u8], words: &RunWords) -> Result<Answer, AllocError>
-    ensures { IfOk result (λ a. a ≡ run_in words.now.form bytes.now words.now) }
+    ensures { IfOk result (λ a. IsRunAnswer words.now.form bytes.now words.now a) }
 {
     match words.form {
-        Form::Text => text_answer(alloc, parse(alloc, bytes)?, words),
-        Form::Lowered => lowered_answer(alloc, lower(alloc, bytes)?, words),
+        Form::Text => run_text_form(alloc, bytes, words),
+        Form::Lowered => run_lowered_form(alloc, bytes, words),
     }
 }
 
+#[tactic(auto, using(crate::proofs::Told::lowered_by))]
+fn lower_bytes(alloc: Global, bytes: &[u8]) -> Result<Answer, AllocError>
+    ensures { IfOk result (λ a. IsMadeOf bytes.now lower_answer a) }
+{
+    let lowering = lower(alloc, bytes)?;
+    lower_answer(alloc, lowering)
+}
+
 /// What a command answers to the bytes of its input.
-#[tactic(auto, unfolding(crate::specs::Answers::answer))]
+#[tactic(auto, unfolding(crate::specs::Answers::IsAnswer))]
 pub fn answer(alloc: Global, words: &Words, bytes: &[u8]) -> Result<Answer, AllocError>
-    ensures { IfOk result (λ a. a ≡ answer words.now bytes.now) }
+    ensures { IfOk result (λ a. IsAnswer words.now bytes.now a) }
 {
     match words {
-        Words::Lower { .. } => lower_answer(alloc, lower(alloc, bytes)?),
+        Words::Lower { .. } => lower_bytes(alloc, bytes),
         Words::Run(words) => run_in(alloc, bytes, words),
     }
 }

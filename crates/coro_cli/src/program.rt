@@ -8,8 +8,7 @@ ghost use Rattle.coro_words.specs.Asked.{asked};
 ghost use Rattle.coro_words.specs.declared.words.Reading.{Reading};
 ghost use Rattle.coro_words.specs.declared.words.Words.{Words as TheWords};
 ghost use Rattle.coro_report.specs.Report.{bad_list_text};
-ghost use Rattle.coro_cli.specs.Answers.{answer, verdict_status};
-ghost use Rattle.coro_cli.specs.Endings.{sides, Tells, Answers, IsTold, RefusesWords};
+ghost use Rattle.coro_cli.specs.Endings.{sides, Gives, Tells, Answers, IsTold, RefusesWords};
 
 use crate::commands::answer;
 use crate::verdict::Answer;
@@ -55,9 +54,7 @@ fn drive_bytes<O: Sink, E: Sink>(
     out: &mut O,
     err: &mut E,
 ) -> Status
-    ensures status { IsTold result → (verdict_status (answer words.now bytes.now).verdict ≡ result) }
-    ensures out { IsTold result → Appends (O.held out.old) (O.held out.new) (answer words.now bytes.now).out }
-    ensures err { IsTold result → Appends (E.held err.old) (E.held err.new) (answer words.now bytes.now).err }
+    ensures told { IsTold result → Gives words.now bytes.now (O.held out.old) (O.held out.new) (E.held err.old) (E.held err.new) result }
     ensures read { (result ≢ Status.ReadFault) × (result ≢ Status.TooLong) }
     ensures memory_out { result ≡ Status.OutOfMemory → Keeps (O.held out.old) (O.held out.new) }
     ensures memory_err { result ≡ Status.OutOfMemory → Appends (E.held err.old) (E.held err.new) (codes "out of memory\n") }

@@ -1,13 +1,15 @@
 //! The rules of one function, in their order.
 
 ghost use Rattle.std.specs.Prelude.{◌≡◌, IfOk, Some};
-ghost use Rattle.ir_check.specs.Order.{value_refusal, pointer_refusal, placing_refusal, shape_refusal, function_refusal};
+ghost use Rattle.ir_check.specs.Order.{value_refusal, flow_refusal, pointer_refusal, placing_refusal, parts_refusal, standing_refusal, shape_refusal, function_refusal};
 
+use crate::faults::PathFaults;
 use coro_base::{FuncId, Place, Rule};
 use coro_shape::{
     first_second_final, first_suspend_too_many, first_wrong_call, first_wrong_promise,
     first_wrong_switch,
 };
+use edge_rules::first_wrong_edge;
 use ir_model::Function;
 use local_rules::{
     first_closed_call, first_function_pointer, first_late_alloca, first_misplaced_intrinsic,
@@ -17,6 +19,7 @@ use module_rules::Refusal;
 use name_rules::Stage;
 use std::alloc::{AllocError, Global};
 use type_sizes::Sizes;
+use value_rules::first_wrong_value;
 
 /// A rule that is broken at a place.
 pub fn broken(rule: Rule, place: Place) -> Option<Refusal>
@@ -25,8 +28,9 @@ pub fn broken(rule: Rule, place: Place) -> Option<Refusal>
     Some(Refusal { rule, place })
 }
 
-/// What is called, how large types are, and what must be a tail call: Y3, Y4, Y5.
+/// The types of values, what is called, how large types are, and what must be a tail call: Y1, Y3, Y4, Y5.
 fn value_refusal(
+    alloc: Global,
     stage: Stage,
     sizes: &Sizes<'_>,
     func: FuncId,
@@ -34,6 +38,9 @@ fn value_refusal(
 ) -> Result<Option<Refusal>, AllocError>
     ensures { IfOk result (λ r. r ≡ value_refusal stage sizes.now.names.now.source.now func function.now) }
 {
+    if let Some(place) = first_wrong_value(alloc, sizes.names, func, function)? {
+        return Ok(broken(Rule::Y1, place));
+    }
     if let Some(place) = first_closed_call(sizes.names, func, function)? {
         return Ok(broken(Rule::Y3, place));
     }
@@ -42,6 +49,27 @@ fn value_refusal(
     }
     if let Some(place) = first_wrong_transfer(stage, func, function)? {
         return Ok(broken(Rule::Y5, place));
+    }
+    Ok(None)
+}
+
+/// Edges into blocks, uses without a definition, and allocas: F1, F2, F3.
+fn flow_refusal(
+    alloc: Global,
+    func: FuncId,
+    function: &Function,
+    faults: PathFaults,
+) -> Result<Option<Refusal>, AllocError>
+    ensures { IfOk result (λ r. r ≡ flow_refusal func function.now faults) }
+{
+    if let Some(place) = first_wrong_edge(alloc, func, function)? {
+        return Ok(broken(Rule::F1, place));
+    }
+    if let Some(place) = faults.undefined_use {
+        return Ok(broken(Rule::F2, place));
+    }
+    if let Some(place) = first_late_alloca(func, function)? {
+        return Ok(broken(Rule::F3, place));
     }
     Ok(None)
 }
@@ -64,7 +92,7 @@ fn pointer_refusal(
     }
 }
 
-/// Allocas, addresses of functions, and where coro intrinsics stand: F3, P1, K1.
+/// Addresses of functions, and where coro intrinsics stand: P1, K1.
 fn placing_refusal(
     alloc: Global,
     stage: Stage,
@@ -74,9 +102,6 @@ fn placing_refusal(
 ) -> Result<Option<Refusal>, AllocError>
     ensures { IfOk result (λ r. r ≡ placing_refusal stage sizes.now.names.now.source.now func function.now) }
 {
-    if let Some(place) = first_late_alloca(func, function)? {
-        return Ok(broken(Rule::F3, place));
-    }
     if let Some(refusal) = pointer_refusal(stage, sizes, func, function)? {
         return Ok(Some(refusal));
     }
@@ -86,13 +111,13 @@ fn placing_refusal(
     Ok(None)
 }
 
-/// The shape of a coroutine of a source: K2, K3, K4, K10, K11.
-fn source_shape_refusal(
+/// The parts that a coroutine has: K2, K3, K4.
+fn parts_refusal(
     alloc: Global,
     func: FuncId,
     function: &Function,
 ) -> Result<Option<Refusal>, AllocError>
-    ensures { IfOk result (λ r. r ≡ shape_refusal Stage.Source func function.now) }
+    ensures { IfOk result (λ r. r ≡ parts_refusal func function.now) }
 {
     if let Some(place) = first_wrong_call(alloc, func, function)? {
         return Ok(broken(Rule::K2, place));
@@ -103,6 +128,24 @@ fn source_shape_refusal(
     if let Some(place) = first_second_final(alloc, func, function)? {
         return Ok(broken(Rule::K4, place));
     }
+    Ok(None)
+}
+
+/// Where they stand: K5, K6, K10, K11.
+fn standing_refusal(
+    alloc: Global,
+    func: FuncId,
+    function: &Function,
+    faults: PathFaults,
+) -> Result<Option<Refusal>, AllocError>
+    ensures { IfOk result (λ r. r ≡ standing_refusal func function.now faults) }
+{
+    if let Some(place) = faults.outside {
+        return Ok(broken(Rule::K5, place));
+    }
+    if let Some(place) = faults.window {
+        return Ok(broken(Rule::K6, place));
+    }
     if let Some(place) = first_wrong_promise(alloc, func, function)? {
         return Ok(broken(Rule::K10, place));
     }
@@ -112,21 +155,26 @@ fn source_shape_refusal(
     Ok(None)
 }
 
+/// The shape of a coroutine of a source.
 fn shape_refusal(
     alloc: Global,
     stage: Stage,
     func: FuncId,
     function: &Function,
+    faults: PathFaults,
 ) -> Result<Option<Refusal>, AllocError>
-    ensures { IfOk result (λ r. r ≡ shape_refusal stage func function.now) }
+    ensures { IfOk result (λ r. r ≡ shape_refusal stage func function.now faults) }
 {
     match stage {
         Stage::Plain => Ok(None),
-        Stage::Source => source_shape_refusal(alloc, func, function),
+        Stage::Source => match parts_refusal(alloc, func, function)? {
+            Some(refusal) => Ok(Some(refusal)),
+            None => standing_refusal(alloc, func, function, faults),
+        },
     }
 }
 
-/// The first broken rule of a function.
+/// The first broken rule of a function, of which the rules on paths have these faults.
 #[tactic(auto, unfolding(crate::specs::Order::function_refusal))]
 pub fn function_refusal(
     alloc: Global,
@@ -134,16 +182,20 @@ pub fn function_refusal(
     sizes: &Sizes<'_>,
     func: FuncId,
     function: &Function,
+    faults: PathFaults,
 ) -> Result<Option<Refusal>, AllocError>
-    ensures { IfOk result (λ r. r ≡ function_refusal stage sizes.now.names.now.source.now func function.now) }
+    ensures { IfOk result (λ r. r ≡ function_refusal stage sizes.now.names.now.source.now func function.now faults) }
 {
-    if let Some(refusal) = value_refusal(stage, sizes, func, function)? {
+    if let Some(refusal) = value_refusal(alloc, stage, sizes, func, function)? {
+        return Ok(Some(refusal));
+    }
+    if let Some(refusal) = flow_refusal(alloc, func, function, faults)? {
         return Ok(Some(refusal));
     }
     if let Some(refusal) = placing_refusal(alloc, stage, sizes, func, function)? {
         return Ok(Some(refusal));
     }
-    if let Some(refusal) = shape_refusal(alloc, stage, func, function)? {
+    if let Some(refusal) = shape_refusal(alloc, stage, func, function, faults)? {
         return Ok(Some(refusal));
     }
     match first_other_mark(alloc, sizes, func, function)? {

@@ -1,9 +1,11 @@
 //! All rules in the one order of refusals.
 #![tactic(auto)]
 
+mod faults;
 mod function;
 mod order;
 
+pub use faults::PathFaults;
 pub use module_rules::Refusal;
 pub use name_rules::Stage;
 pub use order::first_refusal;

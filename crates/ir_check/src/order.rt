@@ -2,9 +2,11 @@
 
 ghost use Rattle.std.specs.Prelude.{◌≡◌, IfOk};
 ghost use Rattle.ir_check.specs.Order.{functions_refusal, items_refusal, refusal};
+ghost use Rattle.ir_check.specs.Refused.{IsRefused};
 
+use crate::faults::{PathFaults, all_faults, faults_at};
 use crate::function::{broken, function_refusal};
-use coro_base::Rule;
+use coro_base::{Items, Rule};
 use function_parts::next;
 use ir_model::{Function, Module};
 use local_rules::first_misaligned_global;
@@ -13,19 +15,22 @@ use module_rules::{Refusal, module_refusal};
 use name_rules::Stage;
 use std::alloc::{AllocError, Global};
 use type_sizes::Sizes;
+use value_rules::first_wrong_initial;
 
 /// The first broken rule of the functions, in order of the text.
 fn functions_refusal(
     alloc: Global,
     stage: Stage,
     sizes: &Sizes<'_>,
+    faults: &Items<PathFaults>,
     functions: &[Function],
 ) -> Result<Option<Refusal>, AllocError>
-    ensures { IfOk result (λ r. r ≡ functions_refusal stage sizes.now.names.now.source.now 0 functions.now) }
+    ensures { IfOk result (λ r. r ≡ functions_refusal stage sizes.now.names.now.source.now faults.now 0 functions.now) }
 {
     let mut func = 0;
     for function in functions {
-        if let Some(refusal) = function_refusal(alloc, stage, sizes, func, function)? {
+        let own = faults_at(faults, func);
+        if let Some(refusal) = function_refusal(alloc, stage, sizes, func, function, own)? {
             return Ok(Some(refusal));
         }
         func = next(func)?;
@@ -39,39 +44,57 @@ fn named_refusal(
     alloc: Global,
     stage: Stage,
     sizes: &Sizes<'_>,
+    faults: &Items<PathFaults>,
 ) -> Result<Option<Refusal>, AllocError>
-    ensures { IfOk result (λ r. r ≡ items_refusal stage sizes.now.names.now.source.now) }
+    ensures { IfOk result (λ r. r ≡ items_refusal stage sizes.now.names.now.source.now faults.now) }
 {
+    if let Some(place) = first_wrong_initial(sizes.names)? {
+        return Ok(broken(Rule::Y1, place));
+    }
     if let Some(place) = first_misaligned_global(sizes.names)? {
         return Ok(broken(Rule::Y4, place));
     }
-    functions_refusal(alloc, stage, sizes, sizes.names.source.functions.as_slice())
+    functions_refusal(alloc, stage, sizes, faults, sizes.names.source.functions.as_slice())
 }
 
 fn items_refusal(
     alloc: Global,
     stage: Stage,
     source: &Module,
+    faults: &Items<PathFaults>,
 ) -> Result<Option<Refusal>, AllocError>
-    ensures { IfOk result (λ r. r ≡ items_refusal stage source.now) }
+    ensures { IfOk result (λ r. r ≡ items_refusal stage source.now faults.now) }
 {
     let names = Names::new(alloc, source)?;
     let sizes = Sizes::new(alloc, &names)?;
-    named_refusal(alloc, stage, &sizes)
+    named_refusal(alloc, stage, &sizes, faults)
+}
+
+/// The same where the faults of the rules on paths are told.
+#[tactic(auto, unfolding(crate::specs::Order::refusal))]
+fn refusal_with(
+    alloc: Global,
+    stage: Stage,
+    source: &Module,
+    faults: &Items<PathFaults>,
+) -> Result<Option<Refusal>, AllocError>
+    ensures { IfOk result (λ r. r ≡ refusal stage source.now faults.now) }
+{
+    match module_refusal(alloc, stage, source)? {
+        Some(refusal) => Ok(Some(refusal)),
+        None => items_refusal(alloc, stage, source, faults),
+    }
 }
 
 /// The first broken rule of a module, with its first place, in the one order of refusals: the module rules, the rules of
 /// globals, then for each function in order of the text its rules.
-#[tactic(auto, unfolding(crate::specs::Order::refusal))]
 pub fn first_refusal(
     alloc: Global,
     stage: Stage,
     source: &Module,
 ) -> Result<Option<Refusal>, AllocError>
-    ensures { IfOk result (λ r. r ≡ refusal stage source.now) }
+    ensures { IfOk result (λ r. IsRefused stage source.now r) }
 {
-    match module_refusal(alloc, stage, source)? {
-        Some(refusal) => Ok(Some(refusal)),
-        None => items_refusal(alloc, stage, source),
-    }
+    let faults = all_faults(alloc, source.functions.as_slice())?;
+    refusal_with(alloc, stage, source, &faults)
 }

@@ -1,5 +1,5 @@
 -- The passes in a row.
-use Rattle.std.specs.Prelude.{ℕ, List, [], map, slice_get, Some, None, Option, ◌+◌, ◌∷◌, ◌++◌, if◌then◌else◌}
+use Rattle.std.specs.Prelude.{ℕ, List, [], map, slice_get, Some, None, Option, ◌≡◌, ◌+◌, ◌∷◌, ◌++◌, if◌then◌else◌}
 use Rattle.coro_base.specs.declared.name.Name.{Name}
 use Rattle.coro_base.specs.declared.outcome.Place.{Place}
 use Rattle.coro_base.specs.declared.rule.Rule.{Rule}
@@ -9,7 +9,7 @@ use Rattle.early_lower.specs.Early.{early_module}
 use Rattle.frame_layout.specs.Frames.{index_alone}
 use Rattle.frame_layout.specs.declared.layout.Layout.{Layout}
 use Rattle.frame_layout.specs.declared.layout.Layouts.{Layouts}
-use Rattle.ir_check.specs.Order.{refusal}
+use Rattle.ir_check.specs.Refused.{IsRefused}
 use Rattle.ir_model.specs.declared.module.Function.{Function}
 use Rattle.ir_model.specs.declared.module.Module.{Module}
 use Rattle.ir_model.specs.declared.operand.Intrinsic.{Intrinsic}
@@ -60,18 +60,25 @@ or_unserved (Some r) place = Some r
 or_unserved None (Some place) = Some (record { rule = Rule.X1; place = place })
 or_unserved None None = None
 
--- what a source is refused for: the first broken rule, else the first place that isn't served so far
-abbrev pub refusal_of : Module → Option Refusal
-refusal_of m = or_unserved (refusal Stage.Source m) (unserved m)
-
 abbrev pub lowered_or : Module → Option Refusal → Lowering
 lowered_or m (Some r) = Lowering.Refused m r.rule r.place
 lowered_or m None = Lowering.Done (record { text = lowered_text m; «module» = lowered_module m; source = m; layouts = layouts_of m })
 
-abbrev pub lowering_of_parsed : Parsed → Lowering
-lowering_of_parsed (Parsed.Syntax items) = Lowering.Syntax items
-lowering_of_parsed (Parsed.Module m) = lowered_or m (refusal_of m)
+-- a module of which this is the first broken rule: refused for it, or else for the first place that isn't served so far, or else lowered
+abbrev pub lowered_with : Option Refusal → Module → Lowering
+lowered_with r m = lowered_or m (or_unserved r (unserved m))
 
--- the lowering of a text
-abbrev pub lowering_of : List ℕ → Lowering
-lowering_of text = lowering_of_parsed (read_module text)
+-- what the lowering of a module comes to
+pub record IsModuleLowering (m : Module) (l : Lowering) : Type 0 where
+  pub refusal : Option Refusal
+  pub refused : IsRefused Stage.Source m refusal
+  pub is : l ≡ lowered_with refusal m
+
+-- what the lowering of a text that is read so comes to
+abbrev pub IsLoweringOf : Parsed → Lowering → Type 0
+IsLoweringOf (Parsed.Syntax items) l = l ≡ Lowering.Syntax items
+IsLoweringOf (Parsed.Module m) l = IsModuleLowering m l
+
+-- what the lowering of a text comes to
+unfoldable pub IsLowering : List ℕ → Lowering → Type 0
+IsLowering text l = IsLoweringOf (read_module text) l

@@ -1,7 +1,8 @@
 //! The lowering of a text.
 
 ghost use Rattle.std.specs.Prelude.{◌≡◌, ◌++◌, IfOk, map, slice_get};
-ghost use Rattle.lower_pipeline.specs.Lowering.{name_of, frame_line, lowered_text, lowered_or, lowering_of, refusal_of};
+ghost use Rattle.lower_pipeline.specs.Lowering.{name_of, frame_line, lowered_text, lowered_or, lowered_with as lowered_with_refusal, or_unserved as or_unserved_place, IsModuleLowering, IsLowering};
+ghost use Rattle.lower_pipeline.specs.Served.{unserved as unserved_place};
 
 use crate::passes::{layouts_of, lowered_module};
 use crate::served::unserved;
@@ -81,10 +82,14 @@ fn lower_served(alloc: Global, source: Module) -> Result<Lowered, AllocError>
 
 /// The rule by which a source is refused, and the place: the first broken rule, or else `X1` at the first place that isn't
 /// served so far.
-fn refusal_of(alloc: Global, source: &Module) -> Result<Option<Refusal>, AllocError>
-    ensures { IfOk result (λ r. r ≡ refusal_of source.now) }
+fn or_unserved(
+    alloc: Global,
+    source: &Module,
+    refusal: Option<Refusal>,
+) -> Result<Option<Refusal>, AllocError>
+    ensures { IfOk result (λ r. r ≡ or_unserved_place refusal (unserved_place source.now)) }
 {
-    if let Some(refusal) = first_refusal(alloc, Stage::Source, source)? {
+    if let Some(refusal) = refusal {
         return Ok(Some(refusal));
     }
     match unserved(alloc, source)? {
@@ -96,19 +101,33 @@ fn refusal_of(alloc: Global, source: &Module) -> Result<Option<Refusal>, AllocEr
     }
 }
 
-/// Lowers a module, or tells the rule that it breaks first.
-pub fn lower_module(alloc: Global, source: Module) -> Result<Lowering, AllocError>
-    ensures { IfOk result (λ l. l ≡ lowered_or source (refusal_of source)) }
+/// Lowers a module whose first broken rule is told.
+fn lowered_with(
+    alloc: Global,
+    source: Module,
+    refusal: Option<Refusal>,
+) -> Result<Lowering, AllocError>
+    ensures { IfOk result (λ l. l ≡ lowered_with_refusal refusal source) }
 {
-    match refusal_of(alloc, &source)? {
+    match or_unserved(alloc, &source, refusal)? {
         Some(refusal) => Ok(Lowering::Refused(source, refusal.rule, refusal.place)),
         None => Ok(Lowering::Done(lower_served(alloc, source)?)),
     }
 }
 
+/// Lowers a module, or tells the rule that it breaks first.
+#[tactic(auto, using(crate::proofs::Told::lowered_by))]
+pub fn lower_module(alloc: Global, source: Module) -> Result<Lowering, AllocError>
+    ensures { IfOk result (λ l. IsModuleLowering source l) }
+{
+    let refusal = first_refusal(alloc, Stage::Source, &source)?;
+    lowered_with(alloc, source, refusal)
+}
+
 /// Lowers a text.
+#[tactic(auto, using(crate::proofs::Told::syntax_is_told, crate::proofs::Told::module_is_told))]
 pub fn lower(alloc: Global, text: &[u8]) -> Result<Lowering, AllocError>
-    ensures { IfOk result (λ l. l ≡ lowering_of text.now) }
+    ensures { IfOk result (λ l. IsLowering text.now l) }
 {
     match parse(alloc, text)? {
         Parsed::Syntax { items } => Ok(Lowering::Syntax(items)),

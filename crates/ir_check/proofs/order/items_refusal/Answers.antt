@@ -6,6 +6,6 @@ use Rattle.ir_check.proofs.order.items_refusal.Goals as goal
 
 pub returns : goal.returns
 returns c =
-    subst (λ (m : Module). IfOk c.named_refusal.result (λ r. r ≡ items_refusal c.args.stage m))
+    subst (λ (m : Module). IfOk c.named_refusal.result (λ r. r ≡ items_refusal c.args.stage m c.args.faults.now))
     (ap (λ (n : Names). n.source.now) c.in_ok-sizes.ensures ∙ c.in_ok-names.ensures)
     c.named_refusal.ensures

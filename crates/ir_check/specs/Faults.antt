@@ -1,0 +1,22 @@
+-- What the rules on paths say of the functions of a module.
+use Rattle.std.specs.Prelude.{ℕ, List, length, slice_get, Some, None, unwrap_or, ◌≡◌}
+use Rattle.definite_use.specs.Undefined.{IsFirstUndefined}
+use Rattle.definite_use.specs.Uses.{uses_of}
+use Rattle.ir_check.specs.declared.faults.PathFaults.{PathFaults}
+use Rattle.ir_model.specs.declared.module.Function.{Function}
+use Rattle.window_rules.specs.Outside.{IsFirstOutside}
+use Rattle.window_rules.specs.Windows.{IsFirstWindow}
+
+-- for each rule on paths its first fault in the function: F2, K5, K6
+pub record AreFaultsOf (k : ℕ) (f : Function) (x : PathFaults) : Type 0 where
+  pub undefined_use : IsFirstUndefined f (uses_of k f) x.undefined_use
+  pub outside : IsFirstOutside k f x.outside
+  pub window : IsFirstWindow k f x.window
+
+-- the same for all functions, in their order
+pub record HaveFaults (functions : List Function) (faults : List PathFaults) : Type 0 where
+  pub as_many : length faults ≡ length functions
+  pub each : (k : ℕ) (f : Function) (x : PathFaults) → slice_get functions k ≡ Some f → slice_get faults k ≡ Some x → AreFaultsOf k f x
+
+abbrev pub faults_at : List PathFaults → ℕ → PathFaults
+faults_at faults k = unwrap_or (slice_get faults k) (record { undefined_use = None; outside = None; window = None })

@@ -1,0 +1,60 @@
+//! What the rules on paths say of each function.
+
+ghost use Rattle.std.specs.Prelude.{◌≡◌, IfOk};
+ghost use Rattle.ir_check.specs.Faults.{AreFaultsOf, HaveFaults, faults_at as faults_of_position};
+
+use coro_base::{FuncId, Items, Place};
+use definite_use::first_undefined_use;
+use ir_model::Function;
+use std::alloc::{AllocError, Global};
+use window_rules::{first_outside, first_wrong_window};
+
+/// For each of the rules F2, K5 and K6 the first place of a function that breaks it.
+#[derive(Clone, Copy, Debug, Drop)]
+pub struct PathFaults {
+    pub undefined_use: Option<Place>,
+    pub outside: Option<Place>,
+    pub window: Option<Place>,
+}
+
+fn faults_of(
+    alloc: Global,
+    func: FuncId,
+    function: &Function,
+) -> Result<PathFaults, AllocError>
+    ensures { IfOk result (λ x. AreFaultsOf func function.now x) }
+{
+    let undefined_use = first_undefined_use(alloc, func, function)?;
+    let outside = first_outside(alloc, func, function)?;
+    let window = first_wrong_window(alloc, func, function)?;
+    Ok(PathFaults {
+        undefined_use,
+        outside,
+        window,
+    })
+}
+
+/// What the rules on paths say of the functions, in their order.
+pub fn all_faults(alloc: Global, functions: &[Function]) -> Result<Items<PathFaults>, AllocError>
+    ensures { IfOk result (λ all. HaveFaults functions.now all) }
+{
+    let mut all = Items::new(alloc);
+    for func in 0..functions.len() {
+        all.push(faults_of(alloc, func, &functions[func])?)?;
+    }
+    Ok(all)
+}
+
+/// What they say of the function at a position.
+pub fn faults_at(faults: &Items<PathFaults>, func: FuncId) -> PathFaults
+    ensures { result ≡ faults_of_position faults.now func }
+{
+    match faults.get(func) {
+        Some(found) => *found,
+        None => PathFaults {
+            undefined_use: None,
+            outside: None,
+            window: None,
+        },
+    }
+}
