@@ -32,7 +32,7 @@ or_later None later = later
 -- ---- the rules of one function, in their order
 
 -- the types of values, what is called, how large types are, and what must be a tail call
-abbrev pub value_refusal : Stage → Module → ℕ → Function → Option Refusal
+unfoldable pub value_refusal : Stage → Module → ℕ → Function → Option Refusal
 value_refusal stage m k f =
     or_refusal Rule.Y1 (first_wrong_value m k f)
     (or_refusal Rule.Y3 (first_closed_call m k f)
@@ -40,32 +40,32 @@ value_refusal stage m k f =
     (or_refusal Rule.Y5 (first_wrong_transfer stage k f) None)))
 
 -- edges into blocks, uses without a definition, and allocas
-abbrev pub flow_refusal : ℕ → Function → PathFaults → Option Refusal
+unfoldable pub flow_refusal : ℕ → Function → PathFaults → Option Refusal
 flow_refusal k f x =
     or_refusal Rule.F1 (first_wrong_edge k f)
     (or_refusal Rule.F2 x.undefined_use
     (or_refusal Rule.F3 (first_late_alloca k f) None))
 
 -- functions' addresses, in a source alone
-abbrev pub pointer_refusal : Stage → Module → ℕ → Function → Option Refusal
+unfoldable pub pointer_refusal : Stage → Module → ℕ → Function → Option Refusal
 pointer_refusal Stage.Source m k f = or_refusal Rule.P1 (first_function_pointer m k f) None
 pointer_refusal Stage.Plain m k f = None
 
 -- addresses of functions, and where coro intrinsics stand
-abbrev pub placing_refusal : Stage → Module → ℕ → Function → Option Refusal
+unfoldable pub placing_refusal : Stage → Module → ℕ → Function → Option Refusal
 placing_refusal stage m k f =
     or_later (pointer_refusal stage m k f)
     (or_refusal Rule.K1 (first_misplaced stage k f) None)
 
 -- the parts that a coroutine has
-abbrev pub parts_refusal : ℕ → Function → Option Refusal
+unfoldable pub parts_refusal : ℕ → Function → Option Refusal
 parts_refusal k f =
     or_refusal Rule.K2 (wrong_call k f)
     (or_refusal Rule.K3 (wrong_switch k f)
     (or_refusal Rule.K4 (second_final k f) None))
 
 -- where they stand
-abbrev pub standing_refusal : ℕ → Function → PathFaults → Option Refusal
+unfoldable pub standing_refusal : ℕ → Function → PathFaults → Option Refusal
 standing_refusal k f x =
     or_refusal Rule.K5 x.outside
     (or_refusal Rule.K6 x.window
@@ -73,7 +73,7 @@ standing_refusal k f x =
     (or_refusal Rule.K11 (suspend_too_many k f) None)))
 
 -- the shape of a coroutine, in a source alone
-abbrev pub shape_refusal : Stage → ℕ → Function → PathFaults → Option Refusal
+unfoldable pub shape_refusal : Stage → ℕ → Function → PathFaults → Option Refusal
 shape_refusal Stage.Source k f x = or_later (parts_refusal k f) (standing_refusal k f x)
 shape_refusal Stage.Plain k f x = None
 

@@ -17,11 +17,7 @@ pub struct PathFaults {
     pub window: Option<Place>,
 }
 
-fn faults_of(
-    alloc: Global,
-    func: FuncId,
-    function: &Function,
-) -> Result<PathFaults, AllocError>
+fn faults_of(alloc: Global, func: FuncId, function: &Function) -> Result<PathFaults, AllocError>
     ensures { IfOk result (λ x. AreFaultsOf func function.now x) }
 {
     let undefined_use = first_undefined_use(alloc, func, function)?;

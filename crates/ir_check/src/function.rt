@@ -29,6 +29,7 @@ pub fn broken(rule: Rule, place: Place) -> Option<Refusal>
 }
 
 /// The types of values, what is called, how large types are, and what must be a tail call: Y1, Y3, Y4, Y5.
+#[tactic(auto, unfolding(crate::specs::Order::value_refusal))]
 fn value_refusal(
     alloc: Global,
     stage: Stage,
@@ -54,6 +55,7 @@ fn value_refusal(
 }
 
 /// Edges into blocks, uses without a definition, and allocas: F1, F2, F3.
+#[tactic(auto, unfolding(crate::specs::Order::flow_refusal))]
 fn flow_refusal(
     alloc: Global,
     func: FuncId,
@@ -75,6 +77,7 @@ fn flow_refusal(
 }
 
 /// Functions' addresses and calls of them, which a plain module may have: P1.
+#[tactic(auto, unfolding(crate::specs::Order::pointer_refusal))]
 fn pointer_refusal(
     stage: Stage,
     sizes: &Sizes<'_>,
@@ -93,6 +96,7 @@ fn pointer_refusal(
 }
 
 /// Addresses of functions, and where coro intrinsics stand: P1, K1.
+#[tactic(auto, unfolding(crate::specs::Order::placing_refusal))]
 fn placing_refusal(
     alloc: Global,
     stage: Stage,
@@ -112,6 +116,7 @@ fn placing_refusal(
 }
 
 /// The parts that a coroutine has: K2, K3, K4.
+#[tactic(auto, unfolding(crate::specs::Order::parts_refusal))]
 fn parts_refusal(
     alloc: Global,
     func: FuncId,
@@ -132,6 +137,7 @@ fn parts_refusal(
 }
 
 /// Where they stand: K5, K6, K10, K11.
+#[tactic(auto, unfolding(crate::specs::Order::standing_refusal))]
 fn standing_refusal(
     alloc: Global,
     func: FuncId,
@@ -156,6 +162,7 @@ fn standing_refusal(
 }
 
 /// The shape of a coroutine of a source.
+#[tactic(auto, unfolding(crate::specs::Order::shape_refusal))]
 fn shape_refusal(
     alloc: Global,
     stage: Stage,

@@ -54,7 +54,13 @@ fn named_refusal(
     if let Some(place) = first_misaligned_global(sizes.names)? {
         return Ok(broken(Rule::Y4, place));
     }
-    functions_refusal(alloc, stage, sizes, faults, sizes.names.source.functions.as_slice())
+    functions_refusal(
+        alloc,
+        stage,
+        sizes,
+        faults,
+        sizes.names.source.functions.as_slice(),
+    )
 }
 
 fn items_refusal(
