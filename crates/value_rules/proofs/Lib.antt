@@ -1,4 +1,3 @@
 pub mod Notings
 pub mod Parts
 pub mod Words
-pub mod Types

@@ -1,4 +1,4 @@
-use Rattle.value_rules.proofs.Types.{decided}
+use Rattle.type_rules.proofs.Types.{decided}
 use Rattle.value_rules.proofs.fits.is_same_type.Goals as goal
 
 pub returns : goal.returns
