@@ -1,5 +1,5 @@
 -- A coroutine that rule K2 leaves has an id with a token.
-use Rattle.std.proofs.Common.{◌≡◌, ◌+◌, ℕ, Bool, true, false, ◌||◌, not, List, [], ◌∷◌, ◌++◌, length, refl, sym, ap, ◌∙◌}
+use Rattle.std.proofs.Common.{◌≡◌, ◌+◌, ℕ, Bool, true, false, ◌||◌, not, List, [], ◌∷◌, ◌++◌, length, refl, sym, ap, subst, ◌∙◌}
 use Rattle.std.proofs.lemmas.Bool.{false≢true}
 use Rattle.std.specs.Prelude.{Option, Some, None, find, is_some, is_none, option_and_then, unwrap_or, IsTrue, if◌then◌else◌}
 use Rattle.coro_base.specs.declared.outcome.Place.{Place}
@@ -14,12 +14,14 @@ use Rattle.ir_model.specs.declared.operand.Callee.{Callee}
 use Rattle.ir_model.specs.declared.operand.Intrinsic.{Intrinsic}
 use Rattle.ir_model.specs.declared.operand.Operand.{Operand}
 use Rattle.ir_paths.specs.Windows.{call_result, is_call_of, operand_at}
-use Rattle.coro_shape.specs.Calls.{first_call, first_call_by, first_call_in, is_value, or_instr, value_of_first}
+use Rattle.coro_calls.specs.Calls.{first_call, first_call_by, first_call_in, is_value, or_instr, value_of_first}
 use Rattle.coro_shape.specs.OneOfEach.{breaks_calls, calls_of, is_missing, is_right_instr, is_second, wrong_call}
 use Rattle.coro_shape.specs.Promise.{wrong_promise}
 use Rattle.coro_shape.specs.Suspends.{second_final, suspend_too_many}
 use Rattle.coro_shape.specs.Switches.{wrong_switch}
-use Rattle.coro_shape.specs.Shape.{HasToken, answer_in, or_refused, shape_in}
+use Rattle.coro_shape.specs.Shape.{After, EndsInShape, GoesByPaths, HasToken, IsAnswer, shape_in}
+use Rattle.window_rules.specs.Outside.{IsFirstOutside}
+use Rattle.window_rules.specs.Windows.{IsFirstWindow}
 use Rattle.coro_shape.specs.declared.one_of_each.Calls.{Calls}
 use Rattle.coro_shape.specs.declared.shape.Answer.{Answer}
 
@@ -137,28 +139,69 @@ has_token func f h =
 
 -- ---- the answer
 
-or_has : (f : Function) (rule : Rule) (o : Option Place) (a : Answer) → HasToken f a → HasToken f (or_refused rule o a)
-or_has f rule None a h = h
-or_has f rule (Some p) a h = tt
+pub after_some : (rule : Rule) (o : Option Place) (p : Place) (a : Answer) (Later : Type 0) → o ≡ Some p → a ≡ Answer.Refused rule p → After rule o a Later
+after_some rule o p a Later e is = subst (λ (q : Option Place). After rule q a Later) (sym e) is
+
+pub after_none : (rule : Rule) (o : Option Place) (a : Answer) (Later : Type 0) → o ≡ None → Later → After rule o a Later
+after_none rule o a Later e h = subst (λ (q : Option Place). After rule q a Later) (sym e) h
 
 unwrapped : (o : Option ℕ) → is_some o ≡ true → o ≡ Some (unwrap_or o 0)
 unwrapped None e = absurd (false≢true e)
 unwrapped (Some n) e = refl
 
-by_first : (f : Function) (o : Option Place) (a : Answer) → (o ≡ None → HasToken f a) → HasToken f (or_refused Rule.K2 o a)
-by_first f None a h = h refl
-by_first f (Some p) a h = tt
+refused_has : (f : Function) (rule : Rule) (p : Place) (a : Answer) → a ≡ Answer.Refused rule p → HasToken f a
+refused_has f rule p a e = subst (HasToken f) (sym e) tt
 
-pub token_is : (func : ℕ) (f : Function) → f.coroutine ≡ true → HasToken f (answer_in func f)
-token_is func f co =
-    let last = or_refused Rule.K11 (suspend_too_many func f) (Answer.Shape (shape_in func f)) in
-    let second = or_refused Rule.K10 (wrong_promise func f) last in
-    let finals = or_refused Rule.K4 (second_final func f) second in
+after_has : (f : Function) (rule : Rule) (o : Option Place) (a : Answer) (Later : Type 0) → (Later → HasToken f a) → After rule o a Later → HasToken f a
+after_has f rule None a Later h later = h later
+after_has f rule (Some p) a Later h e = refused_has f rule p a e
+
+ends_has : (func : ℕ) (f : Function) (a : Answer) → is_some (value_of_first Intrinsic.CoroId f) ≡ true → EndsInShape func f a → HasToken f a
+ends_has func f a there ends =
+    after_has f Rule.K10 (wrong_promise func f) a (After Rule.K11 (suspend_too_many func f) a (a ≡ Answer.Shape (shape_in func f)))
+    (after_has f Rule.K11 (suspend_too_many func f) a (a ≡ Answer.Shape (shape_in func f))
+    (λ e. subst (HasToken f) (sym e) (unwrapped (value_of_first Intrinsic.CoroId f) there)))
+    ends
+
+paths_have : (func : ℕ) (f : Function) (a : Answer) → is_some (value_of_first Intrinsic.CoroId f) ≡ true → GoesByPaths func f a → HasToken f a
+paths_have func f a there g =
+    after_has f Rule.K5 g.outside a (IsFirstWindow func f g.window × After Rule.K6 g.window a (EndsInShape func f a))
+    (λ w. after_has f Rule.K6 g.window a (EndsInShape func f a) (ends_has func f a there) w.1)
+    g.rest
+
+by_calls : (func : ℕ) (f : Function) (o : Option Place) (a : Answer) (Later : Type 0) → (o ≡ None → Later → HasToken f a) → After Rule.K2 o a Later → HasToken f a
+by_calls func f None a Later h later = h refl later
+by_calls func f (Some p) a Later h e = refused_has f Rule.K2 p a e
+
+pub token_is : (func : ℕ) (f : Function) (a : Answer) → f.coroutine ≡ true → IsAnswer func f a → HasToken f a
+token_is func f a co answer =
     let turned : wrong_call func f ≡ None → first_part (breaks_calls (calls_of func f)) (parts_of func f) ≡ None = λ none.
     sym (ap (λ (b : Bool). if b then first_part (breaks_calls (calls_of func f)) (parts_of func f) else None) co) ∙ none in
-    by_first f (wrong_call func f) (or_refused Rule.K3 (wrong_switch func f) finals) (λ none.
-    or_has f Rule.K3 (wrong_switch func f) finals
-    (or_has f Rule.K4 (second_final func f) second
-    (or_has f Rule.K10 (wrong_promise func f) last
-    (or_has f Rule.K11 (suspend_too_many func f) (Answer.Shape (shape_in func f))
-    (unwrapped (value_of_first Intrinsic.CoroId f) (has_token func f (turned none)))))))
+    by_calls func f (wrong_call func f) a (After Rule.K3 (wrong_switch func f) a (After Rule.K4 (second_final func f) a (GoesByPaths func f a)))
+    (λ none. after_has f Rule.K3 (wrong_switch func f) a (After Rule.K4 (second_final func f) a (GoesByPaths func f a))
+    (after_has f Rule.K4 (second_final func f) a (GoesByPaths func f a) (paths_have func f a (has_token func f (turned none)))))
+    answer
+
+-- ---- K5 and K6
+
+pub paths_outside : (func : ℕ) (f : Function) (o : Option Place) (p : Place) (a : Answer) → IsFirstOutside func f o → o ≡ Some p → a ≡ Answer.Refused Rule.K5 p → GoesByPaths func f a
+paths_outside func f o p a first e is =
+    record { outside = o; is_outside = first; window = None; rest = after_some Rule.K5 o p a (IsFirstWindow func f None × After Rule.K6 None a (EndsInShape func f a)) e is }
+
+pub paths_window : (func : ℕ) (f : Function) (o w : Option Place) (p : Place) (a : Answer) → IsFirstOutside func f o → o ≡ None → IsFirstWindow func f w → w ≡ Some p → a ≡ Answer.Refused Rule.K6 p → GoesByPaths func f a
+paths_window func f o w p a first none second e is =
+    record {
+      outside = o;
+      is_outside = first;
+      window = w;
+      rest = after_none Rule.K5 o a (IsFirstWindow func f w × After Rule.K6 w a (EndsInShape func f a)) none (second, after_some Rule.K6 w p a (EndsInShape func f a) e is);
+    }
+
+pub paths_ending : (func : ℕ) (f : Function) (o w : Option Place) (a : Answer) → IsFirstOutside func f o → o ≡ None → IsFirstWindow func f w → w ≡ None → EndsInShape func f a → GoesByPaths func f a
+paths_ending func f o w a first none second none2 ends =
+    record {
+      outside = o;
+      is_outside = first;
+      window = w;
+      rest = after_none Rule.K5 o a (IsFirstWindow func f w × After Rule.K6 w a (EndsInShape func f a)) none (second, after_none Rule.K6 w a (EndsInShape func f a) none2 ends);
+    }

@@ -1,4 +1,3 @@
-pub mod Calls
 pub mod Places
 pub mod Uses
 pub mod OneOfEach

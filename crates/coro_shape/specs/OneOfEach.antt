@@ -1,7 +1,7 @@
 -- Rule K2: one id, begin and end, and what they and alloc, free and save name.
 use Rattle.std.specs.Prelude.{ℕ, Bool, true, false, not, List, [], is_some, is_none, slice_get, Some, None, Option, ◌&&◌, ◌||◌, if◌then◌else◌}
 use Rattle.coro_base.specs.declared.outcome.Place.{Place}
-use Rattle.coro_shape.specs.Calls.{first_call, is_null, is_value, value_of_first}
+use Rattle.coro_calls.specs.Calls.{first_call, is_null, is_value, value_of_first}
 use Rattle.coro_shape.specs.Places.{is_spot, is_the, places_where}
 use Rattle.coro_shape.specs.declared.one_of_each.Calls.{Calls}
 use Rattle.function_parts.specs.Parts.{Part, OfInstr, Signature, first_part, parts_of}

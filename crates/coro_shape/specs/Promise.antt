@@ -1,7 +1,7 @@
 -- Rule K10: the promise.
 use Rattle.std.specs.Prelude.{ℕ, Bool, true, false, not, List, is_some, slice_get, Some, None, Option, option_map, option_and_then, position, ◌||◌, if◌then◌else◌, ◌==◌}
 use Rattle.coro_base.specs.declared.outcome.Place.{Place}
-use Rattle.coro_shape.specs.Calls.{first_call, is_null}
+use Rattle.coro_calls.specs.Calls.{first_call, is_null}
 use Rattle.coro_shape.specs.Places.{places_where}
 use Rattle.function_parts.specs.Parts.{place_if}
 use Rattle.ir_model.specs.declared.module.Function.{Function}

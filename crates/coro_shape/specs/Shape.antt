@@ -2,7 +2,7 @@
 use Rattle.std.specs.Prelude.{ℕ, Some, None, Option, unwrap_or, ◌≡◌}
 use Rattle.coro_base.specs.declared.outcome.Place.{Place}
 use Rattle.coro_base.specs.declared.rule.Rule.{Rule}
-use Rattle.coro_shape.specs.Calls.{value_of_first}
+use Rattle.coro_calls.specs.Calls.{value_of_first}
 use Rattle.coro_shape.specs.OneOfEach.{wrong_call}
 use Rattle.coro_shape.specs.Promise.{promise_slot, wrong_promise}
 use Rattle.coro_shape.specs.Suspends.{second_final, suspend_too_many, suspends_of}
@@ -14,6 +14,8 @@ use Rattle.ir_model.specs.declared.module.Function.{Function}
 use Rattle.ir_model.specs.declared.module.Module.{Module}
 use Rattle.ir_model.specs.declared.operand.Intrinsic.{Intrinsic}
 use Rattle.ir_paths.specs.Windows.{end_block}
+use Rattle.window_rules.specs.Outside.{IsFirstOutside}
+use Rattle.window_rules.specs.Windows.{IsFirstWindow}
 
 abbrev pub shape_in : ℕ → Function → Shape
 shape_in func f =
@@ -25,22 +27,35 @@ shape_in func f =
       promise = promise_slot f;
     }
 
-abbrev pub or_refused : Rule → Option Place → Answer → Answer
-or_refused rule (Some place) other = Answer.Refused rule place
-or_refused rule None other = other
+-- a rule with its first place is the answer where it is broken; else the answer is what comes after it
+abbrev pub After : Rule → Option Place → Answer → Type 0 → Type 0
+After rule (Some place) a Later = a ≡ Answer.Refused rule place
+After rule None a Later = Later
 
--- the first broken rule of K2, K3, K4, K10, K11 with its place, or else the shape
-abbrev pub answer_in : ℕ → Function → Answer
-answer_in func f =
-    or_refused Rule.K2 (wrong_call func f)
-    (or_refused Rule.K3 (wrong_switch func f)
-    (or_refused Rule.K4 (second_final func f)
-    (or_refused Rule.K10 (wrong_promise func f)
-    (or_refused Rule.K11 (suspend_too_many func f)
-    (Answer.Shape (shape_in func f))))))
+-- the answer by K10 and K11, and then the shape
+abbrev pub EndsInShape : ℕ → Function → Answer → Type 0
+EndsInShape func f a =
+    After Rule.K10 (wrong_promise func f) a
+    (After Rule.K11 (suspend_too_many func f) a
+    (a ≡ Answer.Shape (shape_in func f)))
 
-abbrev pub answer_of : Module → ℕ → Answer
-answer_of m func = answer_in func (function_at m func)
+-- the answer by K5 and K6, and then by those
+pub record GoesByPaths (func : ℕ) (f : Function) (a : Answer) : Type 0 where
+  pub outside : Option Place
+  pub is_outside : IsFirstOutside func f outside
+  pub window : Option Place
+  pub rest : After Rule.K5 outside a (IsFirstWindow func f window × After Rule.K6 window a (EndsInShape func f a))
+
+-- the answer: the first broken rule of K2, K3, K4, K5, K6, K10 and K11 with its place, or else the shape
+abbrev pub IsAnswer : ℕ → Function → Answer → Type 0
+IsAnswer func f a =
+    After Rule.K2 (wrong_call func f) a
+    (After Rule.K3 (wrong_switch func f) a
+    (After Rule.K4 (second_final func f) a
+    (GoesByPaths func f a)))
+
+abbrev pub IsAnswerOf : Module → ℕ → Answer → Type 0
+IsAnswerOf m func a = IsAnswer func (function_at m func) a
 
 -- the id of a shape is the token of the function's first id
 abbrev pub HasToken : Function → Answer → Type 0

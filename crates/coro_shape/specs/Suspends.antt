@@ -1,22 +1,15 @@
 -- Rules K4 and K11: final suspends, and how many suspends there may be.
 use Rattle.std.specs.Prelude.{ℕ, Bool, slice_get, None, Option, List, ◌&&◌, if◌then◌else◌}
 use Rattle.coro_base.specs.declared.outcome.Place.{Place}
-use Rattle.coro_shape.specs.Calls.{is_true}
+use Rattle.coro_calls.specs.Calls.{is_final}
 use Rattle.coro_shape.specs.Places.{places_where}
 use Rattle.ir_model.specs.declared.instr.Instr.{Instr}
 use Rattle.ir_model.specs.declared.module.Function.{Function}
-use Rattle.ir_model.specs.declared.operand.Arg.{Arg}
 use Rattle.ir_model.specs.declared.operand.Intrinsic.{Intrinsic}
-use Rattle.ir_paths.specs.Windows.{call_operand, is_call_of, operand_at}
+use Rattle.ir_paths.specs.Windows.{is_call_of}
 
 abbrev pub is_suspend : Instr → Bool
 is_suspend i = is_call_of Intrinsic.CoroSuspend i
-
-abbrev pub is_second_true : List Arg → Bool
-is_second_true args = is_true (operand_at args 1)
-
-abbrev pub is_final : Instr → Bool
-is_final i = is_true (call_operand i 1)
 
 abbrev pub is_final_suspend : Instr → Bool
 is_final_suspend i = is_suspend i && is_final i

@@ -2,7 +2,6 @@
 //! in LLVM", "Coroutine Structure Intrinsics").
 #![tactic(auto)]
 
-mod calls;
 mod one_of_each;
 mod places;
 mod promise;
@@ -13,11 +12,10 @@ mod switches;
 mod tests;
 mod uses;
 
-pub use calls::{call_result, first_call, is_call_of, is_true, operand_of, value_of_first};
 pub use one_of_each::first_wrong_call;
-pub use places::{CallOf, InstrTest, is_spot, places_where};
+pub use places::{is_spot, places_where};
 pub use promise::{allocas_of, first_wrong_promise, promise_slot, slot_of};
 pub use shape::{Answer, Shape, shape_of};
-pub use suspends::{first_second_final, first_suspend_too_many, is_final, suspends_of};
-pub use switches::{end_block, first_wrong_switch, is_number};
+pub use suspends::{first_second_final, first_suspend_too_many, suspends_of};
+pub use switches::{end_block, first_wrong_switch};
 pub use uses::{Uses, uses_in};

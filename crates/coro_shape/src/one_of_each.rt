@@ -3,9 +3,9 @@
 ghost use Rattle.std.specs.Prelude.{◌≡◌, IfOk};
 ghost use Rattle.coro_shape.specs.OneOfEach.{is_missing, second_call, calls_of, is_second, has_token, has_frame_at, has_no_other_frame, is_first_in_block, is_right, is_right_instr, breaks_calls, wrong_call};
 
-use crate::calls::{first_call, is_null, is_value, operand_of, value_of_first};
-use crate::places::{CallOf, is_spot, is_the, places_where};
+use crate::places::{is_spot, is_the, places_where};
 use coro_base::{FuncId, Place, ValueId};
+use coro_calls::{CallOf, first_call, is_null, is_value, operand_of, value_of_first};
 use function_parts::{FunctionRule, first_part};
 use ir_model::{Arg, Block, Callee, Function, Instr, Intrinsic, Phi, Terminator};
 use std::alloc::{AllocError, Global};

@@ -1,38 +1,13 @@
 //! The places of a function's instructions that pass a test.
 
-ghost use Rattle.std.specs.Prelude.{◌≡◌, ◌++◌, Bool, IfOk, OnOk};
-ghost use Rattle.ir_model.specs.declared.instr.Instr.{Instr as TheInstr};
-ghost use Rattle.ir_paths.specs.Windows.{is_call_of as is_call};
+ghost use Rattle.std.specs.Prelude.{◌≡◌, ◌++◌, IfOk, OnOk};
 ghost use Rattle.coro_shape.specs.Places.{place_of_passing, places_in, places_by, places_where as places_where_of, is_the as is_the_number, same_number, is_spot as is_spot_of};
 
-use crate::calls::is_call_of;
 use coro_base::{BlockId, FuncId, Items, Place};
+use coro_calls::InstrTest;
 use function_parts::{instr_place, next};
-use ir_model::{Block, Function, Instr, Intrinsic};
+use ir_model::{Block, Function, Instr};
 use std::alloc::{AllocError, Global};
-
-/// A test of instructions.
-pub trait InstrTest: Sized {
-    ghost instr_passes: { Self → TheInstr → Bool };
-
-    /// Whether the instruction passes.
-    fn passes(&self, instr: &Instr) -> bool
-        ensures { result ≡ instr_passes self.now instr.now };
-}
-
-/// The test for calls of an intrinsic.
-#[derive(Clone, Copy, Debug, Drop)]
-pub struct CallOf {
-    pub intrinsic: Intrinsic,
-}
-
-impl InstrTest for CallOf {
-    ghost instr_passes = { λ t. is_call t.intrinsic };
-
-    fn passes(&self, instr: &Instr) -> bool {
-        is_call_of(self.intrinsic, instr)
-    }
-}
 
 fn push_place<T: InstrTest>(
     test: &T,

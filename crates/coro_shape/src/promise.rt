@@ -6,9 +6,9 @@ ghost use Rattle.ir_paths.specs.Windows.{call_operand};
 ghost use Rattle.ir_model.specs.declared.operand.Operand.{Operand as TheOperand};
 ghost use Rattle.coro_shape.specs.Promise.{slot_of as slot_of_alloca, slot_named, promise_operand, promise_slot as slot_of_promise, is_promise, is_wrong_promise, wrong_promise};
 
-use crate::calls::{first_call, is_null, operand_of};
-use crate::places::{CallOf, places_where};
+use crate::places::places_where;
 use coro_base::{FuncId, Items, Place, SlotId, ValueId};
+use coro_calls::{CallOf, first_call, is_null, operand_of};
 use ir_model::{Block, Function, Instr, Intrinsic, Operand};
 use std::alloc::{AllocError, Global};
 

@@ -2,16 +2,17 @@
 
 ghost use Rattle.std.specs.Prelude.{◌≡◌, IfOk, IsTrue};
 ghost use Rattle.ir_model.specs.Names.{function_at};
-ghost use Rattle.coro_shape.specs.Shape.{shape_in, answer_in, answer_of, HasToken};
+ghost use Rattle.coro_shape.specs.Shape.{shape_in, EndsInShape, GoesByPaths, HasToken, IsAnswer, IsAnswerOf};
 
-use crate::calls::value_of_first;
 use crate::one_of_each::first_wrong_call;
 use crate::promise::{first_wrong_promise, promise_slot};
 use crate::suspends::{first_second_final, first_suspend_too_many, suspends_of};
 use crate::switches::{end_block, first_wrong_switch};
 use coro_base::{BlockId, FuncId, Items, Place, Rule, SlotId, ValueId};
+use coro_calls::value_of_first;
 use ir_model::{Function, Intrinsic, Module};
 use std::alloc::{AllocError, Global};
+use window_rules::{first_outside, first_wrong_window};
 
 /// The id, begin, end, suspends and promise of a coroutine ("Coroutines in LLVM", "Coroutine Structure Intrinsics").
 #[derive(Drop)]
@@ -79,8 +80,38 @@ fn shape_in(alloc: Global, func: FuncId, function: &Function) -> Result<Shape, A
     })
 }
 
+/// The answer by K10 and K11, and then the shape.
+#[tactic(auto, using(crate::proofs::Tokens::after_some, crate::proofs::Tokens::after_none))]
+fn ending(alloc: Global, func: FuncId, function: &Function) -> Result<Answer, AllocError>
+    ensures { IfOk result (EndsInShape func function.now) }
+{
+    if let Some(place) = first_wrong_promise(alloc, func, function)? {
+        return Ok(Answer::Refused(Rule::K10, place));
+    }
+    if let Some(place) = first_suspend_too_many(alloc, func, function)? {
+        return Ok(Answer::Refused(Rule::K11, place));
+    }
+    Ok(Answer::Shape(shape_in(alloc, func, function)?))
+}
+
+/// The answer by K5 and K6, and then by those.
+#[tactic(auto, using(crate::proofs::Tokens::paths_outside, crate::proofs::Tokens::paths_window, crate::proofs::Tokens::paths_ending))]
+fn by_paths(alloc: Global, func: FuncId, function: &Function) -> Result<Answer, AllocError>
+    ensures { IfOk result (GoesByPaths func function.now) }
+{
+    if let Some(place) = first_outside(alloc, func, function)? {
+        return Ok(Answer::Refused(Rule::K5, place));
+    }
+    if let Some(place) = first_wrong_window(alloc, func, function)? {
+        return Ok(Answer::Refused(Rule::K6, place));
+    }
+    let answer = ending(alloc, func, function)?;
+    Ok(answer)
+}
+
+#[tactic(auto, using(crate::proofs::Tokens::after_some, crate::proofs::Tokens::after_none))]
 fn answer_in(alloc: Global, func: FuncId, function: &Function) -> Result<Answer, AllocError>
-    ensures { IfOk result (λ a. a ≡ answer_in func function.now) }
+    ensures { IfOk result (IsAnswer func function.now) }
 {
     if let Some(place) = first_wrong_call(alloc, func, function)? {
         return Ok(Answer::Refused(Rule::K2, place));
@@ -91,24 +122,23 @@ fn answer_in(alloc: Global, func: FuncId, function: &Function) -> Result<Answer,
     if let Some(place) = first_second_final(alloc, func, function)? {
         return Ok(Answer::Refused(Rule::K4, place));
     }
-    if let Some(place) = first_wrong_promise(alloc, func, function)? {
-        return Ok(Answer::Refused(Rule::K10, place));
-    }
-    if let Some(place) = first_suspend_too_many(alloc, func, function)? {
-        return Ok(Answer::Refused(Rule::K11, place));
-    }
-    Ok(Answer::Shape(shape_in(alloc, func, function)?))
+    let answer = by_paths(alloc, func, function)?;
+    Ok(answer)
 }
 
-/// The shape of a coroutine of the module, or the first rule of K2, K3, K4, K10 and K11 that it breaks, with the place.
+/// The shape of a coroutine of the module, or the first rule of K2, K3, K4, K5, K6, K10 and K11 that it breaks, with the
+/// place.
 #[tactic(auto, using(crate::proofs::Tokens::token_is))]
 pub fn shape_of(alloc: Global, source: &Module, func: FuncId) -> Result<Answer, AllocError>
     requires { IsTrue (function_at source.now func).coroutine }
-    ensures answer { IfOk result (λ a. a ≡ answer_of source.now func) }
+    ensures answer { IfOk result (IsAnswerOf source.now func) }
     ensures token { IfOk result (λ a. HasToken (function_at source.now func) a) }
 {
     match source.functions.get(func) {
         None => unreachable!(),
-        Some(function) => answer_in(alloc, func, function),
+        Some(function) => {
+            let answer = answer_in(alloc, func, function)?;
+            Ok(answer)
+        }
     }
 }

@@ -1,12 +1,12 @@
 //! Final suspends (rule K4), and how many suspends there may be (rule K11).
 
 ghost use Rattle.std.specs.Prelude.{◌≡◌, IfOk};
-ghost use Rattle.coro_shape.specs.Suspends.{is_suspend as is_suspend_of, is_second_true, is_final, is_final_suspend, suspends_of as suspends_in, second_final, suspend_too_many};
+ghost use Rattle.coro_shape.specs.Suspends.{is_suspend as is_suspend_of, is_final_suspend, suspends_of as suspends_in, second_final, suspend_too_many};
 
-use crate::calls::{is_call_of, is_true, operand_of};
-use crate::places::{InstrTest, places_where};
+use crate::places::places_where;
 use coro_base::{FuncId, Items, Place};
-use ir_model::{Arg, Function, Instr, Intrinsic};
+use coro_calls::{InstrTest, is_call_of, is_final};
+use ir_model::{Function, Instr, Intrinsic};
 use std::alloc::{AllocError, Global};
 
 /// How many suspends a coroutine has at most.
@@ -24,25 +24,6 @@ fn is_suspend(instr: &Instr) -> bool
     ensures { result ≡ is_suspend_of instr.now }
 {
     is_call_of(Intrinsic::CoroSuspend, instr)
-}
-
-fn is_second_true(args: &[Arg]) -> bool
-    ensures { result ≡ is_second_true args.now }
-{
-    match operand_of(args, 1) {
-        None => false,
-        Some(operand) => is_true(operand),
-    }
-}
-
-/// Whether the second operand of a call is true: of a suspend, whether it is final.
-pub fn is_final(instr: &Instr) -> bool
-    ensures { result ≡ is_final instr.now }
-{
-    match instr {
-        Instr::Call { args, .. } => is_second_true(args.as_slice()),
-        _ => false,
-    }
 }
 
 impl InstrTest for Suspend {

@@ -3,16 +3,16 @@
 ghost use Rattle.std.specs.Prelude.{◌≡◌, ◌+◌, IfOk, MatchOption, None, Some, length, replicate, nat_le, option_and_then, slice_get};
 ghost use Rattle.std.specs.List.{list_any};
 ghost use Rattle.ir_model.specs.declared.operand.Intrinsic.{Intrinsic as TheIntrinsic};
-ghost use Rattle.ir_paths.specs.Windows.{is_number, is_call_of as is_call, end_block as end_block_of};
+ghost use Rattle.ir_paths.specs.Windows.{is_call_of as is_call, end_block as end_block_of};
 ghost use Rattle.coro_shape.specs.Uses.{counted_all, operands_of, uses_of};
 ghost use Rattle.coro_shape.specs.Switches.{end_label, end_from, are_both, is_switch_on, is_last, is_switched_in, is_switched, breaks_switch, wrong_switch};
 
-use crate::calls::{call_result, is_call_of, is_value};
 use crate::places::is_the;
 use crate::uses::{Uses, uses_in};
 use coro_base::{BlockId, FuncId, Place, ValueId};
+use coro_calls::{call_result, is_call_of, is_number, is_value};
 use function_parts::{FunctionRule, first_part};
-use ir_model::{Block, Case, Function, Instr, Intrinsic, Operand, Phi, Terminator};
+use ir_model::{Block, Case, Function, Instr, Intrinsic, Phi, Terminator};
 use std::alloc::{AllocError, Global};
 
 /// The uses of a function's locals and the label of its end's block, by which the switches of its suspends are looked at.
@@ -62,16 +62,6 @@ fn end_label(function: &Function) -> Option<ValueId>
     match function.blocks.get(end_block(function)) {
         None => None,
         Some(block) => Some(block.label),
-    }
-}
-
-/// Whether the operand is the number.
-pub fn is_number(number: u64, operand: &Operand) -> bool
-    ensures { result ≡ is_number number operand.now }
-{
-    match operand {
-        Operand::Number(n) => *n == i128::from(number),
-        _ => false,
     }
 }
 

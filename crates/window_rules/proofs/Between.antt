@@ -78,8 +78,8 @@ any_to : (test : Point → Bool) (xs : List Point) (q : Point) → has_point xs 
 any_to test [] q e h = e
 any_to test (x ∷ xs) q e h =
     elim (or_cases (same_point q x) (has_point xs q) e) [
-      inl s ↦ or_first (test x) (list_any test xs) (sym (ap test (same_point-same q x s)) ∙ h)
-    | inr s ↦ or_second (test x) (list_any test xs) (any_to test xs q s h)
+      | inl s ↦ or_first (test x) (list_any test xs) (sym (ap test (same_point-same q x s)) ∙ h)
+      | inr s ↦ or_second (test x) (list_any test xs) (any_to test xs q s h)
     ]
 
 kept_from : (test : Point → Bool) (xs : List Point) (q : Point) → has_point (filter test xs) q ≡ true → (has_point xs q ≡ true) × (test q ≡ true)
@@ -89,8 +89,8 @@ kept_from test (x ∷ xs) q e = by (kept_from test xs q) (test x) refl e
     by : (has_point (filter test xs) q ≡ true → (has_point xs q ≡ true) × (test q ≡ true)) → (b : Bool) → test x ≡ b → has_point (cond b (x ∷ filter test xs) (filter test xs)) q ≡ true → (has_point (x ∷ xs) q ≡ true) × (test q ≡ true)
     by later true t h =
         elim (or_cases (same_point q x) (has_point (filter test xs) q) h) [
-          inl s ↦ (or_first (same_point q x) (has_point xs q) s, ap test (same_point-same q x s) ∙ t)
-        | inr s ↦ (or_second (same_point q x) (has_point xs q) (later s).0, (later s).1)
+          | inl s ↦ (or_first (same_point q x) (has_point xs q) s, ap test (same_point-same q x s) ∙ t)
+          | inr s ↦ (or_second (same_point q x) (has_point xs q) (later s).0, (later s).1)
         ]
     by later false t h = (or_second (same_point q x) (has_point xs q) (later h).0, (later h).1)
 
@@ -101,20 +101,20 @@ kept_to test (x ∷ xs) q e h = by (λ s. kept_to test xs q s h) (test x) refl
     by : (has_point xs q ≡ true → has_point (filter test xs) q ≡ true) → (b : Bool) → test x ≡ b → has_point (cond b (x ∷ filter test xs) (filter test xs)) q ≡ true
     by later true t =
         elim (or_cases (same_point q x) (has_point xs q) e) [
-          inl s ↦ or_first (same_point q x) (has_point (filter test xs) q) s
-        | inr s ↦ or_second (same_point q x) (has_point (filter test xs) q) (later s)
+          | inl s ↦ or_first (same_point q x) (has_point (filter test xs) q) s
+          | inr s ↦ or_second (same_point q x) (has_point (filter test xs) q) (later s)
         ]
     by later false t =
         elim (or_cases (same_point q x) (has_point xs q) e) [
-          inl s ↦ absurd (false≢true (sym t ∙ sym (ap test (same_point-same q x s)) ∙ h))
-        | inr s ↦ later s
+          | inl s ↦ absurd (false≢true (sym t ∙ sym (ap test (same_point-same q x s)) ∙ h))
+          | inr s ↦ later s
         ]
 
 one_is : (q s : Point) → has_point (s ∷ []) q ≡ true → q ≡ s
 one_is q s e =
     elim (or_cases (same_point q s) false e) [
-      inl h ↦ same_point-same q s h
-    | inr h ↦ absurd (false≢true h)
+      | inl h ↦ same_point-same q s h
+      | inr h ↦ absurd (false≢true h)
     ]
 
 one_has : (s : Point) → has_point (s ∷ []) s ≡ true
@@ -261,8 +261,8 @@ has_leaving_edge_is f k s back starts avoided reached set b way there stands es 
         outside : IsInWindow f k s q → ⊥
         outside i =
             elim (or_cases (same_point q k) (not (is_marked set q)) (and_second (not (same_point q s)) (same_point q k || not (is_marked set q)) h)) [
-              inl a ↦ false≢true (sym i.is_not_save ∙ a)
-            | inr a ↦ false≢true (sym (not_true (is_marked set q) a) ∙ marks.each q ∙ (way.each q).1 i.to_suspend)
+              | inl a ↦ false≢true (sym i.is_not_save ∙ a)
+              | inr a ↦ false≢true (sym (not_true (is_marked set q) a) ∙ marks.each q ∙ (way.each q).1 i.to_suspend)
             ]
 
     sound : IsTrue b → HasLeavingEdge f k s
@@ -285,10 +285,10 @@ has_leaving_edge_is f k s back starts avoided reached set b way there stands es 
         let from = leads-more f (k ∷ s ∷ []) k h.from q h.is_inside.from_save (neither k s h.from h.is_inside.is_not_save h.is_inside.is_not_suspend) h.is_edge in
         let there' = (all.each q).1 (record { start = k; is_start = subst (λ (l : List Point). has_point l k ≡ true) (sym es) (one_has k); path = subst (λ (l : List Point). Leads f l k q) (sym ea) from }) in
         let test : is_off set k s q ≡ true = and_both (not (same_point q s)) (same_point q k || not (is_marked set q)) (not_false (same_point q s) h.is_not_suspend)
-            (elim (decide (same_point q k)) [
-              inl a ↦ or_first (same_point q k) (not (is_marked set q)) a
-            | inr a ↦ or_second (same_point q k) (not (is_marked set q)) (not_false (is_marked set q) (is_outside q h.is_outside from h.is_not_suspend a))
-            ]) in
+        (elim (decide (same_point q k)) [
+          | inl a ↦ or_first (same_point q k) (not (is_marked set q)) a
+          | inr a ↦ or_second (same_point q k) (not (is_marked set q)) (not_false (is_marked set q) (is_outside q h.is_outside from h.is_not_suspend a))
+        ]) in
         eb ∙ any_to (is_off set k s) reached q there' test
 
 -- ---- a window
@@ -296,15 +296,15 @@ has_leaving_edge_is f k s back starts avoided reached set b way there stands es 
 comes_back_is : (f : Function) (k s : Point) (back : List Point) → AreOnTheWay f k s back → (r : Point) → comes_back back k s r ≡ true → ComesBack f k s r
 comes_back_is f k s back way r e =
     elim (or_cases (same_point r s) (not (same_point r k) && has_point back r) e) [
-      inl a ↦ inl (same_point-same r s a)
-    | inr a ↦ inr (not_true (same_point r k) (and_first (not (same_point r k)) (has_point back r) a), (way.each r).0 (and_second (not (same_point r k)) (has_point back r) a))
+      | inl a ↦ inl (same_point-same r s a)
+      | inr a ↦ inr (not_true (same_point r k) (and_first (not (same_point r k)) (has_point back r) a), (way.each r).0 (and_second (not (same_point r k)) (has_point back r) a))
     ]
 
 comes_back_has : (f : Function) (k s : Point) (back : List Point) → AreOnTheWay f k s back → (r : Point) → ComesBack f k s r → comes_back back k s r ≡ true
 comes_back_has f k s back way r c =
     elim c [
-      inl a ↦ or_first (same_point r s) (not (same_point r k) && has_point back r) (ap (λ (v : Point). same_point v s) a ∙ same_point-itself s)
-    | inr a ↦ or_second (same_point r s) (not (same_point r k) && has_point back r) (and_both (not (same_point r k)) (has_point back r) (not_false (same_point r k) a.0) ((way.each r).1 a.1))
+      | inl a ↦ or_first (same_point r s) (not (same_point r k) && has_point back r) (ap (λ (v : Point). same_point v s) a ∙ same_point-itself s)
+      | inr a ↦ or_second (same_point r s) (not (same_point r k) && has_point back r) (and_both (not (same_point r k)) (has_point back r) (not_false (same_point r k) a.0) ((way.each r).1 a.1))
     ]
 
 way_back_is : (f : Function) (k s : Point) (back : List Point) → AreOnTheWay f k s back → has_way_back f back k s ≡ true → HasWayBack f k s
@@ -312,8 +312,8 @@ way_back_is f k s back way e =
     let a = entry_point f (resume_label f s) in
     let b = entry_point f (destroy_label f s) in
     elim (or_cases (comes_back back k s a) (comes_back back k s b) e) [
-      inl h ↦ record { first = a; is_first = or_first (same_point a a) (same_point a b || false) (same_point-itself a); comes_back = comes_back_is f k s back way a h }
-    | inr h ↦ record { first = b; is_first = or_second (same_point b a) (same_point b b || false) (or_first (same_point b b) false (same_point-itself b)); comes_back = comes_back_is f k s back way b h }
+      | inl h ↦ record { first = a; is_first = or_first (same_point a a) (same_point a b || false) (same_point-itself a); comes_back = comes_back_is f k s back way a h }
+      | inr h ↦ record { first = b; is_first = or_second (same_point b a) (same_point b b || false) (or_first (same_point b b) false (same_point-itself b)); comes_back = comes_back_is f k s back way b h }
     ]
 
 way_back_has : (f : Function) (k s : Point) (back : List Point) → AreOnTheWay f k s back → HasWayBack f k s → has_way_back f back k s ≡ true
@@ -322,8 +322,8 @@ way_back_has f k s back way h =
     let b = entry_point f (destroy_label f s) in
     let test = comes_back_has f k s back way h.first h.comes_back in
     elim (or_cases (same_point h.first a) (same_point h.first b || false) h.is_first) [
-      inl e ↦ or_first (comes_back back k s a) (comes_back back k s b) (sym (ap (λ (v : Point). comes_back back k s v) (same_point-same h.first a e)) ∙ test)
-    | inr e ↦ or_second (comes_back back k s a) (comes_back back k s b) (sym (ap (λ (v : Point). comes_back back k s v) (same_point-same h.first b (only_first (same_point h.first b) e))) ∙ test)
+      | inl e ↦ or_first (comes_back back k s a) (comes_back back k s b) (sym (ap (λ (v : Point). comes_back back k s v) (same_point-same h.first a e)) ∙ test)
+      | inr e ↦ or_second (comes_back back k s a) (comes_back back k s b) (sym (ap (λ (v : Point). comes_back back k s v) (same_point-same h.first b (only_first (same_point h.first b) e))) ∙ test)
     ]
   where
     only_first : (t : Bool) → (t || false) ≡ true → t ≡ true

@@ -72,8 +72,8 @@ outside_sound f out after before ho ha hb p (Head b) e = false≢true e
 outside_sound f out after before ho ha hb p (OfPhi b) e = false≢true e
 outside_sound f out after before ho ha hb p (OfInstr i) e =
     elim (or_cases (ends_with_it i && is_marked after (point_of f p)) (needs_begin i && is_marked before (point_of f p)) e) [
-      inl a ↦ inl (and_first (ends_with_it i) (is_marked after (point_of f p)) a, (ha.each (point_of f p)).0 (and_second (ends_with_it i) (is_marked after (point_of f p)) a))
-    | inr b ↦ inr (and_first (needs_begin i) (is_marked before (point_of f p)) b, (hb.each (point_of f p)).0 (and_second (needs_begin i) (is_marked before (point_of f p)) b))
+      | inl a ↦ inl (and_first (ends_with_it i) (is_marked after (point_of f p)) a, (ha.each (point_of f p)).0 (and_second (ends_with_it i) (is_marked after (point_of f p)) a))
+      | inr b ↦ inr (and_first (needs_begin i) (is_marked before (point_of f p)) b, (hb.each (point_of f p)).0 (and_second (needs_begin i) (is_marked before (point_of f p)) b))
     ]
 outside_sound f out after before ho ha hb p (Ending t) e =
     (and_first (is_return t) (is_marked out (point_of f p)) e, (ho.each (point_of f p)).0 (and_second (is_return t) (is_marked out (point_of f p)) e))
@@ -84,8 +84,8 @@ outside_complete f out after before ho ha hb p (Head b) s = absurd s
 outside_complete f out after before ho ha hb p (OfPhi b) s = absurd s
 outside_complete f out after before ho ha hb p (OfInstr i) s =
     elim s [
-      inl a ↦ or_first (ends_with_it i && is_marked after (point_of f p)) (needs_begin i && is_marked before (point_of f p)) (and_both (ends_with_it i) (is_marked after (point_of f p)) a.0 ((ha.each (point_of f p)).1 a.1))
-    | inr b ↦ or_second (ends_with_it i && is_marked after (point_of f p)) (needs_begin i && is_marked before (point_of f p)) (and_both (needs_begin i) (is_marked before (point_of f p)) b.0 ((hb.each (point_of f p)).1 b.1))
+      | inl a ↦ or_first (ends_with_it i && is_marked after (point_of f p)) (needs_begin i && is_marked before (point_of f p)) (and_both (ends_with_it i) (is_marked after (point_of f p)) a.0 ((ha.each (point_of f p)).1 a.1))
+      | inr b ↦ or_second (ends_with_it i && is_marked after (point_of f p)) (needs_begin i && is_marked before (point_of f p)) (and_both (needs_begin i) (is_marked before (point_of f p)) b.0 ((hb.each (point_of f p)).1 b.1))
     ]
 outside_complete f out after before ho ha hb p (Ending t) s = and_both (is_return t) (is_marked out (point_of f p)) s.0 ((ho.each (point_of f p)).1 s.1)
 
@@ -129,8 +129,8 @@ without_begin_some f old set bs starts first e es ef h reached more = record { e
     way : (p : Point) → is_marked set p ≡ true → (p ≡ entry) ⊎ IsReached f (entry ∷ []) (begins f) p
     way p m =
         elim (or_cases (is_marked old p) (same_point p first) (sym (more p) ∙ m)) [
-          inl a ↦ inr (into p ((reached.each p).0 a))
-        | inr b ↦ inl (same_point-same p first b ∙ ef)
+          | inl a ↦ inr (into p ((reached.each p).0 a))
+          | inr b ↦ inl (same_point-same p first b ∙ ef)
         ]
 
     sound : (p : Point) → IsTrue (is_marked set p) → IsWithoutBegin f p
@@ -139,6 +139,6 @@ without_begin_some f old set bs starts first e es ef h reached more = record { e
     complete : (p : Point) → IsWithoutBegin f p → IsTrue (is_marked set p)
     complete p w =
         elim w.path [
-          inl a ↦ more p ∙ or_second (is_marked old p) (same_point p first) (ap (λ (q : Point). same_point q first) (a ∙ sym ef) ∙ same_point-itself first)
-        | inr b ↦ more p ∙ or_first (is_marked old p) (same_point p first) ((reached.each p).1 (back p b))
+          | inl a ↦ more p ∙ or_second (is_marked old p) (same_point p first) (ap (λ (q : Point). same_point q first) (a ∙ sym ef) ∙ same_point-itself first)
+          | inr b ↦ more p ∙ or_first (is_marked old p) (same_point p first) ((reached.each p).1 (back p b))
         ]

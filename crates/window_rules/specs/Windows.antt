@@ -1,7 +1,7 @@
 -- Rule K6: the windows of saves.
 use Rattle.std.specs.Prelude.{ℕ, Bool, true, false, not, List, [], IsTrue, IsFalse, Some, None, Option, is_some, option_and_then, ◌≡◌, ◌&&◌, ◌||◌, ◌⊎◌, ◌∷◌}
 use Rattle.coro_base.specs.declared.outcome.Place.{Place}
-use Rattle.coro_shape.specs.Suspends.{is_final}
+use Rattle.coro_calls.specs.Calls.{is_final}
 use Rattle.ir_model.specs.declared.instr.Instr.{Instr}
 use Rattle.ir_model.specs.declared.module.Function.{Function}
 use Rattle.ir_model.specs.declared.operand.Intrinsic.{Intrinsic}

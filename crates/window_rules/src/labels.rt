@@ -4,7 +4,7 @@ ghost use Rattle.std.specs.Prelude.{◌≡◌, slice_get};
 ghost use Rattle.ir_paths.specs.Windows.{label_in, label_of_term, resume_label as resume_label_of, destroy_label as destroy_label_of, label_at};
 
 use coro_base::{BlockId, ValueId};
-use coro_shape::is_number;
+use coro_calls::is_number;
 use ir_model::{Case, Function, Terminator};
 use ir_paths::Point;
 

@@ -9,7 +9,7 @@ ghost use Rattle.window_rules.specs.Outside.{ends_with_it, needs_begin, is_retur
 use crate::points::{has_point, point_of, points_where};
 use crate::sets::{PointSet, reached_set};
 use coro_base::{FuncId, Place};
-use coro_shape::{CallOf, is_call_of};
+use coro_calls::{CallOf, is_call_of};
 use function_parts::{FunctionRule, first_part};
 use ir_model::{Block, Function, Instr, Intrinsic, Phi, Terminator};
 use ir_paths::Point;
@@ -69,8 +69,10 @@ impl FunctionRule for Outside<'_> {
 
     fn breaks_instr(&self, place: Place, instr: &Instr) -> Result<bool, AllocError> {
         let point = point_of(self.function, place);
-        Ok((ends_with_it(instr) && self.after.has(point))
-            || (needs_begin(instr) && self.before.has(point)))
+        Ok(
+            (ends_with_it(instr) && self.after.has(point))
+                || (needs_begin(instr) && self.before.has(point)),
+        )
     }
 
     fn breaks_ending(&self, place: Place, term: &Terminator) -> Result<bool, AllocError> {
@@ -111,7 +113,13 @@ fn outside_of<'a>(alloc: Global, function: &'a Function) -> Result<Outside<'a>, 
     };
     let begins = points_where(alloc, &begin, function)?;
     let ends = points_where(alloc, &end, function)?;
-    let out = reached_set(alloc, &mut graph, function, begins.as_slice(), ends.as_slice())?;
+    let out = reached_set(
+        alloc,
+        &mut graph,
+        function,
+        begins.as_slice(),
+        ends.as_slice(),
+    )?;
     let after = reached_set(alloc, &mut graph, function, ends.as_slice(), &[])?;
     let before = without_begin(alloc, &mut graph, function, begins.as_slice())?;
     Ok(Outside {

@@ -6,7 +6,7 @@ ghost use Rattle.ir_paths.specs.Windows.{instr_at as instr_at_point, points_from
 ghost use Rattle.window_rules.specs.Points.{phi_count, place_of as place_of_point, point_in, point_of as point_of_place, pushed_if};
 
 use coro_base::{BlockId, FuncId, Items, Place};
-use coro_shape::InstrTest;
+use coro_calls::InstrTest;
 use function_parts::{instr_place, next};
 use ir_model::{Block, Function, Instr};
 use ir_paths::Point;

@@ -4,7 +4,7 @@ ghost use Rattle.std.specs.Prelude.{◌≡◌, [], IfOk, OnOk, Some, replicate, 
 ghost use Rattle.window_rules.specs.Tokens.{AreTokensOf, token_in, taken_by, with_point, with_token, with_tokens_in, with_tokens_by};
 
 use coro_base::{BlockId, Items, ValueId};
-use coro_shape::{is_call_of, operand_of};
+use coro_calls::{is_call_of, operand_of};
 use function_parts::next;
 use ir_model::{Block, Function, Instr, Intrinsic, Operand};
 use ir_paths::Point;

@@ -14,7 +14,7 @@ use crate::points::{has_point, instr_at, is_same_point, place_of, points_where};
 use crate::sets::{PointSet, set_of};
 use crate::tokens::{Tokens, tokens_of};
 use coro_base::{FuncId, Items, Place};
-use coro_shape::{CallOf, call_result, is_call_of, is_final};
+use coro_calls::{CallOf, call_result, is_call_of, is_final};
 use ir_model::{Function, Instr, Intrinsic};
 use ir_paths::Point;
 use point_graph::PointGraph;

@@ -1,12 +1,36 @@
 //! The calls of a coroutine's intrinsics.
 
-ghost use Rattle.std.specs.Prelude.{◌≡◌, MatchOption, None, Some, slice_get};
+ghost use Rattle.std.specs.Prelude.{◌≡◌, Bool, MatchOption, None, Some, slice_get};
 ghost use Rattle.ir_model.specs.declared.operand.Operand.{Operand as TheOperand};
-ghost use Rattle.ir_paths.specs.Windows.{is_call_of as is_call, call_result as result_of, operand_at as operand_in};
-ghost use Rattle.coro_shape.specs.Calls.{first_call_in, first_call_by, first_call as first_call_to, value_of_first as first_value, is_value as is_the_value, is_null as is_null_operand, is_true as is_true_operand};
+ghost use Rattle.ir_model.specs.declared.instr.Instr.{Instr as TheInstr};
+ghost use Rattle.ir_paths.specs.Windows.{is_number, is_call_of as is_call, call_result as result_of, operand_at as operand_in};
+ghost use Rattle.coro_calls.specs.Calls.{first_call_in, first_call_by, first_call as first_call_to, value_of_first as first_value, is_value as is_the_value, is_null as is_null_operand, is_true as is_true_operand, is_second_true, is_final};
 
 use coro_base::ValueId;
 use ir_model::{Arg, Block, Callee, Function, Instr, Intrinsic, Operand, is_same_intrinsic};
+
+/// A test of instructions.
+pub trait InstrTest: Sized {
+    ghost instr_passes: { Self → TheInstr → Bool };
+
+    /// Whether the instruction passes.
+    fn passes(&self, instr: &Instr) -> bool
+        ensures { result ≡ instr_passes self.now instr.now };
+}
+
+/// The test for calls of an intrinsic.
+#[derive(Clone, Copy, Debug, Drop)]
+pub struct CallOf {
+    pub intrinsic: Intrinsic,
+}
+
+impl InstrTest for CallOf {
+    ghost instr_passes = { λ t. is_call t.intrinsic };
+
+    fn passes(&self, instr: &Instr) -> bool {
+        is_call_of(self.intrinsic, instr)
+    }
+}
 
 /// Whether the instruction is a call of the intrinsic.
 pub fn is_call_of(intrinsic: Intrinsic, instr: &Instr) -> bool
@@ -110,6 +134,35 @@ pub fn is_true(operand: &Operand) -> bool
     match operand {
         Operand::True => true,
         Operand::Number(number) => *number == 1 || *number == -1,
+        _ => false,
+    }
+}
+
+/// Whether the operand is the number.
+pub fn is_number(number: u64, operand: &Operand) -> bool
+    ensures { result ≡ is_number number operand.now }
+{
+    match operand {
+        Operand::Number(n) => *n == i128::from(number),
+        _ => false,
+    }
+}
+
+fn is_second_true(args: &[Arg]) -> bool
+    ensures { result ≡ is_second_true args.now }
+{
+    match operand_of(args, 1) {
+        None => false,
+        Some(operand) => is_true(operand),
+    }
+}
+
+/// Whether the second operand of a call is true: of a suspend, whether it is final.
+pub fn is_final(instr: &Instr) -> bool
+    ensures { result ≡ is_final instr.now }
+{
+    match instr {
+        Instr::Call { args, .. } => is_second_true(args.as_slice()),
         _ => false,
     }
 }

@@ -4,9 +4,10 @@ use Rattle.ir_model.specs.Names.{is_local}
 use Rattle.ir_model.specs.declared.instr.Instr.{Instr}
 use Rattle.ir_model.specs.declared.module.Block.{Block}
 use Rattle.ir_model.specs.declared.module.Function.{Function}
+use Rattle.ir_model.specs.declared.operand.Arg.{Arg}
 use Rattle.ir_model.specs.declared.operand.Intrinsic.{Intrinsic}
 use Rattle.ir_model.specs.declared.operand.Operand.{Operand}
-use Rattle.ir_paths.specs.Windows.{call_result, is_call_of}
+use Rattle.ir_paths.specs.Windows.{call_operand, call_result, is_call_of, operand_at}
 
 abbrev pub or_instr : Option Instr → Option Instr → Option Instr
 or_instr (Some i) other = Some i
@@ -44,3 +45,10 @@ is_true Operand.True = true
 is_true (Operand.Number (pos n)) = n == 1
 is_true (Operand.Number (negsuc n)) = n == 0
 is_true _ = false
+
+abbrev pub is_second_true : List Arg → Bool
+is_second_true args = is_true (operand_at args 1)
+
+-- the second operand of a call is true: of a suspend, it is final
+abbrev pub is_final : Instr → Bool
+is_final i = is_true (call_operand i 1)
