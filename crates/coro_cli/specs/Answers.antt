@@ -25,7 +25,7 @@ use Rattle.ir_parser.specs.declared.text.Parsed.{Parsed}
 use Rattle.lower_pipeline.specs.Lowering.{lowering_of}
 use Rattle.lower_pipeline.specs.declared.whole.Lowered.{Lowered}
 use Rattle.lower_pipeline.specs.declared.whole.Lowering.{Lowering}
-use Rattle.module_rules.specs.Order.{module_refusal}
+use Rattle.ir_check.specs.Order.{refusal}
 use Rattle.module_rules.specs.declared.order.Refusal.{Refusal}
 use Rattle.name_rules.specs.declared.stage.Stage.{Stage}
 use Rattle.plain_meaning.specs.Plain.{PlainGiven, plain_state_at}
@@ -141,7 +141,7 @@ checked_run None m w = run_module m w
 
 abbrev pub text_answer : Parsed → RunWords → Answer
 text_answer (Parsed.Syntax items) w = told Verdict.Refused (syntax_text items)
-text_answer (Parsed.Module m) w = checked_run (module_refusal Stage.Plain m) m w
+text_answer (Parsed.Module m) w = checked_run (refusal Stage.Plain m) m w
 
 -- the source says whether the entry is callable; the lowered module runs the function of that name
 abbrev pub run_lowered : Lowered → RunWords → Answer

@@ -2,7 +2,7 @@
 
 ghost use Rattle.std.specs.Prelude.{◌≡◌, IfOk, List, ℕ};
 ghost use Rattle.coro_report.specs.Report.{syntax_text};
-ghost use Rattle.module_rules.specs.Order.{module_refusal};
+ghost use Rattle.ir_check.specs.Order.{refusal as refusal_of};
 ghost use Rattle.name_rules.specs.declared.stage.Stage.{Stage};
 ghost use Rattle.coro_cli.specs.Answers.{shown, told, refused, lower_answer, run_verdict, run_answer, not_callable, run_module, checked_run, text_answer, run_lowered, lowered_answer, run_in, answer};
 
@@ -11,10 +11,10 @@ use crate::verdict::{Answer, EntryCall, Verdict};
 use coro_base::{Items, Outcome, Place, Rule};
 use coro_report::{not_callable_text, refused_text, run_text, syntax_text};
 use coro_words::{Form, RunWords, Words};
+use ir_check::{Stage, first_refusal};
 use ir_model::Module;
 use ir_parser::{Parsed, parse};
 use lower_pipeline::{Lowered, Lowering, lower};
-use module_rules::{Stage, module_refusal};
 use plain_meaning::PlainMachine;
 use std::alloc::{AllocError, Global};
 
@@ -105,9 +105,9 @@ fn run_module(alloc: Global, code: Module, words: &RunWords) -> Result<Answer, A
 }
 
 fn checked_run(alloc: Global, source: Module, words: &RunWords) -> Result<Answer, AllocError>
-    ensures { IfOk result (λ a. a ≡ checked_run (module_refusal Stage.Plain source) source words.now) }
+    ensures { IfOk result (λ a. a ≡ checked_run (refusal_of Stage.Plain source) source words.now) }
 {
-    match module_refusal(alloc, Stage::Plain, &source)? {
+    match first_refusal(alloc, Stage::Plain, &source)? {
         Some(refusal) => refused(alloc, &source, refusal.rule, refusal.place),
         None => run_module(alloc, source, words),
     }

@@ -13,7 +13,8 @@ use Rattle.ordinary_step.specs.Values.{arg_values}
 use Rattle.ordinary_step.specs.declared.effect.Effect.{Effect}
 use Rattle.ordinary_step.specs.declared.world.Slot.{Slot}
 use Rattle.coro_meaning.specs.Source.{act, continue, coro}
-use Rattle.coro_meaning.specs.State.{Given, work_of}
+use Rattle.coro_meaning.specs.State.{work_of}
+use Rattle.source_program.specs.Given.{Given}
 use Rattle.coro_meaning.specs.SourceEffects.{IsStop, OfCall, is_done, source_effect, with_work}
 use Rattle.coro_meaning.specs.declared.effects.Stop.{Stop}
 use Rattle.coro_meaning.specs.declared.state.State.{State}

@@ -4,7 +4,8 @@ use Rattle.std.specs.Prelude.{filter, not, slice_set}
 use Rattle.std.proofs.lemmas.List.{append-nil}
 use Rattle.block_memory.specs.declared.block.MemoryBlock.{MemoryBlock}
 use Rattle.coro_meaning.specs.Source.{begun, is_among, new_instance}
-use Rattle.coro_meaning.specs.State.{Given, own_facts, with_memory}
+use Rattle.coro_meaning.specs.State.{own_facts, with_memory}
+use Rattle.source_program.specs.Given.{Given}
 use Rattle.coro_meaning.specs.declared.state.Instance.{Instance}
 use Rattle.coro_meaning.specs.declared.state.State.{State}
 use Rattle.ordinary_step.specs.declared.world.Slot.{Slot}

@@ -4,7 +4,7 @@ use Rattle.std.proofs.lemmas.Bool.{false≢true}
 use Rattle.coro_base.specs.declared.outcome.Outcome.{Outcome}
 use Rattle.ordinary_step.specs.Runs.{iterate}
 use Rattle.coro_meaning.specs.Source.{Continues, advance_by, continue, step}
-use Rattle.coro_meaning.specs.State.{Given}
+use Rattle.source_program.specs.Given.{Given}
 use Rattle.coro_meaning.specs.Machines.{is_over}
 use Rattle.coro_meaning.specs.declared.state.State.{State}
 

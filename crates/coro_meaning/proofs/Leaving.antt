@@ -10,10 +10,11 @@ use Rattle.ir_paths.specs.declared.point.Facts.{Facts}
 use Rattle.ir_paths.specs.declared.point.Point.{Point}
 use Rattle.ir_paths.specs.declared.point.Window.{Window}
 use Rattle.ordinary_step.specs.Results.{and_then, found, ok_if}
-use Rattle.coro_meaning.specs.Lookups.{not_empty}
+use Rattle.source_program.specs.Lookups.{not_empty}
 use Rattle.coro_meaning.specs.Source.{branch_leaving, enter_block, go_to, leave, left_windows, may_leave}
 use Rattle.coro_meaning.specs.SourceEffects.{IsStop}
-use Rattle.coro_meaning.specs.State.{Given, facts_at, function_of, own_instance, point_of, with_left, with_status}
+use Rattle.coro_meaning.specs.State.{function_of, own_instance, point_of, with_left, with_status}
+use Rattle.source_program.specs.Given.{Given, facts_at}
 use Rattle.coro_meaning.specs.declared.effects.Stop.{Stop}
 use Rattle.coro_meaning.specs.declared.state.Instance.{Instance}
 use Rattle.coro_meaning.specs.declared.state.State.{State}

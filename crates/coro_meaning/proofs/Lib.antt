@@ -3,14 +3,10 @@ pub mod Acting
 pub mod Iterating
 pub mod Settings
 pub mod Walks
-pub mod Finals
 pub mod Freeing
-pub mod Operands
 pub mod Beginning
 pub mod Slots
 pub mod Leaving
 pub mod Promises
 pub mod Sleeping
-pub mod MarkTables
-pub mod FramePositions
 pub mod Looked

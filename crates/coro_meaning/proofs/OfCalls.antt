@@ -8,7 +8,7 @@ use Rattle.block_memory.specs.declared.pointer.Value.{Value}
 use Rattle.coro_base.specs.declared.cause.Cause.{Cause}
 use Rattle.coro_base.specs.declared.ops.Pred.{Pred}
 use Rattle.coro_base.specs.declared.outcome.Word.{Word}
-use Rattle.coro_meaning.specs.Lookups.{args_of}
+use Rattle.source_program.specs.Lookups.{args_of}
 use Rattle.coro_meaning.specs.SourceEffects.{OfCall}
 use Rattle.ir_model.specs.Ty.{Ty, Tys, array, int, named, ptr, structure, token}
 use Rattle.ir_model.specs.declared.instr.Case.{Case}

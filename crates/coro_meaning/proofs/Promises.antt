@@ -8,7 +8,8 @@ use Rattle.block_memory.specs.declared.pointer.Value.{Value}
 use Rattle.coro_base.specs.declared.cause.Cause.{Cause}
 use Rattle.ordinary_step.specs.Results.{and_then, found, ok_if}
 use Rattle.coro_meaning.specs.Source.{frame_of_promise, has_promise_at, is_live_at}
-use Rattle.coro_meaning.specs.State.{Given, frame_address_of}
+use Rattle.coro_meaning.specs.State.{frame_address_of}
+use Rattle.source_program.specs.Given.{Given}
 use Rattle.coro_meaning.specs.declared.state.Instance.{Instance}
 use Rattle.coro_meaning.specs.declared.state.State.{State}
 

@@ -11,7 +11,8 @@ use Rattle.ordinary_step.specs.declared.world.Slot.{Slot}
 use Rattle.ordinary_step.specs.declared.world.World.{World}
 use Rattle.coro_meaning.specs.Source.{act, continue, is_among, is_over, kill_late, new_slot, with_new_slots}
 use Rattle.coro_meaning.specs.SourceEffects.{IsOwner, slot_in, slot_of}
-use Rattle.coro_meaning.specs.State.{Given, numbered, own_facts, own_instance, settled, with_instance, with_memory, with_slots}
+use Rattle.coro_meaning.specs.State.{numbered, own_facts, own_instance, settled, with_instance, with_memory, with_slots}
+use Rattle.source_program.specs.Given.{Given}
 use Rattle.coro_meaning.specs.declared.state.Instance.{Instance}
 use Rattle.coro_meaning.specs.declared.state.State.{State}
 use Rattle.coro_meaning.specs.declared.stepping.Owner.{Owner}

@@ -4,7 +4,7 @@ use Rattle.coro_base.specs.declared.outcome.Outcome.{Outcome}
 use Rattle.coro_base.specs.declared.outcome.Word.{Word}
 use Rattle.ordinary_step.specs.Runs.{iterate}
 use Rattle.coro_meaning.specs.Source.{state_at, step}
-use Rattle.coro_meaning.specs.State.{Given}
+use Rattle.source_program.specs.Given.{Given}
 use Rattle.coro_meaning.specs.SourceEffects.{given_of}
 use Rattle.coro_meaning.specs.declared.machine.SourceMachine.{SourceMachine}
 use Rattle.coro_meaning.specs.declared.progress.Progress.{Progress}

@@ -8,7 +8,8 @@ use Rattle.block_memory.specs.declared.pointer.Value.{Value}
 use Rattle.coro_base.specs.declared.cause.Cause.{Cause}
 use Rattle.coro_base.specs.declared.outcome.Outcome.{Outcome}
 use Rattle.coro_base.specs.declared.outcome.Word.{Word}
-use Rattle.coro_meaning.specs.State.{Given, frame_address_of, function_of, gives, instance_at, is_finished, is_suspended, next, or_undefined, own_facts, own_frame, own_instance, point_of, settled, with_instance, with_left, with_memory, with_slots, with_status, work_of}
+use Rattle.coro_meaning.specs.State.{frame_address_of, function_of, gives, instance_at, is_finished, is_suspended, next, or_undefined, own_facts, own_frame, own_instance, point_of, settled, with_instance, with_left, with_memory, with_slots, with_status, work_of}
+use Rattle.source_program.specs.Given.{Given, has_final, is_final, is_true}
 use Rattle.coro_meaning.specs.declared.state.Activation.{Activation}
 use Rattle.coro_meaning.specs.declared.state.Instance.{Instance}
 use Rattle.coro_meaning.specs.declared.state.Mode.{Mode}
@@ -205,21 +206,6 @@ abbrev pub suspend : State → Option ℕ → Operand → Result State Cause
 suspend s result of_save = and_then (save_before s of_save) (λ s. Ok (gives s result (integer 8 (negsuc 0))))
 
 -- ---- resume, destroy, done
-
-abbrev pub is_true : Operand → Bool
-is_true Operand.True = true
-is_true _ = false
-
-abbrev pub is_final_call : Option Instr → Bool
-is_final_call None = false
-is_final_call (Some i) = is_true (call_operand i 1)
-
--- the second operand of the suspend is true
-abbrev pub is_final : Function → Point → Bool
-is_final f suspend = is_final_call (instr_at f suspend)
-
-abbrev pub has_final : Function → Bool
-has_final f = list_any (is_final f) (points_where (is_call_of Intrinsic.CoroSuspend) f)
 
 -- an activation of an instance with the kept values, as it stands at the suspend
 abbrev pub resumed : ℕ → Instance → Point → Env → Activation

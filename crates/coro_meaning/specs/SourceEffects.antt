@@ -4,9 +4,10 @@ use Rattle.block_memory.specs.Memory.{killed}
 use Rattle.block_memory.specs.declared.pointer.Value.{Value}
 use Rattle.coro_base.specs.declared.cause.Cause.{Cause}
 use Rattle.coro_meaning.specs.Source.{continue, coro, deallocate, enter, go_to, let_go, new_slot, return}
-use Rattle.coro_meaning.specs.State.{Given, instance_at, next, settled, with_instance, with_memory, with_slots}
+use Rattle.coro_meaning.specs.State.{instance_at, next, settled, with_instance, with_memory, with_slots}
+use Rattle.source_program.specs.Given.{Given}
 use Rattle.coro_meaning.specs.declared.effects.Stop.{Stop}
-use Rattle.coro_meaning.specs.declared.program.SourceProgram.{SourceProgram}
+use Rattle.source_program.specs.declared.program.SourceProgram.{SourceProgram}
 use Rattle.coro_meaning.specs.declared.state.Activation.{Activation}
 use Rattle.coro_meaning.specs.declared.state.Mode.{Mode}
 use Rattle.coro_meaning.specs.declared.stepping.Owner.{Owner}

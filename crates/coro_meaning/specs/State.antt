@@ -18,22 +18,9 @@ use Rattle.ir_paths.specs.declared.point.Facts.{Facts}
 use Rattle.ir_paths.specs.declared.point.Point.{Point}
 use Rattle.ordinary_step.specs.Step.{Work, place_at, set_result}
 use Rattle.ordinary_step.specs.declared.world.Slot.{Slot}
+use Rattle.source_program.specs.Given.{Given, facts_at, frame_of}
 
--- ---- what a run is given
-
--- the module, the sizes of its coroutines' frames, the answers, and the facts of its functions
-pub record Given : Type 0 where
-  pub code : Module
-  pub sizes : List Frame
-  pub answers : List ℤ
-  pub facts : List Facts
-
-abbrev pub frame_of : List Frame → ℕ → Frame
-frame_of [] f = record { coroutine = f; size = 0; align = 0 }
-frame_of (x ∷ frames) f = if x.coroutine == f then x else frame_of frames f
-
-abbrev pub facts_at : List Facts → ℕ → Facts
-facts_at facts f = unwrap_or (slice_get facts f) (record { windows = []; ramp_slots = [] })
+-- ---- what the topmost activation has
 
 -- the function of the topmost activation, its facts, and its frame's size and alignment
 abbrev pub function_of : Given → State → Function

@@ -8,16 +8,15 @@ ghost use Rattle.ir_paths.specs.Windows.{leaves as leaves_window};
 ghost use Rattle.coro_meaning.specs.State.{function_of, own_instance, point_of as point_of_state};
 ghost use Rattle.coro_meaning.specs.Source.{enter_block as enter_block_of, go_to as go_to_label, leave as leave_by, may_leave as may_leave_by, is_save as is_save_of, left_windows};
 ghost use Rattle.coro_meaning.specs.SourceEffects.{given_of, IsStop};
-ghost use Rattle.coro_meaning.specs.Lookups.{not_empty};
+ghost use Rattle.source_program.specs.Lookups.{not_empty};
 ghost use Rattle.coro_meaning.specs.declared.effects.Stop.{Stop as TheStop};
 ghost use Rattle.coro_meaning.specs.declared.state.Instance.{Instance as TheInstance};
 
 use crate::effects::Stop;
-use crate::points::{leaves, same_point};
-use crate::program::SourceProgram;
 use crate::state::{Instance, Saved, State, Status};
 use coro_base::{Cause, ValueId};
 use ir_paths::{Point, Window};
+use source_program::{SourceProgram, leaves, same_point};
 use std::alloc::{AllocError, Global};
 use step_execution::enter_label;
 

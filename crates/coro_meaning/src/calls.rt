@@ -6,11 +6,11 @@ ghost use Rattle.coro_meaning.specs.Source.{called as called_at, enter as enter_
 ghost use Rattle.coro_meaning.specs.SourceEffects.{given_of};
 ghost use Rattle.coro_meaning.specs.declared.state.Mode.{Mode as TheMode};
 
-use crate::program::SourceProgram;
 use crate::state::{Activation, Mode, State};
 use block_memory::Value;
 use coro_base::{Cause, FuncId, Outcome, ValueId};
 use ordinary_step::{Program, Stack};
+use source_program::SourceProgram;
 use std::alloc::{AllocError, Global};
 use step_execution::{first_values, kill_slots, outcome_of, set_result};
 

@@ -10,7 +10,6 @@ use crate::blocks::go_to;
 use crate::calls::{enter, leave};
 use crate::ending::{end, frame_address, free, free_at};
 use crate::frames::{begin, give, number, save, suspend};
-use crate::program::SourceProgram;
 use crate::promise::promise;
 use crate::resuming::{destroy, done, resume};
 use crate::state::State;
@@ -18,6 +17,7 @@ use block_memory::Value;
 use coro_base::{Cause, ValueId};
 use ir_model::{Arg, IntWidth, Intrinsic};
 use ordinary_step::{Effect, truth};
+use source_program::SourceProgram;
 use std::alloc::Global;
 
 /// Why a step stops.

@@ -6,20 +6,20 @@ ghost use Rattle.ir_model.specs.TypeView.{bits_of};
 ghost use Rattle.ir_paths.specs.Windows.{operand_at};
 ghost use Rattle.block_memory.specs.Memory.{with_block, owned_to};
 ghost use Rattle.ordinary_step.specs.Values.{integer};
-ghost use Rattle.coro_meaning.specs.State.{facts_at, gives, with_memory};
+ghost use Rattle.coro_meaning.specs.State.{gives, with_memory};
+ghost use Rattle.source_program.specs.Given.{facts_at};
 ghost use Rattle.coro_meaning.specs.Source.{begin as begin_with, begun, is_among, save as save_here, save_for as save_for_suspend, suspend as suspend_with};
 ghost use Rattle.coro_meaning.specs.SourceEffects.{given_of, IsStop};
 
 use crate::blocks::point_of;
 use crate::effects::Stop;
-use crate::points::is_none_at;
-use crate::program::SourceProgram;
 use crate::state::{Saved, State};
 use block_memory::{BlockId, Kind, Pointer, Value};
 use coro_base::{Cause, FuncId, Items, ValueId, Word};
 use ir_model::{Arg, IntWidth};
 use ir_paths::Point;
 use ordinary_step::{Slot, Stack, bits, cut};
+use source_program::{SourceProgram, is_none_at};
 use std::alloc::{AllocError, Global};
 use step_execution::set_result;
 

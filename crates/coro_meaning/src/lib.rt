@@ -9,18 +9,13 @@ mod ending;
 mod frames;
 mod instances;
 mod machine;
-mod points;
-mod program;
 mod progress;
 mod promise;
 mod resuming;
-mod shape;
 mod starting;
 mod state;
 mod stepping;
-mod table;
 
 pub use machine::SourceMachine;
-pub use program::SourceProgram;
 pub use progress::Progress;
 pub use state::{Activation, Instance, Instances, Mode, Saved, State, Status};

@@ -1,6 +1,5 @@
 //! The machine of a source.
 
-use crate::program::SourceProgram;
 use crate::progress::{Progress, outcome_progress, run_state};
 use crate::starting::first_state;
 use crate::state::State;
@@ -8,6 +7,7 @@ use crate::stepping::step_state;
 use coro_base::{Event, FuncId, Items, Outcome, Word};
 use ir_model::{Frame, Module};
 use ir_paths::Facts;
+use source_program::SourceProgram;
 use std::alloc::{AllocError, Global};
 
 /// A run of a source. A step that finds no memory leaves it as it was; after it returned or was undefined, a step
@@ -22,7 +22,7 @@ pub struct SourceMachine {
 impl SourceMachine {
     ghost use Rattle.std.specs.Prelude.{◌≡◌, ◌+◌, ℕ, List, map, IfOk, OnOk, OnErr};
     ghost use Rattle.coro_base.specs.declared.outcome.Word.{Word as TheWord};
-    ghost use Rattle.coro_meaning.specs.State.{Given};
+    ghost use Rattle.source_program.specs.Given.{Given};
     ghost use Rattle.ordinary_step.specs.Runs.{seen_event};
     ghost use Rattle.coro_meaning.specs.Source.{SourceAt, SeenOf};
     ghost use Rattle.coro_meaning.specs.SourceEffects.{given_of};

@@ -6,10 +6,10 @@ ghost use Rattle.coro_meaning.specs.Source.{step};
 ghost use Rattle.coro_meaning.specs.SourceEffects.{given_of};
 ghost use Rattle.coro_meaning.specs.Machines.{progress_of, is_over as is_over_outcome, RanSome};
 
-use crate::program::SourceProgram;
 use crate::state::State;
 use crate::stepping::step_state;
 use coro_base::{Cause, Outcome, Place, Word};
+use source_program::SourceProgram;
 use std::alloc::{AllocError, Global};
 
 /// How far a run is after a step.

@@ -9,13 +9,12 @@ ghost use Rattle.block_memory.specs.declared.pointer.Pointer.{Pointer as ThePoin
 ghost use Rattle.block_memory.specs.declared.pointer.Value.{Value as TheValue};
 ghost use Rattle.ir_paths.specs.Windows.{operand_at};
 
-use crate::points::is_true_at;
-use crate::program::SourceProgram;
 use crate::state::{Instance, State, Status};
 use block_memory::{BlockId, Memory, Offset, Pointer, Value};
 use coro_base::{Cause, ValueId};
 use ir_model::Arg;
 use ordinary_step::{Slot, Stack, pointer_to};
+use source_program::{SourceProgram, is_true_at};
 
 /// The block of the newest slot of an alloca.
 fn block_of_slot(slots: &Stack<Slot>, alloca: ValueId) -> Option<BlockId>

@@ -12,12 +12,12 @@ use crate::blocks::enter_block;
 use crate::calls::push;
 use crate::effects::Stop;
 use crate::frames::give;
-use crate::program::SourceProgram;
 use crate::state::{Activation, Mode, State, Status};
 use block_memory::Value;
 use coro_base::{Cause, FuncId, Items, ValueId};
 use ir_paths::Point;
 use ordinary_step::{Stack, truth};
+use source_program::SourceProgram;
 use std::alloc::{AllocError, Global};
 use std::mem;
 

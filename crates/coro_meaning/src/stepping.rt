@@ -12,14 +12,13 @@ ghost use Rattle.coro_meaning.specs.Source.{act as act_by, context_of, continue,
 ghost use Rattle.coro_meaning.specs.SourceEffects.{IsOwner, IsStop, given_of};
 
 use crate::effects::{Stop, act};
-use crate::program::SourceProgram;
 use crate::promise::is_over;
-use crate::shape::{args_of, result_of};
 use crate::state::State;
 use block_memory::{BlockId, Memory, OwnerRights};
 use coro_base::{Cause, Item, Outcome, Place, ValueId};
 use ir_model::{Function, Instr, IrType};
 use ordinary_step::Slot;
+use source_program::{SourceProgram, args_of, result_of};
 use std::alloc::{AllocError, Global};
 use step_execution::{execute, make_slot, place_at, terminate};
 

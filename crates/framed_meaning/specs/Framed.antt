@@ -9,8 +9,10 @@ use Rattle.coro_base.specs.declared.cause.Cause.{Cause}
 use Rattle.coro_base.specs.declared.name.Name.{Name}
 use Rattle.coro_base.specs.declared.outcome.Outcome.{Outcome}
 use Rattle.coro_base.specs.declared.outcome.Word.{Word}
-use Rattle.coro_meaning.specs.Source.{Continues, act, begin, begin_at, called, coro, end_of, enter_block, finish, first_state, is_true, push, release, resumed, suspend}
-use Rattle.coro_meaning.specs.State.{Given, address_in, began_at, frame_address_of, function_of, gives, instance_at, is_finished, last_where, or_undefined, own_frame, own_instance, settled, with_memory, with_slots, with_status, work_of}
+use Rattle.coro_meaning.specs.Source.{Continues, act, begin, begin_at, called, coro, end_of, enter_block, finish, first_state, push, release, resumed, suspend}
+use Rattle.source_program.specs.Given.{is_true}
+use Rattle.coro_meaning.specs.State.{address_in, began_at, frame_address_of, function_of, gives, instance_at, is_finished, last_where, or_undefined, own_frame, own_instance, settled, with_memory, with_slots, with_status, work_of}
+use Rattle.source_program.specs.Given.{Given}
 use Rattle.coro_meaning.specs.declared.state.Instance.{Instance}
 use Rattle.coro_meaning.specs.declared.state.Mode.{Mode}
 use Rattle.coro_meaning.specs.declared.state.State.{State}

@@ -9,6 +9,7 @@ use Rattle.early_lower.specs.Early.{early_module}
 use Rattle.frame_layout.specs.Frames.{index_alone}
 use Rattle.frame_layout.specs.declared.layout.Layout.{Layout}
 use Rattle.frame_layout.specs.declared.layout.Layouts.{Layouts}
+use Rattle.ir_check.specs.Order.{refusal}
 use Rattle.ir_model.specs.declared.module.Function.{Function}
 use Rattle.ir_model.specs.declared.module.Module.{Module}
 use Rattle.ir_model.specs.declared.operand.Intrinsic.{Intrinsic}
@@ -18,7 +19,6 @@ use Rattle.ir_printer.specs.Items.{module_text}
 use Rattle.frame_lines.specs.Frames.{frames_text}
 use Rattle.frame_lines.specs.declared.frames.FrameLine.{FrameLine}
 use Rattle.lower_pipeline.specs.Served.{count_by, unserved}
-use Rattle.module_rules.specs.Order.{module_refusal}
 use Rattle.module_rules.specs.declared.order.Refusal.{Refusal}
 use Rattle.name_rules.specs.declared.stage.Stage.{Stage}
 use Rattle.lower_pipeline.specs.declared.whole.Lowering.{Lowering}
@@ -60,9 +60,9 @@ or_unserved (Some r) place = Some r
 or_unserved None (Some place) = Some (record { rule = Rule.X1; place = place })
 or_unserved None None = None
 
--- what a source is refused for: the first broken of the module rules, else the first place that isn't served so far
+-- what a source is refused for: the first broken rule, else the first place that isn't served so far
 abbrev pub refusal_of : Module → Option Refusal
-refusal_of m = or_unserved (module_refusal Stage.Source m) (unserved m)
+refusal_of m = or_unserved (refusal Stage.Source m) (unserved m)
 
 abbrev pub lowered_or : Module → Option Refusal → Lowering
 lowered_or m (Some r) = Lowering.Refused m r.rule r.place

@@ -96,19 +96,8 @@ abbrev pub count_by : Intrinsic → List Block → ℕ
 count_by i [] = 0
 count_by i (b ∷ bs) = count_in i b.instrs + count_by i bs
 
-abbrev pub has_one : Function → Intrinsic → Bool
-has_one f i = count_by i f.blocks == 1
-
--- a coroutine has one call each of coro.id, coro.begin and coro.end
-abbrev pub is_whole : Function → Bool
-is_whole f = if f.coroutine then has_one f Intrinsic.CoroId && (has_one f Intrinsic.CoroBegin && has_one f Intrinsic.CoroEnd) else true
-
-abbrev pub place_of : Bool → ℕ → Option Place
-place_of true func = None
-place_of false func = Some (record { item = Item.Function func; block = None; instr = None })
-
 abbrev pub unserved_function : ℕ → Function → Option Place
-unserved_function k f = or_place (place_of (is_whole f) k) (unserved_blocks f.coroutine (homes_of f) k 0 f.blocks)
+unserved_function k f = unserved_blocks f.coroutine (homes_of f) k 0 f.blocks
 
 abbrev pub unserved_functions : ℕ → List Function → Option Place
 unserved_functions k [] = None

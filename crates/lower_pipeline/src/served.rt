@@ -1,7 +1,7 @@
 //! The first place that the lowering doesn't serve so far.
 
 ghost use Rattle.std.specs.Prelude.{◌≡◌, ◌+◌, IfOk, length};
-ghost use Rattle.lower_pipeline.specs.Served.{is_none, is_false, is_plain_suspend, intrinsic_served, is_served, serves, serves_phi, serves_term, place_unless, unserved_phis, unserved_instrs, unserved_block, unserved_blocks, is_call_of, count_in, count_by, has_one, is_whole, place_of, unserved_function, unserved_functions, unserved};
+ghost use Rattle.lower_pipeline.specs.Served.{is_none, is_false, is_plain_suspend, intrinsic_served, is_served, serves, serves_phi, serves_term, place_unless, unserved_phis, unserved_instrs, unserved_block, unserved_blocks, is_call_of, count_in, count_by, unserved_function, unserved_functions, unserved};
 
 use crate::homes::{Homes, homes_of};
 use coro_base::{BlockId, FuncId, Item, Place};
@@ -220,38 +220,6 @@ pub fn count_by(intrinsic: Intrinsic, blocks: &[Block]) -> Result<usize, AllocEr
     Ok(count)
 }
 
-fn has_one(function: &Function, intrinsic: Intrinsic) -> Result<bool, AllocError>
-    ensures { IfOk result (λ b. b ≡ has_one function.now intrinsic) }
-{
-    Ok(count_by(intrinsic, function.blocks.as_slice())? == 1)
-}
-
-fn is_whole(function: &Function) -> Result<bool, AllocError>
-    ensures { IfOk result (λ b. b ≡ is_whole function.now) }
-{
-    if !function.coroutine {
-        return Ok(true);
-    }
-    let ids = has_one(function, Intrinsic::CoroId)?;
-    let begins = has_one(function, Intrinsic::CoroBegin)?;
-    let ends = has_one(function, Intrinsic::CoroEnd)?;
-    Ok(ids && (begins && ends))
-}
-
-fn place_of(is_fine: bool, func: FuncId) -> Option<Place>
-    ensures { result ≡ place_of is_fine func }
-{
-    if is_fine {
-        None
-    } else {
-        Some(Place {
-            item: Item::Function(func),
-            block: None,
-            instr: None,
-        })
-    }
-}
-
 fn unserved_function(
     alloc: Global,
     func: FuncId,
@@ -259,9 +227,6 @@ fn unserved_function(
 ) -> Result<Option<Place>, AllocError>
     ensures { IfOk result (λ p. p ≡ unserved_function func function.now) }
 {
-    if let Some(place) = place_of(is_whole(function)?, func) {
-        return Ok(Some(place));
-    }
     let homes = homes_of(alloc, function)?;
     let blocks = function.blocks.as_slice();
     unserved_blocks(function.coroutine, &homes, func, blocks)

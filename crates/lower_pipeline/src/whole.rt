@@ -7,10 +7,10 @@ use crate::passes::{layouts_of, lowered_module};
 use crate::served::unserved;
 use coro_base::{Data, FuncId, Items, Name, Place, Rule};
 use frame_layout::{Layout, Layouts};
+use ir_check::{Refusal, Stage, first_refusal};
 use ir_model::Module;
 use ir_parser::{Parsed, parse};
 use ir_printer::{FrameLine, print_frames, print_module};
-use module_rules::{Refusal, Stage, module_refusal};
 use std::alloc::{AllocError, Global};
 
 /// What the lowering of an accepted module gives: its text (a frame line per coroutine, then the canonical text of the
@@ -79,12 +79,12 @@ fn lower_served(alloc: Global, source: Module) -> Result<Lowered, AllocError>
     })
 }
 
-/// The rule by which a source is refused, and the place: the first broken of the module rules, or else `X1` at the first
-/// place that isn't served so far.
+/// The rule by which a source is refused, and the place: the first broken rule, or else `X1` at the first place that isn't
+/// served so far.
 fn refusal_of(alloc: Global, source: &Module) -> Result<Option<Refusal>, AllocError>
     ensures { IfOk result (λ r. r ≡ refusal_of source.now) }
 {
-    if let Some(refusal) = module_refusal(alloc, Stage::Source, source)? {
+    if let Some(refusal) = first_refusal(alloc, Stage::Source, source)? {
         return Ok(Some(refusal));
     }
     match unserved(alloc, source)? {

@@ -6,3 +6,4 @@ pub mod Neighbours
 pub mod Filing
 pub mod Settling
 pub mod Paths
+pub mod Inside

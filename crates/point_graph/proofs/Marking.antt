@@ -1,6 +1,6 @@
 -- Marks that are set and cleared.
-use Rattle.std.proofs.Common.{◌≡◌, ℕ, zero, suc, ◌+◌, ◌<◌, ◌≤◌, Bool, true, false, ◌||◌, List, [], ◌∷◌, ◌++◌, length, take, get_or, replicate, refl, ap, sym, subst, ◌∙◌, arith, ⊎_elim, length-append}
-use Rattle.std.specs.Prelude.{map, nat_lt, slice_get, slice_set, unwrap_or}
+use Rattle.std.proofs.Common.{◌≡◌, ℕ, zero, suc, ◌+◌, ◌<◌, ◌≤◌, Bool, true, false, ◌&&◌, ◌||◌, List, [], ◌∷◌, ◌++◌, length, take, get_or, replicate, refl, ap, sym, subst, ◌∙◌, arith, ⊎_elim, length-append}
+use Rattle.std.specs.Prelude.{map, not, nat_lt, slice_get, slice_set, unwrap_or}
 use Rattle.std.proofs.lemmas.Bool.{false≢true, cases_eq, cases_lt, ltb-true, lt-ltb}
 use Rattle.std.proofs.lemmas.List.{length-replicate, length-set, map-append, take_more}
 use Rattle.ir_model.specs.declared.module.Block.{Block}
@@ -129,48 +129,72 @@ pub joined-all : (points : List Point) (i : ℕ) (old new : List (List Bool)) �
 joined-all points i old new le j = subst (λ (l : List Point). AreJoined l old new) (take-all points i le) j
 
 pub cleared-none : (marks : List (List Bool)) → AreCleared [] marks marks
-cleared-none marks = record { sizes = refl; was = λ p h. h; other = λ p h. refl }
+cleared-none marks = record { sizes = refl; each = λ p. sym (and-true (is_marked marks p)) }
+  where
+    and-true : (b : Bool) → (b && true) ≡ b
+    and-true true = refl
+    and-true false = refl
+
+and-not : (a b c : Bool) → ((a && not b) && not c) ≡ (a && not (b || c))
+and-not true true c = refl
+and-not true false c = refl
+and-not false b c = refl
+
+-- a mark cleared
+pub is_marked-clear : (rows : List (List Bool)) (p q : Point) → is_marked (with_mark rows p false) q ≡ (is_marked rows q && not (same_point q p))
+is_marked-clear rows p q = on (same_point q p) refl
+  where
+    cleared : (b : Bool) → is_inside rows p ≡ b → is_marked (with_mark rows p false) p ≡ false
+    cleared true e = mark-here rows p false e
+    cleared false e = outside (is_marked (with_mark rows p false) p) refl
+      where
+        outside : (m : Bool) → is_marked (with_mark rows p false) p ≡ m → is_marked (with_mark rows p false) p ≡ false
+        outside true k = no_test (is_inside rows p) (sym (inside-same (with_mark rows p false) rows p (sizes-set rows p.block p.at false)) ∙ marked-inside (with_mark rows p false) p k) e
+        outside false k = k
+
+    and-false : (a : Bool) → false ≡ (a && false)
+    and-false true = refl
+    and-false false = refl
+
+    and-true : (a : Bool) → a ≡ (a && true)
+    and-true true = refl
+    and-true false = refl
+
+    on : (b : Bool) → same_point q p ≡ b → is_marked (with_mark rows p false) q ≡ (is_marked rows q && not b)
+    on true e = ap (λ (y : Point). is_marked (with_mark rows p false) y) (same_point-same q p e) ∙ cleared (is_inside rows p) refl ∙ and-false (is_marked rows q)
+    on false e = mark-other rows p q false e ∙ and-true (is_marked rows q)
 
 pub cleared-more : (points : List Point) (i : ℕ) (p : Point) (first old new : List (List Bool)) → i < length points → p ≡ get_or points i p → new ≡ with_mark old p false → AreCleared (take i points) first old → AreCleared (take (i + 1) points) first new
-cleared-more points i p first old new lt e is j = subst (AreCleared (take (i + 1) points) first) (sym is) (record { sizes = sizes-set old p.block p.at false ∙ j.sizes; was = λ q h. j.was q (still q h); other = other })
-  where
-    apart : (q : Point) → is_marked (with_mark old p false) q ≡ true → (b : Bool) → same_point q p ≡ b → same_point q p ≡ false
-    apart q h true s =
-        let same = same_point-same q p s in
-        let here : is_marked (with_mark old p false) p ≡ true = subst (λ (y : Point). is_marked (with_mark old p false) y ≡ true) same h in
-        let in_old : is_inside old p ≡ true = sym (inside-same (with_mark old p false) old p (sizes-set old p.block p.at false)) ∙ marked-inside (with_mark old p false) p here in
-        no_test (is_marked (with_mark old p false) p) here (mark-here old p false in_old)
-    apart q h false s = s
-
-    still : (q : Point) → is_marked (with_mark old p false) q ≡ true → is_marked old q ≡ true
-    still q h = sym (mark-other old p q false (apart q h (same_point q p) refl)) ∙ h
-
-    other : (q : Point) → is_marked (with_mark old p false) q ≡ true → has_point (take (i + 1) points) q ≡ false
-    other q h =
-        has_point-more points i p q lt e
-        ∙ ap (λ b. b || same_point q p) (j.other q (still q h))
-        ∙ apart q h (same_point q p) refl
+cleared-more points i p first old new lt e is j =
+    subst (AreCleared (take (i + 1) points) first) (sym is)
+    (record {
+      sizes = sizes-set old p.block p.at false ∙ j.sizes;
+      each = λ q.
+          is_marked-clear old p q
+          ∙ ap (λ b. b && not (same_point q p)) (j.each q)
+          ∙ and-not (is_marked first q) (has_point (take i points) q) (same_point q p)
+          ∙ ap (λ b. is_marked first q && not b) (sym (has_point-more points i p q lt e));
+    })
 
 pub cleared-all : (points : List Point) (i : ℕ) (old new : List (List Bool)) → length points ≤ i → AreCleared (take i points) old new → AreCleared points old new
 cleared-all points i old new le j = subst (λ (l : List Point). AreCleared l old new) (take-all points i le) j
 
-no-mark : (b : Bool) → (b ≡ true → ⊥) → b ≡ false
-no-mark true h = absurd (h refl)
-no-mark false h = refl
+and-itself : (a : Bool) → (a && not a) ≡ false
+and-itself true = refl
+and-itself false = refl
 
--- marks that were set and cleared again
-pub blank-again : (points : List Point) (first joined last : List (List Bool)) → AreBlank first → AreJoined points first joined → AreCleared points joined last → AreBlank last
-blank-again points first joined last blank j c = record { none = λ p. no-mark (is_marked last p) (λ h. at p h (c.was p h)) }
+-- a table in which all that is marked was cleared
+pub blank-cleared : (points : List Point) (marks last : List (List Bool)) → ((p : Point) → is_marked marks p ≡ true → has_point points p ≡ true) → AreCleared points marks last → AreBlank last
+blank-cleared points marks last m c = record { none = λ p. c.each p ∙ on p (is_marked marks p) refl }
   where
-    at : (p : Point) → is_marked last p ≡ true → is_marked joined p ≡ true → ⊥
-    at p h k =
-        let place : is_inside first p ≡ true = sym (inside-same joined first p j.sizes) ∙ marked-inside joined p k in
-        let is : is_marked joined p ≡ has_point points p = j.each p place ∙ ap (λ b. b || has_point points p) (blank.none p) in
-        false≢true (sym (c.other p h) ∙ sym is ∙ k)
+    on : (p : Point) (b : Bool) → is_marked marks p ≡ b → (is_marked marks p && not (has_point points p)) ≡ false
+    on p true e = ap (λ t. t && not (has_point points p)) e ∙ ap not (m p e)
+    on p false e = ap (λ t. t && not (has_point points p)) e
 
--- marks of points that were cleared
-pub blank-cleared : (points : List Point) (marks last : List (List Bool)) → AreMarked marks points → AreCleared points marks last → AreBlank last
-blank-cleared points marks last m c = record { none = λ p. no-mark (is_marked last p) (λ h. false≢true (sym (c.other p h) ∙ sym (m.each p) ∙ c.was p h)) }
+-- what is marked is among the points that were marked
+pub joined-marked : (points : List Point) (blank joined : List (List Bool)) → AreBlank blank → AreJoined points blank joined → (p : Point) → is_marked joined p ≡ true → has_point points p ≡ true
+joined-marked points blank joined b j p k =
+    sym (j.each p (sym (inside-same joined blank p j.sizes) ∙ marked-inside joined p k) ∙ ap (λ t. t || has_point points p) (b.none p)) ∙ k
 
 -- ---- no marks
 

@@ -1,6 +1,7 @@
 -- A search that goes on until nothing is left to be looked at.
 use Rattle.std.proofs.Common.{◌≡◌, ℕ, ◌+◌, ◌-◌, ◌<◌, ◌≤◌, Bool, true, false, ◌||◌, List, [], length, take, get_or, refl, ap, sym, subst, ◌∙◌, arith, ⊎_elim, length-append}
-use Rattle.std.specs.Prelude.{map}
+use mathlib.Core.Bool.{beq}
+use Rattle.std.specs.Prelude.{map, not}
 use Rattle.std.proofs.lemmas.Bool.{false≢true, or_cases}
 use Rattle.std.proofs.lemmas.List.{take-append-le}
 use Rattle.ir_model.specs.declared.module.Function.{Function}
@@ -8,7 +9,7 @@ use Rattle.ir_paths.specs.Paths.{has_point, same_point}
 use Rattle.ir_paths.specs.declared.point.Point.{Point}
 use Rattle.ir_paths.proofs.Search.{same_point-same}
 use Rattle.point_graph.specs.Rows.{AreBlank, AreJoined, AreMarked, is_inside, is_marked, sizes_of}
-use Rattle.point_graph.specs.Search.{AreFound, IsFound, IsGrown, IsSettled, adjoins, adjoins_any, clear_count}
+use Rattle.point_graph.specs.Search.{AreFound, IsFound, IsGrown, IsSettled, adjoins, adjoins_any, clear_count, is_closed}
 use Rattle.point_graph.specs.Search.IsFound.{First, More}
 use Rattle.point_graph.specs.declared.direction.Direction.{Direction}
 use Rattle.point_graph.proofs.Marking.{inside-same, marked-inside}
@@ -104,7 +105,7 @@ left-open more marks found marks2 found2 at lt g =
 
 module _ (f : Function) (d : Direction) (starts avoided : List Point) (blank joined marks0 marks1 marks2 : List (List Bool)) (found1 found2 : List Point)
     (is_blank : AreBlank blank) (is_joined : AreJoined avoided blank joined) (room : map length blank ≡ sizes_of f) (room2 : map length marks0 ≡ sizes_of f)
-    (begun : IsGrown (adjoins_any f d starts) marks0 [] marks1 found1) (settled : IsSettled f d (is_marked joined) marks1 found1 marks2 found2) where
+    (begun : IsGrown (adjoins_any f d starts) marks0 [] marks1 found1) (settled : IsSettled f d (is_closed joined false) marks1 found1 marks2 found2) where
   -- of what is found the marks say what is avoided
   closes-same : (p : Point) → has_point found2 p ≡ true → is_marked joined p ≡ has_point avoided p
   closes-same p h =
@@ -116,7 +117,7 @@ module _ (f : Function) (d : Direction) (starts avoided : List Point) (blank joi
   found-complete _ (First q h) = settled.kept q (begun.has q ∙ h)
   found-complete _ (More p q before o a) = let h = found-complete p before in settled.closes p q h (closes-same p h ∙ o) a
 
-  found-sound : (q : Point) → IsFound f d (is_marked joined) (has_point found1) q → IsFound f d (has_point avoided) (adjoins_any f d starts) q × (has_point found2 q ≡ true)
+  found-sound : (q : Point) → IsFound f d (is_closed joined false) (has_point found1) q → IsFound f d (has_point avoided) (adjoins_any f d starts) q × (has_point found2 q ≡ true)
   found-sound _ (First q h) = (First q (sym (begun.has q) ∙ h), settled.kept q h)
   found-sound _ (More p q before o a) =
       let ih = found-sound p before in
@@ -136,3 +137,17 @@ left-as marks2 marks3 found2 found3 at n m e h =
     let a : left_of marks3 found3 at ≡ left_of marks2 found2 at = ap (λ (l : List (List Bool)). left_of l found3 at) m ∙ ap (λ (l : List Point). left_of marks2 l at) e in
     let P : ℕ → Type 0 = λ k. k < n in
     subst P (sym a) h
+
+-- ---- whether the search goes on
+
+pub goes-on : (limits : List (List Bool)) (on : Bool) (p : Point) (has : Bool) → has ≡ is_marked limits p → beq has on ≡ true → is_closed limits on p ≡ false
+goes-on limits true p true e is = ap not (sym e)
+goes-on limits true p false e is = absurd (false≢true is)
+goes-on limits false p true e is = absurd (false≢true is)
+goes-on limits false p false e is = sym e
+
+pub goes-not-on : (limits : List (List Bool)) (on : Bool) (p : Point) (has : Bool) → has ≡ is_marked limits p → beq has on ≡ false → is_closed limits on p ≡ true
+goes-not-on limits true p true e is = absurd (false≢true (sym is))
+goes-not-on limits true p false e is = ap not (sym e)
+goes-not-on limits false p true e is = sym e
+goes-not-on limits false p false e is = absurd (false≢true (sym is))

@@ -2,6 +2,7 @@
 use Rattle.std.specs.Prelude.{List, map, length, IsTrue, ◌≡◌, ◌↔◌}
 use Rattle.ir_model.specs.declared.module.Function.{Function}
 use Rattle.ir_paths.specs.Paths.{Leads, has_point}
+use Rattle.ir_paths.specs.Windows.{IsInWindow}
 use Rattle.ir_paths.specs.declared.point.Point.{Point}
 use Rattle.point_graph.specs.Edges.{AreIncoming, HasPositions, outgoing_of}
 use Rattle.point_graph.specs.Rows.{AreBlank, sizes_of}
@@ -26,6 +27,10 @@ pub record AreReached (f : Function) (starts avoided found : List Point) : Type 
 -- from just these points a path leads to one of the goals
 pub record AllLeadTo (f : Function) (goals avoided found : List Point) : Type 0 where
   pub each : (p : Point) → IsTrue (has_point found p) ↔ LeadsToAny f goals avoided p
+
+-- just these points are in the window of a save with its suspend
+pub record AreInWindow (f : Function) (save suspend : Point) (found : List Point) : Type 0 where
+  pub each : (p : Point) → IsTrue (has_point found p) ↔ IsInWindow f save suspend p
 
 -- the graph is that of the function, and no point of it is marked
 pub record IsGraphOf (f : Function) (g : PointGraph) : Type 0 where

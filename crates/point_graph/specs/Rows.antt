@@ -1,5 +1,5 @@
 -- Marks of points, in a row for each block.
-use Rattle.std.specs.Prelude.{ℕ, Bool, false, List, [], map, length, IsTrue, IsFalse, nat_lt, slice_get, slice_set, unwrap_or, ◌≡◌, ◌+◌, ◌||◌, ◌∷◌, ◌++◌}
+use Rattle.std.specs.Prelude.{not, ℕ, Bool, false, List, [], map, length, IsTrue, nat_lt, slice_get, slice_set, unwrap_or, ◌≡◌, ◌+◌, ◌&&◌, ◌||◌, ◌∷◌, ◌++◌}
 use Rattle.ir_model.specs.declared.module.Function.{Function}
 use Rattle.ir_paths.specs.Paths.{has_point}
 use Rattle.ir_paths.specs.declared.point.Point.{Point}
@@ -38,8 +38,7 @@ pub record AreJoined (points : List Point) (old new : List (List Bool)) : Type 0
   pub sizes : map length new ≡ map length old
   pub each : (p : Point) → IsTrue (is_inside old p) → is_marked new p ≡ (is_marked old p || has_point points p)
 
--- what is marked still was marked, and is none of these points
+-- the marks of these points are cleared
 pub record AreCleared (points : List Point) (old new : List (List Bool)) : Type 0 where
   pub sizes : map length new ≡ map length old
-  pub was : (p : Point) → IsTrue (is_marked new p) → IsTrue (is_marked old p)
-  pub other : (p : Point) → IsTrue (is_marked new p) → IsFalse (has_point points p)
+  pub each : (p : Point) → is_marked new p ≡ (is_marked old p && not (has_point points p))

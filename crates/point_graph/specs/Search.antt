@@ -1,9 +1,9 @@
 -- What a search does, in either direction.
-use Rattle.std.specs.Prelude.{ℕ, Bool, List, [], map, length, IsTrue, IsFalse, ◌≡◌, ◌↔◌, ◌+◌, ◌||◌, ◌∷◌, ◌++◌, if◌then◌else◌}
+use Rattle.std.specs.Prelude.{true, false, not, ℕ, Bool, List, [], map, length, IsTrue, IsFalse, ◌≡◌, ◌↔◌, ◌+◌, ◌||◌, ◌∷◌, ◌++◌, if◌then◌else◌}
 use Rattle.ir_model.specs.declared.module.Function.{Function}
 use Rattle.ir_paths.specs.Paths.{has_point, nexts}
 use Rattle.ir_paths.specs.declared.point.Point.{Point}
-use Rattle.point_graph.specs.Rows.{AreMarked}
+use Rattle.point_graph.specs.Rows.{AreMarked, is_marked}
 use Rattle.point_graph.specs.declared.direction.Direction.{Direction}
 use Rattle.std.specs.List.{list_any}
 
@@ -11,6 +11,11 @@ use Rattle.std.specs.List.{list_any}
 abbrev pub adjoins : Function → Direction → Point → Point → Bool
 adjoins f Direction.Forward p q = has_point (nexts f p) q
 adjoins f Direction.Backward p q = has_point (nexts f q) p
+
+-- the search doesn't go on from a point whose mark among the limits isn't the one asked for
+abbrev pub is_closed : List (List Bool) → Bool → Point → Bool
+is_closed limits true p = not (is_marked limits p)
+is_closed limits false p = is_marked limits p
 
 -- a point is beside one of the starts
 abbrev pub adjoins_any : Function → Direction → List Point → Point → Bool

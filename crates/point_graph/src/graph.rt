@@ -1,9 +1,9 @@
 //! The graph, and its searches.
 
-ghost use Rattle.std.specs.Prelude.{◌≡◌, OnOk, map, length};
+ghost use Rattle.std.specs.Prelude.{◌≡◌, IfOk, OnOk, filter, map, length};
 ghost use Rattle.point_graph.specs.Edges.{AreIncoming, outgoing_of};
 ghost use Rattle.point_graph.specs.Rows.{AreMarked, is_marked, sizes_of};
-ghost use Rattle.point_graph.specs.Search.{IsGrown, IsSettled, adjoins_any};
+ghost use Rattle.point_graph.specs.Search.{IsGrown, IsSettled, adjoins_any, is_closed};
 
 use crate::direction::Direction;
 use crate::edges::{Edges, edges_of, entry_of};
@@ -35,12 +35,13 @@ fn begin(
     Ok(())
 }
 
-/// Goes on from each point that was found and isn't avoided.
+/// Goes on from each point that was found and whose mark among the limits is the one asked for.
 fn settle(
     function: &Function,
     edges: &Edges,
     direction: Direction,
-    avoided: &Marks,
+    limits: &Marks,
+    goes_on: bool,
     marks: &mut Marks,
     found: &mut Vec<Point>,
 ) -> Result<(), AllocError>
@@ -48,17 +49,30 @@ fn settle(
     requires incoming { AreIncoming function.now edges.now.incoming }
     requires sizes { map length marks.old ≡ sizes_of function.now }
     requires marked { AreMarked marks.old found.old.items }
-    ensures { OnOk result (IsSettled function.now direction (is_marked avoided.now) marks.old found.old.items marks.new found.new.items) }
+    ensures { OnOk result (IsSettled function.now direction (is_closed limits.now goes_on) marks.old found.old.items marks.new found.new.items) }
 {
     let mut at = 0;
     while at < found.len() {
         let point = found[at];
-        if !avoided.has(point) {
+        if limits.has(point) == goes_on {
             follow(function, edges, direction, point, marks, found)?;
         }
         at += 1;
     }
     Ok(())
+}
+
+/// Those of the points that are marked.
+fn marked_among(alloc: Global, marks: &Marks, points: &[Point]) -> Result<Items<Point>, AllocError>
+    ensures { IfOk result (λ all. all ≡ filter (is_marked marks.now) points.now) }
+{
+    let mut all = Items::new(alloc);
+    for point in points {
+        if marks.has(*point) {
+            all.push(*point)?;
+        }
+    }
+    Ok(all)
 }
 
 /// The points of one function as a graph. Each search follows an edge once at most, and takes no more time than what it
@@ -73,7 +87,7 @@ pub struct PointGraph {
 impl PointGraph {
     ghost use Rattle.std.specs.Prelude.{◌≡◌, IfOk, OnOk};
     ghost use Rattle.ir_paths.specs.Paths.{entry_point};
-    ghost use Rattle.point_graph.specs.Reached.{AllLeadTo, AreReached, IsGraphOf};
+    ghost use Rattle.point_graph.specs.Reached.{AllLeadTo, AreInWindow, AreReached, IsGraphOf};
     ghost use Rattle.point_graph.specs.Search.{AreFound};
 
     /// The graph of a function.
@@ -122,6 +136,7 @@ impl PointGraph {
             &self.edges,
             direction,
             &self.avoided,
+            false,
             &mut self.found,
             &mut found,
         )?;
@@ -161,5 +176,47 @@ impl PointGraph {
         ensures kept { OnOk result (IsGraphOf function.now self.new) }
     {
         self.search(alloc, function, Direction::Backward, goals, avoided)
+    }
+
+    /// The points in the window of a save with its suspend. After want of memory the graph is of no more use.
+    pub fn window(
+        &mut self,
+        alloc: Global,
+        function: &Function,
+        save: Point,
+        suspend: Point,
+    ) -> Result<Items<Point>, AllocError>
+        requires { IsGraphOf function.now self.old }
+        ensures found { IfOk result (λ found. AreInWindow function.now save suspend found) }
+        ensures kept { OnOk result (IsGraphOf function.now self.new) }
+    {
+        let ends = [save, suspend];
+        let goals = [suspend];
+        let starts = [save];
+        let back = self.leading_to(alloc, function, &goals, &ends)?;
+        let mut found = Vec::new(alloc);
+        self.avoided.set_all(back.as_slice());
+        self.avoided.clear_all(&ends);
+        begin(
+            function,
+            &self.edges,
+            Direction::Forward,
+            &starts,
+            &mut self.found,
+            &mut found,
+        )?;
+        settle(
+            function,
+            &self.edges,
+            Direction::Forward,
+            &self.avoided,
+            true,
+            &mut self.found,
+            &mut found,
+        )?;
+        let inside = marked_among(alloc, &self.avoided, found.as_slice())?;
+        self.avoided.clear_all(back.as_slice());
+        self.found.clear_all(found.as_slice());
+        Ok(inside)
     }
 }

@@ -1,7 +1,7 @@
 use Rattle.std.proofs.Common.{◌≡◌, drop}
 use Rattle.std.specs.Prelude.{filter}
 use Rattle.ir_paths.specs.Windows.{leaves}
-use Rattle.coro_meaning.specs.Lookups.{not_empty}
+use Rattle.source_program.specs.Lookups.{not_empty}
 use Rattle.coro_meaning.proofs.blocks.leaves_any.Given as goal
 
 abbrev pub invariant-loop-window : goal.invariant-loop-window

@@ -1,7 +1,7 @@
 use Rattle.std.proofs.Common.{◌≡◌, take, reverse}
 use Rattle.std.specs.Prelude.{filter, not}
 use Rattle.coro_meaning.specs.Source.{is_among}
-use Rattle.coro_meaning.specs.State.{facts_at}
+use Rattle.source_program.specs.Given.{facts_at}
 use Rattle.coro_meaning.proofs.frames.share.Given as goal
 
 abbrev pub invariant-loop-slot : goal.invariant-loop-slot

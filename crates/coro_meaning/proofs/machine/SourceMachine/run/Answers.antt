@@ -2,7 +2,7 @@ use Rattle.std.proofs.Common.{◌≡◌, ◌∙◌, ap}
 use Rattle.ordinary_step.specs.Runs.{iterate}
 use Rattle.coro_meaning.specs.Machines.{SourceRun}
 use Rattle.coro_meaning.specs.Source.{first_state, state_at, step}
-use Rattle.coro_meaning.specs.State.{Given}
+use Rattle.source_program.specs.Given.{Given}
 use Rattle.coro_meaning.specs.declared.state.State.{State}
 use Rattle.coro_meaning.proofs.Iterating.{iterate-more}
 use Rattle.coro_meaning.proofs.machine.SourceMachine.run.Goals as goal

@@ -2,7 +2,7 @@ use Rattle.std.proofs.Common.{◌∙◌, List, subst, sym}
 use Rattle.ir_paths.specs.declared.point.Point.{Point}
 use Rattle.point_graph.specs.Rows.{AreCleared}
 use Rattle.point_graph.specs.Search.{AreFound, IsGrown, adjoins_any}
-use Rattle.point_graph.proofs.Marking.{blank-again, blank-cleared}
+use Rattle.point_graph.proofs.Marking.{blank-cleared, joined-marked}
 use Rattle.point_graph.proofs.Settling.{found-is}
 use Rattle.point_graph.proofs.graph.PointGraph.search.Goals as goal
 
@@ -22,6 +22,6 @@ returns-clause-kept c =
       incoming = c.requires.incoming;
       sizes = c.clear_all-2.ensures.sizes ∙ c.in_ok-settle.ensures.sizes ∙ c.in_ok-begin.ensures.sizes ∙ c.requires.sizes;
       avoided_sizes = c.clear_all.ensures.sizes ∙ c.set_all.ensures.sizes ∙ c.requires.avoided_sizes;
-      none_found = blank-cleared c.settle.new.found.items c.settle.new.marks c.clear_all-2.new.self c.in_ok-settle.ensures.marked (subst (λ (l : List Point). AreCleared l c.settle.new.marks c.clear_all-2.new.self) c.as_slice.ensures.value c.clear_all-2.ensures);
-      none_avoided = blank-again c.args.avoided.now c.args.self.now.avoided c.set_all.new.self c.clear_all.new.self c.requires.none_avoided c.set_all.ensures c.clear_all.ensures;
+      none_found = blank-cleared c.settle.new.found.items c.settle.new.marks c.clear_all-2.new.self (λ p h. sym (c.in_ok-settle.ensures.marked.each p) ∙ h) (subst (λ (l : List Point). AreCleared l c.settle.new.marks c.clear_all-2.new.self) c.as_slice.ensures.value c.clear_all-2.ensures);
+      none_avoided = blank-cleared c.args.avoided.now c.set_all.new.self c.clear_all.new.self (joined-marked c.args.avoided.now c.args.self.now.avoided c.set_all.new.self c.requires.none_avoided c.set_all.ensures) c.clear_all.ensures;
     }

@@ -1,0 +1,5 @@
+pub mod Elements
+pub mod Bounds
+pub mod Telling
+pub mod Reached
+pub mod Making

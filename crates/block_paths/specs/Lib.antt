@@ -1,0 +1,4 @@
+pub mod Edges
+pub mod Kinds
+pub mod Reach
+pub mod Words

@@ -1,0 +1,14 @@
+//! The blocks of a function as a graph, the kinds of its edges, and the blocks that paths reach.
+#![tactic(auto)]
+
+mod edges;
+mod kinds;
+mod reaching;
+
+pub use edges::{block_graph, successors};
+pub use flow_solver::Graph;
+pub use kinds::{EdgeKind, edge_kind};
+pub use reaching::{after_end, reach};
+
+#[cfg(test)]
+mod tests;

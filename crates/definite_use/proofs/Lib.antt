@@ -1,0 +1,5 @@
+pub mod OperandLists
+pub mod Standing
+pub mod Numbering
+pub mod Asking
+pub mod Finding

@@ -1,0 +1,4 @@
+pub mod Uses
+pub mod Undefined
+pub mod Scan
+pub mod Questions

@@ -1,0 +1,11 @@
+//! Uses of values that some path from a function's entry reaches without the definition (rule F2).
+#![tactic(auto)]
+
+mod locals;
+mod numbers;
+mod open_use;
+mod rule;
+mod scan;
+mod words;
+
+pub use rule::first_undefined_use;

@@ -1,0 +1,8 @@
+//! The rule of edges: phis and the predecessors of their blocks, and the entry block (F1).
+#![tactic(auto)]
+
+mod edges;
+mod numbers;
+mod sources;
+
+pub use edges::first_wrong_edge;

@@ -1,0 +1,9 @@
+pub mod Instrs
+pub mod Calls
+pub mod Extents
+pub mod Transfers
+pub mod Entries
+pub mod Addresses
+pub mod Intrinsics
+pub mod Markers
+pub mod Slots

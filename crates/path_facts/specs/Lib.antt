@@ -1,0 +1,2 @@
+pub mod HaveFacts
+pub mod Tokens

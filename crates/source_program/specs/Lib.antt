@@ -1,0 +1,3 @@
+pub mod Given
+pub mod Lookups
+pub mod Tables

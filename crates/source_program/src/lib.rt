@@ -1,0 +1,11 @@
+//! A module as a source machine runs it: what it looks up of each function, in tables that are made once.
+#![tactic(auto)]
+
+mod points;
+mod program;
+mod shape;
+mod table;
+
+pub use points::{is_none_at, is_true_at, leaves, same_point};
+pub use program::SourceProgram;
+pub use shape::{args_of, result_of};

@@ -1,0 +1,4 @@
+pub mod Notings
+pub mod Parts
+pub mod Words
+pub mod Types

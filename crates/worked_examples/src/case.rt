@@ -1,0 +1,118 @@
+//! The cases of worked examples as a text of lines.
+//!
+//! A case begins with a line `> WORDS < FILE`. Lines `out TEXT` and `err TEXT` follow, of which standard output and standard
+//! error are made; a line `more` where standard output goes on behind them; and a line `status N`, which ends the case.
+//! `> again < FILE` asks that the module of the file is printed and read again as the same module. Empty lines and those
+//! that begin with `#` say nothing.
+
+use crate::again::is_read_again;
+use crate::answer::ask;
+use anyhow::{Result, bail};
+use std::alloc::{AllocError, Global};
+use std::fs;
+
+/// Words and a module, and what the program answers to them.
+#[derive(Drop)]
+pub struct Case {
+    words: String,
+    file: String,
+    out: String,
+    err: String,
+    goes_on: bool,
+    code: u8,
+}
+
+/// The cases read so far: the one of which lines are still to come.
+#[derive(Drop)]
+pub struct Cases {
+    open_case: Option<Case>,
+}
+
+/// The case that a line begins, where it begins one.
+fn begun(alloc: Global, line: &str) -> Result<Option<Case>, AllocError> {
+    let Some(call) = line.strip_prefix("> ") else {
+        return Ok(None);
+    };
+    let Some((words, file)) = call.split_once(" < ") else {
+        return Ok(None);
+    };
+    Ok(Some(Case {
+        words: String::from_str(alloc, words)?,
+        file: String::from_str(alloc, file)?,
+        out: String::new(alloc),
+        err: String::new(alloc),
+        goes_on: false,
+        code: 0,
+    }))
+}
+
+/// Adds a line to a text.
+fn add(text: &mut String, line: &str) -> Result<(), AllocError> {
+    text.push_str(line)?;
+    text.push('\n')
+}
+
+impl Case {
+    /// Adds what a line says of the case.
+    fn say(&mut self, line: &str) -> Result<()> {
+        if let Some(text) = line.strip_prefix("out ") {
+            add(&mut self.out, text)?;
+        } else if let Some(text) = line.strip_prefix("err ") {
+            add(&mut self.err, text)?;
+        } else if line == "more" {
+            self.goes_on = true;
+        } else if !line.is_empty() && !line.starts_with("#") {
+            bail!("a line that says nothing: {line}");
+        }
+        Ok(())
+    }
+
+    /// Whether these bytes are what standard output is to hold.
+    fn is_out(&self, out: &[u8]) -> bool {
+        if self.goes_on {
+            out.starts_with(self.out.as_bytes())
+        } else {
+            out == self.out.as_bytes()
+        }
+    }
+
+    /// Runs the case, and writes where it answers otherwise.
+    pub fn run(&self, rt: &HostRuntime) -> Result<()> {
+        let text = fs::read(rt, self.file.as_str())?;
+        let is_so = if self.words.as_str() == "again" {
+            is_read_again(rt.alloc(), &text)?
+        } else {
+            let given = ask(rt.alloc(), self.words.as_str(), &text)?;
+            given.code == self.code && self.is_out(&given.out) && given.err.as_slice() == self.err.as_bytes()
+        };
+        if !is_so {
+            println!(rt; "{} < {}: otherwise", self.words, self.file)?;
+        }
+        Ok(())
+    }
+}
+
+impl Cases {
+    /// No case so far.
+    pub fn new(_alloc: Global) -> Self {
+        Cases { open_case: None }
+    }
+
+    /// The case that ends with this line, where one does.
+    pub fn take(&mut self, alloc: Global, line: &str) -> Result<Option<Case>> {
+        if let Some(case) = begun(alloc, line)? {
+            self.open_case = Some(case);
+            return Ok(None);
+        }
+        let Some(mut case) = self.open_case.take() else {
+            return Ok(None);
+        };
+        if let Some(code) = line.strip_prefix("status ") {
+            case.code = code.parse::<u8>()?;
+            return Ok(Some(case));
+        }
+        case.say(line)?;
+        self.open_case = Some(case);
+        Ok(None)
+    }
+}

@@ -1,0 +1,45 @@
+//! Runs the worked examples: the cases of the file `cases`, each words, a module and what the program answers to them, and
+//! the one-line modules of the file `refusals`. Writes which answered otherwise, and how many there were.
+#![tactic(auto)]
+
+mod again;
+mod answer;
+mod case;
+mod refusal;
+
+use crate::case::Cases;
+use anyhow::Result;
+use std::fs;
+
+/// Runs the cases of the file `cases`, and gives how many there were.
+fn worked_cases(rt: &HostRuntime) -> Result<usize> {
+    let text = fs::read_to_string(rt, "cases")?;
+    let mut count = 0usize;
+    let mut cases = Cases::new(rt.alloc());
+    for line in text.lines() {
+        if let Some(case) = cases.take(rt.alloc(), line)? {
+            case.run(rt)?;
+            count = count.saturating_add(1);
+        }
+    }
+    Ok(count)
+}
+
+/// Runs the lines of the file `refusals`, and gives how many there were.
+fn refused_lines(rt: &HostRuntime) -> Result<usize> {
+    let text = fs::read_to_string(rt, "refusals")?;
+    let mut count = 0usize;
+    for line in text.lines() {
+        if refusal::run(rt, line)? {
+            count = count.saturating_add(1);
+        }
+    }
+    Ok(count)
+}
+
+fn main(rt: HostRuntime) -> Result<()> {
+    let cases = worked_cases(&rt)?;
+    let lines = refused_lines(&rt)?;
+    println!(rt; "{cases} cases, {lines} modules of a line")?;
+    Ok(())
+}
