@@ -52,40 +52,12 @@ fn run(
 #[test]
 fn commands_answer(rt: HostRuntime) -> Result<(), Fail> {
     let lowered = "run --form lowered --entry main";
-    let cases: [(&str, &[u8], u8, &str, &str); 12] = [
+    let cases: [(&str, &[u8], u8, &str, &str); 4] = [
         (
             lowered,
             FIRST_RUN,
             0,
             "print(1)\nprint(2)\nreturned 0\n",
-            "",
-        ),
-        (
-            "run --form lowered --entry main --steps 5",
-            FIRST_RUN,
-            4,
-            "running\n",
-            "",
-        ),
-        (
-            "run --form lowered --entry f",
-            FIRST_RUN,
-            2,
-            "",
-            "entry f isn't callable\n",
-        ),
-        (
-            "run --form lowered --entry main --args 1,,2",
-            FIRST_RUN,
-            2,
-            "",
-            "bad list 1,,2\n",
-        ),
-        (
-            lowered,
-            b"define i8 @main() { ret i8 255 }",
-            0,
-            "returned -1\n",
             "",
         ),
         (
@@ -103,22 +75,6 @@ fn commands_answer(rt: HostRuntime) -> Result<(), Fail> {
             "",
         ),
         ("lower", b"", 0, "", ""),
-        ("lower", b";", 0, "", ""),
-        ("lower", b"\0", 1, "", "syntax after 0 items\n"),
-        (
-            "lower",
-            b"declare void @f() \"a\" = 5",
-            1,
-            "",
-            "syntax after 1 items\n",
-        ),
-        (
-            "lower",
-            b"define i32 @main() { %x = call i32 @g() ret i32 %x }",
-            1,
-            "",
-            "refused N2 at @main %0 0\n",
-        ),
     ];
     for (line, text, code, out, err) in cases {
         let left = run(rt.alloc(), line, text, 0, 0)?;
@@ -162,24 +118,5 @@ fn faults_are_told(rt: HostRuntime) -> Result<(), Fail> {
     )?;
     assert_eq!(rt; left.code, 6);
     assert_eq!(rt; left.out.as_slice(), b"print(1)\nprint(2".as_slice());
-    Ok(())
-}
-
-/// Modules, each with the rule that it breaks and the place, or with nothing where it breaks none of the module rules.
-const MODULES: &str =
-    "%T = type { %T }~L1 at %T\n%A = type { %B } %B = type { i8, [2 x %A] }~L1 at %A\n%A = type { i8 } %B = type { %A }~\n%T = type {} %T = type {}~N1 at %T\n%T = type {} @T = global i8 0~\n@x = global i8 0 @x = global i8 0~N1 at @x\n@x = global i8 0 declare void @x()~N1 at @x\ndefine void @f() { ret void } declare void @f()~N1 at @f\ndefine void @f(i8 %a, i8 %a) { ret void }~N1 at @f\ndefine void @f(i8 %a) { a: ret void }~N1 at @f %a\ndefine void @f(i8 %a) { %b = add i8 %a, %a %b = add i8 1, 1 ret void }~N1 at @f %0 1\ndefine void @f(i8 %a) { %b = add i8 %a, %a %c = add i8 1, 1 ret void }~\n%T = type { %U }~N2 at %T\n@x = global ptr @y~N2 at @x\n@x = global ptr @x~\ndeclare i8 @f(%T)~N2 at @f\ndefine void @f() { %p = alloca [2 x %T] ret void }~N2 at @f %0 0\ndefine i8 @f() { ret i8 %a }~N2 at @f %0 0\ndefine i8 @f() { a: ret i8 %a }~N2 at @f %a 0\ndefine void @f(i1 %a) { br i1 %a, label %a, label %b b: ret void }~N2 at @f %0 0\ndefine void @f(i1 %a) { br i1 %a, label %b, label %b b: ret void }~\ndefine ptr @f() { %p = call ptr @malloc(i32 1) ret ptr %p }~N2 at @f %0 0\ndefine void @f(ptr %p) { call void @llvm.coro.resume(ptr %p) ret void }~\ndefine void @f(ptr %p) { call void @llvm.trap() ret void }~N2 at @f %0 0\ndefine void @free(ptr %p) { ret void }~N3 at @free\n@llvm.x = global i8 0~N3 at @llvm.x\n@llvmx = global i8 0~\ndefine void @f() { %$c.x = add i8 1, 1 ret void }~N3 at @f %0 0\ndefine void @f() { %$cx = add i8 1, 1 ret void }~\ndefine void @llvm() presplitcoroutine { ret void }~N3 at @llvm\ndefine void @llvm() { ret void }~\ndeclare void @f.resume() define void @f() presplitcoroutine { ret void }~N3 at @f.resume\ndeclare void @f.resume() define void @f() { ret void }~\ndefine void @0() presplitcoroutine { ret void } @0.noalloc = global i8 0~N3 at @\"0.noalloc\"\ndeclare ptr @malloc(i8)~Y2 at @malloc\ndeclare ptr @malloc(i64)~\ndeclare i8 @g(i8) define void @f() { call void @g(i8 1) ret void }~Y2 at @f %0 0\ndeclare void @g(i8) define void @f() { call void @g(i8 1, i8 1) ret void }~Y2 at @f %0 0\n@g = global i8 0 define void @f() { call void @g() ret void }~Y2 at @f %0 0\ndeclare ptr @malloc(i64) define void @f() { %p = call ptr @malloc(i32 1) ret void }~Y2 at @f %0 0\ndefine void @f(ptr %p) { call void @llvm.memcpy.p0.p0.i32(ptr %p, ptr %p, i32 1, i1 true) ret void }~Y2 at @f %0 0\ndefine void @f(ptr %p) { call void @llvm.memcpy.p0.p0.i32(ptr %p, ptr %p, i32 1, i1 0) ret void }~\ndefine void @f(ptr %p) { %q = call ptr @llvm.coro.promise(ptr %p, i32 32, i1 true) ret void }~Y2 at @f %0 0\ndefine void @f() { br label %x } %T = type { i8 } %T = type { i8 }~N1 at %T\ndefine i8 @f() { ret i8 %a } define void @f() { ret void }~N1 at @f\n";
-
-#[test]
-fn module_rules_refuse(rt: HostRuntime) -> Result<(), Fail> {
-    for line in MODULES.lines() {
-        let mut parts = line.split('~');
-        let text = parts.next().unwrap_or("");
-        let told = parts.next().unwrap_or("");
-        let left = run(rt.alloc(), "lower", text.as_bytes(), 0, 0)?;
-        let err = format!(in rt.alloc(); "refused {told}\n")?;
-        let is_told = left.err.as_slice() == err.as_bytes();
-        let is_accepted = left.err.is_empty() || left.err.starts_with(b"refused X1");
-        assert!(rt; is_told || (told.is_empty() && is_accepted), "{text}");
-    }
     Ok(())
 }

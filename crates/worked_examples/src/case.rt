@@ -83,7 +83,9 @@ impl Case {
             is_read_again(rt.alloc(), &text)?
         } else {
             let given = ask(rt.alloc(), self.words.as_str(), &text)?;
-            given.code == self.code && self.is_out(&given.out) && given.err.as_slice() == self.err.as_bytes()
+            given.code == self.code
+                && self.is_out(&given.out)
+                && given.err.as_slice() == self.err.as_bytes()
         };
         if !is_so {
             println!(rt; "{} < {}: otherwise", self.words, self.file)?;
