@@ -1,3 +1,4 @@
 pub mod Points
 pub mod Heads
 pub mod Saves
+pub mod Addresses
