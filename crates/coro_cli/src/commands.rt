@@ -118,7 +118,7 @@ fn run_unless(
     }
 }
 
-#[tactic(auto, using(crate::proofs::Told::checked_by))]
+#[tactic(auto, using(crate::proofs::Chosen::checked_by))]
 fn checked_run(alloc: Global, source: Module, words: &RunWords) -> Result<Answer, AllocError>
     ensures { IfOk result (λ a. IsCheckedRun source words.now a) }
 {
@@ -163,7 +163,7 @@ fn run_text_form(alloc: Global, bytes: &[u8], words: &RunWords) -> Result<Answer
     text_answer(alloc, parsed, words)
 }
 
-#[tactic(auto, using(crate::proofs::Told::run_by))]
+#[tactic(auto, using(crate::proofs::Chosen::run_by))]
 fn run_lowered_form(alloc: Global, bytes: &[u8], words: &RunWords) -> Result<Answer, AllocError>
     ensures { IfOk result (λ a. IsRunAnswer Form.Lowered bytes.now words.now a) }
 {
@@ -180,7 +180,7 @@ fn run_in(alloc: Global, bytes: &[u8], words: &RunWords) -> Result<Answer, Alloc
     }
 }
 
-#[tactic(auto, using(crate::proofs::Told::lowered_by))]
+#[tactic(auto, using(crate::proofs::Chosen::lowered_by))]
 fn lower_bytes(alloc: Global, bytes: &[u8]) -> Result<Answer, AllocError>
     ensures { IfOk result (λ a. IsMadeOf bytes.now lower_answer a) }
 {
