@@ -1,9 +1,13 @@
 -- What is answered, where the first broken rule or the lowering is told.
 use Rattle.std.proofs.Common.{◌≡◌, ℕ, List, Option, Ok, Err}
 use Rattle.std.specs.Prelude.{Result, IfOk}
-use Rattle.coro_cli.specs.Answers.{IsCheckedRun, IsMadeOf, checked_run, lower_answer, lowered_answer}
+use Rattle.std.specs.Io.KnownBytes.{Appends}
+use Rattle.coro_base.specs.declared.status.Status.{Status}
+use Rattle.coro_cli.specs.Answers.{IsAnswer, IsCheckedRun, IsMadeOf, checked_run, lower_answer, lowered_answer, verdict_status}
+use Rattle.coro_cli.specs.Endings.{Gives, IsTold}
 use Rattle.coro_cli.specs.declared.verdict.Answer.{Answer}
 use Rattle.coro_words.specs.declared.words.RunWords.{RunWords}
+use Rattle.coro_words.specs.declared.words.Words.{Words}
 use Rattle.ir_check.specs.Refused.{IsRefused}
 use Rattle.ir_model.specs.declared.module.Module.{Module}
 use Rattle.lower_pipeline.specs.Lowering.{IsLowering}
@@ -22,3 +26,6 @@ run_by bytes w l (Err e) lowered is = is
 pub lowered_by : {E : Type 0} (bytes : List ℕ) (l : Lowering) (r : Result Answer E) → IsLowering bytes l → IfOk r (λ a. a ≡ lower_answer l) → IfOk r (λ a. IsMadeOf bytes lower_answer a)
 lowered_by bytes l (Ok a) lowered is = record { lowering = l; lowered = lowered; is = is }
 lowered_by bytes l (Err e) lowered is = is
+
+pub gives_by : (w : Words) (bytes : List ℕ) (out out-new err err-new : Option (List ℕ)) (status : Status) (a : Answer) → IsAnswer w bytes a → (IsTold status → verdict_status a.verdict ≡ status) → (IsTold status → Appends out out-new a.out) → (IsTold status → Appends err err-new a.err) → IsTold status → Gives w bytes out out-new err err-new status
+gives_by w bytes out out-new err err-new status a is ends gives-out gives-err t = record { answer = a; is = is; ends = ends t; out = gives-out t; err = gives-err t }

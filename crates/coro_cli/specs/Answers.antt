@@ -1,5 +1,5 @@
 -- What a command answers to the bytes of its input.
-use Rattle.std.specs.Prelude.{ℕ, Bool, true, false, not, List, [], length, ℤ, Some, None, Option, is_some, slice_get, ◌&&◌, ◌+◌, ◌∷◌, if◌then◌else◌, ◌==◌}
+use Rattle.std.specs.Prelude.{◌≡◌, ℕ, Bool, true, false, not, List, [], length, ℤ, Some, None, Option, is_some, slice_get, ◌&&◌, ◌+◌, ◌∷◌, if◌then◌else◌, ◌==◌}
 use Rattle.coro_base.specs.declared.name.Name.{Name}
 use Rattle.coro_base.specs.declared.outcome.Outcome.{Outcome}
 use Rattle.coro_base.specs.declared.outcome.Place.{Place}

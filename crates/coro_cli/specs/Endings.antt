@@ -23,12 +23,12 @@ pub record Tells (s : Sides) (text : List ℕ) : Type 0 where
   pub err : Appends s.err s.err-new text
 
 -- the outputs got what the words' command answers to the bytes, with its status
-pub record Gives (w : Words) (bytes : List ℕ) (out out-new err err-new : Option (List ℕ)) (status : Status) : Type 0 where
+pub record Gives (w : Words) (bytes : List ℕ) (out-old out-new err-old err-new : Option (List ℕ)) (status : Status) : Type 0 where
   pub answer : Answer
   pub is : IsAnswer w bytes answer
   pub ends : verdict_status answer.verdict ≡ status
-  pub out : Appends out out-new answer.out
-  pub err : Appends err err-new answer.err
+  pub out : Appends out-old out-new answer.out
+  pub err : Appends err-old err-new answer.err
 
 -- the input was read to its end, and the outputs got the answer to it
 pub record Answers (w : Words) (s : Sides) (status : Status) : Type 0 where

@@ -8,6 +8,7 @@ ghost use Rattle.coro_words.specs.Asked.{asked};
 ghost use Rattle.coro_words.specs.declared.words.Reading.{Reading};
 ghost use Rattle.coro_words.specs.declared.words.Words.{Words as TheWords};
 ghost use Rattle.coro_report.specs.Report.{bad_list_text};
+ghost use Rattle.coro_cli.specs.Answers.{verdict_status};
 ghost use Rattle.coro_cli.specs.Endings.{sides, Gives, Tells, Answers, IsTold, RefusesWords};
 
 use crate::commands::answer;
@@ -46,7 +47,22 @@ fn give<O: Sink, E: Sink>(out: &mut O, err: &mut E, answer: &Answer) -> Result<(
     write_all(err, answer.err.as_slice())
 }
 
+/// Writes an answer, and gives its status where that succeeds.
+fn give_whole<O: Sink, E: Sink>(out: &mut O, err: &mut E, answer: &Answer) -> Status
+    ensures status { IsTold result → (verdict_status answer.now.verdict ≡ result) }
+    ensures out { IsTold result → Appends (O.held out.old) (O.held out.new) answer.now.out }
+    ensures err { IsTold result → Appends (E.held err.old) (E.held err.new) answer.now.err }
+    ensures read { (result ≢ Status.ReadFault) × ((result ≢ Status.TooLong) × (result ≢ Status.OutOfMemory)) }
+    ensures write_fault { result ≡ Status.WriteFault → Rose (O.faults out.old) (O.faults out.new) ⊎ Rose (E.faults err.old) (E.faults err.new) }
+{
+    match give(out, err, answer) {
+        Ok(()) => answer.verdict.status(),
+        Err(_) => Status::WriteFault,
+    }
+}
+
 /// Answers to the bytes of the input.
+#[tactic(auto, using(crate::proofs::Chosen::gives_by))]
 fn drive_bytes<O: Sink, E: Sink>(
     alloc: Global,
     words: &Words,
@@ -62,10 +78,7 @@ fn drive_bytes<O: Sink, E: Sink>(
 {
     match answer(alloc, words, bytes) {
         Err(_) => told(err, b"out of memory\n", Status::OutOfMemory),
-        Ok(answer) => match give(out, err, &answer) {
-            Ok(()) => answer.verdict.status(),
-            Err(_) => Status::WriteFault,
-        },
+        Ok(answer) => give_whole(out, err, &answer),
     }
 }
 
