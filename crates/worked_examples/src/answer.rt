@@ -28,7 +28,7 @@ fn words_of(alloc: Global, line: &str) -> Result<Vec<String>, AllocError> {
 pub fn ask(alloc: Global, line: &str, text: &[u8]) -> Result<Answer, AllocError> {
     let words = words_of(alloc, line)?;
     let mut input = ByteSource::new(Vec::from_slice(alloc, text)?, 4096, Vec::new(alloc));
-    let mut out = ByteSink::with_room(alloc, 1_048_576, 4096, Vec::new(alloc))?;
+    let mut out = ByteSink::with_room(alloc, 33_554_432, 4096, Vec::new(alloc))?;
     let mut err = ByteSink::with_room(alloc, 65_536, 4096, Vec::new(alloc))?;
     let status: Status = drive(alloc, &words, &mut input, &mut out, &mut err);
     Ok(Answer {

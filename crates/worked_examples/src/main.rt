@@ -1,10 +1,12 @@
-//! Runs the worked examples: the cases of the file `cases`, each words, a module and what the program answers to them, and
-//! the one-line modules of the file `refusals`. Writes which answered otherwise, and how many there were.
+//! Runs the worked examples: the cases of the file `cases`, each words, a module and what the program answers to them, the
+//! one-line modules of the file `refusals`, and those that the file `limits` describes. Writes which are answered otherwise,
+//! and how many there were.
 #![tactic(auto)]
 
 mod again;
 mod answer;
 mod case;
+mod limit;
 mod refusal;
 
 use crate::case::Cases;
@@ -25,7 +27,7 @@ fn worked_cases(rt: &HostRuntime) -> Result<usize> {
     Ok(count)
 }
 
-/// Runs the lines of the file `refusals`, and gives how many there were.
+/// Runs the lines of the file `refusals`, and gives how many had a module.
 fn refused_lines(rt: &HostRuntime) -> Result<usize> {
     let text = fs::read_to_string(rt, "refusals")?;
     let mut count = 0usize;
@@ -37,9 +39,22 @@ fn refused_lines(rt: &HostRuntime) -> Result<usize> {
     Ok(count)
 }
 
+/// Runs the lines of the file `limits`, and gives how many had a module.
+fn limits(rt: &HostRuntime) -> Result<usize> {
+    let text = fs::read_to_string(rt, "limits")?;
+    let mut count = 0usize;
+    for line in text.lines() {
+        if limit::run(rt, line)? {
+            count = count.saturating_add(1);
+        }
+    }
+    Ok(count)
+}
+
 fn main(rt: HostRuntime) -> Result<()> {
     let cases = worked_cases(&rt)?;
     let lines = refused_lines(&rt)?;
-    println!(rt; "{cases} cases, {lines} modules of a line")?;
+    let limits = limits(&rt)?;
+    println!(rt; "{cases} cases, {lines} modules of a line, {limits} at or above a limit")?;
     Ok(())
 }

@@ -1,0 +1,67 @@
+//! Modules that hold many parts of one form: those at a limit, and one above it.
+//!
+//! A line of the file `limits` is `COUNT~HEAD~PART~TAIL~ANSWER`: the module is the head, the part so often, in which each `#`
+//! is the number of the part in hexadecimal digits, counted from 0, and the tail. The answer is as in `refusals`.
+
+use crate::refusal::is_told;
+use anyhow::Result;
+use std::alloc::{AllocError, Global};
+
+/// The words of a line.
+#[derive(Drop)]
+struct Limit<'a> {
+    count: u32,
+    head: &'a str,
+    part: &'a str,
+    tail: &'a str,
+    told: &'a str,
+}
+
+fn limit_of(line: &str) -> Option<Limit<'_>> {
+    let mut words = line.split('~');
+    let count = words.next()?.parse::<u32>().ok()?;
+    Some(Limit {
+        count,
+        head: words.next()?,
+        part: words.next()?,
+        tail: words.next()?,
+        told: words.next()?,
+    })
+}
+
+/// Adds the part of a number to a text.
+fn push_part(alloc: Global, text: &mut String, part: &str, number: u32) -> Result<(), AllocError> {
+    let digits = format!(in alloc; "{number:x}")?;
+    let mut is_first = true;
+    for piece in part.split('#') {
+        if !is_first {
+            text.push_str(digits.as_str())?;
+        }
+        text.push_str(piece)?;
+        is_first = false;
+    }
+    Ok(())
+}
+
+impl Limit<'_> {
+    fn text(&self, alloc: Global) -> Result<String, AllocError> {
+        let mut text = String::from_str(alloc, self.head)?;
+        for number in 0..self.count {
+            push_part(alloc, &mut text, self.part, number)?;
+        }
+        text.push_str(self.tail)?;
+        Ok(text)
+    }
+}
+
+/// Lowers the module of a line, and writes where it is answered otherwise. Whether the line has a module.
+pub fn run(rt: &HostRuntime, line: &str) -> Result<bool> {
+    let Some(limit) = limit_of(line) else {
+        return Ok(false);
+    };
+    let text = limit.text(rt.alloc())?;
+    if !is_told(rt, text.as_bytes(), limit.told)? {
+        println!(rt; "{line}: otherwise")?;
+    }
+    Ok(true)
+}
