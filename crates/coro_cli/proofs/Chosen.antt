@@ -3,7 +3,7 @@ use Rattle.std.proofs.Common.{◌≡◌, ℕ, List, Option, Ok, Err}
 use Rattle.std.specs.Prelude.{Result, IfOk}
 use Rattle.std.specs.Io.KnownBytes.{Appends}
 use Rattle.coro_base.specs.declared.status.Status.{Status}
-use Rattle.coro_cli.specs.Answers.{IsAnswer, IsCheckedRun, IsMadeOf, checked_run, lower_answer, lowered_answer, verdict_status}
+use Rattle.coro_cli.specs.Answers.{IsAnswer, IsMadeOf, IsMadeOfRules, check_answer, checked_run, lower_answer, lowered_answer, source_form_answer, verdict_status}
 use Rattle.coro_cli.specs.Endings.{Gives, IsTold}
 use Rattle.coro_cli.specs.declared.verdict.Answer.{Answer}
 use Rattle.coro_words.specs.declared.words.RunWords.{RunWords}
@@ -15,13 +15,21 @@ use Rattle.lower_pipeline.specs.declared.whole.Lowering.{Lowering}
 use Rattle.module_rules.specs.declared.order.Refusal.{Refusal}
 use Rattle.name_rules.specs.declared.stage.Stage.{Stage}
 
-pub checked_by : {E : Type 0} (m : Module) (w : RunWords) (refusal : Option Refusal) (r : Result Answer E) → IsRefused Stage.Plain m refusal → IfOk r (λ a. a ≡ checked_run refusal m w) → IfOk r (λ a. IsCheckedRun m w a)
-checked_by m w refusal (Ok a) refused is = record { refusal = refusal; refused = refused; is = is }
-checked_by m w refusal (Err e) refused is = is
+pub run_where_checked : {E : Type 0} (m : Module) (w : RunWords) (refusal : Option Refusal) (r : Result Answer E) → IsRefused Stage.Plain m refusal → IfOk r (λ a. a ≡ checked_run refusal m w) → IfOk r (λ a. IsMadeOfRules Stage.Plain m (λ x. checked_run x m w) a)
+run_where_checked m w refusal (Ok a) refused is = record { refusal = refusal; refused = refused; is = is }
+run_where_checked m w refusal (Err e) refused is = is
+
+pub checked_by : {E : Type 0} (stage : Stage) (m : Module) (refusal : Option Refusal) (r : Result Answer E) → IsRefused stage m refusal → IfOk r (λ a. a ≡ check_answer m refusal) → IfOk r (λ a. IsMadeOfRules stage m (λ x. check_answer m x) a)
+checked_by stage m refusal (Ok a) refused is = record { refusal = refusal; refused = refused; is = is }
+checked_by stage m refusal (Err e) refused is = is
 
 pub run_by : {E : Type 0} (bytes : List ℕ) (w : RunWords) (l : Lowering) (r : Result Answer E) → IsLowering bytes l → IfOk r (λ a. a ≡ lowered_answer l w) → IfOk r (λ a. IsMadeOf bytes (λ x. lowered_answer x w) a)
 run_by bytes w l (Ok a) lowered is = record { lowering = l; lowered = lowered; is = is }
 run_by bytes w l (Err e) lowered is = is
+
+pub source_by : {E : Type 0} (bytes : List ℕ) (w : RunWords) (l : Lowering) (r : Result Answer E) → IsLowering bytes l → IfOk r (λ a. a ≡ source_form_answer l w) → IfOk r (λ a. IsMadeOf bytes (λ x. source_form_answer x w) a)
+source_by bytes w l (Ok a) lowered is = record { lowering = l; lowered = lowered; is = is }
+source_by bytes w l (Err e) lowered is = is
 
 pub lowered_by : {E : Type 0} (bytes : List ℕ) (l : Lowering) (r : Result Answer E) → IsLowering bytes l → IfOk r (λ a. a ≡ lower_answer l) → IfOk r (λ a. IsMadeOf bytes lower_answer a)
 lowered_by bytes l (Ok a) lowered is = record { lowering = l; lowered = lowered; is = is }

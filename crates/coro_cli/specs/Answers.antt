@@ -1,5 +1,6 @@
 -- What a command answers to the bytes of its input.
-use Rattle.std.specs.Prelude.{◌≡◌, ℕ, Bool, true, false, not, List, [], length, ℤ, Some, None, Option, is_some, slice_get, ◌&&◌, ◌+◌, ◌∷◌, if◌then◌else◌, ◌==◌}
+use Rattle.std.specs.Prelude.{◌≡◌, ℕ, Bool, true, false, not, List, [], length, map, codes, ℤ, Some, None, Option, is_some, slice_get, ◌&&◌, ◌+◌, ◌∷◌, if◌then◌else◌, ◌==◌}
+use Rattle.agreement.specs.Machines.{Seen}
 use Rattle.coro_base.specs.declared.name.Name.{Name}
 use Rattle.coro_base.specs.declared.outcome.Outcome.{Outcome}
 use Rattle.coro_base.specs.declared.outcome.Place.{Place}
@@ -9,14 +10,18 @@ use Rattle.coro_base.specs.declared.status.Status.{Status}
 use Rattle.coro_cli.specs.declared.verdict.Answer.{Answer}
 use Rattle.coro_cli.specs.declared.verdict.EntryCall.{EntryCall}
 use Rattle.coro_cli.specs.declared.verdict.Verdict.{Verdict}
+use Rattle.coro_meaning.specs.Source.{SourceAt}
 use Rattle.coro_names.specs.Spelling.{spelling}
-use Rattle.coro_report.specs.Report.{not_callable_text, refused_text, run_text, syntax_text}
+use Rattle.coro_report.specs.Report.{not_callable_text, refused_text, seen_text, syntax_text}
 use Rattle.coro_words.specs.declared.words.Form.{Form}
 use Rattle.coro_words.specs.declared.words.RunWords.{RunWords}
 use Rattle.coro_words.specs.declared.words.Words.{Words}
+use Rattle.frame_layout.specs.declared.layout.Layout.{Layout}
+use Rattle.frame_layout.specs.declared.layout.Layouts.{Layouts}
 use Rattle.ir_ints.specs.Numbers.{word_of}
 use Rattle.ir_model.specs.Names.{same_text}
 use Rattle.ir_model.specs.Ty.{Ty, int}
+use Rattle.ir_model.specs.declared.module.Frame.{Frame}
 use Rattle.ir_model.specs.declared.module.Function.{Function}
 use Rattle.ir_model.specs.declared.module.Module.{Module}
 use Rattle.ir_model.specs.declared.module.Param.{Param}
@@ -28,7 +33,7 @@ use Rattle.lower_pipeline.specs.declared.whole.Lowering.{Lowering}
 use Rattle.ir_check.specs.Refused.{IsRefused}
 use Rattle.module_rules.specs.declared.order.Refusal.{Refusal}
 use Rattle.name_rules.specs.declared.stage.Stage.{Stage}
-use Rattle.plain_meaning.specs.Plain.{PlainGiven, plain_state_at}
+use Rattle.plain_meaning.specs.Plain.{PlainAt}
 
 -- ---- answers
 
@@ -49,11 +54,14 @@ told verdict text = record { verdict = verdict; out = []; err = text }
 abbrev pub refused : Module → Rule → Place → Answer
 refused m rule place = told Verdict.Refused (refused_text m rule place)
 
+abbrev pub syntax_fault : ℕ → Answer
+syntax_fault items = told Verdict.Refused (syntax_text items)
+
 -- ---- lower
 
 abbrev pub lower_answer : Lowering → Answer
 lower_answer (Lowering.Done l) = shown Verdict.Done l.text
-lower_answer (Lowering.Syntax items) = told Verdict.Refused (syntax_text items)
+lower_answer (Lowering.Syntax items) = syntax_fault items
 lower_answer (Lowering.Refused m rule place) = refused m rule place
 
 -- ---- callable entries
@@ -119,10 +127,13 @@ run_verdict (Outcome.Returned v) = Verdict.Done
 run_verdict Outcome.Running = Verdict.Unfinished
 run_verdict (Outcome.Undefined cause place) = Verdict.Undefined
 
+-- the events and the outcome that are seen of a run
+abbrev pub seen_answer : Module → Seen → Answer
+seen_answer m seen = shown (run_verdict seen.outcome) (seen_text m seen)
+
+-- what is seen of a module without coroutines after so many steps
 abbrev pub run_answer : Module → List ℤ → EntryCall → ℕ → Answer
-run_answer code answers call steps =
-    let s = plain_state_at (record { code = code; answers = answers }) call.func call.args steps in
-    shown (run_verdict s.outcome) (run_text code s.world.events s.outcome)
+run_answer code answers call steps = seen_answer code (PlainAt code call.func call.args answers steps)
 
 abbrev pub not_callable : List ℕ → Answer
 not_callable entry = told Verdict.NotCallable (not_callable_text entry)
@@ -139,24 +150,67 @@ abbrev pub checked_run : Option Refusal → Module → RunWords → Answer
 checked_run (Some r) m w = refused m r.rule r.place
 checked_run None m w = run_module m w
 
--- a plain module checked and run
-pub record IsCheckedRun (m : Module) (w : RunWords) (a : Answer) : Type 0 where
+-- what is made of the first broken rule of a module
+pub record IsMadeOfRules (stage : Stage) (m : Module) (make : Option Refusal → Answer) (a : Answer) : Type 0 where
   pub refusal : Option Refusal
-  pub refused : IsRefused Stage.Plain m refusal
-  pub is : a ≡ checked_run refusal m w
+  pub refused : IsRefused stage m refusal
+  pub is : a ≡ make refusal
 
+-- a module without coroutines is looked at for all rules and run
 abbrev pub IsTextAnswer : Parsed → RunWords → Answer → Type 0
-IsTextAnswer (Parsed.Syntax items) w a = a ≡ told Verdict.Refused (syntax_text items)
-IsTextAnswer (Parsed.Module m) w a = IsCheckedRun m w a
+IsTextAnswer (Parsed.Syntax items) w a = a ≡ syntax_fault items
+IsTextAnswer (Parsed.Module m) w a = IsMadeOfRules Stage.Plain m (λ r. checked_run r m w) a
 
 -- the source says whether the entry is callable; the lowered module runs the function of that name
 abbrev pub run_lowered : Lowered → RunWords → Answer
 run_lowered l w = if is_some (entry_call l.source w.entry w.args) then run_module l.module w else not_callable w.entry
 
 abbrev pub lowered_answer : Lowering → RunWords → Answer
-lowered_answer (Lowering.Syntax items) w = told Verdict.Refused (syntax_text items)
+lowered_answer (Lowering.Syntax items) w = syntax_fault items
 lowered_answer (Lowering.Refused m rule place) w = refused m rule place
 lowered_answer (Lowering.Done l) w = run_lowered l w
+
+-- ---- run of a source
+
+abbrev pub size_of : Layout → Frame
+size_of l = record { coroutine = l.coroutine; size = l.size; align = l.align }
+
+-- the sizes of the coroutines' frames, which coro.size and coro.align give
+abbrev pub sizes_of : Layouts → List Frame
+sizes_of layouts = map size_of layouts.coroutines
+
+-- what is seen of a source after so many steps
+abbrev pub source_answer : Module → List Frame → List ℤ → EntryCall → ℕ → Answer
+source_answer m sizes answers call steps = seen_answer m (SourceAt m sizes call.func call.args answers steps)
+
+abbrev pub source_or : Module → List Frame → RunWords → Option EntryCall → Answer
+source_or m sizes w None = not_callable w.entry
+source_or m sizes w (Some call) = source_answer m sizes w.answers call w.steps
+
+abbrev pub run_source : Lowered → RunWords → Answer
+run_source l w = source_or l.source (sizes_of l.layouts) w (entry_call l.source w.entry w.args)
+
+-- so far the sizes of frames are known of modules that are lowered
+abbrev pub source_form_answer : Lowering → RunWords → Answer
+source_form_answer (Lowering.Syntax items) w = syntax_fault items
+source_form_answer (Lowering.Refused m rule place) w = refused m rule place
+source_form_answer (Lowering.Done l) w = run_source l w
+
+-- ---- check
+
+-- the rules of a module without coroutines, or those of a source
+abbrev pub stage_of : Bool → Stage
+stage_of true = Stage.Plain
+stage_of false = Stage.Source
+
+-- `ok`, or the first broken rule with its place
+abbrev pub check_answer : Module → Option Refusal → Answer
+check_answer m None = shown Verdict.Done (codes "ok\n")
+check_answer m (Some r) = refused m r.rule r.place
+
+abbrev pub IsCheckAnswer : Stage → Parsed → Answer → Type 0
+IsCheckAnswer stage (Parsed.Syntax items) a = a ≡ syntax_fault items
+IsCheckAnswer stage (Parsed.Module m) a = IsMadeOfRules stage m (λ r. check_answer m r) a
 
 -- ---- the commands
 
@@ -167,10 +221,12 @@ pub record IsMadeOf (bytes : List ℕ) (make : Lowering → Answer) (a : Answer)
   pub is : a ≡ make lowering
 
 abbrev pub IsRunAnswer : Form → List ℕ → RunWords → Answer → Type 0
+IsRunAnswer Form.Source bytes w a = IsMadeOf bytes (λ l. source_form_answer l w) a
 IsRunAnswer Form.Text bytes w a = IsTextAnswer (read_module bytes) w a
 IsRunAnswer Form.Lowered bytes w a = IsMadeOf bytes (λ l. lowered_answer l w) a
 
 -- what the words' command answers to these bytes
 unfoldable pub IsAnswer : Words → List ℕ → Answer → Type 0
 IsAnswer (Words.Lower plain) bytes a = IsMadeOf bytes lower_answer a
+IsAnswer (Words.Check lowered) bytes a = IsCheckAnswer (stage_of lowered) (read_module bytes) a
 IsAnswer (Words.Run w) bytes a = IsRunAnswer w.form bytes w a

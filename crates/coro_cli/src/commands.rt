@@ -1,55 +1,21 @@
 //! What the commands answer to the bytes of their input.
 
 ghost use Rattle.std.specs.Prelude.{◌≡◌, IfOk, List, ℕ};
-ghost use Rattle.coro_report.specs.Report.{syntax_text};
 ghost use Rattle.coro_words.specs.declared.words.Form.{Form};
-ghost use Rattle.coro_cli.specs.Answers.{shown, told, refused, lower_answer, run_verdict, run_answer, not_callable, run_module, checked_run, IsTextAnswer, IsCheckedRun, run_lowered, lowered_answer, IsRunAnswer, IsMadeOf, IsAnswer};
+ghost use Rattle.coro_cli.specs.Answers.{lower_answer, checked_run, check_answer, stage_of, IsTextAnswer, IsCheckAnswer, IsMadeOfRules, run_lowered, lowered_answer, source_form_answer, IsRunAnswer, IsMadeOf, IsAnswer};
+ghost use Rattle.ir_parser.specs.Parse.{read_module};
 
+use crate::runs::{not_callable, run_module, run_source};
 use crate::entry::entry_call;
-use crate::verdict::{Answer, EntryCall, Verdict};
-use coro_base::{Items, Outcome, Place, Rule};
-use coro_report::{not_callable_text, refused_text, run_text, syntax_text};
+use crate::texts::{refused, shown, syntax_fault};
+use crate::verdict::{Answer, Verdict};
+use coro_base::Items;
 use coro_words::{Form, RunWords, Words};
 use ir_check::{Refusal, Stage, first_refusal};
 use ir_model::Module;
 use ir_parser::{Parsed, parse};
 use lower_pipeline::{Lowered, Lowering, lower};
-use plain_meaning::PlainMachine;
 use std::alloc::{AllocError, Global};
-
-fn shown(alloc: Global, verdict: Verdict, text: Items<u8>) -> Answer
-    ensures { result ≡ shown verdict text }
-{
-    Answer {
-        verdict,
-        out: text,
-        err: Items::new(alloc),
-    }
-}
-
-fn told(alloc: Global, verdict: Verdict, text: Vec<u8>) -> Answer
-    ensures { result ≡ told verdict text.items }
-{
-    Answer {
-        verdict,
-        out: Items::new(alloc),
-        err: Items::from_vec(text),
-    }
-}
-
-fn refused(alloc: Global, source: &Module, rule: Rule, place: Place) -> Result<Answer, AllocError>
-    ensures { IfOk result (λ a. a ≡ refused source.now rule place) }
-{
-    let text = refused_text(alloc, source, rule, place)?;
-    Ok(told(alloc, Verdict::Refused, text))
-}
-
-fn syntax_fault(alloc: Global, items: usize) -> Result<Answer, AllocError>
-    ensures { IfOk result (λ a. a ≡ told Verdict.Refused (syntax_text items)) }
-{
-    let text = syntax_text(alloc, items)?;
-    Ok(told(alloc, Verdict::Refused, text))
-}
 
 fn lower_answer(alloc: Global, lowering: Lowering) -> Result<Answer, AllocError>
     ensures { IfOk result (λ a. a ≡ lower_answer lowering) }
@@ -58,48 +24,6 @@ fn lower_answer(alloc: Global, lowering: Lowering) -> Result<Answer, AllocError>
         Lowering::Done(lowered) => Ok(shown(alloc, Verdict::Done, lowered.text)),
         Lowering::Syntax(items) => syntax_fault(alloc, items),
         Lowering::Refused(source, rule, place) => refused(alloc, &source, rule, place),
-    }
-}
-
-fn run_verdict(outcome: Outcome) -> Verdict
-    ensures { result ≡ run_verdict outcome }
-{
-    match outcome {
-        Outcome::Returned(_) => Verdict::Done,
-        Outcome::Running => Verdict::Unfinished,
-        Outcome::Undefined(_, _) => Verdict::Undefined,
-    }
-}
-
-fn not_callable(alloc: Global, entry: &[u8]) -> Result<Answer, AllocError>
-    ensures { IfOk result (λ a. a ≡ not_callable entry.now) }
-{
-    let text = not_callable_text(alloc, entry)?;
-    Ok(told(alloc, Verdict::NotCallable, text))
-}
-
-fn run_answer(
-    alloc: Global,
-    code: Module,
-    answers: &[i128],
-    call: &EntryCall,
-    steps: u64,
-) -> Result<Answer, AllocError>
-    ensures { IfOk result (λ a. a ≡ run_answer code answers.now call.now steps) }
-{
-    let mut machine = PlainMachine::start(alloc, code, call.func, call.args.as_slice(), answers)?;
-    let outcome = machine.run(steps)?;
-    let text = run_text(alloc, machine.code(), machine.events(), outcome)?;
-    Ok(shown(alloc, run_verdict(outcome), Items::from_vec(text)))
-}
-
-fn run_module(alloc: Global, code: Module, words: &RunWords) -> Result<Answer, AllocError>
-    ensures { IfOk result (λ a. a ≡ run_module code words.now) }
-{
-    let entry = words.entry.as_bytes();
-    match entry_call(alloc, &code, entry, words.args.as_slice())? {
-        None => not_callable(alloc, entry),
-        Some(call) => run_answer(alloc, code, words.answers.as_slice(), &call, words.steps),
     }
 }
 
@@ -118,9 +42,9 @@ fn run_unless(
     }
 }
 
-#[tactic(auto, using(crate::proofs::Chosen::checked_by))]
+#[tactic(auto, using(crate::proofs::Chosen::run_where_checked))]
 fn checked_run(alloc: Global, source: Module, words: &RunWords) -> Result<Answer, AllocError>
-    ensures { IfOk result (λ a. IsCheckedRun source words.now a) }
+    ensures { IfOk result (λ a. IsMadeOfRules Stage.Plain source (λ r. checked_run r source words.now) a) }
 {
     let refusal = first_refusal(alloc, Stage::Plain, &source)?;
     run_unless(alloc, source, words, refusal)
@@ -171,10 +95,35 @@ fn run_lowered_form(alloc: Global, bytes: &[u8], words: &RunWords) -> Result<Ans
     lowered_answer(alloc, lowering, words)
 }
 
+fn source_form_answer(
+    alloc: Global,
+    lowering: Lowering,
+    words: &RunWords,
+) -> Result<Answer, AllocError>
+    ensures { IfOk result (λ a. a ≡ source_form_answer lowering words.now) }
+{
+    match lowering {
+        Lowering::Done(Lowered {
+            source, layouts, ..
+        }) => run_source(alloc, source, &layouts, words),
+        Lowering::Syntax(items) => syntax_fault(alloc, items),
+        Lowering::Refused(source, rule, place) => refused(alloc, &source, rule, place),
+    }
+}
+
+#[tactic(auto, using(crate::proofs::Chosen::source_by))]
+fn run_source_form(alloc: Global, bytes: &[u8], words: &RunWords) -> Result<Answer, AllocError>
+    ensures { IfOk result (λ a. IsRunAnswer Form.Source bytes.now words.now a) }
+{
+    let lowering = lower(alloc, bytes)?;
+    source_form_answer(alloc, lowering, words)
+}
+
 fn run_in(alloc: Global, bytes: &[u8], words: &RunWords) -> Result<Answer, AllocError>
     ensures { IfOk result (λ a. IsRunAnswer words.now.form bytes.now words.now a) }
 {
     match words.form {
+        Form::Source => run_source_form(alloc, bytes, words),
         Form::Text => run_text_form(alloc, bytes, words),
         Form::Lowered => run_lowered_form(alloc, bytes, words),
     }
@@ -188,6 +137,46 @@ fn lower_bytes(alloc: Global, bytes: &[u8]) -> Result<Answer, AllocError>
     lower_answer(alloc, lowering)
 }
 
+fn stage_of(lowered: bool) -> Stage
+    ensures { result ≡ stage_of lowered }
+{
+    if lowered { Stage::Plain } else { Stage::Source }
+}
+
+fn check_answer(
+    alloc: Global,
+    source: &Module,
+    refusal: Option<Refusal>,
+) -> Result<Answer, AllocError>
+    ensures { IfOk result (λ a. a ≡ check_answer source.now refusal) }
+{
+    match refusal {
+        Some(refusal) => refused(alloc, source, refusal.rule, refusal.place),
+        None => Ok(shown(
+            alloc,
+            Verdict::Done,
+            Items::from_vec(Vec::from_slice(alloc, b"ok\n")?),
+        )),
+    }
+}
+
+#[tactic(auto, using(crate::proofs::Chosen::checked_by))]
+fn check_module(alloc: Global, stage: Stage, source: &Module) -> Result<Answer, AllocError>
+    ensures { IfOk result (λ a. IsMadeOfRules stage source.now (λ r. check_answer source.now r) a) }
+{
+    let refusal = first_refusal(alloc, stage, source)?;
+    check_answer(alloc, source, refusal)
+}
+
+fn check_bytes(alloc: Global, bytes: &[u8], stage: Stage) -> Result<Answer, AllocError>
+    ensures { IfOk result (λ a. IsCheckAnswer stage (read_module bytes.now) a) }
+{
+    match parse(alloc, bytes)? {
+        Parsed::Syntax { items } => syntax_fault(alloc, items),
+        Parsed::Module(source) => check_module(alloc, stage, &source),
+    }
+}
+
 /// What a command answers to the bytes of its input.
 #[tactic(auto, unfolding(crate::specs::Answers::IsAnswer))]
 pub fn answer(alloc: Global, words: &Words, bytes: &[u8]) -> Result<Answer, AllocError>
@@ -195,6 +184,7 @@ pub fn answer(alloc: Global, words: &Words, bytes: &[u8]) -> Result<Answer, Allo
 {
     match words {
         Words::Lower { .. } => lower_bytes(alloc, bytes),
+        Words::Check { lowered } => check_bytes(alloc, bytes, stage_of(*lowered)),
         Words::Run(words) => run_in(alloc, bytes, words),
     }
 }

@@ -4,8 +4,10 @@
 mod commands;
 mod entry;
 mod program;
+mod runs;
 #[cfg(test)]
 mod tests;
+mod texts;
 mod verdict;
 
 pub use program::{drive, told};

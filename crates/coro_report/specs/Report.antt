@@ -1,6 +1,7 @@
 -- The lines that the program writes of places, events and outcomes.
 use Rattle.std.specs.Prelude.{ℕ, List, [], codes, decimal, slice_get, ℤ, pos, negsuc, nat_lt, ◌-◌, ◌*◌, Some, None, Option, option_map, ◌∷◌, ◌++◌, if◌then◌else◌, ◌==◌}
 use Rattle.std.specs.Fmt.{signed_decimal}
+use Rattle.agreement.specs.Machines.{Seen, SeenEvent}
 use Rattle.coro_base.specs.Words.{cause_word, rule_word}
 use Rattle.coro_base.specs.declared.name.Name.{Name}
 use Rattle.coro_base.specs.declared.outcome.Event.{Event}
@@ -76,7 +77,7 @@ words_text (w ∷ ws) = word_text w ++ later_words ws
 -- ---- runs
 
 abbrev pub declared_text : Option Declaration → List ℕ
-declared_text None = []
+declared_text None = spelling (Name.Number 0)
 declared_text (Some d) = spelling d.name
 
 -- an observed call: `name(a, b)`
@@ -100,6 +101,19 @@ outcome_text m (Outcome.Undefined cause place) = codes "undefined " ++ cause_wor
 -- the events in order, and the outcome
 abbrev pub run_text : Module → List Event → Outcome → List ℕ
 run_text m events outcome = events_text m events ++ outcome_text m outcome
+
+-- ---- the same of what is seen
+
+abbrev pub seen_event_text : SeenEvent → List ℕ
+seen_event_text e = spelling e.name ++ codes "(" ++ words_text e.args ++ codes ")\n"
+
+abbrev pub seen_events_text : List SeenEvent → List ℕ
+seen_events_text [] = []
+seen_events_text (e ∷ es) = seen_event_text e ++ seen_events_text es
+
+-- the text of what is seen of a run of a module
+abbrev pub seen_text : Module → Seen → List ℕ
+seen_text m seen = seen_events_text seen.events ++ outcome_text m seen.outcome
 
 -- ---- refusals
 

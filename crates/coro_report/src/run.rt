@@ -5,7 +5,7 @@ ghost use Rattle.coro_report.specs.Report.{declared_text, event_text, events_tex
 
 use crate::place::push_place;
 use crate::word::{push_word, push_words};
-use coro_base::{Event, Outcome, Word};
+use coro_base::{Event, Name, Outcome, Word};
 use coro_names::print_name;
 use ir_model::Module;
 use std::alloc::{AllocError, Global};
@@ -14,7 +14,7 @@ fn push_declared(out: &mut Vec<u8>, source: &Module, func: usize) -> Result<(), 
     ensures { OnOk result (out.new.items ≡ out.old.items ++ declared_text (slice_get source.now.declarations func)) }
 {
     match source.declarations.get(func) {
-        None => Ok(()),
+        None => print_name(&Name::Number(0), out),
         Some(declaration) => print_name(&declaration.name, out),
     }
 }

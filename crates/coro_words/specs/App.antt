@@ -27,6 +27,10 @@ steps = record (option (codes "steps")) {
 abbrev pub lower_app : App
 lower_app = with_rule (new_app (codes "lower")) (flag (codes "plain"))
 
+-- `check [--lowered]`
+abbrev pub check_app : App
+check_app = with_rule (new_app (codes "check")) (flag (codes "lowered"))
+
 -- `--form FORM --entry NAME`
 abbrev pub with_entry : App → App
 with_entry a = with_rule (with_rule a (required (codes "form"))) (required (codes "entry"))
@@ -44,4 +48,4 @@ top_app = on_top (λ s. record s { subcommand_required = true; no_binary_name = 
 
 -- the program, with its commands
 abbrev pub the_app : App
-the_app = with_subcommand (with_subcommand top_app lower_app.top) run_app.top
+the_app = with_subcommand (with_subcommand (with_subcommand top_app lower_app.top) check_app.top) run_app.top

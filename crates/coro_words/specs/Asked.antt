@@ -15,7 +15,9 @@ abbrev pub has_flag : Text → List Row → Bool
 has_flag name rows = option_map_or (λ t. bytes_eq t (codes "true")) (first_of name rows) false
 
 abbrev pub form_named : Text → Option Form
-form_named t = if bytes_eq t (codes "lowered") then Some Form.Lowered else (if bytes_eq t (codes "text") then Some Form.Text else None)
+form_named t =
+    if bytes_eq t (codes "source") then Some Form.Source
+    else (if bytes_eq t (codes "lowered") then Some Form.Lowered else (if bytes_eq t (codes "text") then Some Form.Text else None))
 
 abbrev pub form : List Row → Option Form
 form rows = option_and_then form_named (first_of (codes "form") rows)
@@ -60,12 +62,15 @@ run_read rows = run_named rows (form rows) (first_of (codes "entry") rows)
 abbrev pub lower_read : List Row → Reading
 lower_read rows = Reading.Read (Words.Lower (has_flag (codes "plain") rows))
 
+abbrev pub check_read : List Row → Reading
+check_read rows = Reading.Read (Words.Check (has_flag (codes "lowered") rows))
+
 -- a command with what was given to it
 abbrev pub command_read : Option (Text × List Row) → Reading
 command_read None = Reading.Refused
 command_read (Some p) =
     if bytes_eq p.0 (codes "lower") then lower_read p.1
-    else (if bytes_eq p.0 (codes "run") then run_read p.1 else Reading.Refused)
+    else (if bytes_eq p.0 (codes "check") then check_read p.1 else (if bytes_eq p.0 (codes "run") then run_read p.1 else Reading.Refused))
 
 -- what clap finds at fault comes first
 abbrev pub read_unless : Kinds → Option (Text × List Row) → Reading

@@ -4,7 +4,7 @@ ghost use Rattle.std.specs.Prelude.{◌≡◌, IfOk, false, codes};
 ghost use Rattle.clap.specs.Words.{app_of, rule_of, with_rule, with_subcommand};
 ghost use Rattle.clap.specs.declared.builder.command.Command.TheViews.{out-Command};
 ghost use Rattle.coro_words.specs.App as spec;
-ghost use Rattle.coro_words.specs.App.{flag, lower_app, run_app, the_app, top_app};
+ghost use Rattle.coro_words.specs.App.{check_app, flag, lower_app, run_app, the_app, top_app};
 
 use clap::builder::ValueParser;
 use clap::{Arg, ArgAction, Command};
@@ -81,12 +81,25 @@ fn lower_command<'a>(alloc: Global) -> Result<Command<'a>, AllocError>
     with_arg(command, plain_flag(alloc))
 }
 
+fn check_command<'a>(alloc: Global) -> Result<Command<'a>, AllocError>
+    ensures app { IfOk result (λ c. app_of c ≡ check_app) }
+    ensures local { IfOk result (λ r. (out-Command r).has_globals ≡ false) }
+{
+    let command = Command::new(alloc, "check").about("Looks whether a module breaks a rule");
+    let lowered = flag(
+        alloc,
+        "lowered",
+        "By the rules of a module without coroutines",
+    );
+    with_arg(command, lowered)
+}
+
 fn with_entry<'a>(alloc: Global, command: Command<'a>) -> Result<Command<'a>, AllocError>
     requires { (out-Command command).has_globals ≡ false }
     ensures app { IfOk result (λ r. app_of r ≡ spec.with_entry (app_of command.entry)) }
     ensures local { IfOk result (λ r. (out-Command r).has_globals ≡ false) }
 {
-    let form = required(alloc, "form", "FORM", "lowered or text");
+    let form = required(alloc, "form", "FORM", "source, lowered or text");
     let entry = required(alloc, "entry", "NAME", "The function that is called");
     with_arg(with_arg(command, form)?, entry)
 }
@@ -122,12 +135,14 @@ fn top_command<'a>(alloc: Global) -> Command<'a>
         .subcommand_required(true)
 }
 
-/// The program's command line, with `lower` and `run`.
+/// The program's command line, with `lower`, `check` and `run`.
 pub fn command<'a>(alloc: Global) -> Result<Command<'a>, AllocError>
     ensures app { IfOk result (λ c. app_of c ≡ the_app) }
 {
     let lower = lower_command(alloc)?;
+    let check = check_command(alloc)?;
     let run = run_command(alloc)?;
     let command = with_command(top_command(alloc), lower)?;
+    let command = with_command(command, check)?;
     with_command(command, run)
 }

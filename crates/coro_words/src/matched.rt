@@ -31,7 +31,9 @@ fn has_flag(matches: &ArgMatches<'_>, name: &str) -> bool
 fn form_named(name: &str) -> Option<Form>
     ensures { result ≡ spec.form_named name.now }
 {
-    if name == "lowered" {
+    if name == "source" {
+        Some(Form::Source)
+    } else if name == "lowered" {
         Some(Form::Lowered)
     } else if name == "text" {
         Some(Form::Text)
@@ -147,6 +149,9 @@ pub fn command_read(alloc: Global, matches: &ArgMatches<'_>) -> Result<Reading, 
     if name == "lower" {
         let plain = has_flag(given, "plain");
         Ok(Reading::Read(Words::Lower { plain }))
+    } else if name == "check" {
+        let lowered = has_flag(given, "lowered");
+        Ok(Reading::Read(Words::Check { lowered }))
     } else if name == "run" {
         run_read(alloc, given)
     } else {

@@ -60,6 +60,12 @@ fn commands_are_taken(rt: HostRuntime) -> Result<(), Fail> {
             _ => panic!(rt; "{line} is taken"),
         }
     }
+    for (line, wanted) in [("check", false), ("check --lowered", true)] {
+        match take_words(rt.alloc(), &words_of(rt.alloc(), line)?)? {
+            Taken::Words(Words::Check { lowered }) => assert_eq!(rt; lowered, wanted),
+            _ => panic!(rt; "{line} is taken"),
+        }
+    }
     let runs: [(&str, bool, Form, &str, &[i128], &[i128], u64); 4] = [
         (
             "run --form lowered --entry main",
@@ -89,9 +95,9 @@ fn commands_are_taken(rt: HostRuntime) -> Result<(), Fail> {
             1000000,
         ),
         (
-            "run --steps 1000000000 --answers=4,-5 --entry 0 --form lowered",
+            "run --steps 1000000000 --answers=4,-5 --entry 0 --form source",
             false,
-            Form::Lowered,
+            Form::Source,
             "0",
             &[],
             &[4, -5],
@@ -118,7 +124,7 @@ fn commands_are_taken(rt: HostRuntime) -> Result<(), Fail> {
 fn other_words_are_refused(rt: HostRuntime) -> Result<(), Fail> {
     let refused = [
         "",
-        "check",
+        "check --plain",
         "layout",
         "lower run",
         "lower --units",
@@ -126,7 +132,6 @@ fn other_words_are_refused(rt: HostRuntime) -> Result<(), Fail> {
         "run",
         "run --form lowered",
         "run --entry f",
-        "run --form source --entry f",
         "run --form framed --entry f",
         "run --form lowered --entry f --steps 1000000001",
         "run --form lowered --entry f --steps -1",

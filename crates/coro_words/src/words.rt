@@ -5,9 +5,11 @@ use coro_base::{Items, Text};
 /// The form in which a module is run.
 #[derive(Clone, Copy, Debug, PartialEq, Eq)]
 pub enum Form {
+    /// The module is run as it was read, with its coroutines.
+    Source,
     /// The module is lowered first.
     Lowered,
-    /// The module is run as it was read.
+    /// The module, which has no coroutines, is run as it was read.
     Text,
 }
 
@@ -35,6 +37,11 @@ pub enum Words {
     Lower {
         /// Without shared bytes and elision.
         plain: bool,
+    },
+    /// Looks whether the module breaks a rule.
+    Check {
+        /// By the rules of a module without coroutines.
+        lowered: bool,
     },
     /// Runs the module.
     Run(RunWords),

@@ -1,0 +1,130 @@
+//! Runs of modules.
+
+ghost use Rattle.std.specs.Prelude.{◌≡◌, IfOk, map};
+ghost use Rattle.agreement.specs.Machines.{Seen};
+ghost use Rattle.coro_cli.specs.Answers.{run_verdict, seen_answer, run_answer, not_callable, run_module, size_of, sizes_of, source_answer, source_or, entry_call};
+ghost use Rattle.ordinary_step.specs.Runs.{seen_event};
+
+use crate::entry::entry_call;
+use crate::texts::{shown, told};
+use crate::verdict::{Answer, EntryCall, Verdict};
+use coro_base::{Event, Items, Outcome};
+use coro_meaning::SourceMachine;
+use coro_report::{not_callable_text, run_text};
+use coro_words::RunWords;
+use frame_layout::{Layout, Layouts};
+use ir_model::{Frame, Module};
+use path_facts::all_facts;
+use plain_meaning::PlainMachine;
+use source_facts::facts_suffice;
+use std::alloc::{AllocError, Global};
+
+fn run_verdict(outcome: Outcome) -> Verdict
+    ensures { result ≡ run_verdict outcome }
+{
+    match outcome {
+        Outcome::Returned(_) => Verdict::Done,
+        Outcome::Running => Verdict::Unfinished,
+        Outcome::Undefined(_, _) => Verdict::Undefined,
+    }
+}
+
+/// The entry isn't callable.
+pub fn not_callable(alloc: Global, entry: &[u8]) -> Result<Answer, AllocError>
+    ensures { IfOk result (λ a. a ≡ not_callable entry.now) }
+{
+    let text = not_callable_text(alloc, entry)?;
+    Ok(told(alloc, Verdict::NotCallable, text))
+}
+
+/// The events and the outcome that are seen of a run.
+#[tactic(auto, using(crate::proofs::Seen::text_is_seen))]
+fn seen_answer(
+    alloc: Global,
+    code: &Module,
+    events: &[Event],
+    outcome: Outcome,
+) -> Result<Answer, AllocError>
+    ensures { IfOk result (λ a. (seen : Seen) → map (seen_event code.now) events.now ≡ seen.events → outcome ≡ seen.outcome → a ≡ seen_answer code.now seen) }
+{
+    let text = run_text(alloc, code, events, outcome)?;
+    Ok(shown(alloc, run_verdict(outcome), Items::from_vec(text)))
+}
+
+fn run_answer(
+    alloc: Global,
+    code: Module,
+    answers: &[i128],
+    call: &EntryCall,
+    steps: u64,
+) -> Result<Answer, AllocError>
+    ensures { IfOk result (λ a. a ≡ run_answer code answers.now call.now steps) }
+{
+    let mut machine = PlainMachine::start(alloc, code, call.func, call.args.as_slice(), answers)?;
+    let outcome = machine.run(steps)?;
+    seen_answer(alloc, machine.code(), machine.events(), outcome)
+}
+
+/// Calls an entry of a module without coroutines.
+pub fn run_module(alloc: Global, code: Module, words: &RunWords) -> Result<Answer, AllocError>
+    ensures { IfOk result (λ a. a ≡ run_module code words.now) }
+{
+    let entry = words.entry.as_bytes();
+    match entry_call(alloc, &code, entry, words.args.as_slice())? {
+        None => not_callable(alloc, entry),
+        Some(call) => run_answer(alloc, code, words.answers.as_slice(), &call, words.steps),
+    }
+}
+
+
+/// The sizes of the frames.
+fn sizes_of(alloc: Global, layouts: &[Layout]) -> Result<Items<Frame>, AllocError>
+    ensures { IfOk result (λ sizes. sizes ≡ map size_of layouts.now) }
+{
+    let mut sizes = Items::new(alloc);
+    for layout in layouts {
+        sizes.push(Frame {
+            coroutine: layout.coroutine,
+            size: layout.size,
+            align: layout.align,
+        })?;
+    }
+    Ok(sizes)
+}
+
+fn source_answer(
+    alloc: Global,
+    source: Module,
+    sizes: &[Frame],
+    answers: &[i128],
+    call: &EntryCall,
+    steps: u64,
+) -> Result<Answer, AllocError>
+    ensures { IfOk result (λ a. a ≡ source_answer source sizes.now answers.now call.now steps) }
+{
+    let facts = all_facts(alloc, source.functions.as_slice())?;
+    facts_suffice();
+    let args = call.args.as_slice();
+    let mut machine = SourceMachine::start(alloc, source, sizes, facts, call.func, args, answers)?;
+    let outcome = machine.run(steps)?;
+    seen_answer(alloc, machine.code(), machine.events(), outcome)
+}
+
+/// Calls an entry of a source whose coroutines have these layouts.
+pub fn run_source(
+    alloc: Global,
+    source: Module,
+    layouts: &Layouts,
+    words: &RunWords,
+) -> Result<Answer, AllocError>
+    ensures { IfOk result (λ a. a ≡ source_or source (sizes_of layouts.now) words.now (entry_call source words.now.entry words.now.args)) }
+{
+    let entry = words.entry.as_bytes();
+    match entry_call(alloc, &source, entry, words.args.as_slice())? {
+        None => not_callable(alloc, entry),
+        Some(call) => {
+            let sizes = sizes_of(alloc, layouts.coroutines.as_slice())?;
+            source_answer(alloc, source, sizes.as_slice(), words.answers.as_slice(), &call, words.steps)
+        }
+    }
+}
