@@ -4,19 +4,28 @@ use Rattle.definite_use.specs.Undefined.{IsFirstUndefined}
 use Rattle.definite_use.specs.Uses.{uses_of}
 use Rattle.ir_check.specs.declared.faults.PathFaults.{PathFaults}
 use Rattle.ir_model.specs.declared.module.Function.{Function}
+use Rattle.slot_rules.specs.Early.{IsFirstEarly}
+use Rattle.slot_rules.specs.Marked.{IsFirstMarked}
 use Rattle.window_rules.specs.Outside.{IsFirstOutside}
 use Rattle.window_rules.specs.Windows.{IsFirstWindow}
+use Rattle.window_values.specs.Kept.{IsFirstKept}
 
--- for each rule on paths its first fault in the function: F2, K5, K6
+-- for each rule on paths its first fault in the function: F2, K5, K6, K7, K8, K9
 pub record AreFaultsOf (k : ℕ) (f : Function) (x : PathFaults) : Type 0 where
   pub undefined_use : IsFirstUndefined f (uses_of k f) x.undefined_use
   pub outside : IsFirstOutside k f x.outside
   pub window : IsFirstWindow k f x.window
+  pub kept_value : IsFirstKept k f x.kept_value
+  pub marked_slot : IsFirstMarked k f x.marked_slot
+  pub early_address : IsFirstEarly k f x.early_address
 
 -- the same for all functions, in their order
 pub record HaveFaults (functions : List Function) (faults : List PathFaults) : Type 0 where
   pub as_many : length faults ≡ length functions
   pub each : (k : ℕ) (f : Function) (x : PathFaults) → slice_get functions k ≡ Some f → slice_get faults k ≡ Some x → AreFaultsOf k f x
 
+abbrev pub no_faults : PathFaults
+no_faults = record { undefined_use = None; outside = None; window = None; kept_value = None; marked_slot = None; early_address = None }
+
 abbrev pub faults_at : List PathFaults → ℕ → PathFaults
-faults_at faults k = unwrap_or (slice_get faults k) (record { undefined_use = None; outside = None; window = None })
+faults_at faults k = unwrap_or (slice_get faults k) no_faults

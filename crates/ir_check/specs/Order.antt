@@ -64,17 +64,31 @@ parts_refusal k f =
     (or_refusal Rule.K3 (wrong_switch k f)
     (or_refusal Rule.K4 (second_final k f) None))
 
--- where they stand
-unfoldable pub standing_refusal : ℕ → Function → PathFaults → Option Refusal
-standing_refusal k f x =
+-- where they stand, and what stands in windows
+unfoldable pub standing_refusal : PathFaults → Option Refusal
+standing_refusal x =
     or_refusal Rule.K5 x.outside
     (or_refusal Rule.K6 x.window
-    (or_refusal Rule.K10 (wrong_promise k f)
-    (or_refusal Rule.K11 (suspend_too_many k f) None)))
+    (or_refusal Rule.K7 x.kept_value None))
+
+-- what stands of slots in windows, before begin and after the end
+unfoldable pub slots_refusal : PathFaults → Option Refusal
+slots_refusal x =
+    or_refusal Rule.K8 x.marked_slot
+    (or_refusal Rule.K9 x.early_address None)
+
+-- the promise, and the number of suspends
+unfoldable pub frame_refusal : ℕ → Function → Option Refusal
+frame_refusal k f =
+    or_refusal Rule.K10 (wrong_promise k f)
+    (or_refusal Rule.K11 (suspend_too_many k f) None)
 
 -- the shape of a coroutine, in a source alone
 unfoldable pub shape_refusal : Stage → ℕ → Function → PathFaults → Option Refusal
-shape_refusal Stage.Source k f x = or_later (parts_refusal k f) (standing_refusal k f x)
+shape_refusal Stage.Source k f x =
+    or_later (parts_refusal k f)
+    (or_later (standing_refusal x)
+    (or_later (slots_refusal x) (frame_refusal k f)))
 shape_refusal Stage.Plain k f x = None
 
 -- the first broken rule of a function, of which the rules on paths have these faults

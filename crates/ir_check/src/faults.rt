@@ -2,19 +2,39 @@
 
 ghost use Rattle.std.specs.Prelude.{◌≡◌, IfOk};
 ghost use Rattle.ir_check.specs.Faults.{AreFaultsOf, HaveFaults, faults_at as faults_of_position};
+ghost use Rattle.slot_rules.specs.Early.{IsFirstEarly};
+ghost use Rattle.slot_rules.specs.Marked.{IsFirstMarked};
 
 use coro_base::{FuncId, Items, Place};
 use definite_use::first_undefined_use;
 use ir_model::Function;
+use path_facts::ramp_slots_of;
+use slot_rules::{SlotFaults, slot_faults};
 use std::alloc::{AllocError, Global};
 use window_rules::{first_outside, first_wrong_window};
+use window_values::first_kept_value;
 
-/// For each of the rules F2, K5 and K6 the first place of a function that breaks it.
+/// For each of the rules F2, K5, K6, K7, K8 and K9 the first place of a function that breaks it.
 #[derive(Clone, Copy, Debug, Drop)]
 pub struct PathFaults {
     pub undefined_use: Option<Place>,
     pub outside: Option<Place>,
     pub window: Option<Place>,
+    pub kept_value: Option<Place>,
+    pub marked_slot: Option<Place>,
+    pub early_address: Option<Place>,
+}
+
+fn slots_at_fault(
+    alloc: Global,
+    func: FuncId,
+    function: &Function,
+) -> Result<SlotFaults, AllocError>
+    ensures marked { IfOk result (λ slots. IsFirstMarked func function.now slots.marked) }
+    ensures early { IfOk result (λ slots. IsFirstEarly func function.now slots.early) }
+{
+    let ramp = ramp_slots_of(alloc, function)?;
+    slot_faults(alloc, func, function, &ramp)
 }
 
 fn faults_of(alloc: Global, func: FuncId, function: &Function) -> Result<PathFaults, AllocError>
@@ -23,10 +43,15 @@ fn faults_of(alloc: Global, func: FuncId, function: &Function) -> Result<PathFau
     let undefined_use = first_undefined_use(alloc, func, function)?;
     let outside = first_outside(alloc, func, function)?;
     let window = first_wrong_window(alloc, func, function)?;
+    let kept_value = first_kept_value(alloc, func, function)?;
+    let slots = slots_at_fault(alloc, func, function)?;
     Ok(PathFaults {
         undefined_use,
         outside,
         window,
+        kept_value,
+        marked_slot: slots.marked,
+        early_address: slots.early,
     })
 }
 
@@ -51,6 +76,9 @@ pub fn faults_at(faults: &Items<PathFaults>, func: FuncId) -> PathFaults
             undefined_use: None,
             outside: None,
             window: None,
+            kept_value: None,
+            marked_slot: None,
+            early_address: None,
         },
     }
 }

@@ -1,7 +1,8 @@
 //! The rules of one function, in their order.
 
 ghost use Rattle.std.specs.Prelude.{◌≡◌, IfOk, Some};
-ghost use Rattle.ir_check.specs.Order.{value_refusal, flow_refusal, pointer_refusal, placing_refusal, parts_refusal, standing_refusal, shape_refusal, function_refusal};
+ghost use Rattle.ir_check.specs.Order.{value_refusal, flow_refusal, pointer_refusal, placing_refusal, parts_refusal, standing_refusal, slots_refusal, frame_refusal, shape_refusal, function_refusal};
+ghost use Rattle.name_rules.specs.declared.stage.Stage.{Stage as TheStage};
 
 use crate::faults::PathFaults;
 use coro_base::{FuncId, Place, Rule};
@@ -136,22 +137,46 @@ fn parts_refusal(
     Ok(None)
 }
 
-/// Where they stand: K5, K6, K10, K11.
+/// Where they stand, and what stands in windows: K5, K6, K7.
 #[tactic(auto, unfolding(crate::specs::Order::standing_refusal))]
-fn standing_refusal(
+fn standing_refusal(faults: PathFaults) -> Option<Refusal>
+    ensures { result ≡ standing_refusal faults }
+{
+    if let Some(place) = faults.outside {
+        return broken(Rule::K5, place);
+    }
+    if let Some(place) = faults.window {
+        return broken(Rule::K6, place);
+    }
+    match faults.kept_value {
+        Some(place) => broken(Rule::K7, place),
+        None => None,
+    }
+}
+
+/// What stands of slots in windows, before begin and after the end: K8, K9.
+#[tactic(auto, unfolding(crate::specs::Order::slots_refusal))]
+fn slots_refusal(faults: PathFaults) -> Option<Refusal>
+    ensures { result ≡ slots_refusal faults }
+{
+    if let Some(place) = faults.marked_slot {
+        return broken(Rule::K8, place);
+    }
+    match faults.early_address {
+        Some(place) => broken(Rule::K9, place),
+        None => None,
+    }
+}
+
+/// The promise, and the number of suspends: K10, K11.
+#[tactic(auto, unfolding(crate::specs::Order::frame_refusal))]
+fn frame_refusal(
     alloc: Global,
     func: FuncId,
     function: &Function,
-    faults: PathFaults,
 ) -> Result<Option<Refusal>, AllocError>
-    ensures { IfOk result (λ r. r ≡ standing_refusal func function.now faults) }
+    ensures { IfOk result (λ r. r ≡ frame_refusal func function.now) }
 {
-    if let Some(place) = faults.outside {
-        return Ok(broken(Rule::K5, place));
-    }
-    if let Some(place) = faults.window {
-        return Ok(broken(Rule::K6, place));
-    }
     if let Some(place) = first_wrong_promise(alloc, func, function)? {
         return Ok(broken(Rule::K10, place));
     }
@@ -159,6 +184,27 @@ fn standing_refusal(
         return Ok(broken(Rule::K11, place));
     }
     Ok(None)
+}
+
+#[tactic(auto, unfolding(crate::specs::Order::shape_refusal))]
+fn coroutine_refusal(
+    alloc: Global,
+    func: FuncId,
+    function: &Function,
+    faults: PathFaults,
+) -> Result<Option<Refusal>, AllocError>
+    ensures { IfOk result (λ r. r ≡ shape_refusal TheStage.Source func function.now faults) }
+{
+    if let Some(refusal) = parts_refusal(alloc, func, function)? {
+        return Ok(Some(refusal));
+    }
+    if let Some(refusal) = standing_refusal(faults) {
+        return Ok(Some(refusal));
+    }
+    if let Some(refusal) = slots_refusal(faults) {
+        return Ok(Some(refusal));
+    }
+    frame_refusal(alloc, func, function)
 }
 
 /// The shape of a coroutine of a source.
@@ -174,10 +220,7 @@ fn shape_refusal(
 {
     match stage {
         Stage::Plain => Ok(None),
-        Stage::Source => match parts_refusal(alloc, func, function)? {
-            Some(refusal) => Ok(Some(refusal)),
-            None => standing_refusal(alloc, func, function, faults),
-        },
+        Stage::Source => coroutine_refusal(alloc, func, function, faults),
     }
 }
 

@@ -16,10 +16,13 @@ use Rattle.ir_model.specs.declared.operand.Intrinsic.{Intrinsic}
 use Rattle.ir_paths.specs.Windows.{is_call_of, points_where}
 use Rattle.module_rules.specs.declared.order.Refusal.{Refusal}
 use Rattle.name_rules.specs.declared.stage.Stage.{Stage}
+use Rattle.slot_rules.specs.Early.{BreaksEarly}
+use Rattle.slot_rules.specs.Marked.{BreaksMarked}
 use Rattle.window_rules.specs.First.{IsFirst}
 use Rattle.window_rules.specs.Outside.{BreaksOutside}
 use Rattle.window_rules.specs.Points.{place_of}
 use Rattle.window_rules.specs.Windows.{BreaksSave}
+use Rattle.window_values.specs.Kept.{BreaksValue}
 
 -- ---- the first of some things
 
@@ -42,7 +45,10 @@ faults_once k f x y a b =
     let use-is : x.undefined_use ≡ y.undefined_use = first_once (IsUndefined f) (λ (u : Use). u.place) (uses_of k f) x.undefined_use y.undefined_use (as_first f (uses_of k f) x.undefined_use a.undefined_use) (as_first f (uses_of k f) y.undefined_use b.undefined_use) in
     let outside-is : x.outside ≡ y.outside = first_once (BreaksOutside f) (λ z. z.0) (parts_of k f) x.outside y.outside a.outside b.outside in
     let window-is : x.window ≡ y.window = first_once (BreaksSave f) (place_of k f) (points_where (is_call_of Intrinsic.CoroSave) f) x.window y.window a.window b.window in
-    λ i. record { undefined_use = use-is i; outside = outside-is i; window = window-is i }
+    let kept-is : x.kept_value ≡ y.kept_value = first_once (BreaksValue k f) (λ z. z.0) (parts_of k f) x.kept_value y.kept_value a.kept_value b.kept_value in
+    let marked-is : x.marked_slot ≡ y.marked_slot = first_once (BreaksMarked f) (λ z. z.0) (parts_of k f) x.marked_slot y.marked_slot a.marked_slot b.marked_slot in
+    let early-is : x.early_address ≡ y.early_address = first_once (BreaksEarly f) (λ z. z.0) (parts_of k f) x.early_address y.early_address a.early_address b.early_address in
+    λ i. record { undefined_use = use-is i; outside = outside-is i; window = window-is i; kept_value = kept-is i; marked_slot = marked-is i; early_address = early-is i }
 
 -- ---- lists of as many elements
 

@@ -54,13 +54,13 @@ impl Limit<'_> {
     }
 }
 
-/// Lowers the module of a line, and writes where it is answered otherwise. Whether the line has a module.
+/// Checks the module of a line, and writes where it is answered otherwise. Whether the line has a module.
 pub fn run(rt: &HostRuntime, line: &str) -> Result<bool> {
     let Some(limit) = limit_of(line) else {
         return Ok(false);
     };
     let text = limit.text(rt.alloc())?;
-    if !is_told(rt, text.as_bytes(), limit.told)? {
+    if !is_told(rt, "check", text.as_bytes(), limit.told)? {
         println!(rt; "{line}: otherwise")?;
     }
     Ok(true)

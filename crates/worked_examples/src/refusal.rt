@@ -1,32 +1,31 @@
 //! Modules, each with what refuses it.
 //!
-//! A line of the file `refusals` is `MODULE~ANSWER`: the answer is what standard error holds where the module is lowered, or
-//! nothing where no rule refuses it. Lines that begin with `#` say nothing.
+//! A line of the file `refusals` is `MODULE~ANSWER`: the answer is what `check` tells on standard error, or nothing where it
+//! says `ok`. With `lowered ` before the module it is `check --lowered`. Lines that begin with `#` say nothing.
 
 use crate::answer::ask;
 use anyhow::Result;
 
-/// Whether a module is accepted, though perhaps not served yet.
-fn is_accepted(err: &[u8]) -> bool {
-    err.is_empty() || err.starts_with(b"refused X1")
-}
-
-/// Whether a module that is lowered is answered so.
-pub fn is_told(rt: &HostRuntime, text: &[u8], told: &str) -> Result<bool> {
-    let given = ask(rt.alloc(), "lower", text)?;
+/// Whether a module that is checked is answered so.
+pub fn is_told(rt: &HostRuntime, words: &str, text: &[u8], told: &str) -> Result<bool> {
+    let given = ask(rt.alloc(), words, text)?;
     if told.is_empty() {
-        return Ok(is_accepted(&given.err));
+        return Ok(given.out.as_slice() == b"ok\n" && given.err.is_empty() && given.code == 0);
     }
     let wanted = format!(in rt.alloc(); "{told}\n")?;
-    Ok(given.err.as_slice() == wanted.as_bytes() && given.code == 1)
+    Ok(given.err.as_slice() == wanted.as_bytes() && given.out.is_empty() && given.code == 1)
 }
 
-/// Lowers the module of a line, and writes where it is answered otherwise. Whether the line has a module.
+/// Checks the module of a line, and writes where it is answered otherwise. Whether the line has a module.
 pub fn run(rt: &HostRuntime, line: &str) -> Result<bool> {
-    let Some((text, told)) = line.split_once('~') else {
+    let Some((before, told)) = line.split_once('~') else {
         return Ok(false);
     };
-    if !is_told(rt, text.as_bytes(), told)? {
+    let (words, text) = match before.strip_prefix("lowered ") {
+        Some(text) => ("check --lowered", text),
+        None => ("check", before),
+    };
+    if !is_told(rt, words, text.as_bytes(), told)? {
         println!(rt; "{line}: otherwise")?;
     }
     Ok(true)
