@@ -160,7 +160,26 @@ pub fn exposed_names(alloc: Global, function: &Function) -> Result<Items<ValueId
     Ok(names)
 }
 
-/// Adds the names that the instructions at these points take, if they aren't coro.id.
+fn push_touched_at(
+    function: &Function,
+    point: Point,
+    names: &mut Items<ValueId>,
+) -> Result<(), AllocError>
+    ensures { OnOk result (HasMore (λ v. touched_at function.now v point) names.old names.new) }
+{
+    match instr_at(function, point) {
+        None => Ok(()),
+        Some(instr) => {
+            if is_call_of(Intrinsic::CoroId, instr) {
+                Ok(())
+            } else {
+                push_occurring(instr, names)
+            }
+        }
+    }
+}
+
+/// Adds the names that the instructions at these points take, where those aren't coro.id.
 pub fn push_touched(
     function: &Function,
     points: &[Point],
@@ -169,14 +188,7 @@ pub fn push_touched(
     ensures { OnOk result (HasMore (λ v. list_any (touched_at function.now v) points.now) names.old names.new) }
 {
     for point in points {
-        match instr_at(function, *point) {
-            None => (),
-            Some(instr) => {
-                if !is_call_of(Intrinsic::CoroId, instr) {
-                    push_occurring(instr, names)?;
-                }
-            }
-        }
+        push_touched_at(function, *point, names)?;
     }
     Ok(())
 }

@@ -1,10 +1,10 @@
 //! The slots that are a ramp's alone ("Coroutines in LLVM", "Introduction": what is live across a suspend is kept in the
 //! frame).
 
-ghost use Rattle.std.specs.Prelude.{◌≡◌, IfOk, OnOk, Some};
-ghost use Rattle.std.specs.Option.{option_copied};
+ghost use Rattle.std.specs.Prelude.{◌≡◌, ◌++◌, ◌∷◌, [], IfOk, OnOk, flat_map};
 ghost use Rattle.ir_paths.specs.Slots.{local_of as local_of_operand, promise_of as promise_of_function};
-ghost use Rattle.path_facts.specs.Slots.{AreKeeping, AreRampSlots};
+ghost use Rattle.ir_paths.specs.Windows.{call_operand};
+ghost use Rattle.path_facts.specs.Slots.{AreKeeping, AreRampSlots, is_own, own_in};
 ghost use Rattle.point_graph.specs.Reached.{IsGraphOf};
 
 use crate::behind::points_behind;
@@ -14,11 +14,13 @@ use crate::names::{exposed_names, push_touched};
 use crate::windows::instr_at;
 use coro_base::{Items, ValueId};
 use coro_calls::operand_of;
-use ir_model::{Function, Instr, Intrinsic, Operand};
+use ir_model::{Block, Function, Instr, Intrinsic, Operand};
 use point_graph::PointGraph;
 use std::alloc::{AllocError, Global};
 
-fn second_local(instr: &Instr) -> Option<ValueId> {
+fn second_local(instr: &Instr) -> Option<ValueId>
+    ensures { result ≡ local_of_operand (call_operand instr.now 1) }
+{
     match instr {
         Instr::Call { args, .. } => match operand_of(args.as_slice(), 1) {
             Some(Operand::Local(name)) => Some(*name),
@@ -58,20 +60,58 @@ fn keeping_names(
     Ok(names)
 }
 
-fn push_slots(
+/// Whether an alloca isn't the promise, and its word hasn't the lowest bit.
+fn is_own(promise: Option<ValueId>, words: &[u64], name: ValueId) -> bool
+    ensures { result ≡ is_own promise words.now name }
+{
+    promise != Some(name) && !has_lowest_bit(words, name)
+}
+
+fn push_own(
+    instr: &Instr,
+    promise: Option<ValueId>,
+    words: &[u64],
+    slots: &mut Items<ValueId>,
+) -> Result<(), AllocError>
+    ensures { OnOk result (slots.new ≡ slots.old ++ own_in promise words.now (instr.now ∷ [])) }
+{
+    if let Instr::Alloca { result: name, .. } = instr {
+        if is_own(promise, words, *name) {
+            slots.push(*name)?;
+        }
+    }
+    Ok(())
+}
+
+#[tactic(auto, using(crate::proofs::Owning::own_in_cons))]
+fn push_own_in(
     instrs: &[Instr],
     promise: Option<ValueId>,
     words: &[u64],
     slots: &mut Items<ValueId>,
-) -> Result<(), AllocError> {
+) -> Result<(), AllocError>
+    ensures { OnOk result (slots.new ≡ slots.old ++ own_in promise words.now instrs.now) }
+{
     for instr in instrs {
-        if let Instr::Alloca { result, .. } = instr {
-            if promise != Some(*result) && !has_lowest_bit(words, *result) {
-                slots.push(*result)?;
-            }
-        }
+        push_own(instr, promise, words, slots)?;
     }
     Ok(())
+}
+
+/// The allocas that aren't the promise and whose words haven't the lowest bit.
+fn own_slots(
+    alloc: Global,
+    blocks: &[Block],
+    promise: Option<ValueId>,
+    words: &[u64],
+) -> Result<Items<ValueId>, AllocError>
+    ensures { IfOk result (λ slots. slots ≡ flat_map (λ b. own_in promise words.now b.instrs) blocks.now) }
+{
+    let mut slots = Items::new(alloc);
+    for block in blocks {
+        push_own_in(block.instrs.as_slice(), promise, words, &mut slots)?;
+    }
+    Ok(slots)
 }
 
 /// The slots of a function that are a ramp's alone, by its graph.
@@ -87,11 +127,7 @@ pub fn slots_by(
     let promise = promise_of(alloc, function)?;
     let names = keeping_names(alloc, function, graph)?;
     let words = led_back(alloc, function, names.as_slice())?;
-    let mut slots = Items::new(alloc);
-    for block in function.blocks.as_slice() {
-        push_slots(block.instrs.as_slice(), promise, words.as_slice(), &mut slots)?;
-    }
-    Ok(slots)
+    own_slots(alloc, function.blocks.as_slice(), promise, words.as_slice())
 }
 
 /// The slots of a function that are a ramp's alone.
