@@ -1,5 +1,5 @@
 -- The ramp slots of a function.
-use Rattle.std.specs.Prelude.{ℕ, Bool, true, false, not, List, [], filter, IsTrue, IsFalse, slice_set, None, Some, Option, option_to_list, slice_get, suc, unwrap_or, ◌≡◌, ◌↔◌, ◌&&◌, ◌||◌, ◌∷◌, ◌++◌, if◌then◌else◌, ◌==◌}
+use Rattle.std.specs.Prelude.{ℕ, Bool, true, false, not, List, [], filter, IsTrue, IsFalse, slice_set, None, Some, Option, option_to_list, slice_get, suc, unwrap_or, ◌≡◌, ◌↔◌, ◌&&◌, ◌||◌, ◌∷◌, ◌++◌, if◌then◌else◌}
 use Rattle.std.specs.List.{list_any}
 use Rattle.ir_model.specs.Names.{position_of}
 use Rattle.ir_model.specs.declared.instr.Instr.{Instr}

@@ -8,9 +8,8 @@ ghost use Rattle.ir_paths.specs.Windows.{end_block as end_block_of, is_call_of a
 ghost use Rattle.path_facts.specs.Slots.{AreBehind, AreEntered, end_from, entered_by, entered_with, first_if, firsts_from};
 ghost use Rattle.point_graph.specs.Reached.{IsGraphOf};
 
-use crate::calls::is_call_of;
 use coro_base::{BlockId, Items, ValueId};
-use coro_calls::is_number;
+use coro_calls::{is_call_of, is_number};
 use ir_model::{Block, Case, Function, Instr, Intrinsic, Terminator};
 use ir_paths::Point;
 use point_graph::PointGraph;
@@ -77,11 +76,7 @@ fn block_points(alloc: Global, block: BlockId, count: usize) -> Result<Items<Poi
 }
 
 /// The points of the end block.
-fn end_points(
-    alloc: Global,
-    function: &Function,
-    end: BlockId,
-) -> Result<Items<Point>, AllocError>
+fn end_points(alloc: Global, function: &Function, end: BlockId) -> Result<Items<Point>, AllocError>
     requires { end ≡ end_block_of function.now }
     ensures { IfOk result (λ all. all ≡ end_points_of function.now) }
 {
