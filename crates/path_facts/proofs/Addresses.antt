@@ -7,7 +7,7 @@ use Rattle.ir_paths.specs.Slots.{has_name}
 
 -- ---- chains of pairs
 
--- the second ones of the pairs whose first one passes a test
+-- the first ones of the pairs whose second one passes a test
 abbrev pub reached_by : (ℕ → Bool) → List (ℕ × ℕ) → List ℕ
 reached_by t [] = []
 reached_by t (g ∷ gs) = (if t g.1 then g.0 ∷ [] else []) ++ reached_by t gs
@@ -16,7 +16,7 @@ abbrev pub chained : ℕ → List (ℕ × ℕ) → ℕ → List ℕ
 chained zero gs a = a ∷ []
 chained (suc n) gs a = a ∷ reached_by (has_name (chained n gs a)) gs
 
--- how many pairs have a first one that passes a test
+-- how many pairs have a second one that passes a test
 abbrev pub count_of : (ℕ → Bool) → List (ℕ × ℕ) → ℕ
 count_of t [] = 0
 count_of t (g ∷ gs) = (if t g.1 then 1 else 0) + count_of t gs
