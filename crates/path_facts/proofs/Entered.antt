@@ -84,14 +84,6 @@ blank (suc n) (suc k) = blank n k
 abbrev edges_of : Function → Point → List Point
 edges_of f s = entry_point f (resume_label f s) ∷ entry_point f (destroy_label f s) ∷ []
 
-and-or : (a b c : Bool) → ((a && c) || (b && c)) ≡ ((a || b) && c)
-and-or true true true = refl
-and-or true true false = refl
-and-or true false true = refl
-and-or true false false = refl
-and-or false true c = refl
-and-or false false c = refl
-
 from-block : (test : Instr → Bool) (f : Function) (n at : ℕ) (is : List Instr) (q : Point) → has_point (flat_map (edges_of f) (points_from test n at is)) q ≡ (list_any test is && has_point (edges_of f (record { block = n; at = 0 })) q)
 from-block test f n at [] q = refl
 from-block test f n at (i ∷ is) q = on (test i) (from-block test f n (suc at) is q)
