@@ -1,19 +1,13 @@
 -- The addresses by chains of getelementptrs: chains longer than there are getelementptrs give no more.
-use Rattle.std.proofs.Common.{◌≡◌, ℕ, zero, suc, ◌+◌, ◌-◌, ◌<◌, ◌≤◌, ◌⊎◌, inl, inr, Bool, true, false, ◌||◌, List, [], ◌∷◌, ◌++◌, length, refl, ap, sym, subst, ◌∙◌, arith, append_assoc, length-append}
-use Rattle.std.specs.Prelude.{flat_map, if◌then◌else◌, ◌==◌}
-use Rattle.std.specs.List.{list_any}
+use Rattle.std.proofs.Common.{◌≡◌, ℕ, zero, suc, ◌+◌, ◌-◌, ◌<◌, ◌≤◌, ◌⊎◌, inl, inr, Bool, true, false, ◌||◌, List, [], ◌∷◌, ◌++◌, length, refl, ap, sym, subst, ◌∙◌, arith}
+use Rattle.std.specs.Prelude.{if◌then◌else◌, ◌==◌}
 use Rattle.std.proofs.lemmas.Bool.{false≢true, or_cases}
 use Rattle.std.proofs.lemmas.List.Folds.{list_any-append}
-use Rattle.ir_model.specs.declared.instr.Instr.{Instr}
-use Rattle.ir_model.specs.declared.module.Block.{Block}
-use Rattle.ir_model.specs.declared.module.Function.{Function}
-use Rattle.ir_model.specs.declared.operand.Operand.{Operand}
-use Rattle.ir_paths.specs.Slots.{addresses_of, addresses_within, geps_from, has_name, is_gep}
-use Rattle.ir_paths.specs.Windows.{points_from, points_in, points_where}
+use Rattle.ir_paths.specs.Slots.{has_name}
 
 -- ---- chains of pairs
 
--- the second ones of the pairs whose first one passes a test
+-- the first ones of the pairs whose second one passes a test
 abbrev pub reached_by : (ℕ → Bool) → List (ℕ × ℕ) → List ℕ
 reached_by t [] = []
 reached_by t (g ∷ gs) = (if t g.1 then g.0 ∷ [] else []) ++ reached_by t gs
@@ -22,7 +16,7 @@ abbrev pub chained : ℕ → List (ℕ × ℕ) → ℕ → List ℕ
 chained zero gs a = a ∷ []
 chained (suc n) gs a = a ∷ reached_by (has_name (chained n gs a)) gs
 
--- how many pairs have a first one that passes a test
+-- how many pairs have a second one that passes a test
 abbrev pub count_of : (ℕ → Bool) → List (ℕ × ℕ) → ℕ
 count_of t [] = 0
 count_of t (g ∷ gs) = (if t g.1 then 1 else 0) + count_of t gs

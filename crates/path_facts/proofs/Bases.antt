@@ -1,9 +1,7 @@
 -- The getelementptrs of some instructions.
-use Rattle.std.proofs.Common.{◌≡◌, ℕ, List, [], ◌∷◌, ◌++◌, refl}
+use Rattle.std.proofs.Common.{◌≡◌, List, [], ◌∷◌, ◌++◌, refl}
 use Rattle.ir_model.specs.declared.instr.Instr.{Instr}
-use Rattle.ir_model.specs.declared.operand.Arg.{Arg}
 use Rattle.ir_model.specs.declared.operand.Operand.{Operand}
-use Rattle.ir_model.specs.Ty.{Ty}
 use Rattle.path_facts.specs.Chains.{bases_in}
 
 pub bases_in_cons : (i : Instr) (is : List Instr) → bases_in (i ∷ is) ≡ bases_in (i ∷ []) ++ bases_in is

@@ -1,5 +1,5 @@
 -- The addresses of a name are those that chains of getelementptrs lead to.
-use Rattle.std.proofs.Common.{◌≡◌, ℕ, zero, suc, ◌+◌, ◌-◌, ◌<◌, ◌≤◌, ◌⊎◌, inl, inr, Bool, true, false, ◌||◌, List, [], ◌∷◌, ◌++◌, length, refl, ap, sym, ◌∙◌, subst, ⊎_elim, arith, length-append}
+use Rattle.std.proofs.Common.{◌≡◌, ℕ, zero, suc, ◌+◌, ◌-◌, ◌≤◌, inl, inr, Bool, true, false, ◌||◌, List, [], ◌∷◌, ◌++◌, length, refl, ap, sym, ◌∙◌, subst, ⊎_elim, arith, length-append}
 use Rattle.std.specs.Prelude.{flat_map, if◌then◌else◌, ◌==◌}
 use Rattle.std.proofs.lemmas.Bool.{false≢true}
 use Rattle.std.proofs.lemmas.List.Folds.{list_any-append}
@@ -148,10 +148,10 @@ from-reached t [] r u h passes = absurd h
 from-reached t (g ∷ gs) r u h passes =
     has-append (if t g.1 then g.0 ∷ [] else []) (reached_by t gs) r
     ∙ ⊎_elim
-        (λ e. or_left (has_name (if t g.1 then g.0 ∷ [] else []) r) (has_name (reached_by t gs) r)
-            (subst (λ (x : ℕ × ℕ). has_name (if t x.1 then x.0 ∷ [] else []) r ≡ true) e (reached-one (t u) r passes)))
-        (λ later. or_right (has_name (if t g.1 then g.0 ∷ [] else []) r) (has_name (reached_by t gs) r) (from-reached t gs r u later passes))
-        h
+    (λ e. or_left (has_name (if t g.1 then g.0 ∷ [] else []) r) (has_name (reached_by t gs) r)
+    (subst (λ (x : ℕ × ℕ). has_name (if t x.1 then x.0 ∷ [] else []) r ≡ true) e (reached-one (t u) r passes)))
+    (λ later. or_right (has_name (if t g.1 then g.0 ∷ [] else []) r) (has_name (reached_by t gs) r) (from-reached t gs r u later passes))
+    h
 
 -- ---- chains
 
@@ -174,7 +174,7 @@ chained-complete f a _ IsAddress.Own =
 chained-complete f a _ (IsAddress.Next v r listed rest) =
     ap (λ (l : List ℕ). has_name l r) (one-more f a)
     ∙ or_right (a == r) (has_name (reached_by (has_name (chain_of f a)) (bases_by f.blocks)) r)
-        (from-reached (has_name (chain_of f a)) (bases_by f.blocks) r v listed (chained-complete f a v rest))
+    (from-reached (has_name (chain_of f a)) (bases_by f.blocks) r v listed (chained-complete f a v rest))
 
 -- the addresses of a name are those that getelementptrs lead to
 pub address-sound : (f : Function) (a v : ℕ) → has_name (addresses_of f a) v ≡ true → IsAddress (bases_by f.blocks) a v

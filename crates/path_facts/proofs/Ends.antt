@@ -70,9 +70,6 @@ le-to a b e = grind arith
 end-is : (f : Function) (end : ℕ) (b : Block) → end ≡ end_block f → slice_get f.blocks end ≡ Some b → end_points f ≡ block_points end (length b.instrs)
 end-is f end b e at = ap (λ n. points_at n (slice_get f.blocks n)) (sym e) ∙ ap (points_at end) at
 
-pub none-in-end : (f : Function) (end : ℕ) → end ≡ end_block f → slice_get f.blocks end ≡ None → end_points f ≡ []
-none-in-end f end e at = ap (λ n. points_at n (slice_get f.blocks n)) (sym e) ∙ ap (points_at end) at
-
 pub in-end : (f : Function) (end : ℕ) (b : Block) (p : Point) → end ≡ end_block f → slice_get f.blocks end ≡ Some b → p.block ≡ end → nat_le p.at (length b.instrs) ≡ has_point (end_points f) p
 in-end f end b p e at here =
     same_test (nat_le p.at (length b.instrs)) (has_point (block_points end (length b.instrs)) p)

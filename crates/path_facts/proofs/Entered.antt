@@ -1,8 +1,8 @@
 -- The blocks at the resume and destroy edges of suspends.
-use Rattle.std.proofs.Common.{◌≡◌, ◌≢◌, ℕ, zero, suc, ◌+◌, ◌<◌, ◌≤◌, Bool, true, false, ◌||◌, ◌&&◌, List, [], ◌∷◌, ◌++◌, length, replicate, Some, refl, ap, sym, ◌∙◌, subst, ⊎_elim, arith, length-append}
+use Rattle.std.proofs.Common.{◌≡◌, ℕ, zero, suc, ◌+◌, ◌<◌, ◌≤◌, Bool, true, false, ◌||◌, ◌&&◌, List, [], ◌∷◌, ◌++◌, length, replicate, Some, refl, ap, sym, ◌∙◌, subst, ⊎_elim, arith, length-append}
 use Rattle.std.specs.Prelude.{flat_map, slice_get, slice_set, unwrap_or, if◌then◌else◌, ◌==◌}
 use Rattle.std.specs.List.{list_any}
-use Rattle.std.proofs.lemmas.Bool.{cases_eq, eqb-true, eq-eqb, false≢true}
+use Rattle.std.proofs.lemmas.Bool.{cases_eq, eq-eqb, false≢true}
 use Rattle.std.proofs.lemmas.List.{length-replicate, length-set}
 use Rattle.std.proofs.lemmas.List.Folds.{list_any-append}
 use Rattle.ir_model.specs.Names.{position_of}
@@ -10,12 +10,12 @@ use Rattle.ir_model.specs.declared.instr.Instr.{Instr}
 use Rattle.ir_model.specs.declared.module.Block.{Block}
 use Rattle.ir_model.specs.declared.module.Function.{Function}
 use Rattle.ir_model.specs.declared.operand.Intrinsic.{Intrinsic}
-use Rattle.ir_paths.proofs.Search.{either, eq_from, eq_itself}
+use Rattle.ir_paths.proofs.Search.{either, eq_from}
 use Rattle.ir_paths.specs.Paths.{entry_point, has_point, same_point}
 use Rattle.ir_paths.specs.Slots.{behind_suspends}
 use Rattle.ir_paths.specs.Windows.{destroy_label, is_call_of, label_at, label_of_term, points_from, points_in, resume_label}
 use Rattle.ir_paths.specs.declared.point.Point.{Point}
-use Rattle.point_graph.proofs.Tests.{or-false, or_assoc, place_other, place_set, same_test}
+use Rattle.point_graph.proofs.Tests.{or-false, or_assoc, place_other, place_set}
 use Rattle.path_facts.specs.Slots.{AreEntered, entered_by, entered_with}
 
 -- ---- marks of blocks
@@ -84,14 +84,6 @@ blank (suc n) (suc k) = blank n k
 abbrev edges_of : Function → Point → List Point
 edges_of f s = entry_point f (resume_label f s) ∷ entry_point f (destroy_label f s) ∷ []
 
-and-or : (a b c : Bool) → ((a && c) || (b && c)) ≡ ((a || b) && c)
-and-or true true true = refl
-and-or true true false = refl
-and-or true false true = refl
-and-or true false false = refl
-and-or false true c = refl
-and-or false false c = refl
-
 from-block : (test : Instr → Bool) (f : Function) (n at : ℕ) (is : List Instr) (q : Point) → has_point (flat_map (edges_of f) (points_from test n at is)) q ≡ (list_any test is && has_point (edges_of f (record { block = n; at = 0 })) q)
 from-block test f n at [] q = refl
 from-block test f n at (i ∷ is) q = on (test i) (from-block test f n (suc at) is q)
@@ -130,8 +122,8 @@ in-blocks f n (b ∷ bs) k known =
     ap (λ (l : List Point). has_point l (record { block = k; at = 0 })) (flat_map-append f (points_from (is_call_of Intrinsic.CoroSuspend) n 0 b.instrs) (points_in (is_call_of Intrinsic.CoroSuspend) (suc n) bs))
     ∙ list_any-append (same_point (record { block = k; at = 0 })) (flat_map (edges_of f) (points_from (is_call_of Intrinsic.CoroSuspend) n 0 b.instrs)) (flat_map (edges_of f) (points_in (is_call_of Intrinsic.CoroSuspend) (suc n) bs))
     ∙ ap (λ c. c || has_point (flat_map (edges_of f) (points_in (is_call_of Intrinsic.CoroSuspend) (suc n) bs)) (record { block = k; at = 0 }))
-        (from-block (is_call_of Intrinsic.CoroSuspend) f n 0 b.instrs (record { block = k; at = 0 })
-        ∙ ap (λ c. list_any (is_call_of Intrinsic.CoroSuspend) b.instrs && c) (edges-at f n b k here))
+    (from-block (is_call_of Intrinsic.CoroSuspend) f n 0 b.instrs (record { block = k; at = 0 })
+    ∙ ap (λ c. list_any (is_call_of Intrinsic.CoroSuspend) b.instrs && c) (edges-at f n b k here))
     ∙ ap (λ c. enters f k b || c) (in-blocks f (suc n) bs k (λ i x e. let s : suc n + i ≡ n + suc i = omega arith in ap (slice_get f.blocks) s ∙ known (suc i) x e))
   where
     here : slice_get f.blocks n ≡ Some b

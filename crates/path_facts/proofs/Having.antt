@@ -1,5 +1,5 @@
 -- The facts of one function after another.
-use Rattle.std.proofs.Common.{◌≡◌, ℕ, zero, suc, ◌+◌, ◌<◌, List, [], ◌∷◌, ◌++◌, length, take, get_or, Some, refl, ap, sym, ◌∙◌, subst, arith, length-append}
+use Rattle.std.proofs.Common.{◌≡◌, ℕ, zero, suc, ◌+◌, ◌<◌, List, [], ◌∷◌, ◌++◌, length, take, get_or, Some, ap, sym, ◌∙◌, subst, arith, length-append}
 use Rattle.std.specs.Prelude.{slice_get}
 use Rattle.std.proofs.lemmas.List.{take_more}
 use Rattle.ir_model.specs.declared.module.Function.{Function}
@@ -24,9 +24,6 @@ have-put xs ys x y h own = record {
   count = let l = length-append ys (y ∷ []) in let r = length-append xs (x ∷ []) in let c = h.count in omega (arith, l, r, c);
   each = each-put xs ys x y h.count h.each own;
 }
-
-pub have-none : HaveFacts [] []
-have-none = record { count = refl; each = λ func f own e k. absurd (cc) }
 
 pub have-more : (functions : List Function) (i : ℕ) (x : Function) (facts next : List Facts) (own : Facts) → i < length functions → x ≡ get_or functions i x → AreFactsOf x own → next ≡ facts ++ own ∷ [] → HaveFacts (take i functions) facts → HaveFacts (take (i + 1) functions) next
 have-more functions i x facts next own lt is are put before =

@@ -1,12 +1,12 @@
 -- The first of all points, found one after another.
-use Rattle.std.proofs.Common.{◌≡◌, ℕ, ◌+◌, ◌<◌, Bool, false, List, [], ◌∷◌, ◌++◌, length, take, get_or, refl, ap, sym, ◌∙◌, Option, Some, None, arith}
+use Rattle.std.proofs.Common.{◌≡◌, ℕ, ◌+◌, ◌<◌, false, List, [], ◌∷◌, ◌++◌, length, take, get_or, refl, ap, sym, ◌∙◌, Option, Some, None, arith}
 use Rattle.std.specs.Prelude.{slice_get, if◌then◌else◌, ◌==◌}
 use Rattle.ir_model.specs.declared.instr.Instr.{Instr}
 use Rattle.ir_model.specs.declared.module.Block.{Block}
 use Rattle.ir_paths.specs.Windows.{is_suspend_of, points_from, points_in}
 use Rattle.ir_paths.specs.declared.point.Point.{Point}
 use Rattle.path_facts.specs.Tokens.{is_token, or_head}
-use Rattle.path_facts.proofs.Points.{one_point, points_from-more, points_in-more, take-all}
+use Rattle.path_facts.proofs.Points.{one_point, points_from-more, points_in-more}
 
 or_head-append : (o : Option Point) (xs ys : List Point) → or_head (or_head o xs) ys ≡ or_head o (xs ++ ys)
 or_head-append (Some p) xs ys = refl
@@ -50,6 +50,3 @@ head-block t bs i b old new lt e before now =
     ∙ ap (λ n. or_head (slice_get (points_in (is_suspend_of (Some t)) 0 (take i bs)) 0) (points_from (is_suspend_of (Some t)) n 0 b.instrs)) (sym zero_add)
     ∙ slice_get-or_head (points_in (is_suspend_of (Some t)) 0 (take i bs)) (points_from (is_suspend_of (Some t)) (0 + i) 0 b.instrs)
     ∙ ap (λ (l : List Point). slice_get l 0) (sym (points_in-more (is_suspend_of (Some t)) 0 bs i b lt e))
-
-pub or_head-all : (o : Option Point) (test : Instr → Bool) (block : ℕ) (is : List Instr) (i : ℕ) (p : Option Point) → p ≡ or_head o (points_from test block 0 (take i is)) → i ≡ length is → p ≡ or_head o (points_from test block 0 is)
-or_head-all o test block is i p h e = h ∙ ap (λ (l : List Instr). or_head o (points_from test block 0 l)) (take-all is i (omega arith))

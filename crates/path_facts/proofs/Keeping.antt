@@ -1,6 +1,6 @@
 -- The names that keep a slot from the ramp, and the slots that none of them keeps.
-use Rattle.std.proofs.Common.{◌≡◌, ℕ, zero, suc, ◌+◌, ◌<◌, Bool, true, false, ◌||◌, ◌&&◌, List, [], ◌∷◌, ◌++◌, length, Option, Some, None, refl, ap, sym, ◌∙◌, subst, ⊎_elim, inl, inr, arith}
-use Rattle.std.specs.Prelude.{IsFalse, IsTrue, filter, flat_map, not, option_to_list, slice_get, if◌then◌else◌, ◌==◌, ◌⊎◌}
+use Rattle.std.proofs.Common.{◌≡◌, ℕ, zero, suc, ◌+◌, Bool, true, false, ◌&&◌, List, [], ◌∷◌, Option, Some, None, refl, ap, sym, ◌∙◌, subst, ⊎_elim, inl, inr, arith}
+use Rattle.std.specs.Prelude.{filter, flat_map, not, option_to_list, slice_get, if◌then◌else◌, ◌==◌, ◌⊎◌}
 use Rattle.std.specs.List.{list_any}
 use Rattle.std.proofs.lemmas.Bool.{false≢true}
 use Rattle.ir_model.specs.declared.instr.Instr.{Instr}
@@ -9,10 +9,9 @@ use Rattle.ir_model.specs.declared.module.Function.{Function}
 use Rattle.ir_model.specs.declared.operand.Intrinsic.{Intrinsic}
 use Rattle.ir_paths.proofs.Search.{Has, both, either, eq_from, eq_itself, has_append, has_left, has_right, or_left, or_right, same_point-itself, same_point-same}
 use Rattle.ir_paths.specs.Paths.{has_point, same_point}
-use Rattle.ir_paths.specs.Slots.{IsBehindSuspend, IsRampSlot, addresses_of, allocas_in, allocas_of, exposed_in_block, has_name, is_escaped, is_promise, occurs, promise_of, touches, touching_points}
+use Rattle.ir_paths.specs.Slots.{IsRampSlot, addresses_of, allocas_of, exposed_in_block, has_name, is_escaped, is_promise, occurs, promise_of, touches}
 use Rattle.ir_paths.specs.Windows.{instr_at, instr_in, is_call_of, points_from, points_in, points_where}
 use Rattle.ir_paths.specs.declared.point.Point.{Point}
-use Rattle.point_graph.proofs.Tests.{point-is}
 use Rattle.path_facts.proofs.Owning.{own_by}
 use Rattle.path_facts.specs.Chains.{AreLedBack, LeadsTo, has_lowest}
 use Rattle.path_facts.specs.Slots.{AreBehind, AreKeeping, AreRampSlots, HasMore, KeepsSlot, is_own, own_in, touched_at, touched_by}
@@ -91,7 +90,7 @@ keeping f behind points names new are is exposed more = record { each = λ v. (s
     complete v (KeepsSlot.Touched p b t) =
         more.each v
         ∙ or_right (has_name names v) (list_any (touched_at f v) points)
-            (point-some (touched_at f v) points p (subst (λ (l : List Point). Has l p) (sym is) ((are.each p).1 b)) t)
+        (point-some (touched_at f v) points p (subst (λ (l : List Point). Has l p) (sym is) ((are.each p).1 b)) t)
 
 -- ---- the points of instructions that pass a test
 
@@ -272,8 +271,8 @@ filter-complete t (x ∷ xs) v h k = ⊎_elim
 pub ramp-slots : (f : Function) (promise : Option ℕ) (names words slots : List ℕ) → promise ≡ promise_of f → AreKeeping f names → AreLedBack f names words → slots ≡ flat_map (λ b. own_in promise words b.instrs) f.blocks → AreRampSlots f slots
 ramp-slots f promise names words slots is keep led slots_are = record {
   each = λ a. (
-      λ h. let r = filter-sound (is_own promise words) (allocas_of f) a (ap (λ (l : List ℕ). has_name l a) (sym all) ∙ h) in (r.0, own-sound f names words keep led promise a is r.1),
-      λ h. ap (λ (l : List ℕ). has_name l a) all ∙ filter-complete (is_own promise words) (allocas_of f) a h.0 (own-complete f names words keep led promise a is h.1)
+    λ h. let r = filter-sound (is_own promise words) (allocas_of f) a (ap (λ (l : List ℕ). has_name l a) (sym all) ∙ h) in (r.0, own-sound f names words keep led promise a is r.1),
+    λ h. ap (λ (l : List ℕ). has_name l a) all ∙ filter-complete (is_own promise words) (allocas_of f) a h.0 (own-complete f names words keep led promise a is h.1),
   );
 }
   where

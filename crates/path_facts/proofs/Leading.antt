@@ -1,19 +1,18 @@
 -- The names whose addresses are among some names, found along the edges from getelementptrs to their bases.
-use Rattle.std.proofs.Common.{◌≡◌, ℕ, zero, suc, ◌+◌, ◌<◌, ◌≤◌, ◌⊎◌, inl, inr, Bool, true, false, List, [], ◌∷◌, length, map, replicate, Option, Some, None, refl, ap, sym, ◌∙◌, subst, ⊎_elim, arith}
-use Rattle.std.specs.Prelude.{Err, IfOk, IsTrue, Ok, Result, slice_get, unwrap_or, ◌==◌, ◌↔◌}
+use Rattle.std.proofs.Common.{◌≡◌, ℕ, zero, suc, ◌<◌, inl, inr, true, List, [], ◌∷◌, length, map, replicate, Option, Some, None, refl, ap, sym, ◌∙◌, subst, ⊎_elim, arith}
+use Rattle.std.specs.Prelude.{Err, IfOk, IsTrue, Ok, Result, slice_get, unwrap_or, ◌==◌}
 use Rattle.std.specs.Int.{bit_at}
-use Rattle.std.proofs.lemmas.Bool.{false≢true}
 use Rattle.std.proofs.lemmas.Nat.Bits.{bit_at-zero}
 use Rattle.bit_reach.specs.Bits.{HasBit}
 use Rattle.bit_reach.specs.Reaching.{AnswersAt, Reaches, StartAt}
 use Rattle.ir_model.specs.declared.module.Function.{Function}
 use Rattle.ir_paths.proofs.Search.{eq_from, eq_itself}
-use Rattle.ir_paths.specs.Slots.{addresses_of, has_name}
+use Rattle.ir_paths.specs.Slots.{has_name}
 use Rattle.flow_solver.proofs.Lists.{listed_at, place_of}
 use Rattle.flow_solver.specs.Paths.{HasNodes, IsListed}
 use Rattle.path_facts.proofs.Above.{AreBelow}
 use Rattle.path_facts.proofs.Chained.{IsAddress, address-complete, address-front, address-sound, listed-name, name-listed}
-use Rattle.path_facts.specs.Chains.{AreLedBack, LeadsTo, bases_by, has_lowest}
+use Rattle.path_facts.specs.Chains.{AreLedBack, LeadsTo, bases_by}
 
 abbrev pub asked_at : List ℕ → List (ℕ × ℕ)
 asked_at names = map (λ (v : ℕ). (v, 1)) names

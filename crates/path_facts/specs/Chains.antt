@@ -1,5 +1,5 @@
 -- Chains of getelementptrs.
-use Rattle.std.specs.Prelude.{ℕ, Bool, List, [], flat_map, slice_get, unwrap_or, IsTrue, ◌↔◌, ◌∷◌, ◌++◌, ◌==◌}
+use Rattle.std.specs.Prelude.{ℕ, Bool, List, [], flat_map, slice_get, unwrap_or, IsTrue, ◌↔◌, ◌∷◌, ◌==◌}
 use Rattle.std.specs.Int.{bit_at}
 use Rattle.ir_model.specs.declared.instr.Instr.{Instr}
 use Rattle.ir_model.specs.declared.module.Block.{Block}

@@ -1,5 +1,5 @@
 -- The ramp slots of a function.
-use Rattle.std.specs.Prelude.{ℕ, Bool, true, false, not, List, [], filter, IsTrue, IsFalse, slice_set, None, Some, Option, option_to_list, slice_get, suc, unwrap_or, ◌≡◌, ◌↔◌, ◌&&◌, ◌||◌, ◌∷◌, ◌++◌, if◌then◌else◌, ◌==◌}
+use Rattle.std.specs.Prelude.{ℕ, Bool, true, false, not, List, [], filter, IsTrue, IsFalse, slice_set, None, Some, Option, option_to_list, slice_get, suc, unwrap_or, ◌≡◌, ◌↔◌, ◌&&◌, ◌||◌, ◌∷◌, ◌++◌, if◌then◌else◌}
 use Rattle.std.specs.List.{list_any}
 use Rattle.ir_model.specs.Names.{position_of}
 use Rattle.ir_model.specs.declared.instr.Instr.{Instr}
@@ -47,13 +47,13 @@ entered_by f [] entered = entered
 entered_by f (b ∷ bs) entered = entered_by f bs (entered_with f b entered)
 
 -- a point, where a test passes and it is none of the end block
-abbrev pub first_if : Function → Bool → Point → List Point
-first_if f b p = if b && not (has_point (end_points f) p) then p ∷ [] else []
+abbrev pub outside_if : Function → Bool → Point → List Point
+outside_if f b p = if b && not (has_point (end_points f) p) then p ∷ [] else []
 
 -- the first points of blocks, from a position on, that are marked and none of the end block
 abbrev pub firsts_from : Function → ℕ → List Bool → List Point
 firsts_from f n [] = []
-firsts_from f n (b ∷ bs) = first_if f b (record { block = n; at = 0 }) ++ firsts_from f (suc n) bs
+firsts_from f n (b ∷ bs) = outside_if f b (record { block = n; at = 0 }) ++ firsts_from f (suc n) bs
 
 -- ---- names that make a coroutine slot
 

@@ -5,12 +5,11 @@ ghost use Rattle.std.specs.List.{list_any};
 ghost use Rattle.ir_paths.specs.Paths.{has_point, block_points as block_points_of};
 ghost use Rattle.ir_paths.specs.Slots.{end_points as end_points_of};
 ghost use Rattle.ir_paths.specs.Windows.{end_block as end_block_of, is_call_of as is_call, label_in as label_in_cases, label_of_term as label_of_terminator};
-ghost use Rattle.path_facts.specs.Slots.{AreBehind, AreEntered, end_from, entered_by, entered_with, first_if, firsts_from};
+ghost use Rattle.path_facts.specs.Slots.{AreBehind, AreEntered, end_from, entered_by, entered_with, outside_if, firsts_from};
 ghost use Rattle.point_graph.specs.Reached.{IsGraphOf};
 
-use crate::calls::is_call_of;
 use coro_base::{BlockId, Items, ValueId};
-use coro_calls::is_number;
+use coro_calls::{is_call_of, is_number};
 use ir_model::{Block, Case, Function, Instr, Intrinsic, Terminator};
 use ir_paths::Point;
 use point_graph::PointGraph;
@@ -77,11 +76,7 @@ fn block_points(alloc: Global, block: BlockId, count: usize) -> Result<Items<Poi
 }
 
 /// The points of the end block.
-fn end_points(
-    alloc: Global,
-    function: &Function,
-    end: BlockId,
-) -> Result<Items<Point>, AllocError>
+fn end_points(alloc: Global, function: &Function, end: BlockId) -> Result<Items<Point>, AllocError>
     requires { end ≡ end_block_of function.now }
     ensures { IfOk result (λ all. all ≡ end_points_of function.now) }
 {
@@ -147,18 +142,19 @@ fn is_in_end(function: &Function, end: BlockId, point: Point) -> bool
     }
 }
 
-fn push_first(
+/// Adds a point, if it is asked for and none of the end block.
+fn push_outside_if(
     function: &Function,
     end: BlockId,
-    is_entered: bool,
-    first: Point,
+    is_asked: bool,
+    point: Point,
     all: &mut Items<Point>,
 ) -> Result<(), AllocError>
     requires { end ≡ end_block_of function.now }
-    ensures { OnOk result (all.new ≡ all.old ++ first_if function.now is_entered first) }
+    ensures { OnOk result (all.new ≡ all.old ++ outside_if function.now is_asked point) }
 {
-    if is_entered && !is_in_end(function, end, first) {
-        all.push(first)?;
+    if is_asked && !is_in_end(function, end, point) {
+        all.push(point)?;
     }
     Ok(())
 }
@@ -175,7 +171,7 @@ fn first_points(
 {
     let mut all = Items::new(alloc);
     for (block, is_entered) in entered.iter().enumerate() {
-        push_first(function, end, *is_entered, Point { block, at: 0 }, &mut all)?;
+        push_outside_if(function, end, *is_entered, Point { block, at: 0 }, &mut all)?;
     }
     Ok(all)
 }
@@ -188,10 +184,10 @@ fn push_outside(
     all: &mut Items<Point>,
 ) -> Result<(), AllocError>
     requires { end ≡ end_block_of function.now }
-    ensures { OnOk result (all.new ≡ all.old ++ flat_map (first_if function.now true) points.now) }
+    ensures { OnOk result (all.new ≡ all.old ++ flat_map (outside_if function.now true) points.now) }
 {
     for point in points {
-        push_first(function, end, true, *point, all)?;
+        push_outside_if(function, end, true, *point, all)?;
     }
     Ok(())
 }

@@ -4,22 +4,10 @@ ghost use Rattle.std.specs.Prelude.{◌≡◌, ◌++◌, IfOk, OnOk, map};
 ghost use Rattle.ir_paths.specs.Windows.{is_call_of as is_call_of_intrinsic, points_from, points_where};
 
 use coro_base::{BlockId, Items};
-use ir_model::{Callee, Function, Instr, Intrinsic, is_same_intrinsic};
+use coro_calls::is_call_of;
+use ir_model::{Function, Instr, Intrinsic};
 use ir_paths::Point;
 use std::alloc::{AllocError, Global};
-
-/// Whether an instruction is a call of an intrinsic.
-pub fn is_call_of(intrinsic: Intrinsic, instr: &Instr) -> bool
-    ensures { result ≡ is_call_of_intrinsic intrinsic instr.now }
-{
-    match instr {
-        Instr::Call {
-            callee: Callee::Intrinsic(other),
-            ..
-        } => is_same_intrinsic(intrinsic, *other),
-        _ => false,
-    }
-}
 
 fn push_calls(
     intrinsic: Intrinsic,

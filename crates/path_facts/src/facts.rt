@@ -13,7 +13,7 @@ use point_graph::PointGraph;
 use std::alloc::{AllocError, Global};
 
 /// The facts about paths of a function: the windows of its saves, and its ramp slots.
-pub fn facts_of(alloc: Global, function: &Function) -> Result<Facts, AllocError>
+fn facts_of(alloc: Global, function: &Function) -> Result<Facts, AllocError>
     ensures { IfOk result (λ facts. AreFactsOf function.now facts) }
 {
     let mut graph = PointGraph::new(alloc, function)?;

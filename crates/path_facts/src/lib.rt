@@ -10,6 +10,6 @@ mod slots;
 mod tokens;
 mod windows;
 
-pub use facts::{all_facts, facts_of};
+pub use facts::all_facts;
 pub use slots::ramp_slots_of;
 pub use windows::windows_of;

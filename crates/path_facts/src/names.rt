@@ -6,10 +6,12 @@ ghost use Rattle.ir_model.specs.Names.{is_local};
 ghost use Rattle.ir_paths.specs.Slots.{exposed_in_block, exposes, has_name, is_in_args, is_memcpy as is_memcpy_callee, is_no_use as is_no_use_callee, occurs, occurs_in_phi, occurs_in_term};
 ghost use Rattle.path_facts.specs.Slots.{HasMore, touched_at};
 
-use crate::calls::is_call_of;
 use crate::windows::instr_at;
 use coro_base::{Items, ValueId};
-use ir_model::{Arg, Block, Callee, Function, Incoming, Instr, Intrinsic, Operand, Phi, Terminator};
+use coro_calls::is_call_of;
+use ir_model::{
+    Arg, Block, Callee, Function, Incoming, Instr, Intrinsic, Operand, Phi, Terminator,
+};
 use ir_paths::Point;
 use std::alloc::{AllocError, Global};
 

@@ -6,8 +6,8 @@ ghost use Rattle.ir_model.specs.Names.{is_local};
 ghost use Rattle.ir_paths.specs.Windows.{is_suspend_of, operand_at, points_from};
 ghost use Rattle.path_facts.specs.Tokens.{FindsSuspends, is_token, or_head};
 
-use crate::calls::is_call_of;
 use coro_base::{BlockId, ValueId};
+use coro_calls::is_call_of;
 use ir_model::{Arg, Function, Instr, Intrinsic, Operand};
 use ir_paths::Point;
 use std::alloc::{AllocError, Global};

@@ -2,26 +2,18 @@
 
 ghost use Rattle.std.specs.Prelude.{◌≡◌, ◌==◌, All, IfOk, OnOk, MatchOption, None, Some, map, option_and_then};
 ghost use Rattle.ir_paths.specs.Facts.{IsWindow};
-ghost use Rattle.ir_paths.specs.Windows.{call_result, instr_at as instr_at_point, saves_of, suspend_of as suspend_of_save};
+ghost use Rattle.ir_paths.specs.Windows.{call_result as result_of_call, instr_at as instr_at_point, saves_of, suspend_of as suspend_of_save};
 ghost use Rattle.path_facts.specs.Tokens.{FindsSuspends};
 ghost use Rattle.point_graph.specs.Reached.{IsGraphOf};
 
 use crate::calls::points_of_calls;
 use crate::tokens::{Tokens, tokens_of};
 use coro_base::{Items, ValueId};
+use coro_calls::call_result;
 use ir_model::{Function, Instr, Intrinsic};
 use ir_paths::{Point, Window};
 use point_graph::PointGraph;
 use std::alloc::{AllocError, Global};
-
-fn result_of(instr: &Instr) -> Option<ValueId>
-    ensures { result ≡ call_result instr.now }
-{
-    match instr {
-        Instr::Call { result, .. } => *result,
-        _ => None,
-    }
-}
 
 /// The instruction at a point, where there is one.
 pub fn instr_at(function: &Function, point: Point) -> Option<&Instr>
@@ -35,11 +27,11 @@ pub fn instr_at(function: &Function, point: Point) -> Option<&Instr>
 
 /// The token of a save.
 fn token_at(function: &Function, save: Point) -> Option<ValueId>
-    ensures { result ≡ option_and_then call_result (instr_at_point function.now save) }
+    ensures { result ≡ option_and_then result_of_call (instr_at_point function.now save) }
 {
     match instr_at(function, save) {
         None => None,
-        Some(instr) => result_of(instr),
+        Some(instr) => call_result(instr),
     }
 }
 

@@ -1,6 +1,5 @@
-use Rattle.std.proofs.Common.{ap, length, sym, ◌∙◌, List}
+use Rattle.std.proofs.Common.{ap, ◌∙◌}
 use Rattle.std.specs.Prelude.{nat_le}
-use Rattle.ir_model.specs.declared.instr.Instr.{Instr}
 use Rattle.path_facts.proofs.Ends.{in-end, out-of-end}
 use Rattle.path_facts.proofs.behind.is_in_end.Goals as goal
 

@@ -1,9 +1,7 @@
-use Rattle.std.proofs.Common.{List, ap, arith, length, replicate, subst, sym, ◌≡◌, ◌∙◌, ℕ}
-use Rattle.std.specs.Prelude.{Some, slice_get}
-use Rattle.bit_reach.specs.Reaching.{AnswersAt, StartAt}
-use Rattle.ir_model.specs.declared.module.Block.{Block}
+use Rattle.std.proofs.Common.{ap, arith, replicate, subst, sym, ◌∙◌}
+use Rattle.bit_reach.specs.Reaching.{StartAt}
 use Rattle.path_facts.proofs.Leading.{if-ok-both, led-back-by, starts-below}
-use Rattle.path_facts.specs.Chains.{AreLedBack, bases_by}
+use Rattle.path_facts.specs.Chains.{bases_by}
 use Rattle.flow_solver.specs.Paths.{HasNodes}
 use Rattle.path_facts.proofs.chains.led_back.Goals as goal
 

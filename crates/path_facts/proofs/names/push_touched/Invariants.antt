@@ -1,6 +1,5 @@
 use Rattle.std.proofs.Common.{take}
 use Rattle.std.specs.List.{list_any}
-
 use Rattle.path_facts.specs.Slots.{HasMore, touched_at}
 use Rattle.path_facts.proofs.names.push_touched.Given as goal
 
