@@ -72,16 +72,16 @@ module _ (f : Function) (numbers : List (Option ℕ)) (v c : ℕ) (spans : List 
         is_used = OnEdge t.block ((edge_listed f from.suspend t.block).0 (subst (λ (n : ℕ). is_own_edge f n t.block ≡ true) same t.is_own)) (subst (λ (n : ℕ). TakesFrom f v n t.block) same t.takes);
       }
 
-  abbrev word : ℕ
-  word = bit_or (told_blocks f numbers ch 0 0 f.blocks) (taken_blocks f numbers ch 0 0 f.blocks)
+  abbrev all_told : ℕ
+  all_told = bit_or (told_blocks f numbers ch 0 0 f.blocks) (taken_blocks f numbers ch 0 0 f.blocks)
 
-  told_kept : (func : ℕ) → HasBit word c → IsKept func f v
+  told_kept : (func : ℕ) → HasBit all_told c → IsKept func f v
   told_kept func h = ⊎_elim
       (λ used. let found : (u : Use) × (IsListed u (uses_of func f) × IsHit v c ch u) = some_from (IsHit v c ch) (uses_of func f) ((all_hit numbers v c ch a f mades func).0 used) in hit_kept func found.0 found.1.0 found.1.1)
       (λ taken. own_kept func ((all_taken f numbers v c ch spans a is.own).0 taken))
       ((either_bit (told_blocks f numbers ch 0 0 f.blocks) (taken_blocks f numbers ch 0 0 f.blocks) c).0 h)
 
-  used_told : (func : ℕ) (k s : Point) → IsListed (k, s) (saves_of f) → IsMadeIn f k s v → IsUsedBehind func f s v → HasBit word c
+  used_told : (func : ℕ) (k s : Point) → IsListed (k, s) (saves_of f) → IsMadeIn f k s v → IsUsedBehind func f s v → HasBit all_told c
   used_told func k s pair made (InBlock u l value reach not_before no_end) =
       (either_bit (told_blocks f numbers ch 0 0 f.blocks) (taken_blocks f numbers ch 0 0 f.blocks) c).1
       (inl ((all_hit numbers v c ch a f mades func).1 (some_to (IsHit v c ch) (uses_of func f) u l (record {
@@ -102,7 +102,7 @@ module _ (f : Function) (numbers : List (Option ℕ)) (v c : ℕ) (spans : List 
         takes = subst (λ (n : ℕ). TakesFrom f v n block) same takes;
       })))
 
-  told_same : (func : ℕ) → HasBit word c ↔ IsKept func f v
+  told_same : (func : ℕ) → HasBit all_told c ↔ IsKept func f v
   told_same func = ((λ h. told_kept func h), (λ k. used_told func k.save k.suspend k.is_save k.is_made k.is_used))
 
 -- ---- the words
@@ -123,14 +123,14 @@ told_by_chunk f names numbers values spans chunk ch told taken are numbered is t
 pub none_told_yet : (f : Function) (numbers : List (Option ℕ)) → AreTold f numbers 0 []
 none_told_yet f numbers = record { words_length = refl; each = λ func v k at lt. absurd (omega arith) }
 
-before_word : (words : List ℕ) (word i : ℕ) → i < length words → word_at (words ++ word ∷ []) i ≡ word_at words i
-before_word [] word i lt = absurd (omega arith)
-before_word (x ∷ xs) word zero lt = refl
-before_word (x ∷ xs) word (suc i) lt = before_word xs word i (omega arith)
+before_word : (words : List ℕ) (w i : ℕ) → i < length words → word_at (words ++ w ∷ []) i ≡ word_at words i
+before_word [] w i lt = absurd (omega arith)
+before_word (x ∷ xs) w zero lt = refl
+before_word (x ∷ xs) w (suc i) lt = before_word xs w i (omega arith)
 
-last_word : (words : List ℕ) (word : ℕ) → word_at (words ++ word ∷ []) (length words) ≡ word
-last_word [] word = refl
-last_word (x ∷ xs) word = last_word xs word
+last_word : (words : List ℕ) (w : ℕ) → word_at (words ++ w ∷ []) (length words) ≡ w
+last_word [] w = refl
+last_word (x ∷ xs) w = last_word xs w
 
 pub next_told : (f : Function) (numbers : List (Option ℕ)) (chunk word : ℕ) (words words2 : List ℕ) → words2 ≡ words ++ word ∷ [] → IsToldBy f numbers chunk word → AreTold f numbers chunk words → AreTold f numbers (chunk + 1) words2
 next_told f numbers chunk word words words2 pushed one all =
@@ -157,10 +157,10 @@ number_told : (f : Function) (names : ℕ) (numbers : List (Option ℕ)) (values
 number_told f names numbers values spans words chunks are numbered enough told func v = by (slice_get numbers v) refl
   where
     below : (k : ℕ) → slice_get numbers v ≡ Some (Some k) → k < length values
-    below k at = ⊎_elim (λ lt. lt) (λ past. absurd (past_none (slice_get_past values k past) (numbered.numbering.asked v k at))) (cases_lt k (length values))
+    below k at = ⊎_elim (λ lt. lt) (λ past. absurd (past_none k (slice_get_past values k past) (numbered.numbering.asked v k at))) (cases_lt k (length values))
       where
-        past_none : {k : ℕ} → slice_get values k ≡ None → slice_get values k ≡ Some v → ⊥
-        past_none e g = cc
+        past_none : (k : ℕ) → slice_get values k ≡ None → slice_get values k ≡ Some v → ⊥
+        past_none k e g = cc
 
     has_number : IsKept func f v → IsNumbered numbers values v
     has_number kept =

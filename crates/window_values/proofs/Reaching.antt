@@ -33,25 +33,24 @@ record HasStart (numbers : List (Option ℕ)) (chunk node word : ℕ) (spans : L
   leads : (node ≡ span.resumed) ⊎ (node ≡ span.destroyed)
   is_word : word ≡ span_word numbers chunk span
 
-first_part : (a b c d : ℕ) → (a, b) ≡ (c, d) → a ≡ c
+first_part : (a b c d : ℕ) → ◌≡◌ {A = ℕ × ℕ} (a, b) (c, d) → a ≡ c
 first_part a b c d e = ap (λ (p : ℕ × ℕ). p.0) e
 
-second_part : (a b c d : ℕ) → (a, b) ≡ (c, d) → b ≡ d
+second_part : (a b c d : ℕ) → ◌≡◌ {A = ℕ × ℕ} (a, b) (c, d) → b ≡ d
 second_part a b c d e = ap (λ (p : ℕ × ℕ). p.1) e
 
 start_from : (numbers : List (Option ℕ)) (chunk node word : ℕ) (spans : List Span) → IsListed (node, word) (starts_of numbers chunk spans) → HasStart numbers chunk node word spans
 start_from numbers chunk node word [] h = absurd h
-start_from numbers chunk node word (s ∷ ss) h = ⊎_elim resumed (λ more. ⊎_elim destroyed later more) h
+start_from numbers chunk node word (s ∷ ss) h = ⊎_elim resumed (λ more. ⊎_elim destroyed (λ l. later (start_from numbers chunk node word ss l)) more) h
   where
-    resumed : (node, word) ≡ (s.resumed, span_word numbers chunk s) → HasStart numbers chunk node word (s ∷ ss)
+    resumed : ◌≡◌ {A = ℕ × ℕ} (node, word) (s.resumed, span_word numbers chunk s) → HasStart numbers chunk node word (s ∷ ss)
     resumed e = record { span = s; is_listed = inl refl; leads = inl (first_part node word s.resumed (span_word numbers chunk s) e); is_word = second_part node word s.resumed (span_word numbers chunk s) e }
 
-    destroyed : (node, word) ≡ (s.destroyed, span_word numbers chunk s) → HasStart numbers chunk node word (s ∷ ss)
+    destroyed : ◌≡◌ {A = ℕ × ℕ} (node, word) (s.destroyed, span_word numbers chunk s) → HasStart numbers chunk node word (s ∷ ss)
     destroyed e = record { span = s; is_listed = inl refl; leads = inr (first_part node word s.destroyed (span_word numbers chunk s) e); is_word = second_part node word s.destroyed (span_word numbers chunk s) e }
 
-    later : IsListed (node, word) (starts_of numbers chunk ss) → HasStart numbers chunk node word (s ∷ ss)
-    later l =
-        let rest : HasStart numbers chunk node word ss = start_from numbers chunk node word ss l in
+    later : HasStart numbers chunk node word ss → HasStart numbers chunk node word (s ∷ ss)
+    later rest =
         record { span = rest.span; is_listed = inr rest.is_listed; leads = rest.leads; is_word = rest.is_word }
 
 resumed_start : (numbers : List (Option ℕ)) (chunk : ℕ) (s : Span) (spans : List Span) → IsListed s spans → IsListed (s.resumed, span_word numbers chunk s) (starts_of numbers chunk spans)

@@ -31,14 +31,13 @@ record IsAt (f : Function) (ps : List Point) (v : ℕ) : Type 0 where
 
 at_from : (f : Function) (ps : List Point) (v : ℕ) → IsListed v (inside_values f ps) → IsAt f ps v
 at_from f [] v h = absurd h
-at_from f (p ∷ ps) v h = ⊎_elim here later (listed_append v (point_values f p) (inside_values f ps) h)
+at_from f (p ∷ ps) v h = ⊎_elim here (λ l. later (at_from f ps v l)) (listed_append v (point_values f p) (inside_values f ps) h)
   where
     here : IsListed v (point_values f p) → IsAt f (p ∷ ps) v
     here l = record { point = p; is_inside = or_left (same_point p p) (has_point ps p) (same_point-itself p); is_listed = l }
 
-    later : IsListed v (inside_values f ps) → IsAt f (p ∷ ps) v
-    later l =
-        let rest : IsAt f ps v = at_from f ps v l in
+    later : IsAt f ps v → IsAt f (p ∷ ps) v
+    later rest =
         record { point = rest.point; is_inside = or_right (same_point rest.point p) (has_point ps rest.point) rest.is_inside; is_listed = rest.is_listed }
 
 at_to : (f : Function) (ps : List Point) (v : ℕ) (p : Point) → IsTrue (has_point ps p) → IsListed v (point_values f p) → IsListed v (inside_values f ps)
@@ -134,7 +133,7 @@ one_spanned f saves spans k s span is h = record {
     still : (a b : Point) → HasSpan f a b spans → HasSpan f a b (spans ++ span ∷ [])
     still a b c = record { span = c.span; is_listed = listed_front c.span spans (span ∷ []) c.is_listed; is_span = c.is_span }
 
-    named : (a b : Point) → (a, b) ≡ (k, s) → HasSpan f a b (spans ++ span ∷ [])
+    named : (a b : Point) → ◌≡◌ {A = Point × Point} (a, b) (k, s) → HasSpan f a b (spans ++ span ∷ [])
     named a b e = record {
       span = span;
       is_listed = listed_last span spans;

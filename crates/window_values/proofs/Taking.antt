@@ -59,14 +59,13 @@ record IsTakenAt (f : Function) (v c : ℕ) (ch : Chunk) (block : ℕ) (bs : Lis
 
 taken_from : (f : Function) (v c : ℕ) (ch : Chunk) (block : ℕ) (bs : List Block) → TakenIn f v c ch block bs → IsTakenAt f v c ch block bs
 taken_from f v c ch block [] h = absurd h
-taken_from f v c ch block (b ∷ bs) h = ⊎_elim here later h
+taken_from f v c ch block (b ∷ bs) h = ⊎_elim here (λ t. later (taken_from f v c ch (block + 1) bs t)) h
   where
     here : AnyOf (TakenBy f v c ch block) b.phis → IsTakenAt f v c ch block (b ∷ bs)
     here t = let same : block ≡ block + 0 = omega arith in record { at = 0; found = b; is_found = refl; taken = subst (λ (n : ℕ). AnyOf (TakenBy f v c ch n) b.phis) same t }
 
-    later : TakenIn f v c ch (block + 1) bs → IsTakenAt f v c ch block (b ∷ bs)
-    later t =
-        let rest : IsTakenAt f v c ch (block + 1) bs = taken_from f v c ch (block + 1) bs t in
+    later : IsTakenAt f v c ch (block + 1) bs → IsTakenAt f v c ch block (b ∷ bs)
+    later rest =
         let same : (block + 1) + rest.at ≡ block + suc rest.at = omega arith in
         record { at = suc rest.at; found = rest.found; is_found = rest.is_found; taken = subst (λ (n : ℕ). AnyOf (TakenBy f v c ch n) rest.found.phis) same rest.taken }
 
@@ -82,6 +81,11 @@ taken_to f v c ch block (x ∷ bs) (suc at) b e t =
     let same : block + suc at ≡ (block + 1) + at = omega arith in
     inr (taken_to f v c ch (block + 1) bs at b e (subst (λ (n : ℕ). AnyOf (TakenBy f v c ch n) b.phis) same t))
 
+taken_bits : (f : Function) (numbers : List (Option ℕ)) (ch : Chunk) (block c : ℕ) (i : Incoming) →
+    HasBit (taken_word f numbers ch block i) c ↔ (HasBit (result_word numbers ch.number 0 (local_of i.value)) c × HasBit (own_at f ch (position_of f i.from) block) c)
+unfolding taken_word
+taken_bits f numbers ch block c i = and_bit (result_word numbers ch.number 0 (local_of i.value)) (own_at f ch (position_of f i.from) block) c
+
 module _ (f : Function) (numbers : List (Option ℕ)) (v c : ℕ) (ch : Chunk) (a : Asks numbers ch.number v c) where
   one_taken : (block told : ℕ) (i : Incoming) → HasBit (bit_or told (taken_word f numbers ch block i)) c ↔ (HasBit told c ⊎ IsTaken f v c ch block i)
   one_taken block told i =
@@ -94,7 +98,7 @@ module _ (f : Function) (numbers : List (Option ℕ)) (v c : ℕ) (ch : Chunk) (
       operand = operand_is numbers v c ch a (local_of i.value)
 
       bits : HasBit (taken_word f numbers ch block i) c ↔ (HasBit (result_word numbers ch.number 0 (local_of i.value)) c × HasBit (own_at f ch (position_of f i.from) block) c)
-      bits = and_bit (result_word numbers ch.number 0 (local_of i.value)) (own_at f ch (position_of f i.from) block) c
+      bits = taken_bits f numbers ch block c i
 
       is : HasBit (taken_word f numbers ch block i) c ↔ IsTaken f v c ch block i
       is = ((λ h. let two = bits.0 h in record { takes = operand.0 two.0; own = two.1 }), (λ t. bits.1 (operand.1 t.takes, t.own)))

@@ -103,7 +103,7 @@ is_own_edge f from block = label_leads f 0 from block || label_leads f 1 from bl
 abbrev pub own_at : Function → Chunk → ℕ → ℕ → ℕ
 own_at f c from block = if is_own_edge f from block then word_at c.own from else 0
 
-abbrev pub taken_word : Function → List (Option ℕ) → Chunk → ℕ → Incoming → ℕ
+unfoldable pub taken_word : Function → List (Option ℕ) → Chunk → ℕ → Incoming → ℕ
 taken_word f numbers c block i = bit_and (result_word numbers c.number 0 (local_of i.value)) (own_at f c (position_of f i.from) block)
 
 abbrev pub taken_incoming : Function → List (Option ℕ) → Chunk → ℕ → ℕ → List Incoming → ℕ

@@ -222,6 +222,7 @@ fn own_at(
 }
 
 /// The question of a value that a phi takes, where its block's own edge leads to the phi's block.
+#[tactic(auto, unfolding(crate::specs::Words::taken_word))]
 fn taken_word(
     function: &Function,
     table: &Items<BlockId>,
