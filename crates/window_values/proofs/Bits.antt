@@ -72,9 +72,10 @@ pub flip_bit : (w c : ℕ) → c < 64 → HasBit (bit_xor w all_bits) c ↔ (Has
 flip_bit w c lt = ((λ h. flipped_off w c lt h), (λ never. flipped_on w c lt never))
 
 pub left_bits : (base made c : ℕ) → c < 64 → HasBit (left_of base made) c ↔ (HasBit base c × (HasBit made c → ⊥))
-left_bits base made c lt =
-    ((λ h. (first_bit base (bit_xor made all_bits) c h, flipped_off made c lt (second_bit base (bit_xor made all_bits) c h))),
-    (λ h. both_bits base (bit_xor made all_bits) c h.0 (flipped_on made c lt h.1)))
+left_bits base made c lt = (
+  (λ h. (first_bit base (bit_xor made all_bits) c h, flipped_off made c lt (second_bit base (bit_xor made all_bits) c h))),
+  (λ h. both_bits base (bit_xor made all_bits) c h.0 (flipped_on made c lt h.1)),
+)
 
 -- an edge lets a question through
 pub record Passes (made : List ℕ) (end from c : ℕ) : Type 0 where
@@ -83,9 +84,10 @@ pub record Passes (made : List ℕ) (end from c : ℕ) : Type 0 where
 
 passes_by : (made : List ℕ) (end from to c : ℕ) → c < 64 → (b : Bool) → (from == end) ≡ b → HasBit (if b then 0 else edge_word made (from, to)) c ↔ Passes made end from c
 passes_by made end from to c lt true e = ((λ h. absurd (no_bit c h)), (λ p. absurd (p.no_end (eqb-true from end e))))
-passes_by made end from to c lt false e =
-    ((λ h. record { no_end = λ same. false≢true (sym e ∙ eq-eqb from end same); not_made = flipped_off (word_at made from) c lt h }),
-    (λ p. flipped_on (word_at made from) c lt p.not_made))
+passes_by made end from to c lt false e = (
+  (λ h. record { no_end = λ same. false≢true (sym e ∙ eq-eqb from end same); not_made = flipped_off (word_at made from) c lt h }),
+  (λ p. flipped_on (word_at made from) c lt p.not_made),
+)
 
 pub passes_is : (made : List ℕ) (end from to c : ℕ) → c < 64 → HasBit (passed_word made end (from, to)) c ↔ Passes made end from c
 passes_is made end from to c lt = passes_by made end from to c lt (from == end) refl

@@ -13,9 +13,10 @@ either_same A B C D p q =
     ((λ h. ⊎_elim (λ a. inl (p.0 a)) (λ c. inr (q.0 c)) h), (λ h. ⊎_elim (λ b. inl (p.1 b)) (λ d. inr (q.1 d)) h))
 
 pub either_regrouped : (A B C : Type 0) → ((A ⊎ B) ⊎ C) ↔ (A ⊎ (B ⊎ C))
-either_regrouped A B C =
-    ((λ h. ⊎_elim (λ ab. ⊎_elim (λ a. inl a) (λ b. inr (inl b)) ab) (λ c. inr (inr c)) h),
-    (λ h. ⊎_elim (λ a. inl (inl a)) (λ bc. ⊎_elim (λ b. inl (inr b)) (λ c. inr c) bc) h))
+either_regrouped A B C = (
+  (λ h. ⊎_elim (λ ab. ⊎_elim (λ a. inl a) (λ b. inr (inl b)) ab) (λ c. inr (inr c)) h),
+  (λ h. ⊎_elim (λ a. inl (inl a)) (λ bc. ⊎_elim (λ b. inl (inr b)) (λ c. inr c) bc) h),
+)
 
 pub same_itself : (A : Type 0) → A ↔ A
 same_itself A = ((λ a. a), (λ a. a))

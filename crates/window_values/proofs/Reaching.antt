@@ -129,8 +129,8 @@ module _ (f : Function) (numbers : List (Option ℕ)) (chunk v c : ℕ) (a : Ask
       ⊎_elim
       (λ e. subst (Reaches (block_edges f) kept asked c) (h.is_span.resumed ∙ sym e) (Start h.span.resumed (span_word numbers chunk h.span) (resumed_start numbers chunk h.span spans h.is_listed) has))
       (λ later. ⊎_elim
-          (λ e. subst (Reaches (block_edges f) kept asked c) (h.is_span.destroyed ∙ sym e) (Start h.span.destroyed (span_word numbers chunk h.span) (destroyed_start numbers chunk h.span spans h.is_listed) has))
-          (λ none. absurd none) later)
+      (λ e. subst (Reaches (block_edges f) kept asked c) (h.is_span.destroyed ∙ sym e) (Start h.span.destroyed (span_word numbers chunk h.span) (destroyed_start numbers chunk h.span spans h.is_listed) has))
+      (λ none. absurd none) later)
       l
 
   from_path : (k s : Point) → HasSpan f k s spans → IsMadeIn f k s v → (b : ℕ) → ReachesBehind f s v b → Reaches (block_edges f) kept asked c b

@@ -224,7 +224,7 @@ module _ (f : Function) (numbers : List (Option ℕ)) (v c : ℕ) (ch : Chunk) (
       let i = t.takes.incoming in
       let from : ℕ = position_of f i.from in
       let word : HasBit (word_at ch.own from) c =
-          subst (λ (w : ℕ). HasBit w c) (sym (own from)) ((owned_told numbers ch.number v c a from spans).1 (any_to (IsOwned v from) spans t.span t.is_span (t.takes.is_from, t.has)))
+      subst (λ (w : ℕ). HasBit w c) (sym (own from)) ((owned_told numbers ch.number v c a from spans).1 (any_to (IsOwned v from) spans t.span t.is_span (t.takes.is_from, t.has)))
       in
       let edge : is_own_edge f from t.block ≡ true = subst (λ (n : ℕ). is_own_edge f n t.block ≡ true) (sym t.takes.is_from) t.is_own in
       let taken : IsTaken f v c ch t.block i = record {

@@ -30,9 +30,10 @@ SomeOf H (u ∷ us) = H u ⊎ SomeOf H us
 some_append : (H : Use → Type 0) (xs ys : List Use) → (SomeOf H xs ⊎ SomeOf H ys) ↔ SomeOf H (xs ++ ys)
 some_append H [] ys = ((λ h. ⊎_elim (λ none. absurd none) (λ r. r) h), (λ h. inr h))
 some_append H (x ∷ xs) ys =
-    let rest = some_append H xs ys in
-    ((λ h. ⊎_elim (λ l. ⊎_elim (λ e. inl e) (λ later. inr (rest.0 (inl later))) l) (λ r. inr (rest.0 (inr r))) h),
-    (λ h. ⊎_elim (λ e. inl (inl e)) (λ later. ⊎_elim (λ l. inl (inr l)) (λ r. inr r) (rest.1 later)) h))
+    let rest = some_append H xs ys in (
+      (λ h. ⊎_elim (λ l. ⊎_elim (λ e. inl e) (λ later. inr (rest.0 (inl later))) l) (λ r. inr (rest.0 (inr r))) h),
+      (λ h. ⊎_elim (λ e. inl (inl e)) (λ later. ⊎_elim (λ l. inl (inr l)) (λ r. inr r) (rest.1 later)) h),
+    )
 
 pub some_from : (H : Use → Type 0) (us : List Use) → SomeOf H us → (u : Use) × (IsListed u us × H u)
 some_from H [] h = absurd h
@@ -58,9 +59,10 @@ module _ (numbers : List (Option ℕ)) (v c : ℕ) (ch : Chunk) (a : Asks number
   some_use : (p : Place) (block : ℕ) (before vs : List ℕ) → Hits vs block before ↔ SomeOf (IsHit v c ch) (map (use_of p block before) vs)
   some_use p block before [] = ((λ h. absurd h.0), (λ h. absurd h))
   some_use p block before (w ∷ vs) =
-      let rest = some_use p block before vs in
-      ((λ h. ⊎_elim (λ e. inl (record { value = sym e; live = h.1.0; not_before = h.1.1 })) (λ later. inr (rest.0 (later, h.1))) h.0),
-      (λ h. ⊎_elim (λ e. (inl (sym e.value), (e.live, e.not_before))) (λ later. let r = rest.1 later in (inr r.0, r.1)) h))
+      let rest = some_use p block before vs in (
+        (λ h. ⊎_elim (λ e. inl (record { value = sym e; live = h.1.0; not_before = h.1.1 })) (λ later. inr (rest.0 (later, h.1))) h.0),
+        (λ h. ⊎_elim (λ e. (inl (sym e.value), (e.live, e.not_before))) (λ later. let r = rest.1 later in (inr r.0, r.1)) h),
+      )
 
   -- what the block has made so far
   abbrev Made : ℕ → List ℕ → Type 0

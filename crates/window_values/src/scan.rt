@@ -36,10 +36,7 @@ fn live_at(chunk: &Chunk, block: BlockId) -> u64
 fn end_at(chunk: &Chunk, block: BlockId) -> u64
     ensures { result ≡ end_at chunk.now block }
 {
-    left_of(
-        live_at(chunk, block),
-        word_at(chunk.made.as_slice(), block),
-    )
+    left_of(live_at(chunk, block), word_at(chunk.made.as_slice(), block))
 }
 
 // ---- uses in blocks and at their ends
@@ -76,7 +73,14 @@ fn told_phis(
 {
     let mut told = first;
     for phi in phis {
-        told = told_incoming(function, table, numbers, chunk, told, phi.incoming.as_slice());
+        told = told_incoming(
+            function,
+            table,
+            numbers,
+            chunk,
+            told,
+            phi.incoming.as_slice(),
+        );
     }
     told
 }
@@ -153,7 +157,14 @@ fn told_block(
         told: told_phis(function, table, numbers, chunk, told, phis),
     };
     let walk = told_instrs(numbers, chunk.number, base, first, block.instrs.as_slice());
-    with_ending(numbers, chunk.number, base, walk.made, walk.told, &block.term)
+    with_ending(
+        numbers,
+        chunk.number,
+        base,
+        walk.made,
+        walk.told,
+        &block.term,
+    )
 }
 
 /// The questions of a chunk whose paths lead to a use.
@@ -188,12 +199,7 @@ fn label_leads(
     block == position(function, table, label_at(number, function, from))
 }
 
-fn is_own_edge(
-    function: &Function,
-    table: &Items<BlockId>,
-    from: BlockId,
-    block: BlockId,
-) -> bool
+fn is_own_edge(function: &Function, table: &Items<BlockId>, from: BlockId, block: BlockId) -> bool
     requires { HasPositions function.now table.now }
     ensures { result ≡ is_own_edge function.now from block }
 {
