@@ -1,28 +1,26 @@
 -- What the words of all chunks tell of values.
-use Rattle.std.proofs.Common.{◌≡◌, ℕ, zero, suc, ◌+◌, ◌/◌, ◌%◌, ◌<◌, ◌≤◌, ◌⊎◌, Bool, true, false, List, [], ◌∷◌, ◌++◌, length, map, Some, None, Option, refl, sym, ap, ◌∙◌, subst, ⊎_elim, inl, inr, arith, eq-eqb}
-use Rattle.std.specs.Prelude.{◌↔◌, ◌==◌, IsTrue, bit_or, if◌then◌else◌, slice_get, unwrap_or}
+use Rattle.std.proofs.Common.{◌≡◌, ℕ, zero, suc, ◌+◌, ◌/◌, ◌%◌, ◌<◌, Bool, true, false, List, [], ◌∷◌, ◌++◌, length, Some, None, Option, refl, sym, ap, ◌∙◌, subst, ⊎_elim, inl, inr, arith, eq-eqb}
+use Rattle.std.specs.Prelude.{◌↔◌, ◌==◌, IsTrue, bit_or, if◌then◌else◌, slice_get}
 use Rattle.std.specs.Int.{bit_at}
-use Rattle.std.proofs.lemmas.Bool.{cases_eq, cases_lt, eqb-true, false≢true}
+use Rattle.std.proofs.lemmas.Bool.{cases_lt, eqb-true, false≢true}
 use Rattle.std.proofs.lemmas.List.{length-append}
 use Rattle.std.proofs.lemmas.Option.{slice_get_past}
 use Rattle.bit_reach.specs.Bits.{HasBit}
 use Rattle.block_paths.specs.Words.{word_at}
 use Rattle.coro_base.specs.declared.outcome.Place.{Place}
-use Rattle.definite_use.specs.Questions.{IsNumbering, block_word, has_bit}
 use Rattle.definite_use.specs.Uses.{Use, uses_of, values_at}
 use Rattle.flow_solver.specs.Paths.{IsListed}
-use Rattle.function_parts.specs.Contents.{result_of}
 use Rattle.function_parts.specs.Parts.{Part, first_part, or_place, parts_of, place_if}
 use Rattle.ir_model.specs.declared.module.Function.{Function}
-use Rattle.ir_paths.specs.Windows.{end_block, saves_of}
+use Rattle.ir_paths.specs.Windows.{saves_of}
 use Rattle.ir_paths.specs.declared.point.Point.{Point}
 use Rattle.window_rules.specs.First.{IsFirst}
 use Rattle.window_values.proofs.Bits.{Asks, asks, either_bit, made_told, no_bit}
 use Rattle.window_values.proofs.Reaching.{IsBehind, behind_told, told_behind}
 use Rattle.window_values.proofs.Taking.{TakesOwn, all_taken, edge_listed}
-use Rattle.window_values.proofs.Using.{IsHit, SomeOf, all_hit, some_from, some_to}
-use Rattle.window_values.specs.Kept.{BreaksValue, InBlock, IsFirstKept, IsKept, IsMadeIn, IsUsedBehind, OnEdge, TakesFrom, own_blocks, value_of}
-use Rattle.window_values.specs.Spans.{AreNumbered, AreSpansOf, ComesFrom, HasSpan, IsNumbered, IsSpanOf}
+use Rattle.window_values.proofs.Using.{IsHit, all_hit, some_from, some_to}
+use Rattle.window_values.specs.Kept.{BreaksValue, InBlock, IsFirstKept, IsKept, IsMadeIn, IsUsedBehind, OnEdge, TakesFrom, value_of}
+use Rattle.window_values.specs.Spans.{AreNumbered, AreSpansOf, ComesFrom, HasSpan, IsNumbered}
 use Rattle.window_values.specs.Told.{AreTold, IsChunkOf, IsKeptRuleOf, IsToldBy, breaks_value, told_number, told_value}
 use Rattle.window_values.specs.Words.{is_own_edge, live_at, taken_blocks, told_blocks}
 use Rattle.window_values.specs.declared.chunk.Chunk.{Chunk}

@@ -1,6 +1,6 @@
 -- The spans of windows.
-use Rattle.std.proofs.Common.{◌≡◌, ℕ, zero, suc, ◌+◌, ◌<◌, ◌⊎◌, Bool, true, false, ◌||◌, List, [], ◌∷◌, ◌++◌, length, map, take, get_or, Some, None, Option, refl, sym, ap, ◌∙◌, subst, ⊎_elim, inl, inr, arith}
-use Rattle.std.specs.Prelude.{◌↔◌, All, IsTrue, option_to_list, slice_get}
+use Rattle.std.proofs.Common.{◌≡◌, ℕ, zero, suc, ◌+◌, ◌<◌, Bool, true, false, List, [], ◌∷◌, ◌++◌, length, take, get_or, Some, None, Option, refl, sym, ap, ◌∙◌, subst, ⊎_elim, inl}
+use Rattle.std.specs.Prelude.{◌↔◌, All, IsTrue, option_to_list}
 use Rattle.std.proofs.lemmas.Bool.{false≢true}
 use Rattle.std.proofs.lemmas.List.{map-append, take_more}
 use Rattle.std.proofs.lemmas.List.Elements.{All-get_or}
@@ -13,13 +13,13 @@ use Rattle.ir_model.specs.declared.instr.Instr.{Instr}
 use Rattle.ir_model.specs.declared.module.Function.{Function}
 use Rattle.ir_paths.proofs.Search.{either, or_left, or_right, same_point-itself, same_point-same}
 use Rattle.ir_paths.specs.Facts.{IsWindow}
-use Rattle.ir_paths.specs.Paths.{Leads, entry_point, has_point, same_point}
-use Rattle.ir_paths.specs.Windows.{IsInWindow, destroy_label, instr_at, resume_label, saves_of}
+use Rattle.ir_paths.specs.Paths.{has_point, same_point}
+use Rattle.ir_paths.specs.Windows.{IsInWindow, destroy_label, instr_at, resume_label}
 use Rattle.ir_paths.specs.declared.point.Point.{Point}
 use Rattle.ir_paths.specs.declared.point.Window.{Window}
 use Rattle.window_values.proofs.Bits.{listed_back}
 use Rattle.window_values.specs.Kept.{AtSuspend, ByInstr, ByPhi, Inside, IsFrontIn, IsMadeIn, front, phi_results}
-use Rattle.window_values.specs.Spans.{AreSpans, AreSpansOf, ComesFrom, HasSpan, IsFrontOf, IsSpanOf, front_values, inside_values, pairs_of, point_values, result_in, values_if}
+use Rattle.window_values.specs.Spans.{AreSpans, ComesFrom, HasSpan, IsFrontOf, IsSpanOf, front_values, inside_values, pairs_of, point_values, result_in, values_if}
 use Rattle.window_values.specs.declared.spans.Span.{Span}
 
 -- ---- the values at points

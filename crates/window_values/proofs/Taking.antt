@@ -1,12 +1,11 @@
 -- Values that phis take on the own edges of suspends.
-use Rattle.std.proofs.Common.{◌≡◌, ℕ, zero, suc, ◌+◌, ◌<◌, ◌⊎◌, Bool, true, false, ◌||◌, List, [], ◌∷◌, ◌++◌, Some, None, Option, refl, sym, ap, ◌∙◌, subst, ⊎_elim, inl, inr, arith, eq-eqb}
-use Rattle.std.specs.Prelude.{◌↔◌, ◌==◌, bit_and, bit_or, if◌then◌else◌, option_to_list, slice_get}
+use Rattle.std.proofs.Common.{◌≡◌, ℕ, zero, suc, ◌+◌, ◌⊎◌, Bool, true, false, List, [], ◌∷◌, Some, None, Option, refl, sym, ap, ◌∙◌, subst, ⊎_elim, inl, inr, arith, eq-eqb}
+use Rattle.std.specs.Prelude.{◌↔◌, ◌==◌, bit_or, if◌then◌else◌, option_to_list, slice_get}
 use Rattle.std.proofs.lemmas.Bool.{eqb-true, false≢true}
 use Rattle.bit_reach.specs.Bits.{HasBit}
 use Rattle.block_paths.specs.Words.{word_at}
 use Rattle.definite_use.specs.Questions.{result_word}
 use Rattle.definite_use.specs.Uses.{local_of}
-use Rattle.flow_solver.proofs.Lists.{listed_at, place_of}
 use Rattle.flow_solver.specs.Paths.{IsListed}
 use Rattle.ir_model.specs.Names.{position_of}
 use Rattle.ir_model.specs.declared.instr.Incoming.{Incoming}
@@ -18,7 +17,7 @@ use Rattle.ir_paths.specs.Windows.{destroy_label, resume_label}
 use Rattle.ir_paths.specs.declared.point.Point.{Point}
 use Rattle.window_values.proofs.Bits.{Asks, and_bit, either_bit, no_bit, values_bit}
 use Rattle.window_values.proofs.Iffs.{either_none, either_same, same_itself, step_same, then_same}
-use Rattle.window_values.proofs.Using.{none_before, operand_is}
+use Rattle.window_values.proofs.Using.{operand_is}
 use Rattle.window_values.specs.Kept.{TakesFrom, own_blocks, phis_at, phis_in}
 use Rattle.window_values.specs.Words.{is_own_edge, label_leads, own_at, own_if, own_word, span_word, taken_blocks, taken_incoming, taken_phis, taken_word}
 use Rattle.window_values.specs.declared.chunk.Chunk.{Chunk}

@@ -1,11 +1,11 @@
 -- What the walk through the text tells of the question of one value.
-use Rattle.std.proofs.Common.{◌≡◌, ℕ, zero, suc, ◌+◌, ◌<◌, ◌⊎◌, Bool, true, false, List, [], ◌∷◌, ◌++◌, length, map, Some, None, Option, refl, sym, ap, ◌∙◌, subst, ⊎_elim, inl, inr, arith}
-use Rattle.std.specs.Prelude.{◌↔◌, bit_and, bit_or, option_to_list, slice_get}
+use Rattle.std.proofs.Common.{◌≡◌, ℕ, ◌+◌, ◌⊎◌, List, [], ◌∷◌, ◌++◌, length, map, Option, refl, sym, subst, ⊎_elim, inl, inr}
+use Rattle.std.specs.Prelude.{◌↔◌, bit_and, bit_or, option_to_list}
 use Rattle.bit_reach.specs.Bits.{HasBit}
 use Rattle.block_paths.specs.Words.{word_at}
 use Rattle.coro_base.specs.declared.outcome.Place.{Place}
-use Rattle.definite_use.specs.Questions.{block_word, instrs_word, phis_word, result_word}
-use Rattle.definite_use.specs.Uses.{Use, block_uses, block_values, blocks_uses, incoming_use, incoming_uses, instr_uses, local_of, locals_in, made_by_instrs, made_by_phis, phi_uses, phi_values, use_of, uses_at, uses_of, values_at}
+use Rattle.definite_use.specs.Questions.{block_word, phis_word, result_word}
+use Rattle.definite_use.specs.Uses.{Use, block_uses, block_values, blocks_uses, incoming_use, incoming_uses, instr_uses, local_of, locals_in, phi_uses, phi_values, use_of, uses_at, uses_of, values_at}
 use Rattle.flow_solver.specs.Paths.{IsListed}
 use Rattle.function_parts.specs.Contents.{ending_operands, instr_operands, result_of}
 use Rattle.function_parts.specs.Parts.{instr_place}
