@@ -1,0 +1,4 @@
+pub mod Kept
+pub mod Spans
+pub mod Words
+pub mod Told

@@ -1,0 +1,14 @@
+//! Values made between a save and its suspend and used behind it (rule K7; "Coroutines in LLVM", "llvm.coro.save"): the
+//! coroutine may be resumed, and destroyed, while they are made, and then finds none of them.
+#![tactic(auto)]
+
+mod chunk;
+mod labels;
+mod numbers;
+mod operands;
+mod rule;
+mod scan;
+mod spans;
+mod words;
+
+pub use rule::first_kept_value;
