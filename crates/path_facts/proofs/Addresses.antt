@@ -16,7 +16,7 @@ use Rattle.ir_paths.specs.Windows.{points_from, points_in, points_where}
 -- the second ones of the pairs whose first one passes a test
 abbrev pub reached_by : (ℕ → Bool) → List (ℕ × ℕ) → List ℕ
 reached_by t [] = []
-reached_by t (g ∷ gs) = (if t g.0 then g.1 ∷ [] else []) ++ reached_by t gs
+reached_by t (g ∷ gs) = (if t g.1 then g.0 ∷ [] else []) ++ reached_by t gs
 
 abbrev pub chained : ℕ → List (ℕ × ℕ) → ℕ → List ℕ
 chained zero gs a = a ∷ []
@@ -25,7 +25,7 @@ chained (suc n) gs a = a ∷ reached_by (has_name (chained n gs a)) gs
 -- how many pairs have a first one that passes a test
 abbrev pub count_of : (ℕ → Bool) → List (ℕ × ℕ) → ℕ
 count_of t [] = 0
-count_of t (g ∷ gs) = (if t g.0 then 1 else 0) + count_of t gs
+count_of t (g ∷ gs) = (if t g.1 then 1 else 0) + count_of t gs
 
 abbrev pub Implies : (ℕ → Bool) → (ℕ → Bool) → Type 0
 Implies t u = (v : ℕ) → t v ≡ true → u v ≡ true
@@ -46,13 +46,13 @@ one-more false c g v f h = absurd (false≢true h)
 has-append : (xs ys : List ℕ) (v : ℕ) → has_name (xs ++ ys) v ≡ (has_name xs v || has_name ys v)
 has-append xs ys v = list_any-append (λ u. u == v) xs ys
 
-reached-more : (t u : ℕ → Bool) (gs : List (ℕ × ℕ)) → Implies t u → Implies (has_name (reached_by t gs)) (has_name (reached_by u gs))
+pub reached-more : (t u : ℕ → Bool) (gs : List (ℕ × ℕ)) → Implies t u → Implies (has_name (reached_by t gs)) (has_name (reached_by u gs))
 reached-more t u [] f v h = h
-reached-more t u (g ∷ gs) f v h = on (or_cases (has_name (if t g.0 then g.1 ∷ [] else []) v) (has_name (reached_by t gs) v) (sym (has-append (if t g.0 then g.1 ∷ [] else []) (reached_by t gs) v) ∙ h)) (reached-more t u gs f v)
+reached-more t u (g ∷ gs) f v h = on (or_cases (has_name (if t g.1 then g.0 ∷ [] else []) v) (has_name (reached_by t gs) v) (sym (has-append (if t g.1 then g.0 ∷ [] else []) (reached_by t gs) v) ∙ h)) (reached-more t u gs f v)
   where
-    on : (has_name (if t g.0 then g.1 ∷ [] else []) v ≡ true) ⊎ (has_name (reached_by t gs) v ≡ true) → (has_name (reached_by t gs) v ≡ true → has_name (reached_by u gs) v ≡ true) → has_name (reached_by u (g ∷ gs)) v ≡ true
-    on (inl e) ih = has-append (if u g.0 then g.1 ∷ [] else []) (reached_by u gs) v ∙ or-left (has_name (if u g.0 then g.1 ∷ [] else []) v) (has_name (reached_by u gs) v) (one-more (t g.0) (u g.0) g.1 v (f g.0) e)
-    on (inr e) ih = has-append (if u g.0 then g.1 ∷ [] else []) (reached_by u gs) v ∙ or-right (has_name (if u g.0 then g.1 ∷ [] else []) v) (has_name (reached_by u gs) v) (ih e)
+    on : (has_name (if t g.1 then g.0 ∷ [] else []) v ≡ true) ⊎ (has_name (reached_by t gs) v ≡ true) → (has_name (reached_by t gs) v ≡ true → has_name (reached_by u gs) v ≡ true) → has_name (reached_by u (g ∷ gs)) v ≡ true
+    on (inl e) ih = has-append (if u g.1 then g.0 ∷ [] else []) (reached_by u gs) v ∙ or-left (has_name (if u g.1 then g.0 ∷ [] else []) v) (has_name (reached_by u gs) v) (one-more (t g.1) (u g.1) g.0 v (f g.1) e)
+    on (inr e) ih = has-append (if u g.1 then g.0 ∷ [] else []) (reached_by u gs) v ∙ or-right (has_name (if u g.1 then g.0 ∷ [] else []) v) (has_name (reached_by u gs) v) (ih e)
 
 -- longer chains give no less
 pub chained-more : (n : ℕ) (gs : List (ℕ × ℕ)) (a : ℕ) → Implies (has_name (chained n gs a)) (has_name (chained (suc n) gs a))
@@ -69,7 +69,7 @@ chained-more (suc n) gs a v h = on (or_cases (a == v) (has_name (reached_by (has
 
 count-bound : (t : ℕ → Bool) (gs : List (ℕ × ℕ)) → count_of t gs ≤ length gs
 count-bound t [] = omega arith
-count-bound t (g ∷ gs) = on (t g.0) (count-bound t gs)
+count-bound t (g ∷ gs) = on (t g.1) (count-bound t gs)
   where
     on : (b : Bool) → count_of t gs ≤ length gs → (if b then 1 else 0) + count_of t gs ≤ suc (length gs)
     on true h = omega arith
@@ -78,13 +78,13 @@ count-bound t (g ∷ gs) = on (t g.0) (count-bound t gs)
 -- the count grows, or the same pairs pass
 count-same : (t u : ℕ → Bool) (gs : List (ℕ × ℕ)) → Implies t u → (count_of t gs < count_of u gs) ⊎ ((count_of t gs ≡ count_of u gs) × (reached_by t gs ≡ reached_by u gs))
 count-same t u [] f = inr (refl, refl)
-count-same t u (g ∷ gs) f = on (t g.0) refl (u g.0) refl (count-same t u gs f)
+count-same t u (g ∷ gs) f = on (t g.1) refl (u g.1) refl (count-same t u gs f)
   where
-    on : (b : Bool) → t g.0 ≡ b → (c : Bool) → u g.0 ≡ c → (count_of t gs < count_of u gs) ⊎ ((count_of t gs ≡ count_of u gs) × (reached_by t gs ≡ reached_by u gs)) →
-        ((if b then 1 else 0) + count_of t gs < (if c then 1 else 0) + count_of u gs) ⊎ (((if b then 1 else 0) + count_of t gs ≡ (if c then 1 else 0) + count_of u gs) × ((if b then g.1 ∷ [] else []) ++ reached_by t gs ≡ (if c then g.1 ∷ [] else []) ++ reached_by u gs))
+    on : (b : Bool) → t g.1 ≡ b → (c : Bool) → u g.1 ≡ c → (count_of t gs < count_of u gs) ⊎ ((count_of t gs ≡ count_of u gs) × (reached_by t gs ≡ reached_by u gs)) →
+        ((if b then 1 else 0) + count_of t gs < (if c then 1 else 0) + count_of u gs) ⊎ (((if b then 1 else 0) + count_of t gs ≡ (if c then 1 else 0) + count_of u gs) × ((if b then g.0 ∷ [] else []) ++ reached_by t gs ≡ (if c then g.0 ∷ [] else []) ++ reached_by u gs))
     on true e true k (inl h) = inl (omega arith)
-    on true e true k (inr h) = inr (ap (λ n. 1 + n) h.0, ap (λ (l : List ℕ). g.1 ∷ l) h.1)
-    on true e false k h = absurd (false≢true (sym k ∙ f g.0 e))
+    on true e true k (inr h) = inr (ap (λ n. 1 + n) h.0, ap (λ (l : List ℕ). g.0 ∷ l) h.1)
+    on true e false k h = absurd (false≢true (sym k ∙ f g.1 e))
     on false e true k (inl h) = inl (omega arith)
     on false e true k (inr h) = inl (let same = h.0 in omega (arith, same))
     on false e false k (inl h) = inl (omega arith)
@@ -92,9 +92,9 @@ count-same t u (g ∷ gs) f = on (t g.0) refl (u g.0) refl (count-same t u gs f)
 
 none-reached : (t : ℕ → Bool) (gs : List (ℕ × ℕ)) → count_of t gs ≡ 0 → reached_by t gs ≡ []
 none-reached t [] e = refl
-none-reached t (g ∷ gs) e = on (t g.0) (none-reached t gs) e
+none-reached t (g ∷ gs) e = on (t g.1) (none-reached t gs) e
   where
-    on : (b : Bool) → (count_of t gs ≡ 0 → reached_by t gs ≡ []) → (if b then 1 else 0) + count_of t gs ≡ 0 → (if b then g.1 ∷ [] else []) ++ reached_by t gs ≡ []
+    on : (b : Bool) → (count_of t gs ≡ 0 → reached_by t gs ≡ []) → (if b then 1 else 0) + count_of t gs ≡ 0 → (if b then g.0 ∷ [] else []) ++ reached_by t gs ≡ []
     on true ih e = absurd (omega arith)
     on false ih e = ih (omega arith)
 
@@ -114,7 +114,7 @@ stops (suc n) gs a = on (stops n gs a) (count-same (has_name (chained n gs a)) (
     on (inr lt) (inl more) = inr (omega arith)
     on (inr lt) (inr same) = inl (suc n, omega arith, ap (λ (l : List ℕ). a ∷ l) same.1)
 
-stays : (k m : ℕ) (gs : List (ℕ × ℕ)) (a : ℕ) → chained k gs a ≡ chained (suc k) gs a → chained (k + m) gs a ≡ chained (suc (k + m)) gs a
+pub stays : (k m : ℕ) (gs : List (ℕ × ℕ)) (a : ℕ) → chained k gs a ≡ chained (suc k) gs a → chained (k + m) gs a ≡ chained (suc (k + m)) gs a
 stays k zero gs a e = let z : k + 0 ≡ k = omega arith in subst (λ (n : ℕ). chained n gs a ≡ chained (suc n) gs a) (sym z) e
 stays k (suc m) gs a e =
     let s : k + suc m ≡ suc (k + m) = omega arith in

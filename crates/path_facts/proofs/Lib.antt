@@ -2,3 +2,14 @@ pub mod Points
 pub mod Heads
 pub mod Saves
 pub mod Addresses
+pub mod Adding
+pub mod Bases
+pub mod Owning
+pub mod Ends
+pub mod Above
+pub mod Chained
+pub mod Leading
+pub mod Entered
+pub mod Reaching
+pub mod Keeping
+pub mod Having

@@ -1,2 +1,4 @@
 pub mod HaveFacts
+pub mod Slots
+pub mod Chains
 pub mod Tokens

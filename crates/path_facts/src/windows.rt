@@ -1,8 +1,8 @@
 //! The windows of a function's saves.
 
-ghost use Rattle.std.specs.Prelude.{◌≡◌, ◌==◌, All, IfOk, OnOk, map, option_and_then};
+ghost use Rattle.std.specs.Prelude.{◌≡◌, ◌==◌, All, IfOk, OnOk, MatchOption, None, Some, map, option_and_then};
 ghost use Rattle.ir_paths.specs.Facts.{IsWindow};
-ghost use Rattle.ir_paths.specs.Windows.{call_result, instr_at, saves_of, suspend_of as suspend_of_save};
+ghost use Rattle.ir_paths.specs.Windows.{call_result, instr_at as instr_at_point, saves_of, suspend_of as suspend_of_save};
 ghost use Rattle.path_facts.specs.Tokens.{FindsSuspends};
 ghost use Rattle.point_graph.specs.Reached.{IsGraphOf};
 
@@ -23,16 +23,23 @@ fn result_of(instr: &Instr) -> Option<ValueId>
     }
 }
 
+/// The instruction at a point, where there is one.
+pub fn instr_at(function: &Function, point: Point) -> Option<&Instr>
+    ensures { MatchOption result (instr_at_point function.now point ≡ None) (λ i. instr_at_point function.now point ≡ Some i.now) }
+{
+    match function.blocks.get(point.block) {
+        None => None,
+        Some(block) => block.instrs.get(point.at),
+    }
+}
+
 /// The token of a save.
 fn token_at(function: &Function, save: Point) -> Option<ValueId>
-    ensures { result ≡ option_and_then call_result (instr_at function.now save) }
+    ensures { result ≡ option_and_then call_result (instr_at_point function.now save) }
 {
-    match function.blocks.get(save.block) {
+    match instr_at(function, save) {
         None => None,
-        Some(block) => match block.instrs.get(save.at) {
-            None => None,
-            Some(instr) => result_of(instr),
-        },
+        Some(instr) => result_of(instr),
     }
 }
 
