@@ -5,9 +5,10 @@ use Rattle.std.specs.Prelude.{IsTrue, ◌⊎◌, ◌↔◌, ◌==◌}
 use Rattle.ir_model.specs.declared.module.Function.{Function}
 use Rattle.ir_paths.proofs.Search.{either, eq_from, or_left, or_right}
 use Rattle.ir_paths.specs.Slots.{IsRampSlot, addresses_of, allocas_of, has_name}
+use Rattle.path_facts.specs.Slots.{AreRampSlots}
 use Rattle.slot_rules.proofs.Chains.{addresses-by, itself-is, step-is}
 use Rattle.slot_rules.specs.Names.{AreNamed, is_named}
-use Rattle.slot_rules.specs.Slots.{AreAddressesOf, AreRampSlots, AreSlotsOf, IsCoroutineSlot, IsSlotAddress, names_without}
+use Rattle.slot_rules.specs.Slots.{AreAddressesOf, AreSlotsOf, IsCoroutineSlot, IsSlotAddress, names_without}
 use Rattle.slot_rules.specs.Steps.{AreLedFrom, IsLed}
 use Rattle.slot_rules.specs.Steps.IsLed.{Start, Step}
 

@@ -5,10 +5,6 @@ use Rattle.ir_model.specs.declared.operand.Operand.{Operand}
 use Rattle.ir_paths.specs.Slots.{IsRampSlot, addresses_of, allocas_of, has_name}
 use Rattle.slot_rules.specs.Names.{is_named}
 
--- just those of the allocas that are a ramp's alone
-pub record AreRampSlots (f : Function) (slots : List ℕ) : Type 0 where
-  pub each : (a : ℕ) → IsTrue (has_name slots a) ↔ (IsTrue (has_name (allocas_of f) a) × IsRampSlot f a)
-
 -- an alloca that isn't the ramp's alone
 abbrev pub IsCoroutineSlot : Function → ℕ → Type 0
 IsCoroutineSlot f a = IsTrue (has_name (allocas_of f) a) × (¬ IsRampSlot f a)

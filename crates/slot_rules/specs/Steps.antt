@@ -1,18 +1,19 @@
 -- The steps of getelementptrs, from their bases to their results.
-use Rattle.std.specs.Prelude.{ℕ, Bool, List, [], map, flat_map, IsTrue, ◌%◌, ◌<◌, ◌∷◌, ◌==◌, ◌↔◌}
+use Rattle.std.specs.Prelude.{ℕ, Bool, List, map, flat_map, IsTrue, ◌%◌, ◌<◌, ◌==◌, ◌↔◌}
 use Rattle.flow_solver.specs.Paths.{IsListed}
 use Rattle.ir_model.specs.declared.instr.Instr.{Instr}
 use Rattle.ir_model.specs.declared.module.Block.{Block}
 use Rattle.ir_model.specs.declared.module.Function.{Function}
-use Rattle.ir_model.specs.declared.operand.Operand.{Operand}
 use Rattle.ir_paths.specs.Slots.{has_name}
+use Rattle.path_facts.specs.Chains.{bases_in}
 use Rattle.slot_rules.specs.Names.{is_named}
+
+abbrev pub swapped : ℕ × ℕ → ℕ × ℕ
+swapped x = (x.1, x.0)
 
 -- for each getelementptr of a local that local and the result
 abbrev pub steps_in : List Instr → List (ℕ × ℕ)
-steps_in [] = []
-steps_in (Instr.Gep name inbounds ty (Operand.Local v) indices ∷ is) = (v, name) ∷ steps_in is
-steps_in (i ∷ is) = steps_in is
+steps_in is = map swapped (bases_in is)
 
 abbrev pub steps_by : List Block → List (ℕ × ℕ)
 steps_by blocks = flat_map (λ b. steps_in b.instrs) blocks

@@ -4,16 +4,17 @@ ghost use Rattle.std.specs.Prelude.{IfOk, IsTrue, OnOk};
 ghost use Rattle.point_graph.specs.Reached.{IsGraphOf};
 ghost use Rattle.slot_rules.specs.Early.{IsFirstEarly};
 ghost use Rattle.slot_rules.specs.Marked.{IsFirstMarked};
-ghost use Rattle.slot_rules.specs.Slots.{AreAddressesOf, AreRampSlots, AreSlotsOf};
+ghost use Rattle.slot_rules.specs.Slots.{AreAddressesOf, AreSlotsOf};
 
 use crate::closed::closed_points;
 use crate::early::Early;
 use crate::ends::{before_begin, early_ends};
 use crate::marked::Marked;
 use crate::slots::{Slots, slots_of};
-use coro_base::{FuncId, Items, Place, ValueId};
+use coro_base::{FuncId, Place};
 use function_parts::first_part;
 use ir_model::Function;
+use path_facts::ramp_slots_of;
 use point_graph::PointGraph;
 use std::alloc::{AllocError, Global};
 
@@ -82,9 +83,7 @@ pub fn slot_faults(
     alloc: Global,
     func: FuncId,
     function: &Function,
-    ramp: &Items<ValueId>,
 ) -> Result<SlotFaults, AllocError>
-    requires { AreRampSlots function.now ramp.now }
     ensures marked { IfOk result (λ faults. IsFirstMarked func function.now faults.marked) }
     ensures early { IfOk result (λ faults. IsFirstEarly func function.now faults.early) }
 {
@@ -95,6 +94,7 @@ pub fn slot_faults(
         });
     }
     let mut graph = PointGraph::new(alloc, function)?;
+    let ramp = ramp_slots_of(alloc, function)?;
     let slots = slots_of(alloc, function, ramp.as_slice())?;
     let marked = first_marked(alloc, &mut graph, func, function, &slots)?;
     let early = first_early(alloc, &mut graph, func, function, &slots)?;

@@ -2,7 +2,8 @@
 
 ghost use Rattle.std.specs.Prelude.{◌≡◌, ◌++◌, IfOk, OnOk};
 ghost use Rattle.ir_paths.specs.Slots.{allocas_in, allocas_of as allocas_of_function};
-ghost use Rattle.slot_rules.specs.Slots.{AreAddressesOf, AreRampSlots, AreSlotsOf, names_without};
+ghost use Rattle.path_facts.specs.Slots.{AreRampSlots};
+ghost use Rattle.slot_rules.specs.Slots.{AreAddressesOf, AreSlotsOf, names_without};
 
 use crate::names::{NameSet, name_set};
 use crate::steps::led_from;
