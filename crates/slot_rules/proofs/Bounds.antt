@@ -1,6 +1,5 @@
 -- Edges between nodes, one after another.
 use Rattle.std.proofs.Common.{◌≡◌, ℕ, zero, suc, ◌+◌, ◌<◌, ◌≤◌, List, [], ◌∷◌, length, get_or, drop, drop-cons, add-one, Some, refl, sym, ap, subst, arith}
-use Rattle.std.specs.Prelude.{slice_get}
 use Rattle.flow_solver.specs.Paths.{HasNodes}
 
 same-pair : (x y : ℕ × ℕ) → Some x ≡ Some y → x ≡ y

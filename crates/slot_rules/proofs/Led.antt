@@ -1,9 +1,9 @@
 -- The names that paths over the steps of getelementptrs reach.
-use Rattle.std.proofs.Common.{◌≡◌, ℕ, zero, suc, ◌<◌, ◌≤◌, Bool, true, false, List, [], ◌∷◌, length, map, replicate, Some, None, Option, refl, sym, ap, ◌∙◌, subst, inl, inr, arith}
+use Rattle.std.proofs.Common.{◌≡◌, ℕ, zero, suc, ◌<◌, ◌≤◌, Bool, true, false, List, [], ◌∷◌, length, map, replicate, Some, Option, refl, sym, ap, ◌∙◌, subst, inl, inr, arith}
 use Rattle.std.proofs.lemmas.Bool.{cases_lt, false≢true}
 use Rattle.std.proofs.lemmas.Nat.Bits.{bit_at_lowest}
 use Rattle.std.proofs.lemmas.Option.{slice_get-get_or, slice_get-map, slice_get_past, slice_get_within}
-use Rattle.std.specs.Prelude.{IsTrue, get_or, option_map, slice_get, unwrap_or, ◌⊎◌, ◌↔◌, ◌%◌, ◌==◌}
+use Rattle.std.specs.Prelude.{IsTrue, get_or, option_map, slice_get, unwrap_or, ◌⊎◌, ◌%◌, ◌==◌}
 use Rattle.bit_reach.specs.Bits.{HasBit}
 use Rattle.bit_reach.specs.Reaching.{AnswersAt, Reaches, StartAt}
 use Rattle.bit_reach.specs.Reaching.Reaches.{Start as AskedStart, Edge as AskedEdge}

@@ -1,10 +1,10 @@
 -- Coroutine slots and their addresses, by names.
-use Rattle.std.proofs.Common.{◌≡◌, ℕ, Bool, true, false, not, ◌||◌, List, [], ◌∷◌, filter, cond, refl, sym, ap, ◌∙◌, subst, inl, inr}
+use Rattle.std.proofs.Common.{◌≡◌, ℕ, Bool, true, false, not, List, [], ◌∷◌, filter, cond, refl, sym, ap, ◌∙◌, inl, inr}
 use Rattle.std.proofs.lemmas.Bool.{false≢true}
-use Rattle.std.specs.Prelude.{IsTrue, ◌⊎◌, ◌↔◌, ◌==◌}
+use Rattle.std.specs.Prelude.{◌==◌}
 use Rattle.ir_model.specs.declared.module.Function.{Function}
 use Rattle.ir_paths.proofs.Search.{either, eq_from, or_left, or_right}
-use Rattle.ir_paths.specs.Slots.{IsRampSlot, addresses_of, allocas_of, has_name}
+use Rattle.ir_paths.specs.Slots.{allocas_of, has_name}
 use Rattle.path_facts.specs.Slots.{AreRampSlots}
 use Rattle.slot_rules.proofs.Chains.{addresses-by, itself-is, step-is}
 use Rattle.slot_rules.specs.Names.{AreNamed, is_named}

@@ -1,13 +1,12 @@
 -- The first faults, by sets of names and points.
-use Rattle.std.proofs.Common.{◌≡◌, ℕ, Bool, true, false, not, ◌&&◌, ◌||◌, List, [], ◌∷◌, refl, sym, ap, ◌∙◌, subst, inl, inr}
+use Rattle.std.proofs.Common.{◌≡◌, ℕ, Bool, true, false, not, ◌&&◌, ◌||◌, List, [], ◌∷◌, refl, sym, ◌∙◌, subst, inl, inr}
 use Rattle.std.proofs.lemmas.Bool.{false≢true}
 use Rattle.std.proofs.lemmas.List.Folds.{Any-from_list_any, list_any-from_Any}
-use Rattle.std.specs.Prelude.{Option, None, IsTrue, ◌⊎◌, ◌↔◌}
+use Rattle.std.specs.Prelude.{Option, None}
 use Rattle.std.specs.List.{Any, list_all, list_any}
 use Rattle.coro_base.specs.declared.outcome.Place.{Place}
 use Rattle.function_parts.specs.Contents.{ending_operands}
 use Rattle.function_parts.specs.Parts.{Part, Signature, Head, OfPhi, OfInstr, Ending, first_part, parts_of}
-use Rattle.ir_model.specs.declared.instr.Incoming.{Incoming}
 use Rattle.ir_model.specs.declared.instr.Instr.{Instr}
 use Rattle.ir_model.specs.declared.module.Function.{Function}
 use Rattle.ir_model.specs.declared.operand.Operand.{Operand}
@@ -15,11 +14,11 @@ use Rattle.ir_paths.proofs.Search.{both, either, or_left, or_right}
 use Rattle.ir_paths.specs.Windows.{call_operand}
 use Rattle.point_graph.specs.Rows.{is_marked}
 use Rattle.slot_rules.specs.Closed.{IsClosed}
-use Rattle.slot_rules.specs.Early.{AreEarlyEnds, BreaksEarly, IsBeforeBegin, IsFirstEarly, IsMisused, IsTakenEarly, StandsEarly, end_mark, end_of, is_clear, is_direct, is_misused, is_taken_early, memory_uses, other_uses, stands_early}
+use Rattle.slot_rules.specs.Early.{AreEarlyEnds, BreaksEarly, IsBeforeBegin, IsFirstEarly, IsMisused, IsTakenEarly, StandsEarly, end_mark, is_clear, is_direct, is_misused, is_taken_early, memory_uses, other_uses, stands_early}
 use Rattle.slot_rules.specs.Marked.{BreaksMarked, IsFirstMarked, StandsMarked, is_marker, stands_marked}
 use Rattle.slot_rules.specs.Names.{is_named, names_one, names_other}
-use Rattle.slot_rules.specs.Slots.{AreAddressesOf, AreSlotsOf, IsCoroutineSlot, IsSlotAddress, NamesAddress, NamesPart, NamesSlot}
-use Rattle.window_rules.proofs.Firsts.{Says, first_is, none_first}
+use Rattle.slot_rules.specs.Slots.{AreAddressesOf, AreSlotsOf, NamesAddress, NamesPart, NamesSlot}
+use Rattle.window_rules.proofs.Firsts.{first_is, none_first}
 use Rattle.window_rules.specs.Points.{point_of}
 use Rattle.window_rules.specs.Sets.{AreThose}
 

@@ -1,5 +1,5 @@
 -- Rule K9: addresses of coroutine slots used before begin.
-use Rattle.std.specs.Prelude.{ℕ, Bool, false, not, List, [], length, map, drop, unwrap_or, slice_get, Some, None, IsTrue, Option, ◌<◌, ◌≡◌, ◌↔◌, ◌&&◌, ◌||◌, ◌∷◌, ◌++◌, ◌⊎◌, if◌then◌else◌}
+use Rattle.std.specs.Prelude.{ℕ, Bool, false, not, List, [], length, drop, unwrap_or, slice_get, Some, None, IsTrue, Option, ◌<◌, ◌≡◌, ◌↔◌, ◌&&◌, ◌||◌, ◌∷◌, ◌++◌, ◌⊎◌, if◌then◌else◌}
 use Rattle.std.specs.List.{Any, list_all, list_any}
 use Rattle.coro_base.specs.declared.outcome.Place.{Place}
 use Rattle.function_parts.specs.Contents.{arg_operands, callee_operands, ending_operands, instr_operands}
@@ -7,7 +7,6 @@ use Rattle.function_parts.specs.Parts.{Part, OfPhi, OfInstr, Ending, parts_of}
 use Rattle.ir_model.specs.Names.{position_of}
 use Rattle.ir_model.specs.declared.instr.Incoming.{Incoming}
 use Rattle.ir_model.specs.declared.instr.Instr.{Instr}
-use Rattle.ir_model.specs.declared.instr.Terminator.{Terminator}
 use Rattle.ir_model.specs.declared.module.Block.{Block}
 use Rattle.ir_model.specs.declared.module.Function.{Function}
 use Rattle.ir_model.specs.declared.operand.Arg.{Arg}
@@ -25,7 +24,7 @@ use Rattle.window_rules.specs.Sets.{IsWithoutBegin}
 
 -- ---- where uses stand
 
--- a path from the entry leads to the point without passing begin; begin's own operands count, also where it stands first
+-- a path from the entry leads to the point without passing begin; begin's own operands count, also where it is the entry itself
 abbrev pub IsBeforeBegin : Function → Point → Type 0
 IsBeforeBegin f p = (p ≡ entry) ⊎ IsWithoutBegin f p
 
@@ -43,7 +42,7 @@ end_of f label = end_at f (position_of f label)
 
 -- ---- uses
 
--- the operands of a call that are uses, but the pointers of a memcpy
+-- the uses among the operands of a call, apart from the pointers of a memcpy; a marker and coro.id use nothing, whatever address they take
 abbrev pub call_uses : Callee → List Arg → List Operand
 call_uses callee args =
     if is_no_use callee then [] else if is_memcpy callee then arg_operands (drop 2 args) else callee_operands callee ++ arg_operands args

@@ -1,5 +1,5 @@
 -- Rule K8: markers in windows and after the end.
-use Rattle.std.specs.Prelude.{ℕ, Bool, false, List, IsTrue, Option, ◌≡◌, ◌&&◌, ◌||◌}
+use Rattle.std.specs.Prelude.{ℕ, Bool, false, List, IsTrue, Option, ◌&&◌, ◌||◌}
 use Rattle.coro_base.specs.declared.outcome.Place.{Place}
 use Rattle.function_parts.specs.Parts.{Part, OfInstr, parts_of}
 use Rattle.ir_model.specs.declared.instr.Instr.{Instr}

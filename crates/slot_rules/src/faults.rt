@@ -77,7 +77,7 @@ fn first_early(
 
 /// The first place at which rule K8 is broken, a marker on a coroutine slot in a window or after the end, and the first at
 /// which rule K9 is: an address of a coroutine slot used before begin otherwise than directly as the address of a load, store
-/// or memcpy. Only coroutines break them.
+/// or memcpy, in a marker or in coro.id. Only coroutines break them.
 #[tactic(auto, using(crate::proofs::Rules::no_first_marked, crate::proofs::Rules::no_first_early))]
 pub fn slot_faults(
     alloc: Global,

@@ -1,4 +1,4 @@
-use Rattle.std.proofs.Common.{◌≡◌, drop}
+use Rattle.std.proofs.Common.{drop}
 use Rattle.std.specs.Prelude.{IsTrue, ◌⊎◌, ◌↔◌}
 use Rattle.ir_paths.specs.declared.point.Point.{Point}
 use Rattle.point_graph.specs.Reached.{IsGraphOf}

@@ -1,4 +1,3 @@
-use Rattle.std.proofs.Common.{◌≡◌}
 use Rattle.slot_rules.specs.Early.{HaveEnds}
 use Rattle.slot_rules.proofs.ends.end_marks.Given as goal
 

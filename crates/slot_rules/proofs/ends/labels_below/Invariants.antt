@@ -1,4 +1,4 @@
-use Rattle.std.proofs.Common.{◌≡◌, drop}
+use Rattle.std.proofs.Common.{drop}
 use Rattle.slot_rules.specs.Early.{LabelsBelow}
 use Rattle.slot_rules.proofs.ends.labels_below.Given as goal
 

@@ -1,4 +1,4 @@
-use Rattle.std.proofs.Common.{◌≡◌, take}
+use Rattle.std.proofs.Common.{take}
 use Rattle.slot_rules.specs.Names.{AreNamed}
 use Rattle.slot_rules.proofs.names.name_set.Given as goal
 

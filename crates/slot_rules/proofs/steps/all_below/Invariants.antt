@@ -1,4 +1,4 @@
-use Rattle.std.proofs.Common.{◌≡◌, take}
+use Rattle.std.proofs.Common.{take}
 use Rattle.slot_rules.specs.Steps.{AreBelow}
 use Rattle.slot_rules.proofs.steps.all_below.Given as goal
 
