@@ -21,19 +21,19 @@ use Rattle.window_rules.specs.declared.outside.Outside.{Outside}
 -- ---- a test and a rule
 
 -- the test says of each part whether it breaks the rule
-record Says (test : Place → Part → Bool) (Breaks : Place × Part → Type 0) : Type 0 where
-  sound : (x : Place × Part) → test x.0 x.1 ≡ true → Breaks x
-  complete : (x : Place × Part) → Breaks x → test x.0 x.1 ≡ true
+pub record Says (test : Place → Part → Bool) (Breaks : Place × Part → Type 0) : Type 0 where
+  pub sound : (x : Place × Part) → test x.0 x.1 ≡ true → Breaks x
+  pub complete : (x : Place × Part) → Breaks x → test x.0 x.1 ≡ true
 
 first_by : (test : Place → Part → Bool) (Breaks : Place × Part → Type 0) → Says test Breaks → (x : Place × Part) (xs : List (Place × Part)) (b : Bool) → test x.0 x.1 ≡ b → IsFirst Breaks (λ y. y.0) xs (first_part test xs) → IsFirst Breaks (λ y. y.0) (x ∷ xs) (or_place (place_if b x.0) (first_part test xs))
 first_by test Breaks says x xs true e h = inl (says.sound x e, refl)
 first_by test Breaks says x xs false e h = inr ((λ b. false≢true (sym e ∙ says.complete x b)), h)
 
-first_is : (test : Place → Part → Bool) (Breaks : Place × Part → Type 0) → Says test Breaks → (xs : List (Place × Part)) → IsFirst Breaks (λ y. y.0) xs (first_part test xs)
+pub first_is : (test : Place → Part → Bool) (Breaks : Place × Part → Type 0) → Says test Breaks → (xs : List (Place × Part)) → IsFirst Breaks (λ y. y.0) xs (first_part test xs)
 first_is test Breaks says [] = refl
 first_is test Breaks says (x ∷ xs) = first_by test Breaks says x xs (test x.0 x.1) refl (first_is test Breaks says xs)
 
-none_first : {A : Type 0} (Breaks : A → Type 0) (place : A → Place) (xs : List A) → ((x : A) → Breaks x → ⊥) → IsFirst Breaks place xs None
+pub none_first : {A : Type 0} (Breaks : A → Type 0) (place : A → Place) (xs : List A) → ((x : A) → Breaks x → ⊥) → IsFirst Breaks place xs None
 none_first Breaks place [] h = refl
 none_first Breaks place (x ∷ xs) h = inr (h x, none_first Breaks place xs h)
 

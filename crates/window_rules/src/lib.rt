@@ -9,7 +9,8 @@ mod sets;
 mod tokens;
 mod windows;
 
-pub use outside::first_outside;
-pub use points::{place_of, point_of, points_where};
-pub use sets::PointSet;
+pub use outside::{first_outside, without_begin};
+pub use points::{instr_at, place_of, point_of, points_where};
+pub use sets::{PointSet, reached_set};
+pub use tokens::{Tokens, tokens_of};
 pub use windows::first_wrong_window;

@@ -82,7 +82,7 @@ impl FunctionRule for Outside<'_> {
 
 /// The points to which a path from the entry leads without begin.
 #[tactic(auto, using(crate::proofs::Firsts::without_begin_none, crate::proofs::Firsts::without_begin_some))]
-fn without_begin(
+pub fn without_begin(
     alloc: Global,
     graph: &mut PointGraph,
     function: &Function,
@@ -90,7 +90,8 @@ fn without_begin(
 ) -> Result<PointSet, AllocError>
     requires graph { IsGraphOf function.now graph.old }
     requires begins { begins.now ≡ begins_of function.now }
-    ensures { IfOk result (AreThose (IsWithoutBegin function.now)) }
+    ensures set { IfOk result (AreThose (IsWithoutBegin function.now)) }
+    ensures kept { OnOk result (IsGraphOf function.now graph.new) }
 {
     let entry = Point { block: 0, at: 0 };
     if has_point(begins, entry) {

@@ -1,0 +1,7 @@
+pub mod Chains
+pub mod Bounds
+pub mod Led
+pub mod OfSlots
+pub mod Windows
+pub mod EarlyEnds
+pub mod Rules
