@@ -5,8 +5,8 @@ ghost use Rattle.coro_words.specs.declared.words.Form.{Form};
 ghost use Rattle.coro_cli.specs.Answers.{lower_answer, checked_run, check_answer, stage_of, IsTextAnswer, IsCheckAnswer, IsMadeOfRules, run_lowered, lowered_answer, source_form_answer, IsRunAnswer, IsMadeOf, IsAnswer};
 ghost use Rattle.ir_parser.specs.Parse.{read_module};
 
-use crate::runs::{not_callable, run_module, run_source};
 use crate::entry::entry_call;
+use crate::runs::{not_callable, run_module, run_source};
 use crate::texts::{refused, shown, syntax_fault};
 use crate::verdict::{Answer, Verdict};
 use coro_base::Items;
@@ -103,9 +103,13 @@ fn source_form_answer(
     ensures { IfOk result (λ a. a ≡ source_form_answer lowering words.now) }
 {
     match lowering {
-        Lowering::Done(Lowered {
-            source, layouts, ..
-        }) => run_source(alloc, source, &layouts, words),
+        Lowering::Done(
+            Lowered {
+                source,
+                layouts,
+                ..
+            },
+        ) => run_source(alloc, source, &layouts, words),
         Lowering::Syntax(items) => syntax_fault(alloc, items),
         Lowering::Refused(source, rule, place) => refused(alloc, &source, rule, place),
     }

@@ -76,7 +76,6 @@ pub fn run_module(alloc: Global, code: Module, words: &RunWords) -> Result<Answe
     }
 }
 
-
 /// The sizes of the frames.
 fn sizes_of(alloc: Global, layouts: &[Layout]) -> Result<Items<Frame>, AllocError>
     ensures { IfOk result (λ sizes. sizes ≡ map size_of layouts.now) }
@@ -124,7 +123,14 @@ pub fn run_source(
         None => not_callable(alloc, entry),
         Some(call) => {
             let sizes = sizes_of(alloc, layouts.coroutines.as_slice())?;
-            source_answer(alloc, source, sizes.as_slice(), words.answers.as_slice(), &call, words.steps)
+            source_answer(
+                alloc,
+                source,
+                sizes.as_slice(),
+                words.answers.as_slice(),
+                &call,
+                words.steps,
+            )
         }
     }
 }

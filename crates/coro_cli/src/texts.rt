@@ -32,7 +32,12 @@ pub fn told(alloc: Global, verdict: Verdict, text: Vec<u8>) -> Answer
 }
 
 /// A rule is broken.
-pub fn refused(alloc: Global, source: &Module, rule: Rule, place: Place) -> Result<Answer, AllocError>
+pub fn refused(
+    alloc: Global,
+    source: &Module,
+    rule: Rule,
+    place: Place,
+) -> Result<Answer, AllocError>
     ensures { IfOk result (λ a. a ≡ refused source.now rule place) }
 {
     let text = refused_text(alloc, source, rule, place)?;
@@ -46,4 +51,3 @@ pub fn syntax_fault(alloc: Global, items: usize) -> Result<Answer, AllocError>
     let text = text_of_fault(alloc, items)?;
     Ok(told(alloc, Verdict::Refused, text))
 }
-
