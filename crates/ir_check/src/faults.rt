@@ -2,14 +2,11 @@
 
 ghost use Rattle.std.specs.Prelude.{◌≡◌, IfOk};
 ghost use Rattle.ir_check.specs.Faults.{AreFaultsOf, HaveFaults, faults_at as faults_of_position};
-ghost use Rattle.slot_rules.specs.Early.{IsFirstEarly};
-ghost use Rattle.slot_rules.specs.Marked.{IsFirstMarked};
 
 use coro_base::{FuncId, Items, Place};
 use definite_use::first_undefined_use;
 use ir_model::Function;
-use path_facts::ramp_slots_of;
-use slot_rules::{SlotFaults, slot_faults};
+use slot_rules::slot_faults;
 use std::alloc::{AllocError, Global};
 use window_rules::{first_outside, first_wrong_window};
 use window_values::first_kept_value;
@@ -25,18 +22,6 @@ pub struct PathFaults {
     pub early_address: Option<Place>,
 }
 
-fn slots_at_fault(
-    alloc: Global,
-    func: FuncId,
-    function: &Function,
-) -> Result<SlotFaults, AllocError>
-    ensures marked { IfOk result (λ slots. IsFirstMarked func function.now slots.marked) }
-    ensures early { IfOk result (λ slots. IsFirstEarly func function.now slots.early) }
-{
-    let ramp = ramp_slots_of(alloc, function)?;
-    slot_faults(alloc, func, function, &ramp)
-}
-
 fn faults_of(alloc: Global, func: FuncId, function: &Function) -> Result<PathFaults, AllocError>
     ensures { IfOk result (λ x. AreFaultsOf func function.now x) }
 {
@@ -44,7 +29,7 @@ fn faults_of(alloc: Global, func: FuncId, function: &Function) -> Result<PathFau
     let outside = first_outside(alloc, func, function)?;
     let window = first_wrong_window(alloc, func, function)?;
     let kept_value = first_kept_value(alloc, func, function)?;
-    let slots = slots_at_fault(alloc, func, function)?;
+    let slots = slot_faults(alloc, func, function)?;
     Ok(PathFaults {
         undefined_use,
         outside,
