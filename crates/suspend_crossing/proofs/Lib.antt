@@ -1,0 +1,5 @@
+pub mod Bits
+pub mod Operands
+pub mod Numbering
+pub mod Blocks
+pub mod Walks
