@@ -24,7 +24,7 @@ listed_back y (x ∷ xs) zs h = inr (listed_back y xs zs h)
 
 -- ---- what stands at a point
 
-get_behind : {X : Type 0} (xs : List X) (x : X) (rest : List X) → slice_get (xs ++ x ∷ rest) (length xs) ≡ Some x
+pub get_behind : {X : Type 0} (xs : List X) (x : X) (rest : List X) → slice_get (xs ++ x ∷ rest) (length xs) ≡ Some x
 get_behind [] x rest = refl
 get_behind (y ∷ xs) x rest = get_behind xs x rest
 
@@ -142,18 +142,18 @@ pub passed : (v : ℕ) (is : List Instr) → (IsMadeIn v is → ⊥) → IsPasse
 passed v [] n = tt
 passed v (i ∷ is) n = (λ e. n (inl e), passed v is (λ m. n (inr m)))
 
-is_result : (v : ℕ) (o : Option ℕ) (vs : List ℕ) → IsListed v (option_to_list o ++ vs) → (o ≡ Some v) ⊎ IsListed v vs
+pub is_result : (v : ℕ) (o : Option ℕ) (vs : List ℕ) → IsListed v (option_to_list o ++ vs) → (o ≡ Some v) ⊎ IsListed v vs
 is_result v None vs h = inr h
 is_result v (Some w) vs h = ⊎_elim (λ e. inl (ap (λ (x : ℕ). Some x) (sym e))) (λ k. inr k) h
 
 some_number : (a b : ℕ) → Some a ≡ Some b → a ≡ b
 some_number a b e = cc
 
-as_result : (v : ℕ) (o : Option ℕ) (vs : List ℕ) → o ≡ Some v → IsListed v (option_to_list o ++ vs)
+pub as_result : (v : ℕ) (o : Option ℕ) (vs : List ℕ) → o ≡ Some v → IsListed v (option_to_list o ++ vs)
 as_result v None vs e = absurd (cc)
 as_result v (Some w) vs e = inl (sym (some_number w v e))
 
-behind_result : (v : ℕ) (o : Option ℕ) (vs : List ℕ) → IsListed v vs → IsListed v (option_to_list o ++ vs)
+pub behind_result : (v : ℕ) (o : Option ℕ) (vs : List ℕ) → IsListed v vs → IsListed v (option_to_list o ++ vs)
 behind_result v None vs h = h
 behind_result v (Some w) vs h = inr h
 

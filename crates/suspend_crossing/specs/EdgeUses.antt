@@ -41,7 +41,7 @@ IsUsedOn f v from to = IsListed (edge_use from to v) (edge_uses f)
 -- ---- the uses on edges that there are, and on the resume and destroy edges of suspends
 
 abbrev pub has_edge : List (ℕ × ℕ) → ℕ → ℕ → Bool
-has_edge edges from to = list_any (λ e. (e.0 == from) && (e.1 == to)) edges
+has_edge edges from to = list_any (λ e. (from == e.0) && (to == e.1)) edges
 
 abbrev pub is_edge : List (ℕ × ℕ) → EdgeUse → Bool
 is_edge edges u = has_edge edges u.from u.to

@@ -1,6 +1,6 @@
 //! The values that cross suspends.
 
-ghost use Rattle.std.specs.Prelude.{◌≡◌, ◌<◌, ◌≤◌, ◌*◌, ◌+◌, ◌/◌, ◌%◌, ℕ, IfOk, OnOk, length, take};
+ghost use Rattle.std.specs.Prelude.{◌≡◌, ◌<◌, ◌≤◌, ◌*◌, ◌+◌, ℕ, IfOk, OnOk, length, take};
 ghost use Rattle.suspend_crossing.specs.Crossing.{AreCrossing, CrossedBy};
 ghost use Rattle.suspend_crossing.specs.Values.{values_of};
 ghost use Rattle.suspend_crossing.specs.Words.{AreNumbered, IsPlanOf};
@@ -28,6 +28,10 @@ fn chunks_of(count: usize) -> usize
 /// Behind the last number of a chunk.
 fn chunk_end(count: usize, start: usize) -> usize
     requires { start ≤ count }
+    ensures from { start ≤ result }
+    ensures within { result ≤ count }
+    ensures at_most { result ≤ start + 64 }
+    ensures whole { result < start + 64 → result ≡ count }
 {
     if count - start < 64 {
         count
@@ -36,6 +40,7 @@ fn chunk_end(count: usize, start: usize) -> usize
     }
 }
 
+/// Adds the pairs of the values of a chunk.
 fn push_chunk(
     alloc: Global,
     function: &Function,
@@ -44,13 +49,20 @@ fn push_chunk(
     chunk: usize,
     pairs: &mut Items<(ValueId, SuspendId)>,
 ) -> Result<(), AllocError>
+    requires plan { IsPlanOf function.now plan.now }
+    requires numbers { AreNumbered (length function.now.names) all.now.numbers all.now.values }
+    requires values { all.now.values ≡ values_of function.now }
+    requires chunk { chunk * 64 < length all.now.values }
+    requires crossed { CrossedBy function.now (take (chunk * 64) all.now.values) pairs.old }
+    ensures { OnOk result (CrossedBy function.now (take (chunk * 64 + 64) all.now.values) pairs.new) }
 {
-    let words = chunk_words(alloc, function, plan, &all.numbers, chunk)?;
-    let marked = marked(alloc, words.as_slice())?;
+    let words = chunk_words(alloc, function, plan, all, chunk)?;
+    let found = marked(alloc, words.as_slice())?;
     let values = all.values.as_slice();
+    let count = values.len();
     let start = chunk * 64;
-    for number in start..chunk_end(values.len(), start) {
-        push_pairs(pairs, values[number], number % 64, marked.as_slice())?;
+    for number in start..chunk_end(count, start) {
+        push_pairs(pairs, values[number], number % 64, found.as_slice())?;
     }
     Ok(())
 }

@@ -1,12 +1,11 @@
 //! The words of suspends, and pairs of values with the suspends that they cross.
 
 ghost use Rattle.std.specs.Prelude.{◌≡◌, ◌==◌, ◌∷◌, ◌++◌, ◌<◌, ◌%◌, ℕ, [], IfOk, OnOk, length, map, replicate, slice_get, slice_set};
-ghost use Rattle.definite_use.specs.Questions.{IsNumbering, all_bits, result_word as word_with};
-ghost use Rattle.function_parts.specs.Contents.{result_of as result_of_instr};
-ghost use Rattle.suspend_crossing.specs.Words.{IsPlanOf, TellChunk, behind_word as behind_of, crossing_words as words_of_suspends, mark_unless, marked_from, pair_if, pairs_in, suspend_words, use_words as words_of_uses, way_at as way_of_block, word_if};
+ghost use Rattle.suspend_crossing.specs.Words.{AreNumbered, IsPlanOf, TellChunk, behind_word as behind_of, crossing_words as words_of_suspends, mark_unless, marked_from, pair_if, pairs_in, suspend_words, use_words as words_of_uses, way_at as way_of_block, word_if};
 
 use crate::edge_use::EdgeUse;
 use crate::needed::{needed_words, seen_words};
+use crate::numbers::Numbers;
 use crate::plan::Plan;
 use crate::text::{has_bit, made_words, open_words, phis_word, result_word, value_word, word_at};
 use coro_base::{BlockId, Items, SuspendId, ValueId};
@@ -118,10 +117,14 @@ pub fn chunk_words(
     alloc: Global,
     function: &Function,
     plan: &Plan,
-    numbers: &Items<Option<usize>>,
+    all: &Numbers,
     chunk: usize,
 ) -> Result<Vec<u64>, AllocError>
+    requires plan { IsPlanOf function.now plan.now }
+    requires numbers { AreNumbered (length function.now.names) all.now.numbers all.now.values }
+    ensures { IfOk result (λ words. TellChunk function.now all.now.numbers chunk words.items) }
 {
+    let numbers = &all.numbers;
     let blocks = function.blocks.as_slice();
     let made = made_words(alloc, numbers, chunk, blocks)?;
     let seen = seen_words(alloc, function, plan, numbers, chunk, made.as_slice())?;

@@ -1,24 +1,20 @@
 //! What is found of a function once, for all values.
 
-ghost use Rattle.std.specs.Prelude.{◌≡◌, ◌+◌, ◌++◌, IfOk, OnOk, filter, length, map, slice_get};
-ghost use Rattle.block_paths.specs.Edges.{graph_of};
+ghost use Rattle.std.specs.Prelude.{◌≡◌, ◌++◌, IfOk, OnOk, filter, map};
 ghost use Rattle.definite_use.specs.Uses.{local_of};
-ghost use Rattle.ir_model.specs.Names.{position_of};
-ghost use Rattle.ir_paths.specs.Windows.{end_block as end_block_of, is_call_of as is_call, label_in as label_in_cases, label_of_term as label_of};
-ghost use Rattle.ir_model.specs.declared.operand.Intrinsic.{Intrinsic as TheIntrinsic};
-ghost use Rattle.ir_model.specs.Names.{first_where};
+ghost use Rattle.ir_paths.specs.Windows.{label_in as label_in_cases, label_of_term as label_of};
 ghost use Rattle.ordinary_step.specs.Tables.{HasPositions};
-ghost use Rattle.std.specs.List.{list_any};
-ghost use Rattle.suspend_crossing.specs.EdgeUses.{blocks_uses, edge_uses as edge_uses_of, incoming_uses, is_behind as is_behind_of, is_behind_way, is_edge as is_edge_of, phis_uses, uses_by, way_of as way_of_block};
+ghost use Rattle.suspend_crossing.specs.EdgeUses.{blocks_uses, edge_uses as edge_uses_of, incoming_uses, is_behind as is_behind_of, is_edge as is_edge_of, phis_uses, uses_by, way_of as way_of_block};
 ghost use Rattle.suspend_crossing.specs.Words.{IsPlanOf, turned};
 
 use crate::edge_use::EdgeUse;
-use crate::edges::edge_set;
+use crate::edges::{EdgeSet, edge_set};
 use block_paths::{Graph, block_graph};
 use coro_base::{BlockId, Items, ValueId};
-use coro_calls::{is_call_of, is_number};
+use coro_calls::is_number;
+use coro_shape::end_block;
 use function_parts::next;
-use ir_model::{Block, Case, Function, Incoming, Instr, Intrinsic, Operand, Phi, Terminator};
+use ir_model::{Block, Case, Function, Incoming, Operand, Phi, Terminator};
 use ordinary_step::{position, positions_of};
 use std::alloc::{AllocError, Global};
 
@@ -37,39 +33,6 @@ pub struct Plan {
     pub uses: Items<EdgeUse>,
     /// The uses of phis on those ways.
     pub behind: Items<EdgeUse>,
-}
-
-// ---- the end
-
-fn has_end(instrs: &[Instr]) -> bool
-    ensures { result ≡ list_any (is_call TheIntrinsic.CoroEnd) instrs.now }
-{
-    for instr in instrs {
-        if is_call_of(Intrinsic::CoroEnd, instr) {
-            return true;
-        }
-    }
-    false
-}
-
-fn first_end(blocks: &[Block]) -> Option<BlockId>
-    ensures { result ≡ first_where (λ b. list_any (is_call TheIntrinsic.CoroEnd) b.instrs) blocks.now }
-{
-    for (at, block) in blocks.iter().enumerate() {
-        if has_end(block.instrs.as_slice()) {
-            return Some(at);
-        }
-    }
-    None
-}
-
-fn end_block(function: &Function) -> BlockId
-    ensures { result ≡ end_block_of function.now }
-{
-    match first_end(function.blocks.as_slice()) {
-        None => function.blocks.len(),
-        Some(block) => block,
-    }
 }
 
 // ---- the ways behind suspends
@@ -201,6 +164,23 @@ fn edge_uses(
     Ok(uses)
 }
 
+fn on_known(
+    alloc: Global,
+    known: &EdgeSet,
+    uses: &[EdgeUse],
+) -> Result<Items<EdgeUse>, AllocError>
+    ensures { IfOk result (λ all. all ≡ filter (is_edge_of known.now) uses.now) }
+{
+    let mut all = Items::new(alloc);
+    for one in uses {
+        if known.has(one.from, one.to) {
+            all.push(*one)?;
+        }
+    }
+    Ok(all)
+}
+
+#[tactic(auto, using(crate::proofs::EdgeSets::same_filter))]
 fn on_edges(
     alloc: Global,
     edges: &[(BlockId, BlockId)],
@@ -209,13 +189,7 @@ fn on_edges(
     ensures { IfOk result (λ all. all ≡ filter (is_edge_of edges.now) uses.now) }
 {
     let known = edge_set(alloc, edges)?;
-    let mut all = Items::new(alloc);
-    for one in uses {
-        if known.has(one.from, one.to) {
-            all.push(*one)?;
-        }
-    }
-    Ok(all)
+    on_known(alloc, &known, uses)
 }
 
 fn is_behind(ways: &[(BlockId, BlockId)], one: &EdgeUse) -> bool
