@@ -26,14 +26,14 @@ use Rattle.suspend_crossing.specs.declared.plan.Plan.{Plan}
 pub made_within : (f : Function) (g : Graph) (word : ℕ) (made : List ℕ) (edges starts : List (ℕ × ℕ)) → g ≡ graph_of f → edges ≡ g.edges → starts ≡ (0, word) ∷ made_starts made edges → StartAt g.nodes starts
 made_within f g word made edges starts is edges_are starts_are i node w at =
     subst (λ (x : Graph). node < x.nodes) (sym is) (⊎_elim
-        (λ e. let first = ap (λ (p : ℕ × ℕ). p.0) e in omega (arith, first))
-        (λ later.
-            let found = listed_map (λ (e : ℕ × ℕ). (e.1, Rattle.block_paths.specs.Words.word_at made e.0)) (node, w) edges later in
-            let edge : IsListed (found.0.0, found.0.1) (block_edges f) = subst (λ (l : List (ℕ × ℕ)). IsListed (found.0.0, found.0.1) l) (edges_are ∙ ap (λ (x : Graph). x.edges) is) found.1.0 in
-            let lt = (edge_bounded f found.0.0 found.0.1 edge).1 in
-            let same = ap (λ (p : ℕ × ℕ). p.0) found.1.1 in
-            omega (arith, lt, same))
-        (subst (IsListed (node, w)) starts_are (listed_at starts i (node, w) at)))
+    (λ e. let first = ap (λ (p : ℕ × ℕ). p.0) e in omega (arith, first))
+    (λ later.
+    let found = listed_map (λ (e : ℕ × ℕ). (e.1, Rattle.block_paths.specs.Words.word_at made e.0)) (node, w) edges later in
+    let edge : IsListed (found.0.0, found.0.1) (block_edges f) = subst (λ (l : List (ℕ × ℕ)). IsListed (found.0.0, found.0.1) l) (edges_are ∙ ap (λ (x : Graph). x.edges) is) found.1.0 in
+    let lt = (edge_bounded f found.0.0 found.0.1 edge).1 in
+    let same = ap (λ (p : ℕ × ℕ). p.0) found.1.1 in
+    omega (arith, lt, same))
+    (subst (IsListed (node, w)) starts_are (listed_at starts i (node, w) at)))
 
 turned_nodes : (f : Function) → HasNodes (length f.blocks + 1) (map turned (block_edges f))
 turned_nodes f e from to at =
@@ -51,15 +51,15 @@ pub needed_within : (f : Function) (g : Graph) (numbers : List (Option ℕ)) (ch
     first ≡ open_starts 0 opens → starts ≡ first ++ map (use_start numbers chunk stops) uses2 → StartAt g.nodes starts
 needed_within f g numbers chunk stops opens uses uses2 starts first is len uses_are same first_is starts_are i node w at =
     subst (λ (x : Graph). node < x.nodes) (sym is) (⊎_elim
-        (λ h. let lt = open_within 0 opens node w h in omega (arith, lt, len))
-        (λ h.
-            let found : (u : EdgeUse) × (IsListed u uses2 × ((node, w) ≡ use_start numbers chunk stops u)) = listed_map (use_start numbers chunk stops) (node, w) uses2 h in
-            let kept = in_filter (is_edge (block_edges f)) found.0 (edge_uses f) (subst (IsListed found.0) (same ∙ uses_are) found.1.0) in
-            let lt = (edge_bounded f found.0.from found.0.to (edge_listed (block_edges f) found.0.from found.0.to kept.1)).0 in
-            let first = ap (λ (p : ℕ × ℕ). p.0) found.1.1 in
-            omega (arith, lt, first))
-        (listed_append (node, w) (open_starts 0 opens) (map (use_start numbers chunk stops) uses2)
-        (subst (IsListed (node, w)) (starts_are ∙ ap (λ (l : List (ℕ × ℕ)). l ++ map (use_start numbers chunk stops) uses2) first_is) (listed_at starts i (node, w) at))))
+    (λ h. let lt = open_within 0 opens node w h in omega (arith, lt, len))
+    (λ h.
+    let found : (u : EdgeUse) × (IsListed u uses2 × ((node, w) ≡ use_start numbers chunk stops u)) = listed_map (use_start numbers chunk stops) (node, w) uses2 h in
+    let kept = in_filter (is_edge (block_edges f)) found.0 (edge_uses f) (subst (IsListed found.0) (same ∙ uses_are) found.1.0) in
+    let lt = (edge_bounded f found.0.from found.0.to (edge_listed (block_edges f) found.0.from found.0.to kept.1)).0 in
+    let first = ap (λ (p : ℕ × ℕ). p.0) found.1.1 in
+    omega (arith, lt, first))
+    (listed_append (node, w) (open_starts 0 opens) (map (use_start numbers chunk stops) uses2)
+    (subst (IsListed (node, w)) (starts_are ∙ ap (λ (l : List (ℕ × ℕ)). l ++ map (use_start numbers chunk stops) uses2) first_is) (listed_at starts i (node, w) at))))
 
 -- ---- a chunk
 

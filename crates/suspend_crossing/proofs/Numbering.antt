@@ -81,9 +81,10 @@ none_numbered names = record {
 module _ (names v : ℕ) (numbers numbers2 : List (Option ℕ)) (values values2 : List ℕ) (a : AreNumbered names numbers values) where
   was_known : HasNumber numbers numbers2 values values2 v → (values2 ≡ with_new values v) × AreNumbered names numbers2 values2
   was_known h =
-      let known : has_name values v ≡ true = name_at values h.number v (a.numbering.asked v h.number h.has) in
-      (h.values_kept ∙ sym (ap (λ (b : Bool). if b then values else values ++ v ∷ []) known),
-      subst (λ n. AreNumbered names n values2) (sym h.numbers_kept) (subst (AreNumbered names numbers) (sym h.values_kept) a))
+      let known : has_name values v ≡ true = name_at values h.number v (a.numbering.asked v h.number h.has) in (
+        h.values_kept ∙ sym (ap (λ (b : Bool). if b then values else values ++ v ∷ []) known),
+        subst (λ n. AreNumbered names n values2) (sym h.numbers_kept) (subst (AreNumbered names numbers) (sym h.values_kept) a),
+      )
 
   unknown : slice_get numbers v ≡ Some None → (b : Bool) → has_name values v ≡ b → b ≡ false
   unknown none true e =
@@ -92,13 +93,14 @@ module _ (names v : ℕ) (numbers numbers2 : List (Option ℕ)) (values values2 
   unknown none false e = refl
 
   is_new : GetsNumber numbers numbers2 values values2 v → (values2 ≡ with_new values v) × AreNumbered names numbers2 values2
-  is_new g =
-      (g.values_added ∙ sym (ap (λ (b : Bool). if b then values else values ++ v ∷ []) (unknown g.had_none (has_name values v) refl)),
-      subst (λ n. AreNumbered names n values2) (sym g.numbers_set)
-      (subst (AreNumbered names (slice_set numbers v (Some (length values)))) (sym g.values_added) (record {
-        numbering = record { numbers_length = length-set numbers v (Some (length values)) ∙ a.numbering.numbers_length; asked = asked };
-        numbered = numbered;
-      })))
+  is_new g = (
+    g.values_added ∙ sym (ap (λ (b : Bool). if b then values else values ++ v ∷ []) (unknown g.had_none (has_name values v) refl)),
+    subst (λ n. AreNumbered names n values2) (sym g.numbers_set)
+        (subst (AreNumbered names (slice_set numbers v (Some (length values)))) (sym g.values_added) (record {
+          numbering = record { numbers_length = length-set numbers v (Some (length values)) ∙ a.numbering.numbers_length; asked = asked };
+          numbered = numbered;
+        })),
+  )
     where
       within : v < length numbers
       within = slice_get_within numbers v None g.had_none
@@ -125,7 +127,7 @@ pub more_numbered : (names i : ℕ) (defined : List ℕ) (numbers numbers2 : Lis
 more_numbered names i defined numbers numbers2 values values2 lt step u =
     let v : ℕ = get_or defined i 0 in
     let two : (values2 ≡ with_new values v) × AreNumbered names numbers2 values2 =
-        ⊎_elim (was_known names v numbers numbers2 values values2 u.numbered) (is_new names v numbers numbers2 values values2 u.numbered) step in
+    ⊎_elim (was_known names v numbers numbers2 values values2 u.numbered) (is_new names v numbers numbers2 values values2 u.numbered) step in
     record {
       numbered = two.1;
       found = ap (λ (l : List ℕ). distinct l (drop (i + 1) defined)) two.0 ∙ sym (ap (distinct values) (next_is i defined lt)) ∙ u.found;

@@ -106,9 +106,9 @@ IsBefore f v b front = (IsListed v (phis_at f b) ⊎ IsSeenIn f v b) ⊎ IsMadeI
 pub before_defined : (f : Function) (v b : ℕ) (block : Block) → slice_get f.blocks b ≡ Some block → (front rest : List Instr) → block.instrs ≡ front ++ rest → IsBefore f v b front → IsDefinedBefore f v b (length front)
 before_defined f v b block e front rest is h = ⊎_elim
     (λ k. ⊎_elim
-        (λ phi. ByPhi b phi (from_front f b block e front rest is))
-        (λ s. extended f v b 0 b (length front) (seen_defined f v b s) (from_front f b block e front rest is))
-        k)
+    (λ phi. ByPhi b phi (from_front f b block e front rest is))
+    (λ s. extended f v b 0 b (length front) (seen_defined f v b s) (from_front f b block e front rest is))
+    k)
     (λ m. made_defined f b block e v [] front rest is m (length front) (omega arith))
     h
 
@@ -168,9 +168,9 @@ seen_over f v b at label br s =
     let edge : IsListed (b, position_of f label) (block_edges f) = target_is_edge f b label found.0 found.1.0 found.1.1 in
     ⊎_elim
     (λ h. ⊎_elim
-        (λ phi. Made b (position_of f label) (subst (IsListed v) (sym (values_are f b found.0 found.1.0)) (made_before v found.0.instrs (phi_values found.0) (subst (IsListed v) (phis_are f b found.0 found.1.0) phi))) edge)
-        (λ seen. Onward b (position_of f label) seen edge)
-        h)
+    (λ phi. Made b (position_of f label) (subst (IsListed v) (sym (values_are f b found.0 found.1.0)) (made_before v found.0.instrs (phi_values found.0) (subst (IsListed v) (phis_are f b found.0 found.1.0) phi))) edge)
+    (λ seen. Onward b (position_of f label) seen edge)
+    h)
     (λ g. Made b (position_of f label) (subst (IsListed v) (sym (values_are f b found.0 found.1.0)) (made_in v found.0.instrs (phi_values found.0) (made_at v found.0.instrs g.place g.instr (in_block f b found.0 found.1.0 g.place g.instr g.stands) g.gives))) edge)
     s
 
@@ -220,9 +220,9 @@ module _ (f : Function) (numbers : List (Option ℕ)) (chunk v c : ℕ) (o : IsO
   to_seen _ (Start node word listed has) = ⊎_elim
       (λ e. subst (IsSeenIn f v) (sym (ap (λ (p : ℕ × ℕ). p.0) e)) (Entry (is_param (subst (λ (w : ℕ). HasBit w c) (ap (λ (p : ℕ × ℕ). p.1) e) has))))
       (λ later.
-          let found : (x : ℕ × ℕ) × (IsListed x (block_edges f) × ((node, word) ≡ (x.1, word_at made x.0))) = listed_map (λ (e : ℕ × ℕ). (e.1, word_at made e.0)) (node, word) (block_edges f) later in
-          subst (IsSeenIn f v) (sym (ap (λ (p : ℕ × ℕ). p.0) found.1.1))
-          (Made found.0.0 found.0.1 ((made_told numbers chunk v c o f found.0.0).0 (subst (λ (w : ℕ). HasBit w c) (ap (λ (p : ℕ × ℕ). p.1) found.1.1) has)) found.1.0))
+      let found : (x : ℕ × ℕ) × (IsListed x (block_edges f) × ((node, word) ≡ (x.1, word_at made x.0))) = listed_map (λ (e : ℕ × ℕ). (e.1, word_at made e.0)) (node, word) (block_edges f) later in
+      subst (IsSeenIn f v) (sym (ap (λ (p : ℕ × ℕ). p.0) found.1.1))
+      (Made found.0.0 found.0.1 ((made_told numbers chunk v c o f found.0.0).0 (subst (λ (w : ℕ). HasBit w c) (ap (λ (p : ℕ × ℕ). p.1) found.1.1) has)) found.1.0))
       listed
   to_seen _ (Edge e from to word there kept_is has before) = Onward from to (to_seen from before) (listed_at (block_edges f) e (from, to) there)
 

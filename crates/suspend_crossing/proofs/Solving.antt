@@ -161,9 +161,9 @@ module _ (f : Function) (numbers : List (Option ℕ)) (chunk v c : ℕ) (o : IsO
       at_end e = ⊎_elim
           (λ lt. absurd (no_bit c (subst (λ (w : ℕ). HasBit w c) (ap (word_at opens) e ∙ word_set_here (map (block_open numbers chunk) f.blocks) (end_block f) 0 lt) has)))
           (λ past.
-              let len = length-set (map (block_open numbers chunk) f.blocks) (end_block f) 0 in
-              let inside = within_words opens b c has in
-              absurd (omega (arith, len, inside, past, e)))
+          let len = length-set (map (block_open numbers chunk) f.blocks) (end_block f) 0 in
+          let inside = within_words opens b c has in
+          absurd (omega (arith, len, inside, past, e)))
           (cases_lt (end_block f) (length (map (block_open numbers chunk) f.blocks)))
 
       elsewhere : b ≢ end_block f → IsNeededIn f v b
@@ -188,14 +188,14 @@ module _ (f : Function) (numbers : List (Option ℕ)) (chunk v c : ℕ) (o : IsO
   to_needed : (b : ℕ) → Reaches back (map (kept_back stops) back) starts c b → IsNeededIn f v b
   to_needed _ (Start node word listed has) = ⊎_elim
       (λ first.
-          let s = open_listed 0 opens node word first in
-          let e = s.is_node in
-          let same : s.place ≡ node = omega (arith, e) in
-          is_open node (subst (λ (w : ℕ). HasBit w c) (sym (ap (λ (x : Option ℕ). Rattle.std.specs.Prelude.unwrap_or x 0) (ap (slice_get opens) (sym same) ∙ s.is_word))) has))
+      let s = open_listed 0 opens node word first in
+      let e = s.is_node in
+      let same : s.place ≡ node = omega (arith, e) in
+      is_open node (subst (λ (w : ℕ). HasBit w c) (sym (ap (λ (x : Option ℕ). Rattle.std.specs.Prelude.unwrap_or x 0) (ap (slice_get opens) (sym same) ∙ s.is_word))) has))
       (λ second.
-          let found : (u : EdgeUse) × (IsListed u uses × ((node, word) ≡ use_start numbers chunk stops u)) = listed_map (use_start numbers chunk stops) (node, word) uses second in
-          subst (IsNeededIn f v) (sym (ap (λ (p : ℕ × ℕ). p.0) found.1.1))
-          (by_use found.0 found.1.0 (subst (λ (w : ℕ). HasBit w c) (ap (λ (p : ℕ × ℕ). p.1) found.1.1) has)))
+      let found : (u : EdgeUse) × (IsListed u uses × ((node, word) ≡ use_start numbers chunk stops u)) = listed_map (use_start numbers chunk stops) (node, word) uses second in
+      subst (IsNeededIn f v) (sym (ap (λ (p : ℕ × ℕ). p.0) found.1.1))
+      (by_use found.0 found.1.0 (subst (λ (w : ℕ). HasBit w c) (ap (λ (p : ℕ × ℕ). p.1) found.1.1) has)))
       (listed_append (node, word) (open_starts 0 opens) (map (use_start numbers chunk stops) uses) listed)
   to_needed _ (Edge e x y word there kept_is has before) =
       let word_same : word ≡ kept_back stops (x, y) = same_place (slice_get (map (kept_back stops) back) e) word (kept_back stops (x, y)) kept_is (word_is e x y there) in

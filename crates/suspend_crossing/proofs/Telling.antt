@@ -67,7 +67,7 @@ module _ (f : Function) (numbers : List (Option ℕ)) (chunk v c : ℕ) (o : IsO
   with_use_kept : (words : List ℕ) (u : EdgeUse) (b : ℕ) → b < length words → HasBit (word_at words b) c → HasBit (word_at (with_use words u) b) c
   with_use_kept words u b lt has = ⊎_elim
       (λ e. subst (λ (w : ℕ). HasBit w c) (sym (ap (word_at (with_use words u)) e ∙ word_set_here words u.from (bit_or (word_at words u.from) (value_word numbers chunk u.value)) (omega (arith, lt, e))))
-          (left_bit (word_at words u.from) (value_word numbers chunk u.value) c (subst (λ (n : ℕ). HasBit (word_at words n) c) e has)))
+      (left_bit (word_at words u.from) (value_word numbers chunk u.value) c (subst (λ (n : ℕ). HasBit (word_at words n) c) e has)))
       (λ ne. subst (λ (w : ℕ). HasBit w c) (sym (word_set_other words u.from b (bit_or (word_at words u.from) (value_word numbers chunk u.value)) ne)) has)
       (cases_eq b u.from)
 

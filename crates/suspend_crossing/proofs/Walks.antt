@@ -74,16 +74,18 @@ to_points f v _ (Open b out o) = on (slice_get f.blocks b) refl o
     on None e h = absurd h
     on (Some block) e h = (λ k. h.0 (subst (IsListed v) (phis_are f b block e) k), walk_open f v b out block e [] block.instrs refl h.1)
 to_points f v _ (ByUse from to out n edge used) =
-    let t : HasTarget f from to = edge_is_out f from to edge in
-    (no_phi f v from t.block t.is_block n,
-    walk_on f v from out t.block t.is_block [] t.block.instrs refl (no_instr f v from t.block t.is_block n)
-    (OnEdge from (length t.block.instrs) t.label out (subst (BranchesTo t.label) (sym (at_term f from t.block t.is_block)) t.is_target) (subst (IsUsedOn f v from) t.leads used)))
+    let t : HasTarget f from to = edge_is_out f from to edge in (
+      no_phi f v from t.block t.is_block n,
+      walk_on f v from out t.block t.is_block [] t.block.instrs refl (no_instr f v from t.block t.is_block n)
+          (OnEdge from (length t.block.instrs) t.label out (subst (BranchesTo t.label) (sym (at_term f from t.block t.is_block)) t.is_target) (subst (IsUsedOn f v from) t.leads used)),
+    )
 to_points f v _ (ByEdge from to out n edge needed) =
     let t : HasTarget f from to = edge_is_out f from to edge in
-    let there : IsNeededFront f v (position_of f t.label) = subst (IsNeededFront f v) t.leads (to_points f v to needed) in
-    (no_phi f v from t.block t.is_block n,
-    walk_on f v from out t.block t.is_block [] t.block.instrs refl (no_instr f v from t.block t.is_block n)
-    (Across from (length t.block.instrs) t.label out (subst (BranchesTo t.label) (sym (at_term f from t.block t.is_block)) t.is_target) there.0 there.1))
+    let there : IsNeededFront f v (position_of f t.label) = subst (IsNeededFront f v) t.leads (to_points f v to needed) in (
+      no_phi f v from t.block t.is_block n,
+      walk_on f v from out t.block t.is_block [] t.block.instrs refl (no_instr f v from t.block t.is_block n)
+          (Across from (length t.block.instrs) t.label out (subst (BranchesTo t.label) (sym (at_term f from t.block t.is_block)) t.is_target) there.0 there.1),
+    )
 
 -- ---- from points to blocks
 

@@ -32,11 +32,7 @@ fn give_number(all: &mut Numbers, value: ValueId) -> Result<(), AllocError>
 }
 
 /// Numbers values in the order in which they first come, in a function with so many names.
-pub fn numbers_of(
-    alloc: Global,
-    names: usize,
-    defined: &[ValueId],
-) -> Result<Numbers, AllocError>
+pub fn numbers_of(alloc: Global, names: usize, defined: &[ValueId]) -> Result<Numbers, AllocError>
     ensures values { IfOk result (λ all. all.values ≡ distinct [] defined.now) }
     ensures numbers { IfOk result (λ all. AreNumbered names all.numbers all.values) }
 {

@@ -106,7 +106,14 @@ fn crossing_words(
     for block in blocks {
         let first = phis_word(numbers, chunk, word_at(seen, at), block.phis.as_slice());
         let behind = behind_word(own, needed, way_at(ways, at), at);
-        push_suspends(&mut words, numbers, chunk, first, behind, block.instrs.as_slice())?;
+        push_suspends(
+            &mut words,
+            numbers,
+            chunk,
+            first,
+            behind,
+            block.instrs.as_slice(),
+        )?;
         at = next(at)?;
     }
     Ok(words)
@@ -154,11 +161,7 @@ pub fn chunk_words(
 
 // ---- pairs
 
-fn mark_if(
-    marked: &mut Vec<(SuspendId, u64)>,
-    at: SuspendId,
-    word: u64,
-) -> Result<(), AllocError>
+fn mark_if(marked: &mut Vec<(SuspendId, u64)>, at: SuspendId, word: u64) -> Result<(), AllocError>
     ensures { OnOk result (marked.new.items ≡ marked.old.items ++ mark_unless (word == 0) at word) }
 {
     if word != 0 {

@@ -164,11 +164,7 @@ fn edge_uses(
     Ok(uses)
 }
 
-fn on_known(
-    alloc: Global,
-    known: &EdgeSet,
-    uses: &[EdgeUse],
-) -> Result<Items<EdgeUse>, AllocError>
+fn on_known(alloc: Global, known: &EdgeSet, uses: &[EdgeUse]) -> Result<Items<EdgeUse>, AllocError>
     ensures { IfOk result (λ all. all ≡ filter (is_edge_of known.now) uses.now) }
 {
     let mut all = Items::new(alloc);
