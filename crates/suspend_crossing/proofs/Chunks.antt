@@ -1,6 +1,6 @@
 -- What the functions of a chunk give, put together.
 use Rattle.std.proofs.Common.{◌≡◌, ℕ, ◌+◌, ◌%◌, ◌<◌, ◌⊎◌, List, [], ◌∷◌, ◌++◌, length, map, replicate, Some, None, Option, refl, sym, ap, ◌∙◌, subst, ⊎_elim, arith}
-use Rattle.std.specs.Prelude.{filter, slice_get, slice_set}
+use Rattle.std.specs.Prelude.{filter, reverse, slice_get, slice_set}
 use Rattle.bit_reach.specs.Reaching.{AnswersAt, StartAt}
 use Rattle.block_paths.proofs.Bounds.{edge_bounded}
 use Rattle.block_paths.proofs.Elements.{listed_append, listed_map}
@@ -14,10 +14,10 @@ use Rattle.ir_model.specs.declared.module.Function.{Function}
 use Rattle.ir_paths.specs.Windows.{end_block}
 use Rattle.suspend_crossing.proofs.Bits.{own_bit}
 use Rattle.suspend_crossing.proofs.Seeing.{seen_told, told_seen}
-use Rattle.suspend_crossing.proofs.Solving.{edge_listed, in_filter, needed_told, open_within, told_needed}
+use Rattle.suspend_crossing.proofs.Solving.{edge_listed, in_filter, in_reverse, needed_told, open_within, told_needed}
 use Rattle.suspend_crossing.proofs.Telling.{suspends_told}
 use Rattle.suspend_crossing.specs.EdgeUses.{edge_uses, is_behind, is_edge, way_of}
-use Rattle.suspend_crossing.specs.Words.{AreNumbered, IsPlanOf, TellChunk, block_open, crossing_words, kept_back, made_starts, open_starts, params_word, turned, use_start, use_words}
+use Rattle.suspend_crossing.specs.Words.{AreNumbered, IsPlanOf, TellChunk, block_open, crossing_words, kept_back, made_starts, needed_starts, open_starts, params_word, turned, use_start, use_words}
 use Rattle.suspend_crossing.specs.declared.edge_use.EdgeUse.{EdgeUse}
 use Rattle.suspend_crossing.specs.declared.plan.Plan.{Plan}
 
@@ -48,7 +48,7 @@ back_has_nodes f g is = subst (λ (x : Graph). HasNodes x.nodes x.edges) (sym is
 
 pub needed_within : (f : Function) (g : Graph) (numbers : List (Option ℕ)) (chunk : ℕ) (stops opens : List ℕ) (uses uses2 : List EdgeUse) (starts first : List (ℕ × ℕ)) →
     g ≡ record { nodes = length f.blocks + 1; edges = map turned (block_edges f) } → length opens ≡ length f.blocks → uses ≡ filter (is_edge (block_edges f)) (edge_uses f) → uses2 ≡ uses →
-    first ≡ open_starts 0 opens → starts ≡ first ++ map (use_start numbers chunk stops) uses2 → StartAt g.nodes starts
+    first ≡ open_starts 0 opens → starts ≡ reverse (first ++ map (use_start numbers chunk stops) uses2) → StartAt g.nodes starts
 needed_within f g numbers chunk stops opens uses uses2 starts first is len uses_are same first_is starts_are i node w at =
     subst (λ (x : Graph). node < x.nodes) (sym is) (⊎_elim
     (λ h. let lt = open_within 0 opens node w h in omega (arith, lt, len))
@@ -59,7 +59,7 @@ needed_within f g numbers chunk stops opens uses uses2 starts first is len uses_
     let first = ap (λ (p : ℕ × ℕ). p.0) found.1.1 in
     omega (arith, lt, first))
     (listed_append (node, w) (open_starts 0 opens) (map (use_start numbers chunk stops) uses2)
-    (subst (IsListed (node, w)) (starts_are ∙ ap (λ (l : List (ℕ × ℕ)). l ++ map (use_start numbers chunk stops) uses2) first_is) (listed_at starts i (node, w) at))))
+    (in_reverse (node, w) (open_starts 0 opens ++ map (use_start numbers chunk stops) uses2) (subst (IsListed (node, w)) (starts_are ∙ ap (λ (l : List (ℕ × ℕ)). reverse (l ++ map (use_start numbers chunk stops) uses2)) first_is) (listed_at starts i (node, w) at)))))
 
 -- ---- a chunk
 
@@ -89,7 +89,7 @@ module _ (f : Function) (numbers : List (Option ℕ)) (chunk : ℕ) where
   AnswerSeen seen = (node word : ℕ) → slice_get seen node ≡ Some word → AnswersAt (block_edges f) (replicate (length (block_edges f)) all_bits) ((0, params_word numbers chunk 0 f.params) ∷ made_starts made (block_edges f)) node word
 
   abbrev AnswerNeeded : List ℕ → Type 0
-  AnswerNeeded needed = (node word : ℕ) → slice_get needed node ≡ Some word → AnswersAt back (map (kept_back stops) back) (open_starts 0 opens ++ map (use_start numbers chunk stops) uses) node word
+  AnswerNeeded needed = (node word : ℕ) → slice_get needed node ≡ Some word → AnswersAt back (map (kept_back stops) back) (needed_starts numbers chunk stops opens uses) node word
 
   chunk_tells : (values : List ℕ) → AreNumbered (length f.names) numbers values → (seen needed : List ℕ) → length seen ≡ length f.blocks + 1 → AnswerSeen seen → length needed ≡ length f.blocks + 1 → AnswerNeeded needed →
       TellChunk f numbers chunk (crossing_words numbers chunk seen own needed ways 0 f.blocks)
@@ -108,7 +108,7 @@ pub chunk_told : (f : Function) (p : Plan) (numbers : List (Option ℕ)) (values
     ((node word : ℕ) → slice_get seen node ≡ Some word → AnswersAt p.graph.edges (replicate (length p.graph.edges) all_bits) ((0, params_word numbers chunk 0 f.params) ∷ made_starts made2 p.graph.edges) node word) →
     stops2 ≡ slice_set made p.end all_bits → opens2 ≡ slice_set (map (block_open numbers chunk) blocks) p.end 0 →
     length needed ≡ p.back.nodes →
-    ((node word : ℕ) → slice_get needed node ≡ Some word → AnswersAt p.back.edges (map (kept_back stops2) p.back.edges) (open_starts 0 opens2 ++ map (use_start numbers chunk stops2) p.uses) node word) →
+    ((node word : ℕ) → slice_get needed node ≡ Some word → AnswersAt p.back.edges (map (kept_back stops2) p.back.edges) (needed_starts numbers chunk stops2 opens2 p.uses) node word) →
     n ≡ length blocks → behind2 ≡ p.behind → own ≡ use_words numbers chunk (replicate n 0) behind2 → seen2 ≡ seen → own2 ≡ own → needed2 ≡ needed →
     words ≡ crossing_words numbers chunk seen2 own2 needed2 p.ways 0 blocks → TellChunk f numbers chunk words
 chunk_told f p numbers values chunk blocks made2 made3 stops2 opens2 seen seen2 needed needed2 own2 own3 words behind2 n is numbered blocks_are made_is made_same seen_length seen_answers stops_are opens_are needed_length needed_answers n_is behind_same own_is seen_same own_same needed_same words_are =
@@ -146,7 +146,7 @@ chunk_told f p numbers values chunk blocks made2 made3 stops2 opens2 seen seen2 
 
     needed_all : AnswerNeeded f numbers chunk needed
     needed_all node word at =
-        subst (λ (u : List EdgeUse). AnswersAt (back f numbers chunk) (map (kept_back (stops f numbers chunk)) (back f numbers chunk)) (open_starts 0 (opens f numbers chunk) ++ map (use_start numbers chunk (stops f numbers chunk)) u) node word) is.uses
-        (subst (λ (x : List ℕ). AnswersAt (back f numbers chunk) (map (kept_back (stops f numbers chunk)) (back f numbers chunk)) (open_starts 0 x ++ map (use_start numbers chunk (stops f numbers chunk)) p.uses) node word) opens_all
-        (subst (λ (x : List ℕ). AnswersAt (back f numbers chunk) (map (kept_back x) (back f numbers chunk)) (open_starts 0 opens2 ++ map (use_start numbers chunk x) p.uses) node word) stops_all
-        (subst (λ (g : Graph). AnswersAt g.edges (map (kept_back stops2) g.edges) (open_starts 0 opens2 ++ map (use_start numbers chunk stops2) p.uses) node word) is.back (needed_answers node word at))))
+        subst (λ (u : List EdgeUse). AnswersAt (back f numbers chunk) (map (kept_back (stops f numbers chunk)) (back f numbers chunk)) (needed_starts numbers chunk (stops f numbers chunk) (opens f numbers chunk) u) node word) is.uses
+        (subst (λ (x : List ℕ). AnswersAt (back f numbers chunk) (map (kept_back (stops f numbers chunk)) (back f numbers chunk)) (needed_starts numbers chunk (stops f numbers chunk) x p.uses) node word) opens_all
+        (subst (λ (x : List ℕ). AnswersAt (back f numbers chunk) (map (kept_back x) (back f numbers chunk)) (needed_starts numbers chunk x opens2 p.uses) node word) stops_all
+        (subst (λ (g : Graph). AnswersAt g.edges (map (kept_back stops2) g.edges) (needed_starts numbers chunk stops2 opens2 p.uses) node word) is.back (needed_answers node word at))))

@@ -1,8 +1,8 @@
 -- The words that are solved for are the needed values by paths of blocks.
 use Rattle.std.proofs.Common.{◌≡◌, ◌≢◌, ℕ, zero, suc, ◌+◌, ◌<◌, ◌≤◌, ◌⊎◌, Bool, true, false, List, [], ◌∷◌, ◌++◌, length, map, Some, None, Option, refl, sym, ap, ◌∙◌, subst, ⊎_elim, inl, inr, arith, eq-eqb}
-use Rattle.std.specs.Prelude.{bit_xor, filter, option_map, slice_get, slice_set, if◌then◌else◌, ◌==◌, ◌&&◌, ◌||◌}
+use Rattle.std.specs.Prelude.{bit_xor, filter, option_map, reverse, slice_get, slice_set, if◌then◌else◌, ◌==◌, ◌&&◌, ◌||◌}
 use Rattle.std.proofs.lemmas.Bool.{cases_eq, cases_lt, eqb-true, false≢true}
-use Rattle.std.proofs.lemmas.List.{length-map, length-set}
+use Rattle.std.proofs.lemmas.List.{length-map, length-set, reverse-append}
 use Rattle.std.proofs.lemmas.Option.{slice_get-map, slice_get_within}
 use Rattle.bit_reach.specs.Bits.{HasBit}
 use Rattle.bit_reach.specs.Reaching.{AnswersAt, Reaches}
@@ -14,7 +14,7 @@ use Rattle.block_paths.specs.Edges.{block_edges}
 use Rattle.block_paths.specs.Words.{word_at}
 use Rattle.definite_use.specs.Questions.{all_bits, block_word, value_word}
 use Rattle.definite_use.specs.Uses.{values_at}
-use Rattle.flow_solver.proofs.Lists.{listed_at, listed_front, place_of, same_place}
+use Rattle.flow_solver.proofs.Lists.{listed_at, listed_cases, listed_front, listed_last, place_of, same_place}
 use Rattle.flow_solver.specs.Paths.{IsListed}
 use Rattle.ir_model.specs.declared.module.Block.{Block}
 use Rattle.ir_model.specs.declared.module.Function.{Function}
@@ -26,7 +26,7 @@ use Rattle.suspend_crossing.proofs.Walks.{IsNeededIn, IsOpenIn}
 use Rattle.suspend_crossing.proofs.Walks.IsNeededIn.{Open, ByUse, ByEdge}
 use Rattle.suspend_crossing.specs.EdgeUses.{IsUsedOn, edge_use, edge_uses, has_edge, is_edge}
 use Rattle.suspend_crossing.specs.Paths.{IsOutside}
-use Rattle.suspend_crossing.specs.Words.{block_open, kept_back, open_starts, turned, use_start, without}
+use Rattle.suspend_crossing.specs.Words.{block_open, kept_back, needed_starts, open_starts, turned, use_start, without}
 use Rattle.suspend_crossing.specs.declared.edge_use.EdgeUse.{EdgeUse}
 
 -- ---- what is left of a list
@@ -84,6 +84,19 @@ listed_edge (e ∷ es) from to h = ⊎_elim
     (λ later. or_second ((from == e.0) && (to == e.1)) (has_edge es from to) (listed_edge es from to later))
     h
 
+-- ---- the other way round
+
+one_behind : {X : Type 0} (x : X) (xs : List X) → reverse (x ∷ xs) ≡ reverse xs ++ x ∷ []
+one_behind x xs = reverse-append (x ∷ []) xs
+
+pub in_reverse : {X : Type 0} (y : X) (xs : List X) → IsListed y (reverse xs) → IsListed y xs
+in_reverse y [] h = h
+in_reverse y (x ∷ xs) h = ⊎_elim (λ later. inr (in_reverse y xs later)) (λ same. inl same) (listed_cases y x (reverse xs) (subst (IsListed y) (one_behind x xs) h))
+
+pub reverse_in : {X : Type 0} (y : X) (xs : List X) → IsListed y xs → IsListed y (reverse xs)
+reverse_in y [] h = h
+reverse_in y (x ∷ xs) h = subst (IsListed y) (sym (one_behind x xs)) (⊎_elim (λ same. subst (λ z. IsListed z (reverse xs ++ x ∷ [])) (sym same) (listed_last x (reverse xs))) (λ later. listed_front y (reverse xs) (x ∷ []) (reverse_in y xs later)) h)
+
 -- ---- starts
 
 record IsStart (at : ℕ) (words : List ℕ) (node word : ℕ) : Type 0 where
@@ -134,7 +147,7 @@ module _ (f : Function) (numbers : List (Option ℕ)) (chunk v c : ℕ) (o : IsO
   uses = filter (is_edge (block_edges f)) (edge_uses f)
 
   abbrev starts : List (ℕ × ℕ)
-  starts = open_starts 0 opens ++ map (use_start numbers chunk stops) uses
+  starts = needed_starts numbers chunk stops opens uses
 
   abbrev back : List (ℕ × ℕ)
   back = map turned (block_edges f)
@@ -196,7 +209,7 @@ module _ (f : Function) (numbers : List (Option ℕ)) (chunk v c : ℕ) (o : IsO
       let found : (u : EdgeUse) × (IsListed u uses × ((node, word) ≡ use_start numbers chunk stops u)) = listed_map (use_start numbers chunk stops) (node, word) uses second in
       subst (IsNeededIn f v) (sym (ap (λ (p : ℕ × ℕ). p.0) found.1.1))
       (by_use found.0 found.1.0 (subst (λ (w : ℕ). HasBit w c) (ap (λ (p : ℕ × ℕ). p.1) found.1.1) has)))
-      (listed_append (node, word) (open_starts 0 opens) (map (use_start numbers chunk stops) uses) listed)
+      (listed_append (node, word) (open_starts 0 opens) (map (use_start numbers chunk stops) uses) (in_reverse (node, word) (open_starts 0 opens ++ map (use_start numbers chunk stops) uses) listed))
   to_needed _ (Edge e x y word there kept_is has before) =
       let word_same : word ≡ kept_back stops (x, y) = same_place (slice_get (map (kept_back stops) back) e) word (kept_back stops (x, y)) kept_is (word_is e x y there) in
       let edge : IsListed (y, x) (block_edges f) = turned_edge x y (listed_at back e (x, y) there) in
@@ -216,14 +229,14 @@ module _ (f : Function) (numbers : List (Option ℕ)) (chunk v c : ℕ) (o : IsO
   from_needed _ (Open b out h) =
       let has : HasBit (word_at opens b) c = subst (λ (w : ℕ). HasBit w c) (sym (word_set_other (map (block_open numbers chunk) f.blocks) (end_block f) b 0 out)) (told_opens numbers chunk v c o f b h) in
       Start b (word_at opens b)
-      (listed_front (b, word_at opens b) (open_starts 0 opens) (map (use_start numbers chunk stops) uses)
-      (let z : 0 + b ≡ b = omega arith in subst (λ (n : ℕ). IsListed (n, word_at opens b) (open_starts 0 opens)) z (listed_open 0 opens b (word_at opens b) (word_within opens b (within_words opens b c has)))))
+      (reverse_in (b, word_at opens b) (open_starts 0 opens ++ map (use_start numbers chunk stops) uses) (listed_front (b, word_at opens b) (open_starts 0 opens) (map (use_start numbers chunk stops) uses)
+      (let z : 0 + b ≡ b = omega arith in subst (λ (n : ℕ). IsListed (n, word_at opens b) (open_starts 0 opens)) z (listed_open 0 opens b (word_at opens b) (word_within opens b (within_words opens b c has))))))
       has
   from_needed _ (ByUse from to out none edge used) =
       let u : EdgeUse = edge_use from to v in
       Start from (without (value_word numbers chunk v) (word_at stops from))
-      (listed_back (from, without (value_word numbers chunk v) (word_at stops from)) (open_starts 0 opens) (map (use_start numbers chunk stops) uses)
-      (map_listed (use_start numbers chunk stops) u uses (filter_in (is_edge (block_edges f)) u (edge_uses f) used (listed_edge (block_edges f) from to edge))))
+      (reverse_in (from, without (value_word numbers chunk v) (word_at stops from)) (open_starts 0 opens ++ map (use_start numbers chunk stops) uses) (listed_back (from, without (value_word numbers chunk v) (word_at stops from)) (open_starts 0 opens) (map (use_start numbers chunk stops) uses)
+      (map_listed (use_start numbers chunk stops) u uses (filter_in (is_edge (block_edges f)) u (edge_uses f) used (listed_edge (block_edges f) from to edge)))))
       (still_without (value_word numbers chunk v) (word_at stops from) c o.small o.own (not_stopped from out none))
   from_needed _ (ByEdge from to out none edge needed) =
       let found = place_of back (to, from) (map_listed turned (from, to) (block_edges f) edge) in

@@ -1,5 +1,5 @@
 -- Words of 64 values: what blocks make and use, and what comes of it at the suspends.
-use Rattle.std.specs.Prelude.{ℕ, zero, suc, Bool, true, false, List, [], length, map, replicate, slice_get, slice_set, Some, None, Option, unwrap_or, filter, bit_and, bit_or, bit_xor, ◌≡◌, ◌+◌, ◌/◌, ◌%◌, ◌<◌, ◌==◌, ◌∷◌, ◌++◌}
+use Rattle.std.specs.Prelude.{ℕ, zero, suc, Bool, true, false, List, [], length, map, replicate, reverse, slice_get, slice_set, Some, None, Option, unwrap_or, filter, bit_and, bit_or, bit_xor, ◌≡◌, ◌+◌, ◌/◌, ◌%◌, ◌<◌, ◌==◌, ◌∷◌, ◌++◌}
 use Rattle.bit_reach.specs.Bits.{HasBit}
 use Rattle.block_paths.specs.Edges.{block_edges, graph_of}
 use Rattle.block_paths.specs.Words.{word_at}
@@ -87,6 +87,10 @@ open_starts at (w ∷ ws) = (at, w) ∷ open_starts (at + 1) ws
 
 abbrev pub use_start : List (Option ℕ) → ℕ → List ℕ → EdgeUse → ℕ × ℕ
 use_start numbers chunk stops u = (u.from, without (value_word numbers chunk u.value) (word_at stops u.from))
+
+-- the last block first, since need goes backward
+abbrev pub needed_starts : List (Option ℕ) → ℕ → List ℕ → List ℕ → List EdgeUse → List (ℕ × ℕ)
+needed_starts numbers chunk stops opens uses = reverse (open_starts 0 opens ++ map (use_start numbers chunk stops) uses)
 
 -- ---- the suspends
 

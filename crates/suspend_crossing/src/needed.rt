@@ -3,7 +3,7 @@
 ghost use Rattle.std.specs.Prelude.{◌≡◌, ◌∷◌, ◌++◌, ℕ, [], IfOk, OnOk, Some, length, map, replicate, slice_get, slice_set};
 ghost use Rattle.bit_reach.specs.Reaching.{AnswersAt};
 ghost use Rattle.definite_use.specs.Questions.{all_bits};
-ghost use Rattle.suspend_crossing.specs.Words.{IsPlanOf, kept_back, made_starts, open_starts, params_word as word_of_params, use_start as start_of_use};
+ghost use Rattle.suspend_crossing.specs.Words.{IsPlanOf, kept_back, made_starts, needed_starts, open_starts, params_word as word_of_params, use_start as start_of_use};
 
 use crate::edge_use::EdgeUse;
 use crate::plan::Plan;
@@ -118,11 +118,12 @@ pub fn needed_words(
     requires plan { IsPlanOf function.now plan.now }
     requires opens { length opens.now ≡ length function.now.blocks }
     ensures nodes { IfOk result (λ words. length words.items ≡ plan.now.back.nodes) }
-    ensures words { IfOk result (λ words. (node word : ℕ) → slice_get words.items node ≡ Some word → AnswersAt plan.now.back.edges (map (kept_back stops.now) plan.now.back.edges) (open_starts 0 opens.now ++ map (start_of_use numbers.now chunk stops.now) plan.now.uses) node word) }
+    ensures words { IfOk result (λ words. (node word : ℕ) → slice_get words.items node ≡ Some word → AnswersAt plan.now.back.edges (map (kept_back stops.now) plan.now.back.edges) (needed_starts numbers.now chunk stops.now opens.now plan.now.uses) node word) }
 {
     let kept = kept_words(alloc, plan.back.edges.as_slice(), stops)?;
     let mut starts = Vec::new(alloc);
     push_open(&mut starts, opens)?;
     push_uses(&mut starts, numbers, chunk, stops, plan.uses.as_slice())?;
+    starts.reverse();
     reached(alloc, &plan.back, starts.as_slice(), kept.as_slice())
 }
