@@ -16,7 +16,7 @@ use Rattle.suspend_crossing.specs.Crossing.{AreCrossed, CrossedBy, Crosses, susp
 use Rattle.suspend_crossing.specs.Crossing.AreCrossed.{NoMore, Taken, LeftOut}
 use Rattle.suspend_crossing.specs.Crossing.CrossedBy.{Nothing, More}
 use Rattle.suspend_crossing.specs.Values.{values_of}
-use Rattle.suspend_crossing.specs.Words.{AreNumbered, AreTold, TellChunk, mark_unless, marked_from, pair_if, pairs_in}
+use Rattle.suspend_crossing.specs.Words.{AreNumbered, AreTold, AreValues, TellChunk, mark_unless, marked_from, pair_if, pairs_in}
 use Rattle.suspend_crossing.specs.Words.AreTold.{Nothing as NoneTold, More as MoreTold}
 
 -- ---- one value
@@ -42,17 +42,17 @@ one_crossed f _ _ v here (More u vs first rest b more) a =
     subst (CrossedBy f (u ∷ (vs ++ v ∷ []))) (sym (append_assoc first rest here))
     (More u (vs ++ v ∷ []) first (rest ++ here) b (one_crossed f vs rest v here more a))
 
-same_chunk : (chunk n : ℕ) → chunk * 64 ≤ n → n < chunk * 64 + 64 → n / 64 ≡ chunk
+pub same_chunk : (chunk n : ℕ) → chunk * 64 ≤ n → n < chunk * 64 + 64 → n / 64 ≡ chunk
 same_chunk chunk n le lt = omega arith
 
-pub more_crossed : (f : Function) (numbers : List (Option ℕ)) (values xs : List ℕ) (words : List ℕ) (marked marked2 all all2 : List (ℕ × ℕ)) (chunk start n : ℕ) → AreNumbered (length f.names) numbers values → values ≡ values_of f → TellChunk f numbers chunk words →
+pub more_crossed : (f : Function) (numbers : List (Option ℕ)) (values xs : List ℕ) (words : List ℕ) (marked marked2 all all2 : List (ℕ × ℕ)) (chunk start n : ℕ) → AreNumbered (length f.names) numbers values → AreValues f values → TellChunk f numbers chunk words →
     xs ≡ values → start ≡ chunk * 64 → start ≤ n → n < start + 64 → n < length xs → marked ≡ marked_from 0 words → marked2 ≡ marked → all2 ≡ all ++ pairs_in (get_or xs n 0) (n % 64) marked2 →
     CrossedBy f (take n values) all → CrossedBy f (take (n + 1) values) all2
 more_crossed f numbers values xs words marked marked2 all all2 chunk start n numbered values_are tell xs_are start_is le lt within marked_is marked_same all_is crossed =
     subst (CrossedBy f (take (n + 1) values)) (sym (all_is ∙ ap (λ (m : List (ℕ × ℕ)). all ++ pairs_in (get_or xs n 0) (n % 64) m) (marked_same ∙ marked_is) ∙ ap (λ (l : List ℕ). all ++ pairs_in (get_or l n 0) (n % 64) (marked_from 0 words)) xs_are))
     (subst (λ (l : List ℕ). CrossedBy f l (all ++ pairs_in v (n % 64) (marked_from 0 words))) (sym (take_more values n 0 inside))
     (one_crossed f (take n values) all v (pairs_in v (n % 64) (marked_from 0 words)) crossed
-    (told_crossed f v (n % 64) 0 (suspends_of f) words (tell v n (numbered.numbered v n at) (same_chunk chunk n (omega (arith, le, start_is)) (omega (arith, lt, start_is))) (subst (IsListed v) values_are (listed_at values n v at))))))
+    (told_crossed f v (n % 64) 0 (suspends_of f) words (tell v n (numbered.numbered v n at) (same_chunk chunk n (omega (arith, le, start_is)) (omega (arith, lt, start_is))) (values_are v (listed_at values n v at))))))
   where
     v : ℕ
     v = get_or values n 0
@@ -65,7 +65,7 @@ more_crossed f numbers values xs words marked marked2 all all2 chunk start n num
 
 -- ---- all of them
 
-take_all : (xs : List ℕ) (n : ℕ) → length xs ≤ n → take n xs ≡ xs
+pub take_all : (xs : List ℕ) (n : ℕ) → length xs ≤ n → take n xs ≡ xs
 take_all [] zero le = refl
 take_all [] (suc n) le = refl
 take_all (x ∷ xs) zero le = absurd (omega arith)
@@ -87,5 +87,5 @@ pub none_crossed : (f : Function) (values : List ℕ) → CrossedBy f (take 0 va
 none_crossed f [] = Nothing
 none_crossed f (v ∷ vs) = Nothing
 
-pub all_crossed : (f : Function) (values : List ℕ) (pairs : List (ℕ × ℕ)) (n : ℕ) → values ≡ values_of f → length values ≤ n → CrossedBy f (take n values) pairs → CrossedBy f (values_of f) pairs
-all_crossed f values pairs n are le crossed = subst (λ (l : List ℕ). CrossedBy f l pairs) (take_all values n le ∙ are) crossed
+pub all_crossed : (f : Function) (values : List ℕ) (pairs : List (ℕ × ℕ)) (n : ℕ) → length values ≤ n → CrossedBy f (take n values) pairs → CrossedBy f values pairs
+all_crossed f values pairs n le crossed = subst (λ (l : List ℕ). CrossedBy f l pairs) (take_all values n le) crossed

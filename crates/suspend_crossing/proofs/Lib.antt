@@ -9,4 +9,5 @@ pub mod Solving
 pub mod Seeing
 pub mod Telling
 pub mod Crossed
-pub mod Chunks
+pub mod ChunkWords
+pub mod FarValues

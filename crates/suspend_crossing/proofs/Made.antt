@@ -195,7 +195,7 @@ module _ (numbers : List (Option ℕ)) (chunk v c : ℕ) (o : IsOwn numbers chun
       let p = ⊎_elim (λ none. absurd (no_bit c none)) (λ k. k) (open_told (phis_word numbers chunk 0 b.phis) 0 b.instrs b.term h) in
       (λ k. p.0 ((phi_values_told b).1 k), p.1)
 
-  open_some : (x : Option Block) → IsOpenIn v x → HasBit (unwrap_or (option_map (block_open numbers chunk) x) 0) c
+  pub open_some : (x : Option Block) → IsOpenIn v x → HasBit (unwrap_or (option_map (block_open numbers chunk) x) 0) c
   open_some None h = absurd h
   open_some (Some b) h = told_open (phis_word numbers chunk 0 b.phis) 0 b.instrs b.term (inr (λ k. h.0 ((phi_values_told b).0 k), h.1))
 

@@ -41,6 +41,7 @@ pub record IsPlanOf (f : Function) (p : Plan) : Type 0 where
   pub back : p.back ≡ record { nodes = length f.blocks + 1; edges = map turned (block_edges f) }
   pub end : p.end ≡ end_block f
   pub ways : p.ways ≡ map (way_of f) f.blocks
+  pub phis : p.phis ≡ edge_uses f
   pub uses : p.uses ≡ filter (is_edge (block_edges f)) (edge_uses f)
   pub behind : p.behind ≡ filter (is_behind p.ways) (edge_uses f)
 
@@ -75,6 +76,32 @@ abbrev pub use_words : List (Option ℕ) → ℕ → List ℕ → List EdgeUse �
 use_words numbers chunk words [] = words
 use_words numbers chunk words (u ∷ us) =
     use_words numbers chunk (slice_set words u.from (bit_or (word_at words u.from) (value_word numbers chunk u.value))) us
+
+-- ---- values that are used where they aren't made
+
+abbrev pub opens_mask : List (Option ℕ) → ℕ → ℕ → List Block → ℕ
+opens_mask numbers chunk word [] = word
+opens_mask numbers chunk word (b ∷ bs) = opens_mask numbers chunk (bit_or word (block_open numbers chunk b)) bs
+
+abbrev pub uses_mask : List (Option ℕ) → ℕ → ℕ → List EdgeUse → ℕ
+uses_mask numbers chunk word [] = word
+uses_mask numbers chunk word (u ∷ us) = uses_mask numbers chunk (bit_or word (value_word numbers chunk u.value)) us
+
+-- the values of a chunk that some block uses before making them, or some phi
+abbrev pub far_mask : List (Option ℕ) → ℕ → List Block → List EdgeUse → ℕ
+far_mask numbers chunk blocks uses = uses_mask numbers chunk (opens_mask numbers chunk 0 blocks) uses
+
+abbrev pub is_far_at : List (Option ℕ) → List Block → List EdgeUse → Option (Option ℕ) → Bool
+is_far_at numbers blocks uses (Some (Some k)) = has_bit (far_mask numbers (k / 64) blocks uses) (k % 64)
+is_far_at numbers blocks uses _ = false
+
+-- no other value is needed from the front of a block on
+abbrev pub is_far : List (Option ℕ) → List Block → List EdgeUse → ℕ → Bool
+is_far numbers blocks uses v = is_far_at numbers blocks uses (slice_get numbers v)
+
+abbrev pub value_if : Bool → ℕ → List ℕ
+value_if true v = v ∷ []
+value_if false v = []
 
 -- ---- where the questions begin
 
@@ -126,6 +153,10 @@ pub data AreTold (f : Function) (v c : ℕ) : List Point → List ℕ → Type 0
 abbrev pub TellChunk : Function → List (Option ℕ) → ℕ → List ℕ → Type 0
 TellChunk f numbers chunk words =
     (v k : ℕ) → slice_get numbers v ≡ Some (Some k) → k / 64 ≡ chunk → IsListed v (values_of f) → AreTold f v (k % 64) (suspends_of f) words
+
+-- these are values of the function
+abbrev pub AreValues : Function → List ℕ → Type 0
+AreValues f values = (v : ℕ) → IsListed v values → IsListed v (values_of f)
 
 -- ---- pairs
 

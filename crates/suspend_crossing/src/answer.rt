@@ -1,10 +1,11 @@
 //! The values that cross suspends.
 
-ghost use Rattle.std.specs.Prelude.{◌≡◌, ◌<◌, ◌≤◌, ◌*◌, ◌+◌, ℕ, IfOk, OnOk, length, take};
+ghost use Rattle.std.specs.Prelude.{◌<◌, ◌*◌, ◌+◌, IfOk, OnOk, length, take};
 ghost use Rattle.suspend_crossing.specs.Crossing.{AreCrossing, CrossedBy};
-ghost use Rattle.suspend_crossing.specs.Values.{values_of};
-ghost use Rattle.suspend_crossing.specs.Words.{AreNumbered, IsPlanOf};
+ghost use Rattle.suspend_crossing.specs.Words.{AreNumbered, AreValues, IsPlanOf};
 
+use crate::chunks::{chunk_end, chunks_of};
+use crate::far::far_numbers;
 use crate::numbers::{Numbers, numbers_of};
 use crate::pairs::{chunk_words, marked, push_pairs};
 use crate::plan::{Plan, plan_of};
@@ -12,33 +13,6 @@ use crate::values::all_defined;
 use coro_base::{Items, SuspendId, ValueId};
 use ir_model::Function;
 use std::alloc::{AllocError, Global};
-
-/// How many chunks of 64 hold so many.
-fn chunks_of(count: usize) -> usize
-    ensures all { count ≤ result * 64 }
-    ensures needed { (k : ℕ) → k < result → k * 64 < count }
-{
-    if count % 64 == 0 {
-        count / 64
-    } else {
-        count / 64 + 1
-    }
-}
-
-/// Behind the last number of a chunk.
-fn chunk_end(count: usize, start: usize) -> usize
-    requires { start ≤ count }
-    ensures from { start ≤ result }
-    ensures within { result ≤ count }
-    ensures at_most { result ≤ start + 64 }
-    ensures whole { result < start + 64 → result ≡ count }
-{
-    if count - start < 64 {
-        count
-    } else {
-        start + 64
-    }
-}
 
 /// Adds the pairs of the values of a chunk.
 fn push_chunk(
@@ -51,7 +25,7 @@ fn push_chunk(
 ) -> Result<(), AllocError>
     requires plan { IsPlanOf function.now plan.now }
     requires numbers { AreNumbered (length function.now.names) all.now.numbers all.now.values }
-    requires values { all.now.values ≡ values_of function.now }
+    requires values { AreValues function.now all.now.values }
     requires chunk { chunk * 64 < length all.now.values }
     requires crossed { CrossedBy function.now (take (chunk * 64) all.now.values) pairs.old }
     ensures { OnOk result (CrossedBy function.now (take (chunk * 64 + 64) all.now.values) pairs.new) }
@@ -79,7 +53,8 @@ pub fn crossing(
 {
     let plan = plan_of(alloc, function)?;
     let defined = all_defined(alloc, function)?;
-    let all = numbers_of(alloc, function.names.len(), defined.as_slice())?;
+    let known = numbers_of(alloc, function.names.len(), defined.as_slice())?;
+    let all = far_numbers(alloc, function, &plan, &known)?;
     let mut pairs = Items::new(alloc);
     for chunk in 0..chunks_of(all.values.len()) {
         push_chunk(alloc, function, &plan, &all, chunk, &mut pairs)?;

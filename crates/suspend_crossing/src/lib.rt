@@ -3,8 +3,10 @@
 #![tactic(auto)]
 
 mod answer;
+mod chunks;
 mod edge_use;
 mod edges;
+mod far;
 mod needed;
 mod numbers;
 mod pairs;

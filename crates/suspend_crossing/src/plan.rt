@@ -29,9 +29,11 @@ pub struct Plan {
     pub end: BlockId,
     /// For each block where the edges of 0 and of 1 of its switch lead.
     pub ways: Items<(BlockId, BlockId)>,
-    /// The uses of phis, of those edges that there are.
+    /// The uses of phis.
+    pub phis: Items<EdgeUse>,
+    /// The same, of those edges that there are.
     pub uses: Items<EdgeUse>,
-    /// The uses of phis on those ways.
+    /// The same, on those ways.
     pub behind: Items<EdgeUse>,
 }
 
@@ -236,9 +238,9 @@ pub fn plan_of(alloc: Global, function: &Function) -> Result<Plan, AllocError>
     let graph = block_graph(alloc, function)?;
     let turned = turned_edges(alloc, graph.edges.as_slice())?;
     let ways = ways_of(alloc, function, &table)?;
-    let found = edge_uses(alloc, function, &table)?;
-    let uses = on_edges(alloc, graph.edges.as_slice(), found.as_slice())?;
-    let behind = on_ways(alloc, ways.as_slice(), found.as_slice())?;
+    let phis = edge_uses(alloc, function, &table)?;
+    let uses = on_edges(alloc, graph.edges.as_slice(), phis.as_slice())?;
+    let behind = on_ways(alloc, ways.as_slice(), phis.as_slice())?;
     let back = Graph {
         nodes: graph.nodes,
         edges: turned,
@@ -248,6 +250,7 @@ pub fn plan_of(alloc: Global, function: &Function) -> Result<Plan, AllocError>
         back,
         end: end_block(function),
         ways,
+        phis,
         uses,
         behind,
     })

@@ -259,7 +259,8 @@ fn open_word(
     found | without(ending_uses(numbers, chunk, term), made)
 }
 
-fn block_open(numbers: &Items<Option<usize>>, chunk: usize, block: &Block) -> u64
+/// The word of what a block uses before making it.
+pub fn block_open(numbers: &Items<Option<usize>>, chunk: usize, block: &Block) -> u64
     ensures { result ≡ open_of_block numbers.now chunk block.now }
 {
     let phis = phis_word(numbers, chunk, 0, block.phis.as_slice());

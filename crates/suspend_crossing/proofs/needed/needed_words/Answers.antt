@@ -1,7 +1,7 @@
 use Rattle.std.proofs.Common.{◌∙◌, ap, ◌++◌, [], List, ℕ, sym}
 use Rattle.std.specs.Prelude.{reverse}
 use Rattle.suspend_crossing.specs.Words.{open_starts}
-use Rattle.suspend_crossing.proofs.Chunks.{back_has_nodes, needed_within}
+use Rattle.suspend_crossing.proofs.ChunkWords.{back_has_nodes, needed_within}
 use Rattle.suspend_crossing.proofs.needed.needed_words.Goals as goal
 
 pub reached-requires-clause-edges : goal.reached-requires-clause-edges

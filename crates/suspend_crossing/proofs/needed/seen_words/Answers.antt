@@ -1,7 +1,7 @@
 use Rattle.std.proofs.Common.{◌∙◌, ap, ◌++◌, List, ℕ, sym}
 use Rattle.block_paths.proofs.Making.{graph_has_nodes}
 use Rattle.suspend_crossing.specs.Words.{made_starts}
-use Rattle.suspend_crossing.proofs.Chunks.{made_within}
+use Rattle.suspend_crossing.proofs.ChunkWords.{made_within}
 use Rattle.suspend_crossing.proofs.needed.seen_words.Goals as goal
 
 pub reached-requires-clause-edges : goal.reached-requires-clause-edges

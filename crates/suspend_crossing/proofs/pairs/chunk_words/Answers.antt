@@ -1,7 +1,7 @@
 use Rattle.std.proofs.Common.{◌∙◌, List, ℕ, ap, length, refl}
 use Rattle.std.specs.Prelude.{slice_set}
 use Rattle.block_paths.proofs.Making.{of_ok}
-use Rattle.suspend_crossing.proofs.Chunks.{chunk_told}
+use Rattle.suspend_crossing.proofs.ChunkWords.{chunk_told}
 use Rattle.suspend_crossing.proofs.pairs.chunk_words.Goals as goal
 
 pub returns : goal.returns
