@@ -1,22 +1,21 @@
 -- Blocks, their edges and what stands at their points.
-use Rattle.std.proofs.Common.{◌≡◌, ℕ, zero, suc, ◌+◌, ◌<◌, ◌≤◌, ◌⊎◌, Bool, true, false, List, [], ◌∷◌, ◌++◌, length, map, Some, None, Option, refl, sym, ap, ◌∙◌, subst, ⊎_elim, inl, inr, arith, eq-eqb}
+use Rattle.std.proofs.Common.{◌≡◌, ℕ, zero, suc, ◌+◌, ◌⊎◌, Bool, List, [], ◌∷◌, ◌++◌, length, map, Some, None, Option, refl, sym, ap, ◌∙◌, subst, ⊎_elim, inl, inr, arith, eq-eqb}
 use Rattle.std.specs.Prelude.{option_to_list, slice_get, ◌==◌}
 use Rattle.std.proofs.lemmas.List.{length-append}
 use Rattle.std.proofs.lemmas.Option.{slice_get_past}
 use Rattle.block_paths.proofs.Elements.{listed_append, listed_map, map_listed}
 use Rattle.block_paths.specs.Edges.{block_edges, edges_of_blocks, edges_out}
 use Rattle.definite_use.specs.Uses.{block_values, made_by_instrs, phi_values, values_at, values_in}
-use Rattle.flow_solver.proofs.Lists.{listed_front, same_place}
+use Rattle.flow_solver.proofs.Lists.{listed_front}
 use Rattle.flow_solver.specs.Paths.{IsListed}
 use Rattle.function_parts.specs.Contents.{result_of}
 use Rattle.ir_model.specs.Names.{position_of}
 use Rattle.ir_model.specs.declared.instr.Instr.{Instr}
-use Rattle.ir_model.specs.declared.instr.Terminator.{Terminator}
 use Rattle.ir_model.specs.declared.module.Block.{Block}
 use Rattle.ir_model.specs.declared.module.Function.{Function}
 use Rattle.ir_paths.specs.Paths.{targets}
-use Rattle.ordinary_step.specs.Step.{Fetched, Nowhere, AtInstr, AtTerm, fetch, fetch_in, fetch_or}
-use Rattle.suspend_crossing.specs.Paths.{BranchesTo, phis_at, phis_in}
+use Rattle.ordinary_step.specs.Step.{AtInstr, AtTerm, fetch, fetch_in, fetch_or}
+use Rattle.suspend_crossing.specs.Paths.{phis_at, phis_in}
 
 pub listed_back : {X : Type 0} (y : X) (xs zs : List X) → IsListed y zs → IsListed y (xs ++ zs)
 listed_back y [] zs h = h

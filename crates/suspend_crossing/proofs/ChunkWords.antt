@@ -1,5 +1,5 @@
 -- What the functions of a chunk give, put together.
-use Rattle.std.proofs.Common.{◌≡◌, ℕ, ◌+◌, ◌%◌, ◌<◌, ◌⊎◌, List, [], ◌∷◌, ◌++◌, length, map, replicate, Some, None, Option, refl, sym, ap, ◌∙◌, subst, ⊎_elim, arith}
+use Rattle.std.proofs.Common.{◌≡◌, ℕ, ◌+◌, ◌%◌, ◌<◌, List, ◌∷◌, ◌++◌, length, map, replicate, Some, Option, sym, ap, ◌∙◌, subst, ⊎_elim, arith}
 use Rattle.std.specs.Prelude.{filter, reverse, slice_get, slice_set}
 use Rattle.bit_reach.specs.Reaching.{AnswersAt, StartAt}
 use Rattle.block_paths.proofs.Bounds.{edge_bounded}

@@ -1,5 +1,5 @@
 -- Pairs of values and suspends, value after value.
-use Rattle.std.proofs.Common.{◌≡◌, ℕ, zero, suc, ◌+◌, ◌*◌, ◌/◌, ◌%◌, ◌<◌, ◌≤◌, ◌⊎◌, Bool, true, false, List, [], ◌∷◌, ◌++◌, length, take, get_or, Some, None, Option, refl, sym, ap, ◌∙◌, subst, ⊎_elim, inl, inr, arith, append_assoc}
+use Rattle.std.proofs.Common.{◌≡◌, ℕ, zero, suc, ◌+◌, ◌*◌, ◌/◌, ◌%◌, ◌<◌, ◌≤◌, Bool, true, false, List, [], ◌∷◌, ◌++◌, length, take, get_or, Some, Option, refl, sym, ap, ◌∙◌, subst, ⊎_elim, arith, append_assoc}
 use Rattle.std.specs.Prelude.{slice_get, ◌==◌}
 use Rattle.std.specs.Int.{bit_at}
 use Rattle.std.proofs.lemmas.Bool.{eq-eqb, eqb-true, false≢true}
@@ -8,14 +8,12 @@ use Rattle.std.proofs.lemmas.Option.{slice_get-get_or}
 use Rattle.bit_reach.specs.Bits.{HasBit}
 use Rattle.definite_use.specs.Questions.{has_bit}
 use Rattle.flow_solver.proofs.Lists.{listed_at}
-use Rattle.flow_solver.specs.Paths.{IsListed}
 use Rattle.ir_model.specs.declared.module.Function.{Function}
 use Rattle.ir_paths.specs.declared.point.Point.{Point}
 use Rattle.suspend_crossing.proofs.Bits.{no_bit}
 use Rattle.suspend_crossing.specs.Crossing.{AreCrossed, CrossedBy, Crosses, suspends_of}
 use Rattle.suspend_crossing.specs.Crossing.AreCrossed.{NoMore, Taken, LeftOut}
 use Rattle.suspend_crossing.specs.Crossing.CrossedBy.{Nothing, More}
-use Rattle.suspend_crossing.specs.Values.{values_of}
 use Rattle.suspend_crossing.specs.Words.{AreNumbered, AreTold, AreValues, TellChunk, mark_unless, marked_from, pair_if, pairs_in}
 use Rattle.suspend_crossing.specs.Words.AreTold.{Nothing as NoneTold, More as MoreTold}
 

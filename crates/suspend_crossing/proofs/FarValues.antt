@@ -1,14 +1,14 @@
 -- Values that are used in no block but those that make them before, and by no phi, cross nothing.
-use Rattle.std.proofs.Common.{◌≡◌, ℕ, zero, suc, ◌+◌, ◌*◌, ◌/◌, ◌%◌, ◌<◌, ◌≤◌, ◌⊎◌, Bool, true, false, List, [], ◌∷◌, ◌++◌, filter, length, take, get_or, Some, None, Option, refl, sym, ap, ◌∙◌, subst, ⊎_elim, inl, inr, arith}
+use Rattle.std.proofs.Common.{◌≡◌, ℕ, zero, suc, ◌+◌, ◌*◌, ◌/◌, ◌%◌, ◌<◌, ◌≤◌, ◌⊎◌, Bool, true, false, List, [], ◌∷◌, ◌++◌, filter, length, take, get_or, Some, Option, refl, sym, ap, ◌∙◌, subst, ⊎_elim, inl, inr, arith}
 use Rattle.std.specs.Prelude.{bit_or, slice_get, if◌then◌else◌, ◌==◌, ◌||◌}
 use Rattle.std.specs.Int.{bit_at}
 use Rattle.std.proofs.lemmas.Bool.{cases_lt, eq-eqb, eqb-true, false≢true}
-use Rattle.std.proofs.lemmas.List.{append-nil, length-append, take_more}
+use Rattle.std.proofs.lemmas.List.{append-nil, take_more}
 use Rattle.std.proofs.lemmas.List.Elements.{filter-append}
 use Rattle.std.proofs.lemmas.Option.{slice_get-get_or, slice_get_within}
 use Rattle.bit_reach.specs.Bits.{HasBit}
-use Rattle.definite_use.specs.Questions.{IsNumbering, has_bit, value_word}
-use Rattle.flow_solver.proofs.Lists.{listed_at, place_of, same_place}
+use Rattle.definite_use.specs.Questions.{has_bit, value_word}
+use Rattle.flow_solver.proofs.Lists.{place_of}
 use Rattle.flow_solver.specs.Paths.{IsListed}
 use Rattle.ir_model.specs.declared.module.Block.{Block}
 use Rattle.ir_model.specs.declared.module.Function.{Function}
@@ -24,11 +24,11 @@ use Rattle.suspend_crossing.proofs.Solving.{in_filter}
 use Rattle.suspend_crossing.proofs.Walks.{IsNeededIn, IsOpenIn, from_edge}
 use Rattle.suspend_crossing.proofs.Walks.IsNeededIn.{Open, ByUse, ByEdge}
 use Rattle.suspend_crossing.specs.Crossing.{AreCrossed, CrossedBy, Crosses, suspends_of}
-use Rattle.suspend_crossing.specs.Crossing.AreCrossed.{NoMore, Taken, LeftOut}
+use Rattle.suspend_crossing.specs.Crossing.AreCrossed.{NoMore, LeftOut}
 use Rattle.suspend_crossing.specs.Crossing.CrossedBy.{Nothing, More}
 use Rattle.suspend_crossing.specs.EdgeUses.{IsUsedOn, edge_use, edge_uses}
 use Rattle.suspend_crossing.specs.Paths.{IsNeededBehind}
-use Rattle.suspend_crossing.specs.Values.{all_defined, distinct, values_of, with_new}
+use Rattle.suspend_crossing.specs.Values.{distinct, values_of, with_new}
 use Rattle.suspend_crossing.specs.Words.{AreNumbered, block_open, far_mask, is_far, is_far_at, opens_mask, uses_mask, value_if}
 use Rattle.suspend_crossing.specs.declared.edge_use.EdgeUse.{EdgeUse}
 

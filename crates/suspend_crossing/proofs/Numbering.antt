@@ -1,11 +1,11 @@
 -- Values get numbers in the order in which they first come.
-use Rattle.std.proofs.Common.{◌≡◌, ℕ, zero, suc, ◌+◌, ◌<◌, ◌≤◌, ◌⊎◌, Bool, true, false, List, [], ◌∷◌, ◌++◌, length, drop, get_or, replicate, Some, None, Option, refl, sym, ap, ◌∙◌, subst, ⊎_elim, inl, inr, arith, eq-eqb}
+use Rattle.std.proofs.Common.{◌≡◌, ℕ, zero, suc, ◌+◌, ◌<◌, ◌⊎◌, Bool, true, false, List, [], ◌∷◌, ◌++◌, length, drop, get_or, replicate, Some, None, Option, refl, sym, ap, ◌∙◌, subst, ⊎_elim, inl, inr, arith, eq-eqb}
 use Rattle.std.specs.Prelude.{slice_get, slice_set, if◌then◌else◌, ◌==◌, ◌||◌}
-use Rattle.std.proofs.lemmas.Bool.{cases_eq, eqb-true}
-use Rattle.std.proofs.lemmas.List.{length-append, length-replicate, length-set}
+use Rattle.std.proofs.lemmas.Bool.{eqb-true}
+use Rattle.std.proofs.lemmas.List.{length-replicate, length-set}
 use Rattle.std.proofs.lemmas.Option.{slice_get_within}
-use Rattle.definite_use.specs.Questions.{GetsNumber, HasNumber, IsNumbering}
-use Rattle.flow_solver.proofs.Lists.{drop-next, same_place, set_cases, set_here, set_other}
+use Rattle.definite_use.specs.Questions.{GetsNumber, HasNumber}
+use Rattle.flow_solver.proofs.Lists.{set_cases, set_here, set_other}
 use Rattle.ir_paths.specs.Slots.{has_name}
 use Rattle.ordinary_step.proofs.LabelPositions.{slice_get-replicate}
 use Rattle.suspend_crossing.specs.Values.{distinct, with_new}

@@ -1,8 +1,8 @@
 -- Values that are defined before a point, by paths of blocks and by the words that are solved for.
-use Rattle.std.proofs.Common.{◌≡◌, ℕ, zero, suc, ◌+◌, ◌<◌, ◌≤◌, ◌⊎◌, Bool, List, [], ◌∷◌, ◌++◌, length, map, replicate, Some, None, Option, refl, sym, ap, ◌∙◌, subst, ⊎_elim, inl, inr, arith}
+use Rattle.std.proofs.Common.{◌≡◌, ℕ, zero, suc, ◌+◌, ◌<◌, ◌⊎◌, Bool, List, [], ◌∷◌, ◌++◌, length, map, replicate, Some, None, Option, refl, sym, ap, ◌∙◌, subst, ⊎_elim, inl, inr, arith}
 use Rattle.std.specs.Prelude.{slice_get}
 use Rattle.std.proofs.lemmas.Bool.{cases_lt}
-use Rattle.std.proofs.lemmas.List.{append-nil, length-append}
+use Rattle.std.proofs.lemmas.List.{append-nil}
 use Rattle.std.proofs.lemmas.Option.{slice_get_within}
 use Rattle.bit_reach.specs.Bits.{HasBit}
 use Rattle.bit_reach.specs.Reaching.{AnswersAt, Reaches}
@@ -14,16 +14,15 @@ use Rattle.block_paths.specs.Edges.{block_edges}
 use Rattle.block_paths.specs.Words.{word_at}
 use Rattle.definite_use.specs.Questions.{all_bits, block_word}
 use Rattle.definite_use.specs.Undefined.{params_of}
-use Rattle.definite_use.specs.Uses.{block_values, phi_values, values_at}
-use Rattle.flow_solver.proofs.Lists.{listed_at, place_of, same_place}
+use Rattle.definite_use.specs.Uses.{phi_values, values_at}
+use Rattle.flow_solver.proofs.Lists.{listed_at, place_of}
 use Rattle.flow_solver.specs.Paths.{IsListed}
 use Rattle.function_parts.specs.Contents.{result_of}
 use Rattle.ir_model.specs.Names.{position_of}
 use Rattle.ir_model.specs.declared.instr.Instr.{Instr}
 use Rattle.ir_model.specs.declared.module.Block.{Block}
 use Rattle.ir_model.specs.declared.module.Function.{Function}
-use Rattle.ordinary_step.proofs.LabelPositions.{slice_get-replicate}
-use Rattle.ordinary_step.specs.Step.{Fetched, Nowhere, AtInstr, AtTerm, fetch, fetch_in, fetch_or}
+use Rattle.ordinary_step.specs.Step.{AtInstr, fetch, fetch_in, fetch_or}
 use Rattle.suspend_crossing.proofs.Bits.{IsOwn, all_bit, no_bit}
 use Rattle.suspend_crossing.proofs.Blocks.{HasTarget, IsMadeIn, at_instr, at_term, edge_is_out, length_further, made_before, made_in, made_split, one_further, phis_are, target_is_edge, values_are}
 use Rattle.suspend_crossing.proofs.Made.{made_told, params_told}

@@ -1,5 +1,5 @@
 -- The words that are solved for are the needed values by paths of blocks.
-use Rattle.std.proofs.Common.{◌≡◌, ◌≢◌, ℕ, zero, suc, ◌+◌, ◌<◌, ◌≤◌, ◌⊎◌, Bool, true, false, List, [], ◌∷◌, ◌++◌, length, map, Some, None, Option, refl, sym, ap, ◌∙◌, subst, ⊎_elim, inl, inr, arith, eq-eqb}
+use Rattle.std.proofs.Common.{◌≡◌, ◌≢◌, ℕ, zero, suc, ◌+◌, ◌<◌, ◌⊎◌, Bool, true, false, List, [], ◌∷◌, ◌++◌, length, map, Some, None, Option, refl, sym, ap, ◌∙◌, subst, ⊎_elim, inl, inr, arith, eq-eqb}
 use Rattle.std.specs.Prelude.{bit_xor, filter, option_map, reverse, slice_get, slice_set, if◌then◌else◌, ◌==◌, ◌&&◌, ◌||◌}
 use Rattle.std.proofs.lemmas.Bool.{cases_eq, cases_lt, eqb-true, false≢true}
 use Rattle.std.proofs.lemmas.List.{length-map, length-set, reverse-append}
@@ -21,10 +21,10 @@ use Rattle.ir_model.specs.declared.module.Function.{Function}
 use Rattle.ir_paths.specs.Windows.{end_block}
 use Rattle.suspend_crossing.proofs.Bits.{IsOwn, all_bit, flipped_off, flipped_on, in_without, no_bit, still_without}
 use Rattle.suspend_crossing.proofs.Blocks.{listed_back}
-use Rattle.suspend_crossing.proofs.Made.{made_told, no_word_past, opens_told, told_opens, within_words, word_set_here, word_set_other}
+use Rattle.suspend_crossing.proofs.Made.{made_told, opens_told, told_opens, within_words, word_set_here, word_set_other}
 use Rattle.suspend_crossing.proofs.Walks.{IsNeededIn, IsOpenIn}
 use Rattle.suspend_crossing.proofs.Walks.IsNeededIn.{Open, ByUse, ByEdge}
-use Rattle.suspend_crossing.specs.EdgeUses.{IsUsedOn, edge_use, edge_uses, has_edge, is_edge}
+use Rattle.suspend_crossing.specs.EdgeUses.{edge_use, edge_uses, has_edge, is_edge}
 use Rattle.suspend_crossing.specs.Paths.{IsOutside}
 use Rattle.suspend_crossing.specs.Words.{block_open, kept_back, needed_starts, open_starts, turned, use_start, without}
 use Rattle.suspend_crossing.specs.declared.edge_use.EdgeUse.{EdgeUse}

@@ -1,22 +1,20 @@
 -- The words of suspends say of a value which it crosses.
-use Rattle.std.proofs.Common.{◌≡◌, ◌≢◌, ℕ, zero, suc, ◌+◌, ◌<◌, ◌≤◌, ◌⊎◌, Bool, true, false, List, [], ◌∷◌, ◌++◌, length, map, replicate, Some, None, Option, refl, sym, ap, ◌∙◌, subst, ⊎_elim, inl, inr, arith, eq-eqb}
+use Rattle.std.proofs.Common.{◌≡◌, ℕ, zero, suc, ◌+◌, ◌<◌, ◌⊎◌, Bool, true, false, List, [], ◌∷◌, ◌++◌, length, map, replicate, Some, Option, refl, sym, ap, ◌∙◌, subst, ⊎_elim, inl, inr, arith, eq-eqb}
 use Rattle.std.specs.Prelude.{bit_and, bit_or, filter, option_map, slice_get, slice_set, unwrap_or, if◌then◌else◌, ◌==◌, ◌||◌}
 use Rattle.std.proofs.lemmas.Bool.{cases_eq, eqb-true, false≢true}
-use Rattle.std.proofs.lemmas.List.{append-nil, length-append, length-replicate, length-set}
+use Rattle.std.proofs.lemmas.List.{length-replicate, length-set}
 use Rattle.std.proofs.lemmas.Option.{slice_get-map, slice_get_within}
 use Rattle.bit_reach.specs.Bits.{HasBit}
 use Rattle.block_paths.specs.Words.{word_at}
 use Rattle.definite_use.specs.Questions.{phis_word, result_word, value_word}
-use Rattle.definite_use.specs.Uses.{phi_values}
 use Rattle.flow_solver.specs.Paths.{IsListed}
 use Rattle.function_parts.specs.Contents.{result_of}
 use Rattle.ir_model.specs.Names.{position_of}
 use Rattle.ir_model.specs.declared.instr.Instr.{Instr}
-use Rattle.ir_model.specs.declared.instr.Phi.{Phi}
 use Rattle.ir_model.specs.declared.module.Block.{Block}
 use Rattle.ir_model.specs.declared.module.Function.{Function}
 use Rattle.ir_model.specs.declared.operand.Intrinsic.{Intrinsic}
-use Rattle.ir_paths.specs.Windows.{destroy_label, is_call_of, label_at, label_of_term, points_from, points_in, resume_label}
+use Rattle.ir_paths.specs.Windows.{is_call_of, label_at, label_of_term, points_from, points_in}
 use Rattle.ir_paths.specs.declared.point.Point.{Point}
 use Rattle.suspend_crossing.proofs.Bits.{IsOwn, both_bits, common_bit, left_bit, no_bit, one_bit, right_bit}
 use Rattle.suspend_crossing.proofs.Blocks.{IsMadeIn, get_behind, length_further, one_further, phis_are}
@@ -26,7 +24,7 @@ use Rattle.suspend_crossing.proofs.Solving.{filter_in, in_filter}
 use Rattle.suspend_crossing.proofs.Walks.{IsNeededIn, from_edge, on_edge}
 use Rattle.suspend_crossing.specs.Crossing.{Crosses, suspends_of}
 use Rattle.suspend_crossing.specs.EdgeUses.{IsUsedOn, edge_use, edge_uses, is_behind, is_behind_way, way_of}
-use Rattle.suspend_crossing.specs.Paths.{IsDefinedBefore, IsNeededBehind, IsNeededFrom, phis_at}
+use Rattle.suspend_crossing.specs.Paths.{IsDefinedBefore, IsNeededBehind}
 use Rattle.suspend_crossing.specs.Values.{values_of}
 use Rattle.suspend_crossing.specs.Words.{AreTold, behind_word, crossing_words, suspend_words, use_words, way_at, word_if}
 use Rattle.suspend_crossing.specs.Words.AreTold.{Nothing, More}

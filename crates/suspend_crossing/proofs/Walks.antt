@@ -1,8 +1,8 @@
 -- Paths of points as paths of blocks.
-use Rattle.std.proofs.Common.{◌≡◌, ℕ, ◌+◌, ◌⊎◌, Bool, List, [], ◌∷◌, ◌++◌, length, Some, None, Option, refl, sym, ap, ◌∙◌, subst, ⊎_elim, inl, inr, arith}
+use Rattle.std.proofs.Common.{◌≡◌, ℕ, ◌+◌, ◌⊎◌, List, [], ◌∷◌, ◌++◌, length, Some, None, Option, refl, sym, ap, ◌∙◌, subst, ⊎_elim, inl, inr}
 use Rattle.std.specs.Prelude.{slice_get}
 use Rattle.block_paths.specs.Edges.{block_edges}
-use Rattle.definite_use.specs.Uses.{block_values, locals_in, phi_values, values_at}
+use Rattle.definite_use.specs.Uses.{locals_in, phi_values, values_at}
 use Rattle.flow_solver.specs.Paths.{IsListed}
 use Rattle.function_parts.specs.Contents.{ending_operands, instr_operands, result_of}
 use Rattle.ir_model.specs.Names.{position_of}
@@ -10,9 +10,8 @@ use Rattle.ir_model.specs.declared.instr.Instr.{Instr}
 use Rattle.ir_model.specs.declared.instr.Terminator.{Terminator}
 use Rattle.ir_model.specs.declared.module.Block.{Block}
 use Rattle.ir_model.specs.declared.module.Function.{Function}
-use Rattle.ir_paths.specs.Paths.{targets}
 use Rattle.ordinary_step.specs.Step.{Fetched, Nowhere, AtInstr, AtTerm, fetch, fetch_in}
-use Rattle.suspend_crossing.proofs.Blocks.{HasTarget, IsMadeIn, IsPassed, at_end, at_instr, at_term, edge_is_out, length_further, made_before, made_in, none_made, one_further, passed, phis_are, target_is_edge, values_are}
+use Rattle.suspend_crossing.proofs.Blocks.{HasTarget, IsPassed, at_end, at_instr, at_term, edge_is_out, length_further, made_before, made_in, none_made, one_further, passed, phis_are, target_is_edge, values_are}
 use Rattle.suspend_crossing.specs.EdgeUses.{IsUsedOn}
 use Rattle.suspend_crossing.specs.Paths.{BranchesTo, IsNeeded, IsNeededFrom, IsOutside, phis_at, used_by}
 use Rattle.suspend_crossing.specs.Paths.IsNeeded.{Use, Next, OnEdge, Across}

@@ -1,5 +1,5 @@
 -- The uses of phis, which stand on edges.
-use Rattle.std.specs.Prelude.{ℕ, Bool, false, List, [], slice_get, Some, None, Option, map, option_to_list, ◌+◌, ◌&&◌, ◌||◌, ◌==◌, ◌∷◌, ◌++◌}
+use Rattle.std.specs.Prelude.{ℕ, Bool, false, List, [], slice_get, Some, None, Option, ◌+◌, ◌&&◌, ◌||◌, ◌==◌, ◌∷◌, ◌++◌}
 use Rattle.definite_use.specs.Uses.{local_of}
 use Rattle.flow_solver.specs.Paths.{IsListed}
 use Rattle.ir_model.specs.Names.{position_of}

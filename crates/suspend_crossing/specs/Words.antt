@@ -1,14 +1,12 @@
 -- Words of 64 values: what blocks make and use, and what comes of it at the suspends.
-use Rattle.std.specs.Prelude.{ℕ, zero, suc, Bool, true, false, List, [], length, map, replicate, reverse, slice_get, slice_set, Some, None, Option, unwrap_or, filter, bit_and, bit_or, bit_xor, ◌≡◌, ◌+◌, ◌/◌, ◌%◌, ◌<◌, ◌==◌, ◌∷◌, ◌++◌}
+use Rattle.std.specs.Prelude.{ℕ, Bool, true, false, List, [], length, map, reverse, slice_get, slice_set, Some, Option, unwrap_or, filter, bit_and, bit_or, bit_xor, ◌≡◌, ◌+◌, ◌/◌, ◌%◌, ◌==◌, ◌∷◌, ◌++◌}
 use Rattle.bit_reach.specs.Bits.{HasBit}
 use Rattle.block_paths.specs.Edges.{block_edges, graph_of}
 use Rattle.block_paths.specs.Words.{word_at}
-use Rattle.definite_use.specs.Questions.{IsNumbering, all_bits, block_word, edge_word, has_bit, phis_word, result_word, value_word}
+use Rattle.definite_use.specs.Questions.{IsNumbering, all_bits, has_bit, phis_word, result_word, value_word}
 use Rattle.definite_use.specs.Uses.{local_of}
 use Rattle.flow_solver.specs.Paths.{IsListed}
-use Rattle.flow_solver.specs.declared.graph.Graph.{Graph}
 use Rattle.function_parts.specs.Contents.{ending_operands, instr_operands, result_of}
-use Rattle.ir_model.specs.Names.{position_of}
 use Rattle.ir_model.specs.declared.instr.Instr.{Instr}
 use Rattle.ir_model.specs.declared.instr.Terminator.{Terminator}
 use Rattle.ir_model.specs.declared.module.Block.{Block}
@@ -16,7 +14,7 @@ use Rattle.ir_model.specs.declared.module.Function.{Function}
 use Rattle.ir_model.specs.declared.module.Param.{Param}
 use Rattle.ir_model.specs.declared.operand.Intrinsic.{Intrinsic}
 use Rattle.ir_model.specs.declared.operand.Operand.{Operand}
-use Rattle.ir_paths.specs.Windows.{end_block, is_call_of, label_of_term}
+use Rattle.ir_paths.specs.Windows.{end_block, is_call_of}
 use Rattle.ir_paths.specs.declared.point.Point.{Point}
 use Rattle.suspend_crossing.specs.Crossing.{Crosses, suspends_of}
 use Rattle.suspend_crossing.specs.EdgeUses.{edge_uses, is_behind, is_edge, way_of}

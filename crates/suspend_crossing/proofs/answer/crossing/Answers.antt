@@ -1,4 +1,4 @@
-use Rattle.std.proofs.Common.{◌*◌, ◌∙◌, subst, List, ℕ, [], ap, sym, take, arith}
+use Rattle.std.proofs.Common.{◌*◌, ◌∙◌, subst, ℕ, [], ap, sym, take, arith}
 use Rattle.suspend_crossing.specs.Crossing.{CrossedBy}
 use Rattle.suspend_crossing.specs.Values.{distinct}
 use Rattle.suspend_crossing.specs.Words.{AreNumbered}

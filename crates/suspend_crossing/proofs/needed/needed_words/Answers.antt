@@ -1,4 +1,4 @@
-use Rattle.std.proofs.Common.{◌∙◌, ap, ◌++◌, [], List, ℕ, sym}
+use Rattle.std.proofs.Common.{◌∙◌, ap, ◌++◌, List, ℕ}
 use Rattle.std.specs.Prelude.{reverse}
 use Rattle.suspend_crossing.specs.Words.{open_starts}
 use Rattle.suspend_crossing.proofs.ChunkWords.{back_has_nodes, needed_within}

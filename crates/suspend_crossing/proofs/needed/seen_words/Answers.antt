@@ -1,4 +1,4 @@
-use Rattle.std.proofs.Common.{◌∙◌, ap, ◌++◌, List, ℕ, sym}
+use Rattle.std.proofs.Common.{◌∙◌, ap, ◌++◌, List, ℕ}
 use Rattle.block_paths.proofs.Making.{graph_has_nodes}
 use Rattle.suspend_crossing.specs.Words.{made_starts}
 use Rattle.suspend_crossing.proofs.ChunkWords.{made_within}
