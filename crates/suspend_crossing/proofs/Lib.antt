@@ -1,0 +1,13 @@
+pub mod Bits
+pub mod Operands
+pub mod Numbering
+pub mod Blocks
+pub mod Walks
+pub mod EdgeSets
+pub mod Made
+pub mod Solving
+pub mod Seeing
+pub mod Telling
+pub mod Crossed
+pub mod ChunkWords
+pub mod FarValues

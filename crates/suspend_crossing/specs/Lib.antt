@@ -1,0 +1,5 @@
+pub mod Values
+pub mod EdgeUses
+pub mod Paths
+pub mod Crossing
+pub mod Words

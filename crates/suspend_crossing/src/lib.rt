@@ -1,0 +1,17 @@
+//! Which values cross which suspends: a value that is defined before a suspend and needed behind its resume or destroy edge
+//! has to lie in the frame ("Coroutines in LLVM", "Coroutine Transformation").
+#![tactic(auto)]
+
+mod answer;
+mod chunks;
+mod edge_use;
+mod edges;
+mod far;
+mod needed;
+mod numbers;
+mod pairs;
+mod plan;
+mod text;
+mod values;
+
+pub use answer::crossing;
