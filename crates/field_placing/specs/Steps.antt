@@ -1,0 +1,47 @@
+-- The steps of placing: the order of the fields, and how far it was gone.
+use Rattle.std.specs.Prelude.{◌≡◌, ℕ, ◌+◌, ◌^◌, ◌<◌, ◌≤◌, ◌↔◌, ◌⊎◌, List, Option, Some, IsTrue, length, slice_get, slice_index}
+use Rattle.std.specs.List.{Contains}
+use Rattle.field_placing.specs.Bars.{IsCovered}
+use Rattle.field_placing.specs.Placed.{IsByteOf, IsItsPlace, IsPair, IsPlaced, IsTaken}
+use Rattle.field_placing.specs.Rooms.{comes_first, size_at}
+use Rattle.field_placing.specs.declared.bars.Bar.{Bar}
+use Rattle.field_placing.specs.declared.room.Room.{Room}
+
+-- each field once, those that come first before the others
+pub record IsOrder (rooms : List Room) (promise : Option ℕ) (order : List ℕ) : Type 0 where
+  pub inside : (a k : ℕ) → slice_get order a ≡ Some k → k < length rooms
+  pub has_each : (k : ℕ) → k < length rooms → (a : ℕ) × (slice_get order a ≡ Some k)
+  pub has_once : (a b k : ℕ) → slice_get order a ≡ Some k → slice_get order b ≡ Some k → a ≡ b
+  pub rises : (a b j k : ℕ) → slice_get order a ≡ Some j → slice_get order b ≡ Some k → IsTrue (comes_first rooms promise j k) → a < b
+
+-- the first fields of the order are placed, none past the limit, and nowhere else than any placing has them
+pub record IsUnderway (rooms : List Room) (promise : Option ℕ) (Conflict : ℕ → ℕ → Type 0) (order : List ℕ) (limit done : ℕ) (offsets : List ℕ) : Type 0 where
+  pub one_each : length offsets ≡ length rooms
+  pub fit : (k : ℕ) → k < length rooms → slice_index offsets k + size_at rooms k < 2 ^ 64
+  pub placed : (a k : ℕ) → a < done → slice_get order a ≡ Some k → IsItsPlace rooms promise Conflict offsets k (slice_index offsets k)
+  pub within : (a k : ℕ) → a < done → slice_get order a ≡ Some k → slice_index offsets k + size_at rooms k ≤ limit
+  pub only : (other : List ℕ) → IsPlaced rooms promise Conflict other → (a k : ℕ) → a < done → slice_get order a ≡ Some k → slice_index other k ≡ slice_index offsets k
+
+-- the bars cover the bytes that are taken for the field
+pub record AreTaken (rooms : List Room) (promise : Option ℕ) (Conflict : ℕ → ℕ → Type 0) (offsets : List ℕ) (k : ℕ) (bars : List Bar) : Type 0 where
+  pub taken : (byte : ℕ) → IsCovered bars byte → IsTaken rooms promise Conflict offsets k byte
+  pub covered : (byte : ℕ) → IsTaken rooms promise Conflict offsets k byte → IsCovered bars byte
+
+-- the byte is one of a field among the first of the order
+pub record IsOfFirst (rooms : List Room) (order : List ℕ) (done : ℕ) (offsets : List ℕ) (byte : ℕ) : Type 0 where
+  pub at : ℕ
+  pub by : ℕ
+  pub is_done : at < done
+  pub is_there : slice_get order at ≡ Some by
+  pub is_its : IsByteOf byte (slice_index offsets by) (size_at rooms by)
+
+-- the bars cover the bytes of the first fields of the order
+pub record CoverFirst (rooms : List Room) (order : List ℕ) (done : ℕ) (offsets : List ℕ) (bars : List Bar) : Type 0 where
+  pub of_first : (byte : ℕ) → IsCovered bars byte → IsOfFirst rooms order done offsets byte
+  pub covered : (byte : ℕ) → IsOfFirst rooms order done offsets byte → IsCovered bars byte
+
+-- a row for each field, of those in conflict with it that come first
+pub record AreEarlier (rooms : List Room) (promise : Option ℕ) (Conflict : ℕ → ℕ → Type 0) (rows : List (List ℕ)) : Type 0 where
+  pub one_each : length rows ≡ length rooms
+  pub listed : (k j : ℕ) (row : List ℕ) → slice_get rows k ≡ Some row → Contains row j → (j < length rooms) × (IsTrue (comes_first rooms promise j k) × Conflict j k)
+  pub lists : (k j : ℕ) (row : List ℕ) → slice_get rows k ≡ Some row → j < length rooms → IsTrue (comes_first rooms promise j k) → Conflict j k → Contains row j

@@ -1,0 +1,13 @@
+//! Where the fields of a coroutine's frame lie.
+#![tactic(auto)]
+
+mod bars;
+mod earlier;
+mod ends;
+mod order;
+mod placing;
+mod room;
+mod underway;
+
+pub use placing::{Placing, place, place_plain};
+pub use room::Room;
