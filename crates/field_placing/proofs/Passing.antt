@@ -33,7 +33,7 @@ bar_behind bars size align last done at bar y are pos h is meets free =
         let low = h.least y free in
         let full = are.are_filled done bar is in
         let inside : IsByteOf (max y bar.start) y size = (omega arith, omega arith) in
-        let there : IsCovered bars (max y bar.start) = record { at = done; bar = bar; is_there = is; from_start = omega arith; to_end = omega (arith, lt, full) } in
+        let there : IsCovered bars (max y bar.start) = record { at = done; bar = bar; is_there = is; inside = (omega arith, omega (arith, lt, full)) } in
         absurd (free.apart (max y bar.start) inside there))
     (λ (ge : bar.end ≤ y). ge)
     (cases_lt y bar.end)
@@ -84,8 +84,8 @@ stands_free bars size align last done at h later = record {
     aligned = h.aligned;
     apart = λ byte inside there.
         ⊎_elim
-        (λ (lt : there.at < done). let e = h.behind there.at there.bar lt there.is_there in let t = there.to_end in let i = inside.0 in omega (arith, e, t, i))
-        (λ (ge : done ≤ there.at). let e = later there.at there.bar ge there.is_there in let t = there.from_start in let i = inside.1 in omega (arith, e, t, i))
+        (λ (lt : there.at < done). let e = h.behind there.at there.bar lt there.is_there in let t = there.inside.1 in let i = inside.0 in omega (arith, e, t, i))
+        (λ (ge : done ≤ there.at). let e = later there.at there.bar ge there.is_there in let t = there.inside.0 in let i = inside.1 in omega (arith, e, t, i))
         (cases_lt there.at done);
   };
   least = h.least;

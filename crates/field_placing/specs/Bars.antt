@@ -1,6 +1,5 @@
 -- Stretches of bytes that are taken, in order, and the least offset that meets none.
-use Rattle.std.specs.Prelude.{◌≡◌, ℕ, ◌%◌, ◌<◌, ◌≤◌, List, Some, slice_get}
-use Rattle.std.specs.List.Sorted.{IsNonDecreasingBy}
+use Rattle.std.specs.Prelude.{◌≡◌, ℕ, ◌%◌, ◌<◌, ◌≤◌, ◌⊎◌, List, Some, slice_get}
 use Rattle.field_placing.specs.Placed.{IsByteOf}
 use Rattle.field_placing.specs.declared.bars.Bar.{Bar}
 
@@ -15,13 +14,16 @@ pub record IsNextAligned (from align last x : ℕ) : Type 0 where
   pub aligned : x % align ≡ 0
   pub least : (y : ℕ) → from ≤ y → y % align ≡ 0 → x ≤ y
 
--- the byte lies in a bar
+-- the byte lies in the bar
+abbrev pub IsInBar : ℕ → Bar → Type 0
+IsInBar byte bar = (bar.start ≤ byte) × (byte < bar.end)
+
+-- the byte lies in one of the bars
 pub record IsCovered (bars : List Bar) (byte : ℕ) : Type 0 where
   pub at : ℕ
   pub bar : Bar
   pub is_there : slice_get bars at ≡ Some bar
-  pub from_start : bar.start ≤ byte
-  pub to_end : byte < bar.end
+  pub inside : IsInBar byte bar
 
 -- no bar is empty, and their starts do not fall
 pub record AreBars (bars : List Bar) : Type 0 where
@@ -38,3 +40,19 @@ pub record IsFree (bars : List Bar) (size align x : ℕ) : Type 0 where
 pub record IsLeastFree (bars : List Bar) (size align x : ℕ) : Type 0 where
   pub is_free : IsFree bars size align x
   pub least : (y : ℕ) → IsFree bars size align y → x ≤ y
+
+-- the bars cover what others do, and the bytes of one more
+pub record IsMore (bars : List Bar) (more : Bar) (all : List Bar) : Type 0 where
+  pub are_bars : AreBars all
+  pub told : (byte : ℕ) → IsCovered all byte → IsCovered bars byte ⊎ IsInBar byte more
+  pub has_others : (byte : ℕ) → IsCovered bars byte → IsCovered all byte
+  pub has_more : (byte : ℕ) → IsInBar byte more → IsCovered all byte
+
+-- none of the bars starts behind the offset
+abbrev pub AllStart : List Bar → ℕ → Type 0
+AllStart bars offset = (a : ℕ) (x : Bar) → slice_get bars a ≡ Some x → x.start ≤ offset
+
+-- the bars with one that starts behind none of them
+pub record IsJoined (bars : List Bar) (more : Bar) (all : List Bar) : Type 0 where
+  pub is_more : IsMore bars more all
+  pub start : AllStart all more.start

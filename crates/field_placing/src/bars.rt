@@ -1,7 +1,7 @@
 //! Stretches of bytes that are taken, in order, and the least offset that meets none.
 
 ghost use Rattle.std.specs.Prelude.{◌≡◌, ℕ, ◌+◌, ◌%◌, ◌^◌, ◌<◌, ◌≤◌, ◌↔◌, ◌⊎◌, IfOk, OnOk, MatchOption};
-ghost use Rattle.field_placing.specs.Bars.{AreBars, IsCovered, IsFree, IsLeastFree, IsNextAligned, IsNoneAligned};
+ghost use Rattle.field_placing.specs.Bars.{AllStart, AreBars, IsCovered, IsFree, IsJoined, IsLeastFree, IsMore, IsNextAligned, IsNoneAligned};
 ghost use Rattle.field_placing.specs.Placed.{IsByteOf};
 
 use std::alloc::{AllocError, Global};
@@ -52,30 +52,57 @@ pub(crate) fn least_offset(bars: &[Bar], size: u64, align: u64, limit: u64) -> O
 }
 
 /// Puts a bar behind the others. Where it begins no later than the last one ends, the two become one.
-fn join(bars: &mut Vec<Bar>, bar: Bar) -> Result<(), AllocError> {
-    if let Some(last) = bars.pop() {
-        if bar.start <= last.end {
-            return Ok(bars.push(Bar { start: last.start, end: last.end.max(bar.end) })?);
+fn join(bars: &mut Vec<Bar>, bar: Bar) -> Result<(), AllocError>
+    requires bars { AreBars bars.old.items }
+    requires bar { bar.start < bar.end }
+    requires last { AllStart bars.old.items bar.start }
+    ensures { OnOk result (IsJoined bars.old.items bar bars.new.items) }
+{
+    match bars.pop() {
+        None => bars.push(bar)?,
+        Some(last) => {
+            if bar.start <= last.end {
+                let end = last.end.max(bar.end);
+                bars.push(Bar { start: last.start, end })?;
+            } else {
+                bars.push(last)?;
+                bars.push(bar)?;
+            }
         }
-        bars.push(last)?;
     }
-    bars.push(bar)?;
     Ok(())
 }
 
-/// The bars with one more, which is put into its place among them.
-pub(crate) fn with_bar(alloc: Global, bars: &[Bar], more: Bar) -> Result<Vec<Bar>, AllocError> {
-    let mut joined = Vec::new(alloc);
-    let mut waits = true;
+/// Fewer bars that cover the same bytes.
+fn joined(alloc: Global, bars: &[Bar]) -> Result<Vec<Bar>, AllocError>
+    requires { AreBars bars.now }
+    ensures bars { IfOk result (λ all. AreBars all.items) }
+    ensures same { IfOk result (λ all. (byte : ℕ) → IsCovered all.items byte ↔ IsCovered bars.now byte) }
+{
+    let mut all = Vec::new(alloc);
     for bar in bars {
-        if waits && more.start <= bar.start {
-            join(&mut joined, more)?;
-            waits = false;
-        }
-        join(&mut joined, *bar)?;
+        join(&mut all, *bar)?;
     }
-    if waits {
-        join(&mut joined, more)?;
-    }
-    Ok(joined)
+    Ok(all)
+}
+
+fn inserted(alloc: Global, bars: &[Bar], more: Bar) -> Result<Vec<Bar>, AllocError>
+    requires bars { AreBars bars.now }
+    requires more { more.start < more.end }
+    ensures { IfOk result (λ all. IsMore bars.now more all.items) }
+{
+    let mut all = Vec::from_slice(alloc, bars)?;
+    let at = bars.partition_point(|bar| bar.start < more.start);
+    all.insert(at, more)?;
+    Ok(all)
+}
+
+/// Bars that cover the bytes of one more.
+pub(crate) fn with_bar(alloc: Global, bars: &[Bar], more: Bar) -> Result<Vec<Bar>, AllocError>
+    requires bars { AreBars bars.now }
+    requires more { more.start < more.end }
+    ensures { IfOk result (λ all. IsMore bars.now more all.items) }
+{
+    let all = inserted(alloc, bars, more)?;
+    joined(alloc, all.as_slice())
 }

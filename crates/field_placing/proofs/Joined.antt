@@ -1,0 +1,163 @@
+-- Bars put behind others, between others, or into one.
+use Rattle.std.proofs.Common.{◌≡◌, ℕ, zero, suc, ◌+◌, ◌<◌, ◌≤◌, ◌⊎◌, List, [], ◌∷◌, ◌++◌, length, max, Some, refl, ap, sym, ◌∙◌, subst, ⊎_elim, inl, inr, arith, get_or}
+use Rattle.std.specs.Prelude.{slice_get}
+use Rattle.std.specs.List.{All, Contains}
+use Rattle.std.specs.List.Sorted.{IsPermutation, IsNonDecreasingBy}
+use Rattle.std.proofs.lemmas.Bool.{cases_lt}
+use Rattle.std.proofs.lemmas.List.Sorted.{Contains-permutation, All-permutation}
+use Rattle.std.proofs.lemmas.Option.{get_or_from_slice_get, slice_get_within, slice_get-get_or, same_Some}
+use Rattle.field_placing.specs.Bars.{AllStart, AreBars, IsCovered, IsInBar, IsJoined, IsMore}
+use Rattle.field_placing.specs.declared.bars.Bar.{Bar}
+
+-- ---- one more at the end
+
+pub last_here : {X : Type 0} (xs : List X) (x : X) → slice_get (xs ++ x ∷ []) (length xs) ≡ Some x
+last_here [] x = refl
+last_here (y ∷ ys) x = last_here ys x
+
+pub front_here : {X : Type 0} (xs zs : List X) (a : ℕ) (y : X) → slice_get xs a ≡ Some y → slice_get (xs ++ zs) a ≡ Some y
+front_here [] zs a y e = absurd (cc)
+front_here (x ∷ xs) zs zero y e = e
+front_here (x ∷ xs) zs (suc a) y e = front_here xs zs a y e
+
+pub push_cases : {X : Type 0} (xs : List X) (x : X) (a : ℕ) (y : X) → slice_get (xs ++ x ∷ []) a ≡ Some y → (slice_get xs a ≡ Some y) ⊎ ((a ≡ length xs) × (y ≡ x))
+push_cases [] x zero y e = inr (refl, same_Some y x (sym e))
+push_cases [] x (suc a) y e = absurd (cc)
+push_cases (z ∷ xs) x zero y e = inl e
+push_cases (z ∷ xs) x (suc a) y e = ⊎_elim (λ h. inl h) (λ p. inr (ap suc p.0, p.1)) (push_cases xs x a y e)
+
+-- ---- bars and what they cover
+
+covered_at : (bars : List Bar) (a : ℕ) (x : Bar) (byte : ℕ) → slice_get bars a ≡ Some x → IsInBar byte x → IsCovered bars byte
+covered_at bars a x byte is h = record { at = a; bar = x; is_there = is; inside = h }
+
+pub none_covered : (byte : ℕ) → IsCovered [] byte → ⊥
+none_covered byte c = let e = c.is_there in absurd (cc)
+
+covered_front : (bars : List Bar) (x : Bar) (byte : ℕ) → IsCovered bars byte → IsCovered (bars ++ x ∷ []) byte
+covered_front bars x byte c = covered_at (bars ++ x ∷ []) c.at c.bar byte (front_here bars (x ∷ []) c.at c.bar c.is_there) c.inside
+
+covered_last : (bars : List Bar) (x : Bar) (byte : ℕ) → IsInBar byte x → IsCovered (bars ++ x ∷ []) byte
+covered_last bars x byte h = covered_at (bars ++ x ∷ []) (length bars) x byte (last_here bars x) h
+
+covered_cases : (bars : List Bar) (x : Bar) (byte : ℕ) → IsCovered (bars ++ x ∷ []) byte → IsCovered bars byte ⊎ IsInBar byte x
+covered_cases bars x byte c =
+    ⊎_elim (λ h. inl (covered_at bars c.at c.bar byte h c.inside)) (λ p. inr (subst (IsInBar byte) p.1 c.inside)) (push_cases bars x c.at c.bar c.is_there)
+
+pub no_bars : AreBars []
+no_bars = record { rise = λ a b x y e f le. absurd (cc); are_filled = λ a x e. absurd (cc) }
+
+front_bars : (bars : List Bar) (x : Bar) → AreBars (bars ++ x ∷ []) → AreBars bars
+front_bars bars x h = record {
+  rise = λ a b y z e f le. h.rise a b y z (front_here bars (x ∷ []) a y e) (front_here bars (x ∷ []) b z f) le;
+  are_filled = λ a y e. h.are_filled a y (front_here bars (x ∷ []) a y e);
+}
+
+last_filled : (bars : List Bar) (x : Bar) → AreBars (bars ++ x ∷ []) → x.start < x.end
+last_filled bars x h = h.are_filled (length bars) x (last_here bars x)
+
+front_starts : (bars : List Bar) (x : Bar) → AreBars (bars ++ x ∷ []) → AllStart bars x.start
+front_starts bars x h a y e = let lt = slice_get_within bars a y e in h.rise a (length bars) y x (front_here bars (x ∷ []) a y e) (last_here bars x) (omega (arith, lt))
+
+more_bars : (bars : List Bar) (x : Bar) → AreBars bars → AllStart bars x.start → x.start < x.end → AreBars (bars ++ x ∷ [])
+more_bars bars x h low full = record {
+  rise = λ a b y z e f le. ⊎_elim
+    (λ there. ⊎_elim
+      (λ here. h.rise a b y z here there le)
+      (λ p. let lt = slice_get_within bars b z there in absurd (omega (arith, lt, p.0, le)))
+      (push_cases bars x a y e))
+    (λ p. ⊎_elim
+      (λ here. let up = low a y here in subst (λ (w : Bar). y.start ≤ w.start) (sym p.1) up)
+      (λ q. let same = ap (λ (w : Bar). w.start) (q.1 ∙ sym p.1) in omega (arith, same))
+      (push_cases bars x a y e))
+    (push_cases bars x b z f);
+  are_filled = λ a y e. ⊎_elim (λ here. h.are_filled a y here) (λ p. subst (λ (w : Bar). w.start < w.end) (sym p.1) full) (push_cases bars x a y e);
+}
+
+more_start : (bars : List Bar) (x : Bar) (n : ℕ) → AllStart bars n → x.start ≤ n → AllStart (bars ++ x ∷ []) n
+more_start bars x n low le a y e = ⊎_elim (λ here. low a y here) (λ p. subst (λ (w : Bar). w.start ≤ n) (sym p.1) le) (push_cases bars x a y e)
+
+-- ---- joining
+
+-- put behind bars that all start no later
+pub pushed : (bars : List Bar) (more : Bar) → AreBars bars → AllStart bars more.start → more.start < more.end → IsJoined bars more (bars ++ more ∷ [])
+pushed bars more h low full = record {
+  is_more = record {
+    are_bars = more_bars bars more h low full;
+    told = λ byte c. covered_cases bars more byte c;
+    has_others = λ byte c. covered_front bars more byte c;
+    has_more = λ byte i. covered_last bars more byte i;
+  };
+  start = more_start bars more more.start low (omega arith);
+}
+
+-- made one with the last, which it meets
+pub made_one : (front : List Bar) (last more one : Bar) → AreBars (front ++ last ∷ []) → AllStart (front ++ last ∷ []) more.start → more.start < more.end → more.start ≤ last.end →
+    one.start ≡ last.start → one.end ≡ max last.end more.end → IsJoined (front ++ last ∷ []) more (front ++ one ∷ [])
+made_one front last more one h low full meets same end = record {
+  is_more = record {
+    are_bars = more_bars front one (front_bars front last h) (λ a y e. let up = front_starts front last h a y e in omega (arith, up, same)) (let l = last_filled front last h in omega (arith, l, same, end));
+    told = λ byte c. ⊎_elim
+      (λ f. inl (covered_front front last byte f))
+      (λ i. ⊎_elim
+        (λ (lt : byte < last.end). let a = i.0 in inl (covered_last front last byte (omega (arith, a, same), lt)))
+        (λ (ge : last.end ≤ byte). let b = i.1 in inr (omega (arith, ge, meets), omega (arith, b, end, ge)))
+        (cases_lt byte last.end))
+      (covered_cases front one byte c);
+    has_others = λ byte c. ⊎_elim
+      (λ f. covered_front front one byte f)
+      (λ i. let a = i.0 in let b = i.1 in covered_last front one byte (omega (arith, a, same), omega (arith, b, end)))
+      (covered_cases front last byte c);
+    has_more = λ byte i. let a = i.0 in let b = i.1 in let l = low (length front) last (last_here front last) in
+      covered_last front one byte (omega (arith, a, l, same), omega (arith, b, end));
+  };
+  start = more_start front one more.start (λ a y e. low a y (front_here front (last ∷ []) a y e)) (let l = low (length front) last (last_here front last) in omega (arith, l, same));
+}
+
+-- ---- sorted lists of bars
+
+pub bars_from : (bars : List Bar) → IsNonDecreasingBy (λ (x : Bar). x.start) bars → All (λ (x : Bar). x.start < x.end) bars → AreBars bars
+bars_from bars up full = record {
+  rise = λ a b x y e f le.
+    let lt = slice_get_within bars b y f in
+    let h = up a b x le lt in
+    let one = ap (λ (w : Bar). w.start) (get_or_from_slice_get bars a x x e) in
+    let two = ap (λ (w : Bar). w.start) (get_or_from_slice_get bars b y x f) in
+    omega (arith, h, one, two);
+  are_filled = λ a x e. let lt = slice_get_within bars a x e in subst (λ (w : Bar). w.start < w.end) (get_or_from_slice_get bars a x x e) (full a x lt);
+}
+
+pub starts_rise : (bars : List Bar) → AreBars bars → IsNonDecreasingBy (λ (x : Bar). x.start) bars
+starts_rise bars h i j d le lt = h.rise i j (get_or bars i d) (get_or bars j d) (slice_get-get_or bars i d (omega (arith, le, lt))) (slice_get-get_or bars j d lt) le
+
+pub all_filled : (bars : List Bar) → AreBars bars → All (λ (x : Bar). x.start < x.end) bars
+all_filled bars h k d lt = h.are_filled k (get_or bars k d) (slice_get-get_or bars k d lt)
+
+contained : (bars : List Bar) (a : ℕ) (x : Bar) → slice_get bars a ≡ Some x → Contains bars x
+contained bars a x e = (a, slice_get_within bars a x e, get_or_from_slice_get bars a x x e)
+
+pub covered_from : (bars : List Bar) (x : Bar) (byte : ℕ) → Contains bars x → IsInBar byte x → IsCovered bars byte
+covered_from bars x byte c i = covered_at bars c.0 x byte (slice_get-get_or bars c.0 x c.1 ∙ ap (λ (w : Bar). Some w) c.2) i
+
+pub covered_permuted : (xs ys : List Bar) (byte : ℕ) → IsPermutation xs ys → IsCovered xs byte → IsCovered ys byte
+covered_permuted xs ys byte p c = covered_from ys c.bar byte (Contains-permutation xs ys c.bar p (contained xs c.at c.bar c.is_there)) c.inside
+
+pub covered_first : (bars : List Bar) (x : Bar) (byte : ℕ) → IsCovered (x ∷ bars) byte → IsCovered bars byte ⊎ IsInBar byte x
+covered_first bars x byte c = go c.at c.is_there
+  where
+    go : (a : ℕ) → slice_get (x ∷ bars) a ≡ Some c.bar → IsCovered bars byte ⊎ IsInBar byte x
+    go zero e = inr (subst (IsInBar byte) (same_Some c.bar x (sym e)) c.inside)
+    go (suc a) e = inl (covered_at bars a c.bar byte e c.inside)
+
+-- ---- what the steps of a list of bars do
+
+pub last_made_one : (old front new : List Bar) (last more one : Bar) → old ≡ front ++ last ∷ [] → new ≡ front ++ one ∷ [] → AreBars old → AllStart old more.start → more.start < more.end → more.start ≤ last.end →
+    one.start ≡ last.start → one.end ≡ max last.end more.end → IsJoined old more new
+last_made_one old front new last more one was is h low full meets same end =
+    subst (λ (n : List Bar). IsJoined old more n) (sym is)
+    (subst (λ (o : List Bar). IsJoined o more (front ++ one ∷ [])) (sym was)
+    (made_one front last more one (subst AreBars was h) (subst (λ (o : List Bar). AllStart o more.start) was low) full meets same end))
+
+pub last_put_back : (old front back new : List Bar) (last more : Bar) → old ≡ front ++ last ∷ [] → back ≡ front ++ last ∷ [] → new ≡ back ++ more ∷ [] → AreBars old → AllStart old more.start → more.start < more.end → IsJoined old more new
+last_put_back old front back new last more was again is h low full =
+    subst (λ (n : List Bar). IsJoined old more n) (sym (is ∙ ap (λ (b : List Bar). b ++ more ∷ []) (again ∙ sym was))) (pushed old more h low full)
