@@ -1,6 +1,9 @@
 pub mod Aligned
 pub mod Firsts
+pub mod Greatest
 pub mod Joined
 pub mod Joining
 pub mod Orders
 pub mod Passing
+pub mod Places
+pub mod Rows

@@ -1,5 +1,5 @@
 -- The steps of placing: the order of the fields, and how far it was gone.
-use Rattle.std.specs.Prelude.{◌≡◌, ℕ, ◌+◌, ◌^◌, ◌<◌, ◌≤◌, ◌↔◌, ◌⊎◌, List, Option, Some, IsTrue, length, slice_get, slice_index}
+use Rattle.std.specs.Prelude.{◌≡◌, ℕ, ◌+◌, ◌^◌, ◌<◌, ◌≤◌, ◌&&◌, List, [], ◌∷◌, ◌++◌, Option, Some, IsTrue, get_or, if◌then◌else◌, length, nat_lt, slice_get, slice_index, slice_set}
 use Rattle.std.specs.List.{Contains}
 use Rattle.field_placing.specs.Bars.{IsCovered}
 use Rattle.field_placing.specs.Placed.{IsByteOf, IsItsPlace, IsPair, IsPlaced, IsTaken}
@@ -39,6 +39,11 @@ pub record IsOfFirst (rooms : List Room) (order : List ℕ) (done : ℕ) (offset
 pub record CoverFirst (rooms : List Room) (order : List ℕ) (done : ℕ) (offsets : List ℕ) (bars : List Bar) : Type 0 where
   pub of_first : (byte : ℕ) → IsCovered bars byte → IsOfFirst rooms order done offsets byte
   pub covered : (byte : ℕ) → IsOfFirst rooms order done offsets byte → IsCovered bars byte
+
+-- the rows with the first field in the second's row, if it comes first
+unfoldable pub with_note : List Room → Option ℕ → ℕ → ℕ → List (List ℕ) → List (List ℕ)
+with_note rooms promise first second rows =
+    (if nat_lt first (length rooms) && (nat_lt second (length rows) && comes_first rooms promise first second) then slice_set rows second (get_or rows second [] ++ first ∷ []) else rows)
 
 -- a row for each field, of those in conflict with it that come first
 pub record AreEarlier (rooms : List Room) (promise : Option ℕ) (Conflict : ℕ → ℕ → Type 0) (rows : List (List ℕ)) : Type 0 where

@@ -1,9 +1,9 @@
 //! For each field those in conflict with it that are placed before it.
 
-ghost use Rattle.std.specs.Prelude.{◌≡◌, ◌++◌, ◌∷◌, [], ◌<◌, IfOk, OnOk, get_or, length, map, replicate, slice_set, if◌then◌else◌, ◌&&◌, nat_lt};
+ghost use Rattle.std.specs.Prelude.{◌≡◌, ◌++◌, ◌∷◌, [], ◌<◌, IfOk, OnOk, get_or, length, map, replicate, slice_set};
 ghost use Rattle.field_placing.specs.Placed.{IsPair};
 ghost use Rattle.field_placing.specs.Rooms.{comes_first};
-ghost use Rattle.field_placing.specs.Steps.{AreEarlier};
+ghost use Rattle.field_placing.specs.Steps.{AreEarlier, with_note};
 
 use crate::room::{Room, comes_first};
 use std::alloc::{AllocError, Global};
@@ -33,7 +33,9 @@ fn note(
     first: usize,
     second: usize,
     rows: &mut Vec<Vec<usize>>,
-) -> Result<(), AllocError> {
+) -> Result<(), AllocError>
+    ensures { OnOk result (map (λ row. row.items) rows.new.items ≡ with_note rooms.now promise first second (map (λ row. row.items) rows.old.items)) }
+{
     if first < rooms.len() && second < rows.len() && comes_first(rooms, promise, first, second) {
         file(rows, second, first)?;
     }
