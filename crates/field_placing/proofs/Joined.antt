@@ -28,19 +28,19 @@ push_cases (z ∷ xs) x (suc a) y e = ⊎_elim (λ h. inl h) (λ p. inr (ap suc 
 
 -- ---- bars and what they cover
 
-covered_at : (bars : List Bar) (a : ℕ) (x : Bar) (byte : ℕ) → slice_get bars a ≡ Some x → IsInBar byte x → IsCovered bars byte
+pub covered_at : (bars : List Bar) (a : ℕ) (x : Bar) (byte : ℕ) → slice_get bars a ≡ Some x → IsInBar byte x → IsCovered bars byte
 covered_at bars a x byte is h = record { at = a; bar = x; is_there = is; inside = h }
 
 pub none_covered : (byte : ℕ) → IsCovered [] byte → ⊥
 none_covered byte c = let e = c.is_there in absurd (cc)
 
-covered_front : (bars : List Bar) (x : Bar) (byte : ℕ) → IsCovered bars byte → IsCovered (bars ++ x ∷ []) byte
+pub covered_front : (bars : List Bar) (x : Bar) (byte : ℕ) → IsCovered bars byte → IsCovered (bars ++ x ∷ []) byte
 covered_front bars x byte c = covered_at (bars ++ x ∷ []) c.at c.bar byte (front_here bars (x ∷ []) c.at c.bar c.is_there) c.inside
 
-covered_last : (bars : List Bar) (x : Bar) (byte : ℕ) → IsInBar byte x → IsCovered (bars ++ x ∷ []) byte
+pub covered_last : (bars : List Bar) (x : Bar) (byte : ℕ) → IsInBar byte x → IsCovered (bars ++ x ∷ []) byte
 covered_last bars x byte h = covered_at (bars ++ x ∷ []) (length bars) x byte (last_here bars x) h
 
-covered_cases : (bars : List Bar) (x : Bar) (byte : ℕ) → IsCovered (bars ++ x ∷ []) byte → IsCovered bars byte ⊎ IsInBar byte x
+pub covered_cases : (bars : List Bar) (x : Bar) (byte : ℕ) → IsCovered (bars ++ x ∷ []) byte → IsCovered bars byte ⊎ IsInBar byte x
 covered_cases bars x byte c =
     ⊎_elim (λ h. inl (covered_at bars c.at c.bar byte h c.inside)) (λ p. inr (subst (IsInBar byte) p.1 c.inside)) (push_cases bars x c.at c.bar c.is_there)
 

@@ -1,4 +1,5 @@
 pub mod Aligned
+pub mod Covering
 pub mod Firsts
 pub mod Greatest
 pub mod Joined
@@ -7,3 +8,4 @@ pub mod Orders
 pub mod Passing
 pub mod Places
 pub mod Rows
+pub mod Stepping

@@ -1,9 +1,11 @@
 //! The layouts of a frame.
 
-ghost use Rattle.std.specs.Prelude.{◌≡◌, ◌≤◌, ◌<◌, ◌^◌, ℕ, IfOk, MatchOption};
-ghost use Rattle.field_placing.specs.Placings.{IsFrame, IsPlacing, IsPlainPlacing, IsTooLarge};
+ghost use Rattle.std.specs.Prelude.{◌≡◌, ◌≤◌, ◌<◌, ◌+◌, ◌^◌, ◌⊎◌, ℕ, IfOk, MatchOption, length, slice_index};
+ghost use Rattle.field_placing.specs.Placed.{Always};
+ghost use Rattle.field_placing.specs.Placings.{IsFrame, IsKeptPlain, IsPlacing, IsPlainPlacing, IsShared, IsTooLarge};
+ghost use Rattle.field_placing.specs.Rooms.{size_at};
+ghost use Rattle.field_placing.specs.Steps.{IsOrder, IsPlacedWithin};
 
-use crate::earlier::earlier;
 use crate::ends::{end_of, frame_alignment};
 use crate::order::order_of;
 use crate::room::Room;
@@ -23,7 +25,13 @@ pub struct Placing {
     pub size: u64,
 }
 
-fn frame_of(rooms: &[Room], offsets: Items<u64>) -> Placing {
+/// The layout of these offsets.
+fn frame_of(rooms: &[Room], offsets: Items<u64>) -> Placing
+    requires one_each { length offsets ≡ length rooms.now }
+    requires fit { (k : ℕ) → k < length rooms.now → slice_index offsets k + size_at rooms.now k ≤ 2 ^ 24 }
+    ensures offsets { result.offsets ≡ offsets }
+    ensures frame { IsFrame rooms.now result }
+{
     let end = end_of(rooms, offsets.as_slice());
     let align = frame_alignment(rooms);
     let size = end.next_multiple_of(align);
@@ -47,6 +55,7 @@ pub fn place_plain(
     }
 }
 
+/// The offsets by the conflicts, or the plain ones where those end later.
 fn chosen(
     alloc: Global,
     rooms: &[Room],
@@ -54,10 +63,15 @@ fn chosen(
     order: &[usize],
     conflicts: &[(usize, usize)],
     plain: Items<u64>,
-) -> Result<Items<u64>, AllocError> {
-    let rows = earlier(alloc, rooms, promise, conflicts)?;
+) -> Result<Items<u64>, AllocError>
+    requires order { IsOrder rooms.now promise order.now }
+    requires plain { IsPlacedWithin rooms.now promise Always (2 ^ 24) plain }
+    ensures chosen { IfOk result (λ offsets. IsShared rooms.now promise conflicts.now plain offsets ⊎ IsKeptPlain rooms.now promise conflicts.now plain offsets) }
+    ensures one_each { IfOk result (λ offsets. length offsets ≡ length rooms.now) }
+    ensures fit { IfOk result (λ offsets. (k : ℕ) → k < length rooms.now → slice_index offsets k + size_at rooms.now k ≤ 2 ^ 24) }
+{
     let limit = end_of(rooms, plain.as_slice());
-    match place_beside(alloc, rooms, promise, order, rows.as_slice(), limit)? {
+    match place_beside(alloc, rooms, promise, order, conflicts, limit)? {
         None => Ok(plain),
         Some(shared) => Ok(shared),
     }

@@ -1,19 +1,21 @@
 //! Placing field by field in the order.
 
-ghost use Rattle.std.specs.Prelude.{◌≡◌, ℕ, ◌<◌, ◌≤◌, ◌+◌, ◌^◌, IfOk, MatchOption, length, map, slice_index, slice_get, Some};
-ghost use Rattle.std.specs.List.{All, Contains};
-ghost use Rattle.field_placing.specs.Bars.{AreBars, IsCovered};
-ghost use Rattle.field_placing.specs.Ends.{end_of};
-ghost use Rattle.field_placing.specs.Placed.{Always, IsByteOf, IsPair, IsPlaced};
+ghost use Rattle.std.specs.Prelude.{◌≡◌, ℕ, ◌<◌, ◌≤◌, ◌+◌, ◌^◌, IfOk, MatchOption, Some, length, map, replicate, slice_get, slice_index};
+ghost use Rattle.std.specs.List.{Contains};
+ghost use Rattle.field_placing.specs.Bars.{AreBars, IsMore};
+ghost use Rattle.field_placing.specs.Placed.{Always, IsPair};
 ghost use Rattle.field_placing.specs.Rooms.{size_at};
-ghost use Rattle.field_placing.specs.Steps.{AreEarlier, IsOrder};
+ghost use Rattle.field_placing.specs.Steps.{CoverFields, HasNoRoom, HasRoom, IsOrder, IsPlacedWithin, NoneWithin};
 
 use crate::bars::{Bar, least_offset, with_bar};
+use crate::earlier::earlier;
 use crate::room::{Room, alignment_at, is_promise, size_at};
 use coro_base::Items;
 use std::alloc::{AllocError, Global};
 
-fn zeros(alloc: Global, count: usize) -> Result<Items<u64>, AllocError> {
+fn zeros(alloc: Global, count: usize) -> Result<Items<u64>, AllocError>
+    ensures { IfOk result (λ all. all ≡ replicate count 0) }
+{
     Ok(Items::from_vec(vec![in alloc; 0; count]?))
 }
 
@@ -24,7 +26,10 @@ fn place_one(
     bars: &[Bar],
     k: usize,
     limit: u64,
-) -> Option<u64> {
+) -> Option<u64>
+    requires { AreBars bars.now }
+    ensures { MatchOption result (HasNoRoom rooms.now promise bars.now k limit) (λ x. HasRoom rooms.now promise bars.now k limit x) }
+{
     let align = if is_promise(promise, k) { 1 } else { alignment_at(rooms, k) };
     least_offset(bars, size_at(rooms, k), align, limit)
 }
@@ -36,12 +41,14 @@ fn bars_of(
     offsets: &[u64],
     fields: &[usize],
 ) -> Result<Vec<Bar>, AllocError>
+    requires { (j : ℕ) → Contains fields.now j → (j < length offsets.now) × (slice_index offsets.now j + size_at rooms.now j ≤ 2 ^ 24) }
+    ensures { IfOk result (λ bars. CoverFields rooms.now offsets.now fields.now bars.items) }
 {
     let mut bars = Vec::new(alloc);
     for k in fields {
         let size = size_at(rooms, *k);
+        let start = offsets[*k];
         if size > 0 {
-            let start = offsets[*k];
             bars.push(Bar { start, end: start + size })?;
         }
     }
@@ -55,26 +62,43 @@ fn with_field(
     bars: &[Bar],
     offset: u64,
     size: u64,
-) -> Result<Vec<Bar>, AllocError> {
+) -> Result<Vec<Bar>, AllocError>
+    requires bars { AreBars bars.now }
+    requires fits { offset + size ≤ 2 ^ 24 }
+    ensures { IfOk result (λ all. IsMore bars.now (record { start = offset; end = offset + size }) all.items) }
+{
     if size == 0 {
-        return Ok(Vec::from_slice(alloc, bars)?);
+        return Vec::from_slice(alloc, bars);
     }
     with_bar(alloc, bars, Bar { start: offset, end: offset + size })
 }
 
-/// The offsets where only the fields of a row bar a field's way. None where a field would end past the limit.
+fn row_at(rows: &[Vec<usize>], k: usize) -> &[usize]
+    requires { k < length rows.now }
+    ensures { slice_get (map (λ row. row.items) rows.now) k ≡ Some result.now }
+{
+    rows[k].as_slice()
+}
+
+/// The offsets where only fields in conflict bar each other's way. None where a field would end past the limit.
 pub(crate) fn place_beside(
     alloc: Global,
     rooms: &[Room],
     promise: Option<usize>,
     order: &[usize],
-    rows: &[Vec<usize>],
+    conflicts: &[(usize, usize)],
     limit: u64,
 ) -> Result<Option<Items<u64>>, AllocError>
+    requires order { IsOrder rooms.now promise order.now }
+    requires header { 16 ≤ limit }
+    requires limit { limit ≤ 2 ^ 24 }
+    ensures { IfOk result (λ found. MatchOption found (NoneWithin rooms.now promise (IsPair conflicts.now) limit) (λ offsets. IsPlacedWithin rooms.now promise (IsPair conflicts.now) limit offsets)) }
 {
+    let rows = earlier(alloc, rooms, promise, conflicts)?;
     let mut offsets = zeros(alloc, rooms.len())?;
     for k in order {
-        let bars = bars_of(alloc, rooms, offsets.as_slice(), rows[*k].as_slice())?;
+        let row = row_at(rows.as_slice(), *k);
+        let bars = bars_of(alloc, rooms, offsets.as_slice(), row)?;
         match place_one(rooms, promise, bars.as_slice(), *k, limit) {
             None => return Ok(None),
             Some(offset) => offsets.set(*k, offset),
@@ -83,7 +107,7 @@ pub(crate) fn place_beside(
     Ok(Some(offsets))
 }
 
-/// The offsets where all fields that were placed bar a field's way. None where a field would end past the limit.
+/// The offsets where all fields bar each other's way. None where a field would end past the limit.
 pub(crate) fn place_behind(
     alloc: Global,
     rooms: &[Room],
@@ -91,6 +115,10 @@ pub(crate) fn place_behind(
     order: &[usize],
     limit: u64,
 ) -> Result<Option<Items<u64>>, AllocError>
+    requires order { IsOrder rooms.now promise order.now }
+    requires header { 16 ≤ limit }
+    requires limit { limit ≤ 2 ^ 24 }
+    ensures { IfOk result (λ found. MatchOption found (NoneWithin rooms.now promise Always limit) (λ offsets. IsPlacedWithin rooms.now promise Always limit offsets)) }
 {
     let mut offsets = zeros(alloc, rooms.len())?;
     let mut bars = Vec::new(alloc);
