@@ -1,17 +1,16 @@
 -- Bars that cover fields.
 use Rattle.std.proofs.Common.{◌≡◌, ◌≢◌, ℕ, ◌+◌, ◌<◌, ◌≤◌, ◌⊎◌, List, [], ◌∷◌, ◌++◌, length, take, get_or, Option, Some, refl, sym, ap, ◌∙◌, subst, ⊎_elim, inl, inr, arith}
-use Rattle.std.specs.Prelude.{slice_get, slice_set, slice_index, IsTrue}
-use Rattle.std.specs.List.{All, Contains}
+use Rattle.std.specs.Prelude.{slice_get, slice_set, slice_index}
 use Rattle.std.specs.List.Sorted.{IsNonDecreasingBy, IsPermutation}
 use Rattle.std.proofs.lemmas.Bool.{cases_lt}
 use Rattle.std.proofs.lemmas.List.{take_all, take_more}
 use Rattle.std.proofs.lemmas.List.Elements.{Contains-append_left, Contains-push, Contains-push_cases}
 use Rattle.std.proofs.lemmas.List.Sorted.{All-permutation, IsPermutation-sym}
 use Rattle.std.proofs.lemmas.Option.{same_Some, slice_get-get_or}
-use Rattle.field_placing.specs.Bars.{AreBars, IsCovered, IsInBar, IsMore}
-use Rattle.field_placing.specs.Placed.{Always, IsByteOf, IsTaken}
-use Rattle.field_placing.specs.Rooms.{comes_first, size_at}
-use Rattle.field_placing.specs.Steps.{AreEarlier, AreTaken, CoverFields, CoverFirst, IsOfFirst, IsOfOne, IsOrder}
+use Rattle.field_placing.specs.Bars.{AreBars, IsCovered, IsMore}
+use Rattle.field_placing.specs.Placed.{Always, IsByteOf}
+use Rattle.field_placing.specs.Rooms.{size_at}
+use Rattle.field_placing.specs.Steps.{AreEarlier, AreTaken, CoverFields, CoverFirst, IsOfOne, IsOrder}
 use Rattle.field_placing.specs.declared.bars.Bar.{Bar}
 use Rattle.field_placing.specs.declared.room.Room.{Room}
 use Rattle.field_placing.proofs.Joined.{bars_from, covered_cases, covered_front, covered_last, covered_permuted, no_bars, none_covered, push_cases}
@@ -57,13 +56,13 @@ gather_one : (rooms : List Room) (offsets fields : List ℕ) (k : ℕ) (bars : L
 gather_one rooms offsets fields k bars one some start end h = record {
   are_filled = λ a x e. ⊎_elim (λ there. h.are_filled a x there) (λ p. subst (λ (b : Bar). b.start < b.end) (sym p.1) (omega (arith, start, end, some))) (push_cases bars one a x e);
   of_one = λ byte c. ⊎_elim
-    (λ old. of_more rooms offsets fields k byte (h.of_one byte old))
-    (λ i. let a = i.0 in let b = i.1 in of_last rooms offsets fields k byte (omega (arith, a, start), omega (arith, b, end)))
-    (covered_cases bars one byte c);
+      (λ old. of_more rooms offsets fields k byte (h.of_one byte old))
+      (λ i. let a = i.0 in let b = i.1 in of_last rooms offsets fields k byte (omega (arith, a, start), omega (arith, b, end)))
+      (covered_cases bars one byte c);
   covered = λ byte o. ⊎_elim
-    (λ old. covered_front bars one byte (h.covered byte old))
-    (λ i. let a = i.0 in let b = i.1 in covered_last bars one byte (omega (arith, a, start), omega (arith, b, end)))
-    (of_cases rooms offsets fields k byte o);
+      (λ old. covered_front bars one byte (h.covered byte old))
+      (λ i. let a = i.0 in let b = i.1 in covered_last bars one byte (omega (arith, a, start), omega (arith, b, end)))
+      (of_cases rooms offsets fields k byte o);
 }
 
 pub gather_skip : (rooms : List Room) (offsets fields : List ℕ) (i : ℕ) (bars : List Bar) → i < length fields → size_at rooms (get_or fields i 0) ≤ 0 → IsGathered rooms offsets (take i fields) bars → IsGathered rooms offsets (take (i + 1) fields) bars
@@ -76,8 +75,8 @@ pub gather_push : (rooms : List Room) (offsets fields : List ℕ) (i size : ℕ)
 gather_push rooms offsets fields i size bars bars2 lt is some grown h =
     subst (IsGathered rooms offsets (take (i + 1) fields)) (sym grown)
     (subst (λ (l : List ℕ). IsGathered rooms offsets l (bars ++ (record { start = slice_index offsets (get_or fields i 0); end = slice_index offsets (get_or fields i 0) + size }) ∷ [])) (sym (take_more fields i 0 lt))
-      (gather_one rooms offsets (take i fields) (get_or fields i 0) bars (record { start = slice_index offsets (get_or fields i 0); end = slice_index offsets (get_or fields i 0) + size })
-        (omega (arith, is, some)) refl (ap (λ (n : ℕ). slice_index offsets (get_or fields i 0) + n) is) h))
+    (gather_one rooms offsets (take i fields) (get_or fields i 0) bars (record { start = slice_index offsets (get_or fields i 0); end = slice_index offsets (get_or fields i 0) + size })
+    (omega (arith, is, some)) refl (ap (λ (n : ℕ). slice_index offsets (get_or fields i 0) + n) is) h))
 
 pub gathered : (rooms : List Room) (offsets fields : List ℕ) (i : ℕ) (bars sorted : List Bar) → length fields ≤ i → IsGathered rooms offsets (take i fields) bars → IsPermutation bars sorted → IsNonDecreasingBy (λ (x : Bar). x.start) sorted →
     CoverFields rooms offsets fields sorted
@@ -103,9 +102,9 @@ pub first_taken : (rooms : List Room) (promise : Option ℕ) (order offsets : Li
     AreTaken rooms promise Always offsets k bars
 first_taken rooms promise order offsets done k bars o here c = record {
   taken = λ byte h. let f = c.of_first byte h in
-    record { by = f.by; is_field = o.inside f.at f.by f.is_there; is_before = order_tells rooms promise order f.at done f.by k o f.is_there here f.is_done; in_conflict = tt; is_its = f.is_its };
+      record { by = f.by; is_field = o.inside f.at f.by f.is_there; is_before = order_tells rooms promise order f.at done f.by k o f.is_there here f.is_done; in_conflict = tt; is_its = f.is_its };
   covered = λ byte t. let found = o.has_each t.by t.is_field in
-    c.covered byte (record { at = found.0; by = t.by; is_done = o.rises found.0 done t.by k found.1 here t.is_before; is_there = found.1; is_its = t.is_its });
+      c.covered byte (record { at = found.0; by = t.by; is_done = o.rises found.0 done t.by k found.1 here t.is_before; is_there = found.1; is_its = t.is_its });
 }
 
 pub cover_begins : (rooms : List Room) (order offsets : List ℕ) → CoverFirst rooms order 0 offsets []
@@ -120,16 +119,16 @@ pub cover_more : (rooms : List Room) (promise : Option ℕ) (order offsets : Lis
 cover_more rooms promise order offsets done k x bars bars2 o here len c m = record {
   are_bars = m.are_bars;
   of_first = λ byte h. ⊎_elim
-    (λ old. let f = c.of_first byte old in
+      (λ old. let f = c.of_first byte old in
       record { at = f.at; by = f.by; is_done = (let lt = f.is_done in omega (arith, lt)); is_there = f.is_there; is_its = subst (λ (y : ℕ). IsByteOf byte y (size_at rooms f.by)) (kept f.at f.by f.is_done f.is_there) f.is_its })
-    (λ i. record { at = done; by = k; is_done = omega arith; is_there = here; is_its = subst (λ (y : ℕ). IsByteOf byte y (size_at rooms k)) (sym now) i })
-    (m.told byte h);
+      (λ i. record { at = done; by = k; is_done = omega arith; is_there = here; is_its = subst (λ (y : ℕ). IsByteOf byte y (size_at rooms k)) (sym now) i })
+      (m.told byte h);
   covered = λ byte f. ⊎_elim
-    (λ (lt : f.at < done). m.has_others byte (c.covered byte
+      (λ (lt : f.at < done). m.has_others byte (c.covered byte
       (record { at = f.at; by = f.by; is_done = lt; is_there = f.is_there; is_its = subst (λ (y : ℕ). IsByteOf byte y (size_at rooms f.by)) (sym (kept f.at f.by lt f.is_there)) f.is_its })))
-    (λ (ge : done ≤ f.at). let lt = f.is_done in let same : f.at ≡ done = omega (arith, lt, ge) in let one : f.by ≡ k = same_Some f.by k (sym f.is_there ∙ (ap (slice_get order) same ∙ here)) in
+      (λ (ge : done ≤ f.at). let lt = f.is_done in let same : f.at ≡ done = omega (arith, lt, ge) in let one : f.by ≡ k = same_Some f.by k (sym f.is_there ∙ (ap (slice_get order) same ∙ here)) in
       m.has_more byte (subst (λ (y : ℕ). IsByteOf byte y (size_at rooms k)) now (subst (λ (j : ℕ). IsByteOf byte (slice_index (slice_set offsets k x) j) (size_at rooms j)) one f.is_its)))
-    (cases_lt f.at done);
+      (cases_lt f.at done);
 }
   where
     differs : (a j : ℕ) → a < done → slice_get order a ≡ Some j → j ≢ k

@@ -1,8 +1,8 @@
 -- The order of fields is an order, and it is total.
-use Rattle.std.proofs.Common.{◌≡◌, ◌≢◌, ℕ, ◌<◌, ◌≤◌, ◌⊎◌, List, Bool, true, false, not, Option, None, Some, refl, sym, ap, ◌∙◌, subst, ⊎_elim, inl, inr, arith}
-use Rattle.std.specs.Prelude.{◌&&◌, ◌||◌, nat_eq, nat_lt, IsTrue, IsFalse}
+use Rattle.std.proofs.Common.{◌≡◌, ◌≢◌, ℕ, List, Bool, true, false, not, Option, None, Some, refl, sym, ◌∙◌, arith}
+use Rattle.std.specs.Prelude.{◌&&◌, ◌||◌, nat_eq, nat_lt, IsTrue}
 use Rattle.std.specs.Cmp.{IsStrictWeakOrder}
-use Rattle.std.proofs.lemmas.Bool.{cases_Bool, cases_order, eqb-true, eq-eqb, lt-ltb}
+use Rattle.std.proofs.lemmas.Bool.{eqb-true}
 use Rattle.std.proofs.lemmas.Bool.Decides.{nat_tests}
 use Rattle.field_placing.specs.Rooms.{alignment_at, comes_first, is_promise, needs_more, size_at}
 use Rattle.field_placing.specs.declared.room.Room.{Room}
@@ -44,9 +44,9 @@ pub is_order : (rooms : List Room) (promise : Option ℕ) → IsStrictWeakOrder 
 unfolding comes_first needs_more
 is_order rooms promise = record {
   one_way = λ x y h. one_way_by (is_promise promise x) (is_promise promise y) _ _
-    (more_one_way (alignment_at rooms x) (size_at rooms x) x (alignment_at rooms y) (size_at rooms y) y) h;
+      (more_one_way (alignment_at rooms x) (size_at rooms x) x (alignment_at rooms y) (size_at rooms y) y) h;
   chain = λ x y z h k. chain_by (is_promise promise x) (is_promise promise y) (is_promise promise z) _ _ _
-    (more_chain (alignment_at rooms x) (size_at rooms x) x (alignment_at rooms y) (size_at rooms y) y (alignment_at rooms z) (size_at rooms z) z) h k;
+      (more_chain (alignment_at rooms x) (size_at rooms x) x (alignment_at rooms y) (size_at rooms y) y (alignment_at rooms z) (size_at rooms z) z) h k;
 }
 
 one_promise : (promise : Option ℕ) (x y : ℕ) → x ≢ y → is_promise promise x ≡ true → is_promise promise y ≡ true → ⊥

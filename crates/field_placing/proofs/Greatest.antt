@@ -1,5 +1,5 @@
 -- The greatest end of the first fields.
-use Rattle.std.proofs.Common.{◌≡◌, ℕ, zero, suc, ◌+◌, ◌<◌, ◌≤◌, ◌⊎◌, List, length, max, refl, sym, ap, ◌∙◌, subst, ⊎_elim, arith}
+use Rattle.std.proofs.Common.{◌≡◌, ℕ, zero, suc, ◌+◌, ◌<◌, ◌≤◌, List, max, refl, sym, ap, ◌∙◌, subst, ⊎_elim, arith}
 use Rattle.std.specs.Prelude.{slice_index}
 use Rattle.std.specs.Ordering.{nat_cmp, ord_max}
 use Rattle.std.proofs.lemmas.Bool.{cases_lt}
@@ -29,7 +29,7 @@ ends_before rooms offsets (suc n) k lt =
     ⊎_elim
     (λ (less : k < n). let h = ends_before rooms offsets n k less in omega (arith, h, step))
     (λ (ge : n ≤ k). let same : k ≡ n = omega (arith, lt, ge) in
-      subst (λ (z : ℕ). slice_index offsets z + size_at rooms z ≤ end_of_first rooms offsets (suc n)) (sym same) (omega (arith, step)))
+    subst (λ (z : ℕ). slice_index offsets z + size_at rooms z ≤ end_of_first rooms offsets (suc n)) (sym same) (omega (arith, step)))
     (cases_lt k n)
 
 -- and where none ends behind a limit, it doesn't

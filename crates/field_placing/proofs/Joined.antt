@@ -1,12 +1,12 @@
 -- Bars put behind others, between others, or into one.
-use Rattle.std.proofs.Common.{◌≡◌, ℕ, zero, suc, ◌+◌, ◌<◌, ◌≤◌, ◌⊎◌, List, [], ◌∷◌, ◌++◌, length, max, Some, refl, ap, sym, ◌∙◌, subst, ⊎_elim, inl, inr, arith, get_or}
+use Rattle.std.proofs.Common.{◌≡◌, ℕ, zero, suc, ◌<◌, ◌≤◌, ◌⊎◌, List, [], ◌∷◌, ◌++◌, length, max, Some, refl, ap, sym, ◌∙◌, subst, ⊎_elim, inl, inr, arith, get_or}
 use Rattle.std.specs.Prelude.{slice_get}
 use Rattle.std.specs.List.{All, Contains}
 use Rattle.std.specs.List.Sorted.{IsPermutation, IsNonDecreasingBy}
 use Rattle.std.proofs.lemmas.Bool.{cases_lt}
-use Rattle.std.proofs.lemmas.List.Sorted.{Contains-permutation, All-permutation}
+use Rattle.std.proofs.lemmas.List.Sorted.{Contains-permutation}
 use Rattle.std.proofs.lemmas.Option.{get_or_from_slice_get, slice_get_within, slice_get-get_or, same_Some}
-use Rattle.field_placing.specs.Bars.{AllStart, AreBars, IsCovered, IsInBar, IsJoined, IsMore}
+use Rattle.field_placing.specs.Bars.{AllStart, AreBars, IsCovered, IsInBar, IsJoined}
 use Rattle.field_placing.specs.declared.bars.Bar.{Bar}
 
 -- ---- one more at the end
@@ -62,15 +62,15 @@ front_starts bars x h a y e = let lt = slice_get_within bars a y e in h.rise a (
 more_bars : (bars : List Bar) (x : Bar) → AreBars bars → AllStart bars x.start → x.start < x.end → AreBars (bars ++ x ∷ [])
 more_bars bars x h low full = record {
   rise = λ a b y z e f le. ⊎_elim
-    (λ there. ⊎_elim
+      (λ there. ⊎_elim
       (λ here. h.rise a b y z here there le)
       (λ p. let lt = slice_get_within bars b z there in absurd (omega (arith, lt, p.0, le)))
       (push_cases bars x a y e))
-    (λ p. ⊎_elim
+      (λ p. ⊎_elim
       (λ here. let up = low a y here in subst (λ (w : Bar). y.start ≤ w.start) (sym p.1) up)
       (λ q. let same = ap (λ (w : Bar). w.start) (q.1 ∙ sym p.1) in omega (arith, same))
       (push_cases bars x a y e))
-    (push_cases bars x b z f);
+      (push_cases bars x b z f);
   are_filled = λ a y e. ⊎_elim (λ here. h.are_filled a y here) (λ p. subst (λ (w : Bar). w.start < w.end) (sym p.1) full) (push_cases bars x a y e);
 }
 
@@ -98,18 +98,18 @@ made_one front last more one h low full meets same end = record {
   is_more = record {
     are_bars = more_bars front one (front_bars front last h) (λ a y e. let up = front_starts front last h a y e in omega (arith, up, same)) (let l = last_filled front last h in omega (arith, l, same, end));
     told = λ byte c. ⊎_elim
-      (λ f. inl (covered_front front last byte f))
-      (λ i. ⊎_elim
+        (λ f. inl (covered_front front last byte f))
+        (λ i. ⊎_elim
         (λ (lt : byte < last.end). let a = i.0 in inl (covered_last front last byte (omega (arith, a, same), lt)))
         (λ (ge : last.end ≤ byte). let b = i.1 in inr (omega (arith, ge, meets), omega (arith, b, end, ge)))
         (cases_lt byte last.end))
-      (covered_cases front one byte c);
+        (covered_cases front one byte c);
     has_others = λ byte c. ⊎_elim
-      (λ f. covered_front front one byte f)
-      (λ i. let a = i.0 in let b = i.1 in covered_last front one byte (omega (arith, a, same), omega (arith, b, end)))
-      (covered_cases front last byte c);
+        (λ f. covered_front front one byte f)
+        (λ i. let a = i.0 in let b = i.1 in covered_last front one byte (omega (arith, a, same), omega (arith, b, end)))
+        (covered_cases front last byte c);
     has_more = λ byte i. let a = i.0 in let b = i.1 in let l = low (length front) last (last_here front last) in
-      covered_last front one byte (omega (arith, a, l, same), omega (arith, b, end));
+        covered_last front one byte (omega (arith, a, l, same), omega (arith, b, end));
   };
   start = more_start front one more.start (λ a y e. low a y (front_here front (last ∷ []) a y e)) (let l = low (length front) last (last_here front last) in omega (arith, l, same));
 }
@@ -119,11 +119,11 @@ made_one front last more one h low full meets same end = record {
 pub bars_from : (bars : List Bar) → IsNonDecreasingBy (λ (x : Bar). x.start) bars → All (λ (x : Bar). x.start < x.end) bars → AreBars bars
 bars_from bars up full = record {
   rise = λ a b x y e f le.
-    let lt = slice_get_within bars b y f in
-    let h = up a b x le lt in
-    let one = ap (λ (w : Bar). w.start) (get_or_from_slice_get bars a x x e) in
-    let two = ap (λ (w : Bar). w.start) (get_or_from_slice_get bars b y x f) in
-    omega (arith, h, one, two);
+      let lt = slice_get_within bars b y f in
+      let h = up a b x le lt in
+      let one = ap (λ (w : Bar). w.start) (get_or_from_slice_get bars a x x e) in
+      let two = ap (λ (w : Bar). w.start) (get_or_from_slice_get bars b y x f) in
+      omega (arith, h, one, two);
   are_filled = λ a x e. let lt = slice_get_within bars a x e in subst (λ (w : Bar). w.start < w.end) (get_or_from_slice_get bars a x x e) (full a x lt);
 }
 

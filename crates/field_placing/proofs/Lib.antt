@@ -7,5 +7,6 @@ pub mod Joining
 pub mod Orders
 pub mod Passing
 pub mod Places
+pub mod Rounding
 pub mod Rows
 pub mod Stepping

@@ -1,7 +1,7 @@
 -- What a sort of the positions gives.
-use Rattle.std.proofs.Common.{◌≡◌, ◌≢◌, ℕ, ◌+◌, ◌<◌, ◌≤◌, ◌⊎◌, List, length, Bool, true, false, Option, Some, get_or, refl, sym, ap, ◌∙◌, subst, ⊎_elim, inl, inr, arith}
+use Rattle.std.proofs.Common.{◌≡◌, ◌≢◌, ℕ, ◌<◌, ◌≤◌, List, length, Bool, true, false, Option, Some, get_or, refl, sym, ap, ◌∙◌, subst, ⊎_elim, arith}
 use Rattle.std.specs.Prelude.{nat_eq, slice_get, IsTrue}
-use Rattle.std.specs.List.{Contains, IsDistinct}
+use Rattle.std.specs.List.{IsDistinct}
 use Rattle.std.specs.List.Sorted.{IsPermutation, IsSortedBy}
 use Rattle.std.proofs.lemmas.Bool.{cases_lt, cases_order, eq-eqb, ne_eqb, both_ways}
 use Rattle.std.proofs.lemmas.Bool.Decides.{nat_tests}
@@ -36,12 +36,12 @@ pub sorted_order : (rooms : List Room) (promise : Option ℕ) (start order : Lis
 sorted_order rooms promise start order h perm up = record {
   inside = λ a k e. let lt = slice_get_within order a k e in subst (λ (x : ℕ). x < length rooms) (get_or_from_slice_get order a k 0 e) (all_inside a 0 lt);
   has_each = λ k lt. let c = Contains-permutation start order k perm (k, omega (arith, lt, h.count), at_any start k k (omega (arith, lt, h.count)) ∙ h.each k lt) in
-    (c.0, slice_get-get_or order c.0 k c.1 ∙ ap (λ (x : ℕ). Some x) c.2);
+      (c.0, slice_get-get_or order c.0 k c.1 ∙ ap (λ (x : ℕ). Some x) c.2);
   has_once = λ a b k e f. once a b k e f;
   rises = λ a b j k e f first. ⊎_elim
-    (λ (lt : a < b). lt)
-    (λ (ge : b ≤ a). absurd (both_ways (comes_first rooms promise j k) (far a b j k e f ge) first))
-    (cases_lt a b);
+      (λ (lt : a < b). lt)
+      (λ (ge : b ≤ a). absurd (both_ways (comes_first rooms promise j k) (far a b j k e f ge) first))
+      (cases_lt a b);
 }
   where
     all_inside : (a d : ℕ) → a < length order → get_or order a d < length rooms

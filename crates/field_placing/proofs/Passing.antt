@@ -1,5 +1,5 @@
 -- Going up past bars to the least offset that meets none.
-use Rattle.std.proofs.Common.{◌≡◌, ℕ, ◌+◌, ◌%◌, ◌-◌, ◌<◌, ◌≤◌, ◌⊎◌, List, length, max, Some, ap, sym, ◌∙◌, subst, ⊎_elim, arith}
+use Rattle.std.proofs.Common.{◌≡◌, ℕ, ◌+◌, ◌%◌, ◌-◌, ◌<◌, ◌≤◌, List, length, max, Some, ap, sym, ◌∙◌, subst, ⊎_elim, arith}
 use Rattle.std.specs.Prelude.{slice_get}
 use Rattle.std.proofs.lemmas.Bool.{cases_lt}
 use Rattle.std.proofs.lemmas.Option.{slice_get_within, same_Some}
@@ -30,11 +30,11 @@ pub bar_behind : (bars : List Bar) (size align last done at : ℕ) (bar : Bar) (
 bar_behind bars size align last done at bar y are pos h is meets free =
     ⊎_elim
     (λ (lt : y < bar.end).
-        let low = h.least y free in
-        let full = are.are_filled done bar is in
-        let inside : IsByteOf (max y bar.start) y size = (omega arith, omega arith) in
-        let there : IsCovered bars (max y bar.start) = record { at = done; bar = bar; is_there = is; inside = (omega arith, omega (arith, lt, full)) } in
-        absurd (free.apart (max y bar.start) inside there))
+    let low = h.least y free in
+    let full = are.are_filled done bar is in
+    let inside : IsByteOf (max y bar.start) y size = (omega arith, omega arith) in
+    let there : IsCovered bars (max y bar.start) = record { at = done; bar = bar; is_there = is; inside = (omega arith, omega (arith, lt, full)) } in
+    absurd (free.apart (max y bar.start) inside there))
     (λ (ge : bar.end ≤ y). ge)
     (cases_lt y bar.end)
 
@@ -45,9 +45,9 @@ more_behind bars done at bar before is le a x lt there =
     ⊎_elim
     (λ (less : a < done). before a x less there)
     (λ (ge : done ≤ a).
-        let same : a ≡ done = omega (arith, lt, ge) in
-        let one : x ≡ bar = same_Some x bar (sym there ∙ ap (slice_get bars) same ∙ is) in
-        subst (λ (b : Bar). b.end ≤ at) (sym one) le)
+    let same : a ≡ done = omega (arith, lt, ge) in
+    let one : x ≡ bar = same_Some x bar (sym there ∙ ap (slice_get bars) same ∙ is) in
+    subst (λ (b : Bar). b.end ≤ at) (sym one) le)
     (cases_lt a done)
 
 pub passing_kept : (bars : List Bar) (size align last done at : ℕ) (bar : Bar) → IsPassing bars size align last done at → slice_get bars done ≡ Some bar → bar.end ≤ at → IsPassing bars size align last (done + 1) at

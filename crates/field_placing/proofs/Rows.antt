@@ -1,5 +1,5 @@
 -- Rows of the fields that come before each field, pair by pair.
-use Rattle.std.proofs.Common.{◌≡◌, ◌≢◌, ℕ, ◌+◌, ◌<◌, ◌≤◌, ◌⊎◌, List, [], ◌∷◌, ◌++◌, length, take, get_or, map, replicate, Bool, true, false, Option, Some, refl, sym, ap, ◌∙◌, subst, ⊎_elim, inl, inr, arith}
+use Rattle.std.proofs.Common.{◌≡◌, ℕ, ◌+◌, ◌<◌, ◌≤◌, ◌⊎◌, List, [], ◌∷◌, ◌++◌, length, take, get_or, replicate, Bool, true, false, Option, Some, refl, sym, ap, ◌∙◌, subst, ⊎_elim, inl, inr, arith}
 use Rattle.std.specs.Prelude.{slice_get, slice_set, nat_lt, ◌&&◌, IsTrue, if◌then◌else◌}
 use Rattle.std.specs.List.{Contains}
 use Rattle.std.proofs.lemmas.Bool.{and_from, and_left, and_parts, and_right, both_ways, le-ltb, ltb-true, lt-ltb}
@@ -48,19 +48,19 @@ noted : (rooms : List Room) (promise : Option ℕ) (C : ℕ → ℕ → Type 0) 
 noted rooms promise C first second rows h lt in_rows before = record {
   one_each = length-set rows second (get_or rows second [] ++ first ∷ []) ∙ h.one_each;
   listed = λ k j row e c. ⊎_elim
-    (λ p. ⊎_elim
+      (λ p. ⊎_elim
       (λ old. let q = h.listed second j (get_or rows second []) at old in (q.0, (subst (λ (z : ℕ). IsTrue (comes_first rooms promise j z)) (sym p.0) q.1.0, inl (subst (C j) (sym p.0) q.1.1))))
       (λ same. (subst (λ (z : ℕ). z < length rooms) same lt, (subst (λ (z : ℕ). IsTrue (comes_first rooms promise j z)) (sym p.0) (subst (λ (z : ℕ). IsTrue (comes_first rooms promise z second)) same before), inr (sym same, p.0))))
       (Contains-push_cases (get_or rows second []) first j (subst (λ (l : List ℕ). Contains l j) p.1 c)))
-    (λ p. let q = h.listed k j row p.0 c in (q.0, (q.1.0, inl q.1.1)))
-    (set_cases rows second k (get_or rows second [] ++ first ∷ []) row e);
+      (λ p. let q = h.listed k j row p.0 c in (q.0, (q.1.0, inl q.1.1)))
+      (set_cases rows second k (get_or rows second [] ++ first ∷ []) row e);
   lists = λ k j row e less is d. ⊎_elim
-    (λ p. subst (λ (l : List ℕ). Contains l j) (sym p.1) (⊎_elim
+      (λ p. subst (λ (l : List ℕ). Contains l j) (sym p.1) (⊎_elim
       (λ c. Contains-append_left (get_or rows second []) (first ∷ []) j (h.lists second j (get_or rows second []) at less (subst (λ (z : ℕ). IsTrue (comes_first rooms promise j z)) p.0 is) (subst (C j) p.0 c)))
       (λ q. subst (Contains (get_or rows second [] ++ first ∷ [])) (sym q.0) (Contains-push (get_or rows second []) first))
       d))
-    (λ p. ⊎_elim (λ c. h.lists k j row p.0 less is c) (λ q. absurd (p.1 q.1)) d)
-    (set_cases rows second k (get_or rows second [] ++ first ∷ []) row e);
+      (λ p. ⊎_elim (λ c. h.lists k j row p.0 less is c) (λ q. absurd (p.1 q.1)) d)
+      (set_cases rows second k (get_or rows second [] ++ first ∷ []) row e);
 }
   where
     at : slice_get rows second ≡ Some (get_or rows second [])
@@ -72,10 +72,10 @@ not_noted rooms promise C first second rows h none = record {
   one_each = h.one_each;
   listed = λ k j row e c. let q = h.listed k j row e c in (q.0, (q.1.0, inl q.1.1));
   lists = λ k j row e less is d. ⊎_elim
-    (λ c. h.lists k j row e less is c)
-    (λ q. absurd (none (subst (λ (z : ℕ). z < length rooms) q.0 less) (subst (λ (z : ℕ). z < length rows) q.1 (slice_get_within rows k row e))
+      (λ c. h.lists k j row e less is c)
+      (λ q. absurd (none (subst (λ (z : ℕ). z < length rooms) q.0 less) (subst (λ (z : ℕ). z < length rows) q.1 (slice_get_within rows k row e))
       (subst (λ (z : ℕ). IsTrue (comes_first rooms promise first z)) q.1 (subst (λ (z : ℕ). IsTrue (comes_first rooms promise z k)) q.0 is))))
-    d;
+      d;
 }
 
 one_note : (rooms : List Room) (promise : Option ℕ) (C : ℕ → ℕ → Type 0) (first second : ℕ) (rows : List (List ℕ)) → AreEarlier rooms promise C rows → AreEarlier rooms promise (OrPair C first second) (with_note rooms promise first second rows)
@@ -90,7 +90,7 @@ one_note rooms promise C first second rows h = go (nat_lt first (length rooms) &
         noted rooms promise C first second rows h (ltb-true first (length rooms) p.0) (ltb-true second (length rows) q.0) q.1
     go false e = not_noted rooms promise C first second rows h (λ a b is. both_ways _ e
         (and_from (nat_lt first (length rooms)) (nat_lt second (length rows) && comes_first rooms promise first second) (lt-ltb first (length rooms) a)
-          (and_from (nat_lt second (length rows)) (comes_first rooms promise first second) (lt-ltb second (length rows) b) is)))
+        (and_from (nat_lt second (length rows)) (comes_first rooms promise first second) (lt-ltb second (length rows) b) is)))
 
 -- a pair of the list says what both its orders say
 pair_by : (rooms : List Room) (promise : Option ℕ) (before after : List (ℕ × ℕ)) (x y : ℕ) (rows one two : List (List ℕ)) → after ≡ before ++ (x, y) ∷ [] → AreEarlier rooms promise (IsPair before) rows →
@@ -98,29 +98,29 @@ pair_by : (rooms : List Room) (promise : Option ℕ) (before after : List (ℕ �
 pair_by rooms promise before after x y rows one two grown h is_one is_two =
     rows_by rooms promise (OrPair (OrPair (IsPair before) x y) y x) (IsPair after) two to fro
     (subst (AreEarlier rooms promise (OrPair (OrPair (IsPair before) x y) y x)) (sym is_two) (one_note rooms promise (OrPair (IsPair before) x y) y x one
-      (subst (AreEarlier rooms promise (OrPair (IsPair before) x y)) (sym is_one) (one_note rooms promise (IsPair before) x y rows h))))
+    (subst (AreEarlier rooms promise (OrPair (IsPair before) x y)) (sym is_one) (one_note rooms promise (IsPair before) x y rows h))))
   where
     old : (p : ℕ × ℕ) → Contains before p → Contains after p
     old p c = subst (λ (l : List (ℕ × ℕ)). Contains l p) (sym grown) (Contains-append_left before ((x, y) ∷ []) p c)
 
     new : (j k : ℕ) → j ≡ x → k ≡ y → Contains after (j, k)
     new j k e f = subst (λ (l : List (ℕ × ℕ)). Contains l (j, k)) (sym grown)
-      (subst (λ (z : ℕ). Contains (before ++ (x, y) ∷ []) (z, k)) (sym e) (subst (λ (z : ℕ). Contains (before ++ (x, y) ∷ []) (x, z)) (sym f) (Contains-push before (x, y))))
+        (subst (λ (z : ℕ). Contains (before ++ (x, y) ∷ []) (z, k)) (sym e) (subst (λ (z : ℕ). Contains (before ++ (x, y) ∷ []) (x, z)) (sym f) (Contains-push before (x, y))))
 
     to : (j k : ℕ) → OrPair (OrPair (IsPair before) x y) y x j k → IsPair after j k
     to j k h = ⊎_elim
-      (λ a. ⊎_elim (λ b. ⊎_elim (λ c. inl (old (j, k) c)) (λ c. inr (old (k, j) c)) b) (λ p. inl (new j k p.0 p.1)) a)
-      (λ p. inr (new k j p.1 p.0))
-      h
+        (λ a. ⊎_elim (λ b. ⊎_elim (λ c. inl (old (j, k) c)) (λ c. inr (old (k, j) c)) b) (λ p. inl (new j k p.0 p.1)) a)
+        (λ p. inr (new k j p.1 p.0))
+        h
 
     split : (j k : ℕ) → Contains after (j, k) → Contains before (j, k) ⊎ ((j ≡ x) × (k ≡ y))
     split j k c = ⊎_elim (λ d. inl d) (λ e. inr (ap (λ (p : ℕ × ℕ). p.0) (sym e), ap (λ (p : ℕ × ℕ). p.1) (sym e))) (Contains-push_cases before (x, y) (j, k) (subst (λ (l : List (ℕ × ℕ)). Contains l (j, k)) grown c))
 
     fro : (j k : ℕ) → IsPair after j k → OrPair (OrPair (IsPair before) x y) y x j k
     fro j k h = ⊎_elim
-      (λ c. ⊎_elim (λ d. inl (inl (inl d))) (λ p. inl (inr p)) (split j k c))
-      (λ c. ⊎_elim (λ d. inl (inl (inr d))) (λ p. inr (p.1, p.0)) (split k j c))
-      h
+        (λ c. ⊎_elim (λ d. inl (inl (inl d))) (λ p. inl (inr p)) (split j k c))
+        (λ c. ⊎_elim (λ d. inl (inl (inr d))) (λ p. inr (p.1, p.0)) (split k j c))
+        h
 
 pub pair_noted : (rooms : List Room) (promise : Option ℕ) (pairs : List (ℕ × ℕ)) (i : ℕ) (rows one two : List (List ℕ)) → i < length pairs → AreEarlier rooms promise (IsPair (take i pairs)) rows →
     one ≡ with_note rooms promise (get_or pairs i (0, 0)).0 (get_or pairs i (0, 0)).1 rows → two ≡ with_note rooms promise (get_or pairs i (0, 0)).1 (get_or pairs i (0, 0)).0 one → AreEarlier rooms promise (IsPair (take (i + 1) pairs)) two
@@ -144,7 +144,7 @@ pub note_made : (rooms : List Room) (promise : Option ℕ) (first second : ℕ) 
     rows2 ≡ slice_set rows second (get_or rows second [] ++ first ∷ []) → rows2 ≡ with_note rooms promise first second rows
 note_made rooms promise first second rows rows2 a b is e =
     e ∙ sym (note_by rooms promise first second rows true
-      (and_from (nat_lt first (length rooms)) _ (lt-ltb first (length rooms) a) (and_from (nat_lt second (length rows)) _ (lt-ltb second (length rows) b) is)))
+    (and_from (nat_lt first (length rooms)) _ (lt-ltb first (length rooms) a) (and_from (nat_lt second (length rows)) _ (lt-ltb second (length rows) b) is)))
 
 pub no_note_first : (rooms : List Room) (promise : Option ℕ) (first second : ℕ) (rows : List (List ℕ)) → length rooms ≤ first → rows ≡ with_note rooms promise first second rows
 no_note_first rooms promise first second rows le = sym (note_by rooms promise first second rows false (and_left (nat_lt first (length rooms)) _ (le-ltb first (length rooms) le)))

@@ -1,14 +1,13 @@
 -- Placing field by field gives each its place, and no other placing is there.
-use Rattle.std.proofs.Common.{◌≡◌, ◌≢◌, ℕ, ◌+◌, ◌%◌, ◌<◌, ◌≤◌, ◌⊎◌, List, length, max, replicate, get_or, Bool, true, false, Option, Some, refl, sym, ap, ◌∙◌, subst, ⊎_elim, inl, inr, arith}
-use Rattle.std.specs.Prelude.{slice_get, slice_set, slice_index, unwrap_or, IsTrue, IsFalse}
-use Rattle.std.proofs.lemmas.Bool.{both_ways, cases_Bool, cases_eq, cases_lt}
+use Rattle.std.proofs.Common.{◌≡◌, ◌≢◌, ℕ, ◌+◌, ◌<◌, ◌≤◌, List, length, replicate, Bool, true, false, Option, Some, refl, sym, ap, ◌∙◌, subst, ⊎_elim, arith}
+use Rattle.std.specs.Prelude.{slice_get, slice_set, slice_index, unwrap_or, IsTrue}
+use Rattle.std.proofs.lemmas.Bool.{cases_Bool, cases_lt}
 use Rattle.std.proofs.lemmas.List.{length-set, length-replicate}
 use Rattle.std.proofs.lemmas.Option.{get_or_from_slice_get, same_Some, slice_get_within, unwrap_or-slice_get}
 use Rattle.std.proofs.Math.Nat.{mod-one}
-use Rattle.field_placing.specs.Bars.{IsCovered, IsFree, IsLeastFree}
-use Rattle.field_placing.specs.Ends.{end_of}
+use Rattle.field_placing.specs.Bars.{IsFree, IsLeastFree}
 use Rattle.field_placing.specs.Placed.{CanStand, IsByteOf, IsItsPlace, IsPlaced, IsTaken}
-use Rattle.field_placing.specs.Rooms.{alignment_at, comes_first, is_promise, size_at}
+use Rattle.field_placing.specs.Rooms.{comes_first, is_promise, size_at}
 use Rattle.field_placing.specs.Steps.{AreTaken, HasNoRoom, HasRoom, IsOrder, IsPlacedWithin, IsUnderway, NoneWithin, placed_by}
 use Rattle.field_placing.specs.declared.bars.Bar.{Bar}
 use Rattle.field_placing.specs.declared.room.Room.{Room}
@@ -54,9 +53,9 @@ module _ (rooms : List Room) (promise : Option ℕ) (Conflict : ℕ → ℕ → 
   -- a field has one place
   one_place : (offsets : List ℕ) (k x y : ℕ) → IsItsPlace rooms promise Conflict offsets k x → IsItsPlace rooms promise Conflict offsets k y → x ≡ y
   one_place offsets k x y p q = ⊎_elim
-    (λ yes. p.promise_behind_header yes ∙ sym (q.promise_behind_header yes))
-    (λ no. let a = p.least no y (q.can_stand no) in let b = q.least no x (p.can_stand no) in omega (arith, a, b))
-    (cases_Bool (is_promise promise k))
+      (λ yes. p.promise_behind_header yes ∙ sym (q.promise_behind_header yes))
+      (λ no. let a = p.least no y (q.can_stand no) in let b = q.least no x (p.can_stand no) in omega (arith, a, b))
+      (cases_Bool (is_promise promise k))
 
   -- ---- bars that cover what is taken
 
@@ -78,13 +77,13 @@ module _ (rooms : List Room) (promise : Option ℕ) (Conflict : ℕ → ℕ → 
   least_is_place : (offsets : List ℕ) (k x : ℕ) (bars : List Bar) → AreTaken rooms promise Conflict offsets k bars → IsLeastFree bars (size_at rooms k) (placed_by rooms promise k) x → IsItsPlace rooms promise Conflict offsets k x
   least_is_place offsets k x bars t h = record {
     promise_behind_header = λ yes.
-      let low = h.is_free.from_header in
-      let free : IsFree bars (size_at rooms k) (placed_by rooms promise k) 16 = record {
-        from_header = omega arith;
-        aligned = rw yes (mod-one 16);
-        apart = λ byte i c. (let u = t.taken byte c in none_before rooms promise u.by k yes u.is_before);
-      } in
-      let high = h.least 16 free in omega (arith, low, high);
+        let low = h.is_free.from_header in
+        let free : IsFree bars (size_at rooms k) (placed_by rooms promise k) 16 = record {
+          from_header = omega arith;
+          aligned = rw yes (mod-one 16);
+          apart = λ byte i c. (let u = t.taken byte c in none_before rooms promise u.by k yes u.is_before);
+        } in
+        let high = h.least 16 free in omega (arith, low, high);
     can_stand = λ no. record {
       from_header = h.is_free.from_header;
       aligned = rw no at h.is_free.aligned;
@@ -134,27 +133,27 @@ module _ (rooms : List Room) (promise : Option ℕ) (Conflict : ℕ → ℕ → 
     one_placed offsets done k x u here p le = record {
       one_each = length-set offsets k x ∙ u.one_each;
       placed = λ a i lt at. ⊎_elim
-        (λ (less : a < done).
+          (λ (less : a < done).
           let ne = other_field done a i k here at less in
           let value = index_kept offsets i k x ne in
           subst (IsItsPlace rooms promise Conflict (slice_set offsets k x) i) value
-            (place_moved offsets (slice_set offsets k x) i (slice_index offsets i) (earlier_kept offsets done a k x i here at (omega (arith, less))) (u.placed a i less at)))
-        (λ (ge : done ≤ a).
+          (place_moved offsets (slice_set offsets k x) i (slice_index offsets i) (earlier_kept offsets done a k x i here at (omega (arith, less))) (u.placed a i less at)))
+          (λ (ge : done ≤ a).
           let same = is_k a i lt ge at in
           subst (λ (z : ℕ). IsItsPlace rooms promise Conflict (slice_set offsets k x) z (slice_index (slice_set offsets k x) z)) (sym same)
-            (subst (IsItsPlace rooms promise Conflict (slice_set offsets k x) k) (sym now) (place_moved offsets (slice_set offsets k x) k x (earlier_kept offsets done done k x k here here (omega arith)) p)))
-        (cases_lt a done);
+          (subst (IsItsPlace rooms promise Conflict (slice_set offsets k x) k) (sym now) (place_moved offsets (slice_set offsets k x) k x (earlier_kept offsets done done k x k here here (omega arith)) p)))
+          (cases_lt a done);
       within = λ a i lt at. ⊎_elim
-        (λ (less : a < done).
+          (λ (less : a < done).
           let value = index_kept offsets i k x (other_field done a i k here at less) in
           let old = u.within a i less at in omega (arith, value, old))
-        (λ (ge : done ≤ a). subst (λ (z : ℕ). slice_index (slice_set offsets k x) z + size_at rooms z ≤ limit) (sym (is_k a i lt ge at)) (omega (arith, now, le)))
-        (cases_lt a done);
+          (λ (ge : done ≤ a). subst (λ (z : ℕ). slice_index (slice_set offsets k x) z + size_at rooms z ≤ limit) (sym (is_k a i lt ge at)) (omega (arith, now, le)))
+          (cases_lt a done);
       only = λ other h a i lt at. ⊎_elim
-        (λ (less : a < done). u.only other h a i less at ∙ index_kept offsets i k x (other_field done a i k here at less))
-        (λ (ge : done ≤ a). subst (λ (z : ℕ). slice_index other z ≡ slice_index (slice_set offsets k x) z) (sym (is_k a i lt ge at))
+          (λ (less : a < done). u.only other h a i less at ∙ index_kept offsets i k x (other_field done a i k here at less))
+          (λ (ge : done ≤ a). subst (λ (z : ℕ). slice_index other z ≡ slice_index (slice_set offsets k x) z) (sym (is_k a i lt ge at))
           (one_place offsets k (slice_index other k) x (other_place offsets other done k u here h) p ∙ sym now))
-        (cases_lt a done);
+          (cases_lt a done);
     }
       where
         inside : k < length offsets

@@ -1,5 +1,5 @@
 -- What fields need, and which of them is placed first.
-use Rattle.std.specs.Prelude.{◌≡◌, ℕ, ◌&&◌, ◌||◌, List, Bool, false, not, nat_eq, nat_lt, Option, None, Some, max, slice_index_or}
+use Rattle.std.specs.Prelude.{ℕ, ◌&&◌, ◌||◌, List, Bool, false, not, nat_eq, nat_lt, Option, None, Some, max, slice_index_or}
 use Rattle.field_placing.specs.declared.room.Room.{Room}
 
 -- the room of a field; a position past the list has none

@@ -23,7 +23,11 @@ fn next_aligned(from: u64, align: u64, last: u64) -> Option<u64>
 {
     let rest = from % align;
     let more = if rest == 0 { 0 } else { align - rest };
-    if from <= last && more <= last - from { Some(from + more) } else { None }
+    if from <= last && more <= last - from {
+        Some(from + more)
+    } else {
+        None
+    }
 }
 
 /// The least offset behind the header at which a field meets no bar, where it ends at or before the limit there.
@@ -63,7 +67,10 @@ fn join(bars: &mut Vec<Bar>, bar: Bar) -> Result<(), AllocError>
         Some(last) => {
             if bar.start <= last.end {
                 let end = last.end.max(bar.end);
-                bars.push(Bar { start: last.start, end })?;
+                bars.push(Bar {
+                    start: last.start,
+                    end,
+                })?;
             } else {
                 bars.push(last)?;
                 bars.push(bar)?;

@@ -35,7 +35,12 @@ fn frame_of(rooms: &[Room], offsets: Items<u64>) -> Placing
     let end = end_of(rooms, offsets.as_slice());
     let align = frame_alignment(rooms);
     let size = end.next_multiple_of(align);
-    Placing { offsets, end, align, size }
+    Placing {
+        offsets,
+        end,
+        align,
+        size,
+    }
 }
 
 /// The plain layout, in which all fields conflict. None where it ends above 2^24.

@@ -52,7 +52,11 @@ fn needs_more(rooms: &[Room], j: usize, k: usize) -> bool
     }
     let first = size_at(rooms, j);
     let second = size_at(rooms, k);
-    if first == second { j < k } else { first > second }
+    if first == second {
+        j < k
+    } else {
+        first > second
+    }
 }
 
 /// Whether the first of two fields is placed before the second.

@@ -30,7 +30,11 @@ fn place_one(
     requires { AreBars bars.now }
     ensures { MatchOption result (HasNoRoom rooms.now promise bars.now k limit) (λ x. HasRoom rooms.now promise bars.now k limit x) }
 {
-    let align = if is_promise(promise, k) { 1 } else { alignment_at(rooms, k) };
+    let align = if is_promise(promise, k) {
+        1
+    } else {
+        alignment_at(rooms, k)
+    };
     least_offset(bars, size_at(rooms, k), align, limit)
 }
 
@@ -49,7 +53,10 @@ fn bars_of(
         let size = size_at(rooms, *k);
         let start = offsets[*k];
         if size > 0 {
-            bars.push(Bar { start, end: start + size })?;
+            bars.push(Bar {
+                start,
+                end: start + size,
+            })?;
         }
     }
     bars.sort_unstable_by_key(|bar| bar.start);
@@ -57,12 +64,7 @@ fn bars_of(
 }
 
 /// The bars with the bytes of a field.
-fn with_field(
-    alloc: Global,
-    bars: &[Bar],
-    offset: u64,
-    size: u64,
-) -> Result<Vec<Bar>, AllocError>
+fn with_field(alloc: Global, bars: &[Bar], offset: u64, size: u64) -> Result<Vec<Bar>, AllocError>
     requires bars { AreBars bars.now }
     requires fits { offset + size ≤ 2 ^ 24 }
     ensures { IfOk result (λ all. IsMore bars.now (record { start = offset; end = offset + size }) all.items) }
@@ -70,7 +72,14 @@ fn with_field(
     if size == 0 {
         return Vec::from_slice(alloc, bars);
     }
-    with_bar(alloc, bars, Bar { start: offset, end: offset + size })
+    with_bar(
+        alloc,
+        bars,
+        Bar {
+            start: offset,
+            end: offset + size,
+        },
+    )
 }
 
 fn row_at(rows: &[Vec<usize>], k: usize) -> &[usize]

@@ -20,11 +20,12 @@ unfolding no_bar
 loop-bar-preserved c =
     let here = slice_get-get_or c.args.bars.now c.loop-bar.bar-index no_bar c.loop-bar-test.true in
     elim c.if-at-bar.branch [
-      then-at-bar+in_ok-at-2 w ↦ subst (λ (at : ℕ). IsPassing c.args.bars.now c.args.size c.args.align (c.args.limit - c.args.size) (c.loop-bar.bar-index + 1) at) (sym w.at-is)
-        (passing_raised c.args.bars.now c.args.size c.args.align (c.args.limit - c.args.size) c.loop-bar.bar-index c.loop-bar.at w.in_ok-at-2.at (get_or c.args.bars.now c.loop-bar.bar-index no_bar)
-        c.requires.bars (omega arith) c.loop-bar.invariant here c.if-at-size.false w.if-at-bar.true w.in_ok-at-2.ensures)
-    | else-at-bar w ↦ subst (λ (at : ℕ). IsPassing c.args.bars.now c.args.size c.args.align (c.args.limit - c.args.size) (c.loop-bar.bar-index + 1) at) (sym w.at-is)
-        (passing_kept c.args.bars.now c.args.size c.args.align (c.args.limit - c.args.size) c.loop-bar.bar-index c.loop-bar.at (get_or c.args.bars.now c.loop-bar.bar-index no_bar) c.loop-bar.invariant here w.if-at-bar.false) ]
+      | then-at-bar+in_ok-at-2 w ↦ subst (λ (at : ℕ). IsPassing c.args.bars.now c.args.size c.args.align (c.args.limit - c.args.size) (c.loop-bar.bar-index + 1) at) (sym w.at-is)
+          (passing_raised c.args.bars.now c.args.size c.args.align (c.args.limit - c.args.size) c.loop-bar.bar-index c.loop-bar.at w.in_ok-at-2.at (get_or c.args.bars.now c.loop-bar.bar-index no_bar)
+          c.requires.bars (omega arith) c.loop-bar.invariant here c.if-at-size.false w.if-at-bar.true w.in_ok-at-2.ensures)
+      | else-at-bar w ↦ subst (λ (at : ℕ). IsPassing c.args.bars.now c.args.size c.args.align (c.args.limit - c.args.size) (c.loop-bar.bar-index + 1) at) (sym w.at-is)
+          (passing_kept c.args.bars.now c.args.size c.args.align (c.args.limit - c.args.size) c.loop-bar.bar-index c.loop-bar.at (get_or c.args.bars.now c.loop-bar.bar-index no_bar) c.loop-bar.invariant here w.if-at-bar.false)
+    ]
 
 pub returns : goal.returns
 returns c = (passing_ends c.args.bars.now c.args.size c.args.align (c.args.limit - c.args.size) c.loop-bar.bar-index c.loop-bar.at c.loop-bar-test.false c.loop-bar.invariant, omega arith)

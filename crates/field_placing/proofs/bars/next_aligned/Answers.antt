@@ -1,4 +1,4 @@
-use Rattle.std.proofs.Common.{◌≡◌, ℕ, ◌+◌, ◌%◌, ◌<◌, ◌≤◌, inl, inr, arith}
+use Rattle.std.proofs.Common.{inl, inr, arith}
 use Rattle.field_placing.proofs.Aligned.{IsRest, rest_aligned, rest_least}
 use Rattle.field_placing.proofs.bars.next_aligned.Goals as goal
 use Rattle.field_placing.proofs.bars.next_aligned.Goals.{then-rest-eq0, else-rest-eq0, else-from-last-via-then-from-last+else-more-last, else-from-last-via-else-from-last}

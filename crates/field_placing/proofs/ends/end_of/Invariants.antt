@@ -1,4 +1,4 @@
-use Rattle.std.proofs.Common.{◌≡◌, ◌≤◌, ◌^◌}
+use Rattle.std.proofs.Common.{◌≡◌}
 use Rattle.field_placing.specs.Ends.{end_of_first}
 use Rattle.field_placing.proofs.ends.end_of.Given as goal
 

@@ -1,9 +1,7 @@
-use Rattle.std.proofs.Common.{List, ℕ, ◌≡◌, ◌+◌, get_or, subst, sym, ap, arith}
-use Rattle.std.specs.Prelude.{slice_set}
+use Rattle.std.proofs.Common.{List, ℕ, ◌+◌, get_or, subst, sym}
 use Rattle.std.proofs.lemmas.Option.{slice_get-get_or}
 use Rattle.field_placing.specs.Bars.{IsMore}
 use Rattle.field_placing.specs.Placed.{Always}
-use Rattle.field_placing.specs.Rooms.{size_at}
 use Rattle.field_placing.specs.Steps.{CoverFirst, HasNoRoom, HasRoom, IsUnderway}
 use Rattle.field_placing.specs.declared.bars.Bar.{Bar}
 use Rattle.field_placing.proofs.Covering.{cover_more, first_taken}
@@ -23,13 +21,13 @@ loop-k-preserved c =
     let room = subst (λ (b : List Bar). HasRoom c.args.rooms.now c.args.promise b (get_or c.args.order.now c.loop-k.k-index 0) c.args.limit c.in-Some.offset) c.as_slice.ensures.value c.in-Some.ensures in
     record {
       underway = subst (IsUnderway c.args.rooms.now c.args.promise Always c.args.order.now c.args.limit (c.loop-k.k-index + 1)) (sym c.set.ensures)
-        (room_placed c.args.rooms.now c.args.promise Always c.args.order.now c.requires.order c.args.limit c.loop-k.offsets c.loop-k.k-index (get_or c.args.order.now c.loop-k.k-index 0) c.in-Some.offset c.loop-k.bars.items c.loop-k.invariant.underway here
-        (first_taken c.args.rooms.now c.args.promise c.args.order.now c.loop-k.offsets c.loop-k.k-index (get_or c.args.order.now c.loop-k.k-index 0) c.loop-k.bars.items c.requires.order here c.loop-k.invariant.cover) room);
+          (room_placed c.args.rooms.now c.args.promise Always c.args.order.now c.requires.order c.args.limit c.loop-k.offsets c.loop-k.k-index (get_or c.args.order.now c.loop-k.k-index 0) c.in-Some.offset c.loop-k.bars.items c.loop-k.invariant.underway here
+          (first_taken c.args.rooms.now c.args.promise c.args.order.now c.loop-k.offsets c.loop-k.k-index (get_or c.args.order.now c.loop-k.k-index 0) c.loop-k.bars.items c.requires.order here c.loop-k.invariant.cover) room);
       cover = subst (λ (o : List ℕ). CoverFirst c.args.rooms.now c.args.order.now (c.loop-k.k-index + 1) o c.in_ok-bars-in-Some.bars.items) (sym c.set.ensures)
-        (cover_more c.args.rooms.now c.args.promise c.args.order.now c.loop-k.offsets c.loop-k.k-index (get_or c.args.order.now c.loop-k.k-index 0) c.in-Some.offset c.loop-k.bars.items c.in_ok-bars-in-Some.bars.items
-        c.requires.order here c.loop-k.invariant.underway.one_each c.loop-k.invariant.cover
-        (subst (λ (n : ℕ). IsMore c.loop-k.bars.items (record { start = c.in-Some.offset; end = c.in-Some.offset + n }) c.in_ok-bars-in-Some.bars.items) c.size_at.ensures
-        (subst (λ (b : List Bar). IsMore b (record { start = c.in-Some.offset; end = c.in-Some.offset + c.size_at.result }) c.in_ok-bars-in-Some.bars.items) c.as_slice-in-Some.ensures.value c.in_ok-bars-in-Some.ensures)));
+          (cover_more c.args.rooms.now c.args.promise c.args.order.now c.loop-k.offsets c.loop-k.k-index (get_or c.args.order.now c.loop-k.k-index 0) c.in-Some.offset c.loop-k.bars.items c.in_ok-bars-in-Some.bars.items
+          c.requires.order here c.loop-k.invariant.underway.one_each c.loop-k.invariant.cover
+          (subst (λ (n : ℕ). IsMore c.loop-k.bars.items (record { start = c.in-Some.offset; end = c.in-Some.offset + n }) c.in_ok-bars-in-Some.bars.items) c.size_at.ensures
+          (subst (λ (b : List Bar). IsMore b (record { start = c.in-Some.offset; end = c.in-Some.offset + c.size_at.result }) c.in_ok-bars-in-Some.bars.items) c.as_slice-in-Some.ensures.value c.in_ok-bars-in-Some.ensures)));
     }
 
 pub returns : goal.returns

@@ -1,0 +1,11 @@
+use Rattle.std.proofs.Common.{List, ℕ, length, ap, arith}
+use Rattle.field_placing.specs.Ends.{end_of}
+use Rattle.field_placing.proofs.Greatest.{end_from}
+use Rattle.field_placing.proofs.placing.chosen.Goals as goal
+
+pub place_beside-requires-clause-header : goal.place_beside-requires-clause-header
+place_beside-requires-clause-header c =
+    let e = end_from c.args.rooms.now c.args.plain (length c.args.rooms.now) in
+    let is = c.end_of-limit.ensures in
+    let same = ap (λ (o : List ℕ). end_of c.args.rooms.now o) c.as_slice.ensures in
+    omega (arith, e, is, same)
