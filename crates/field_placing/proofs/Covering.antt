@@ -7,13 +7,13 @@ use Rattle.std.proofs.lemmas.List.{take_all, take_more}
 use Rattle.std.proofs.lemmas.List.Elements.{Contains-append_left, Contains-push, Contains-push_cases}
 use Rattle.std.proofs.lemmas.List.Sorted.{All-permutation, IsPermutation-sym}
 use Rattle.std.proofs.lemmas.Option.{same_Some, slice_get-get_or}
-use Rattle.field_placing.specs.Bars.{AreBars, IsCovered, IsMore}
+use Rattle.field_placing.specs.Bars.{IsCovered, IsMore}
 use Rattle.field_placing.specs.Placed.{Always, IsByteOf}
 use Rattle.field_placing.specs.Rooms.{size_at}
 use Rattle.field_placing.specs.Steps.{AreEarlier, AreTaken, CoverFields, CoverFirst, IsOfOne, IsOrder}
 use Rattle.field_placing.specs.declared.bars.Bar.{Bar}
 use Rattle.field_placing.specs.declared.room.Room.{Room}
-use Rattle.field_placing.proofs.Joined.{bars_from, covered_cases, covered_front, covered_last, covered_permuted, no_bars, none_covered, push_cases}
+use Rattle.field_placing.proofs.Covers.{bars_from, covered_cases, covered_front, covered_last, covered_permuted, no_bars, none_covered, push_cases}
 use Rattle.field_placing.proofs.Orders.{order_tells}
 use Rattle.field_placing.proofs.Stepping.{index_kept, index_set}
 
@@ -139,13 +139,3 @@ cover_more rooms promise order offsets done k x bars bars2 o here len c m = reco
 
     now : slice_index (slice_set offsets k x) k ≡ x
     now = index_set offsets k x (let lt = o.inside done k here in omega (arith, lt, len))
-
--- ---- a field of no bytes
-
-pub nothing_more : (bars all : List Bar) (offset size : ℕ) → size ≡ 0 → all ≡ bars → AreBars bars → IsMore bars (record { start = offset; end = offset + size }) all
-nothing_more bars all offset size none is h = subst (IsMore bars (record { start = offset; end = offset + size })) (sym is) (record {
-  are_bars = h;
-  told = λ byte c. inl c;
-  has_others = λ byte c. c;
-  has_more = λ byte i. let a = i.0 in let b = i.1 in absurd (omega (arith, a, b, none));
-})

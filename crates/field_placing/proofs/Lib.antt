@@ -1,9 +1,9 @@
+pub mod Adding
 pub mod Aligned
 pub mod Covering
+pub mod Covers
 pub mod Firsts
 pub mod Greatest
-pub mod Joined
-pub mod Joining
 pub mod Orders
 pub mod Passing
 pub mod Places

@@ -47,12 +47,3 @@ pub record IsMore (bars : List Bar) (more : Bar) (all : List Bar) : Type 0 where
   pub told : (byte : ℕ) → IsCovered all byte → IsCovered bars byte ⊎ IsInBar byte more
   pub has_others : (byte : ℕ) → IsCovered bars byte → IsCovered all byte
   pub has_more : (byte : ℕ) → IsInBar byte more → IsCovered all byte
-
--- none of the bars starts behind the offset
-abbrev pub AllStart : List Bar → ℕ → Type 0
-AllStart bars offset = (a : ℕ) (x : Bar) → slice_get bars a ≡ Some x → x.start ≤ offset
-
--- the bars with one that starts behind none of them
-pub record IsJoined (bars : List Bar) (more : Bar) (all : List Bar) : Type 0 where
-  pub is_more : IsMore bars more all
-  pub start : AllStart all more.start

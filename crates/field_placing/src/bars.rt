@@ -1,10 +1,10 @@
 //! Stretches of bytes that are taken, in order, and the least offset that meets none.
 
 ghost use Rattle.std.specs.Prelude.{◌≡◌, ℕ, ◌+◌, ◌%◌, ◌^◌, ◌<◌, ◌≤◌, ◌↔◌, ◌⊎◌, IfOk, OnOk, MatchOption};
-ghost use Rattle.field_placing.specs.Bars.{AllStart, AreBars, IsCovered, IsFree, IsJoined, IsLeastFree, IsMore, IsNextAligned, IsNoneAligned};
+ghost use Rattle.field_placing.specs.Bars.{AreBars, IsFree, IsLeastFree, IsMore, IsNextAligned, IsNoneAligned};
 ghost use Rattle.field_placing.specs.Placed.{IsByteOf};
 
-use std::alloc::{AllocError, Global};
+use std::alloc::AllocError;
 
 /// Where the fields begin, behind the header.
 const BEHIND_HEADER: u64 = 16;
@@ -55,61 +55,24 @@ pub(crate) fn least_offset(bars: &[Bar], size: u64, align: u64, limit: u64) -> O
     Some(at)
 }
 
-/// Puts a bar behind the others. Where it begins no later than the last one ends, the two become one.
-fn join(bars: &mut Vec<Bar>, bar: Bar) -> Result<(), AllocError>
+/// Covers the bytes of one more bar. Where it begins no later than the one before it ends, the two become one.
+pub(crate) fn add(bars: &mut Vec<Bar>, more: Bar) -> Result<(), AllocError>
     requires bars { AreBars bars.old.items }
-    requires bar { bar.start < bar.end }
-    requires last { AllStart bars.old.items bar.start }
-    ensures { OnOk result (IsJoined bars.old.items bar bars.new.items) }
+    requires more { more.start < more.end }
+    ensures { OnOk result (IsMore bars.old.items more bars.new.items) }
 {
-    match bars.pop() {
-        None => bars.push(bar)?,
-        Some(last) => {
-            if bar.start <= last.end {
-                let end = last.end.max(bar.end);
-                bars.push(Bar {
-                    start: last.start,
-                    end,
-                })?;
-            } else {
-                bars.push(last)?;
-                bars.push(bar)?;
-            }
+    let at = bars.partition_point(|bar| bar.start < more.start);
+    if at > 0 {
+        let before = bars[at - 1];
+        if more.start <= before.end {
+            let end = before.end.max(more.end);
+            bars[at - 1] = Bar {
+                start: before.start,
+                end,
+            };
+            return Ok(());
         }
     }
+    bars.insert(at, more)?;
     Ok(())
-}
-
-/// Fewer bars that cover the same bytes.
-fn joined(alloc: Global, bars: &[Bar]) -> Result<Vec<Bar>, AllocError>
-    requires { AreBars bars.now }
-    ensures bars { IfOk result (λ all. AreBars all.items) }
-    ensures same { IfOk result (λ all. (byte : ℕ) → IsCovered all.items byte ↔ IsCovered bars.now byte) }
-{
-    let mut all = Vec::new(alloc);
-    for bar in bars {
-        join(&mut all, *bar)?;
-    }
-    Ok(all)
-}
-
-fn inserted(alloc: Global, bars: &[Bar], more: Bar) -> Result<Vec<Bar>, AllocError>
-    requires bars { AreBars bars.now }
-    requires more { more.start < more.end }
-    ensures { IfOk result (λ all. IsMore bars.now more all.items) }
-{
-    let mut all = Vec::from_slice(alloc, bars)?;
-    let at = bars.partition_point(|bar| bar.start < more.start);
-    all.insert(at, more)?;
-    Ok(all)
-}
-
-/// Bars that cover the bytes of one more.
-pub(crate) fn with_bar(alloc: Global, bars: &[Bar], more: Bar) -> Result<Vec<Bar>, AllocError>
-    requires bars { AreBars bars.now }
-    requires more { more.start < more.end }
-    ensures { IfOk result (λ all. IsMore bars.now more all.items) }
-{
-    let all = inserted(alloc, bars, more)?;
-    joined(alloc, all.as_slice())
 }

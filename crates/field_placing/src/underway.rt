@@ -1,13 +1,13 @@
 //! Placing field by field in the order.
 
-ghost use Rattle.std.specs.Prelude.{◌≡◌, ℕ, ◌<◌, ◌≤◌, ◌+◌, ◌^◌, IfOk, MatchOption, Some, length, map, replicate, slice_get, slice_index};
+ghost use Rattle.std.specs.Prelude.{◌≡◌, ℕ, ◌<◌, ◌≤◌, ◌+◌, ◌^◌, IfOk, MatchOption, OnOk, Some, length, map, replicate, slice_get, slice_index};
 ghost use Rattle.std.specs.List.{Contains};
 ghost use Rattle.field_placing.specs.Bars.{AreBars, IsMore};
 ghost use Rattle.field_placing.specs.Placed.{Always, IsPair};
 ghost use Rattle.field_placing.specs.Rooms.{size_at};
 ghost use Rattle.field_placing.specs.Steps.{CoverFields, HasNoRoom, HasRoom, IsOrder, IsPlacedWithin, NoneWithin};
 
-use crate::bars::{Bar, least_offset, with_bar};
+use crate::bars::{Bar, add, least_offset};
 use crate::earlier::earlier;
 use crate::room::{Room, alignment_at, is_promise, size_at};
 use coro_base::Items;
@@ -63,23 +63,17 @@ fn bars_of(
     Ok(bars)
 }
 
-/// The bars with the bytes of a field.
-fn with_field(alloc: Global, bars: &[Bar], offset: u64, size: u64) -> Result<Vec<Bar>, AllocError>
-    requires bars { AreBars bars.now }
+/// Covers the bytes of a field.
+fn add_field(bars: &mut Vec<Bar>, offset: u64, size: u64) -> Result<(), AllocError>
+    requires bars { AreBars bars.old.items }
     requires fits { offset + size ≤ 2 ^ 24 }
-    ensures { IfOk result (λ all. IsMore bars.now (record { start = offset; end = offset + size }) all.items) }
+    ensures { OnOk result (IsMore bars.old.items (record { start = offset; end = offset + size }) bars.new.items) }
 {
     if size == 0 {
-        return Vec::from_slice(alloc, bars);
+        return Ok(());
     }
-    with_bar(
-        alloc,
-        bars,
-        Bar {
-            start: offset,
-            end: offset + size,
-        },
-    )
+    let end = offset + size;
+    add(bars, Bar { start: offset, end })
 }
 
 fn row_at(rows: &[Vec<usize>], k: usize) -> &[usize]
@@ -135,7 +129,7 @@ pub(crate) fn place_behind(
         match place_one(rooms, promise, bars.as_slice(), *k, limit) {
             None => return Ok(None),
             Some(offset) => {
-                bars = with_field(alloc, bars.as_slice(), offset, size_at(rooms, *k))?;
+                add_field(&mut bars, offset, size_at(rooms, *k))?;
                 offsets.set(*k, offset);
             }
         }

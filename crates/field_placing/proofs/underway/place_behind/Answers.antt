@@ -23,11 +23,10 @@ loop-k-preserved c =
       underway = subst (IsUnderway c.args.rooms.now c.args.promise Always c.args.order.now c.args.limit (c.loop-k.k-index + 1)) (sym c.set.ensures)
           (room_placed c.args.rooms.now c.args.promise Always c.args.order.now c.requires.order c.args.limit c.loop-k.offsets c.loop-k.k-index (get_or c.args.order.now c.loop-k.k-index 0) c.in-Some.offset c.loop-k.bars.items c.loop-k.invariant.underway here
           (first_taken c.args.rooms.now c.args.promise c.args.order.now c.loop-k.offsets c.loop-k.k-index (get_or c.args.order.now c.loop-k.k-index 0) c.loop-k.bars.items c.requires.order here c.loop-k.invariant.cover) room);
-      cover = subst (λ (o : List ℕ). CoverFirst c.args.rooms.now c.args.order.now (c.loop-k.k-index + 1) o c.in_ok-bars-in-Some.bars.items) (sym c.set.ensures)
-          (cover_more c.args.rooms.now c.args.promise c.args.order.now c.loop-k.offsets c.loop-k.k-index (get_or c.args.order.now c.loop-k.k-index 0) c.in-Some.offset c.loop-k.bars.items c.in_ok-bars-in-Some.bars.items
+      cover = subst (λ (o : List ℕ). CoverFirst c.args.rooms.now c.args.order.now (c.loop-k.k-index + 1) o c.add_field.new.bars.items) (sym c.set.ensures)
+          (cover_more c.args.rooms.now c.args.promise c.args.order.now c.loop-k.offsets c.loop-k.k-index (get_or c.args.order.now c.loop-k.k-index 0) c.in-Some.offset c.loop-k.bars.items c.add_field.new.bars.items
           c.requires.order here c.loop-k.invariant.underway.one_each c.loop-k.invariant.cover
-          (subst (λ (n : ℕ). IsMore c.loop-k.bars.items (record { start = c.in-Some.offset; end = c.in-Some.offset + n }) c.in_ok-bars-in-Some.bars.items) c.size_at.ensures
-          (subst (λ (b : List Bar). IsMore b (record { start = c.in-Some.offset; end = c.in-Some.offset + c.size_at.result }) c.in_ok-bars-in-Some.bars.items) c.as_slice-in-Some.ensures.value c.in_ok-bars-in-Some.ensures)));
+          (subst (λ (n : ℕ). IsMore c.loop-k.bars.items (record { start = c.in-Some.offset; end = c.in-Some.offset + n }) c.add_field.new.bars.items) c.size_at.ensures c.in_ok-add_field-in-Some.ensures));
     }
 
 pub returns : goal.returns
