@@ -7,6 +7,8 @@ pub mod Greatest
 pub mod Orders
 pub mod Passing
 pub mod Places
+pub mod Ranks
 pub mod Rounding
 pub mod Rows
 pub mod Stepping
+pub mod Unique

@@ -42,7 +42,7 @@ module _ (rooms : List Room) (promise : Option ℕ) (Conflict : ℕ → ℕ → 
     apart = λ byte i t. s.apart byte i (taken_moved others offsets k byte (λ j lt is. sym (same j lt is)) t);
   }
 
-  place_moved : (offsets others : List ℕ) (k x : ℕ) → ((j : ℕ) → j < length rooms → IsTrue (comes_first rooms promise j k) → slice_index offsets j ≡ slice_index others j) →
+  pub place_moved : (offsets others : List ℕ) (k x : ℕ) → ((j : ℕ) → j < length rooms → IsTrue (comes_first rooms promise j k) → slice_index offsets j ≡ slice_index others j) →
       IsItsPlace rooms promise Conflict offsets k x → IsItsPlace rooms promise Conflict others k x
   place_moved offsets others k x same p = record {
     promise_behind_header = p.promise_behind_header;
@@ -51,7 +51,7 @@ module _ (rooms : List Room) (promise : Option ℕ) (Conflict : ℕ → ℕ → 
   }
 
   -- a field has one place
-  one_place : (offsets : List ℕ) (k x y : ℕ) → IsItsPlace rooms promise Conflict offsets k x → IsItsPlace rooms promise Conflict offsets k y → x ≡ y
+  pub one_place : (offsets : List ℕ) (k x y : ℕ) → IsItsPlace rooms promise Conflict offsets k x → IsItsPlace rooms promise Conflict offsets k y → x ≡ y
   one_place offsets k x y p q = ⊎_elim
       (λ yes. p.promise_behind_header yes ∙ sym (q.promise_behind_header yes))
       (λ no. let a = p.least no y (q.can_stand no) in let b = q.least no x (p.can_stand no) in omega (arith, a, b))
@@ -74,7 +74,7 @@ module _ (rooms : List Room) (promise : Option ℕ) (Conflict : ℕ → ℕ → 
         apart = λ byte i c. s.apart byte i (t.taken byte c);
       }
 
-  least_is_place : (offsets : List ℕ) (k x : ℕ) (bars : List Bar) → AreTaken rooms promise Conflict offsets k bars → IsLeastFree bars (size_at rooms k) (placed_by rooms promise k) x → IsItsPlace rooms promise Conflict offsets k x
+  pub least_is_place : (offsets : List ℕ) (k x : ℕ) (bars : List Bar) → AreTaken rooms promise Conflict offsets k bars → IsLeastFree bars (size_at rooms k) (placed_by rooms promise k) x → IsItsPlace rooms promise Conflict offsets k x
   least_is_place offsets k x bars t h = record {
     promise_behind_header = λ yes.
         let low = h.is_free.from_header in

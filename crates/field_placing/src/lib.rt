@@ -4,10 +4,12 @@
 mod bars;
 mod earlier;
 mod ends;
+mod law;
 mod order;
 mod placing;
 mod room;
 mod underway;
 
+pub use law::placed_once;
 pub use placing::{Placing, place, place_plain};
 pub use room::Room;
