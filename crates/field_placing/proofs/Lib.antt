@@ -1,7 +1,9 @@
 pub mod Adding
 pub mod Aligned
+pub mod Both
 pub mod Covering
 pub mod Covers
+pub mod Existing
 pub mod Firsts
 pub mod Greatest
 pub mod Orders

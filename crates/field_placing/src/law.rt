@@ -10,3 +10,9 @@ pub fn placed_once()
     ensures plain { (rooms : List TheRoom) (promise : Option ℕ) (a b : List ℕ) → IsPlaced rooms promise Always a → IsPlaced rooms promise Always b → a ≡ b }
     ensures shared { (rooms : List TheRoom) (promise : Option ℕ) (conflicts : List (ℕ × ℕ)) (a b : List ℕ) → IsPlaced rooms promise (IsPair conflicts) a → IsPlaced rooms promise (IsPair conflicts) b → a ≡ b }
 {}
+
+/// And whatever they are, there are such offsets.
+pub fn placed_somewhere()
+    ensures plain { (rooms : List TheRoom) (promise : Option ℕ) → (offsets : List ℕ) × IsPlaced rooms promise Always offsets }
+    ensures shared { (rooms : List TheRoom) (promise : Option ℕ) (conflicts : List (ℕ × ℕ)) → (offsets : List ℕ) × IsPlaced rooms promise (IsPair conflicts) offsets }
+{}

@@ -10,6 +10,6 @@ mod placing;
 mod room;
 mod underway;
 
-pub use law::placed_once;
+pub use law::{placed_once, placed_somewhere};
 pub use placing::{Placing, place, place_plain};
 pub use room::Room;
