@@ -1,8 +1,8 @@
 -- Fields of every kind are placed somewhere.
 use Rattle.std.proofs.Common.{◌≡◌, ℕ, zero, suc, ◌+◌, ◌*◌, ◌%◌, ◌<◌, ◌≤◌, ◌⊎◌, Bool, true, false, not, cond, List, length, map, max, min, Option, refl, sym, ap, ◌∙◌, subst, ⊎_elim, inl, inr, arith}
-use Rattle.std.specs.Prelude.{slice_index, nat_eq, nat_le, nat_lt, ◌&&◌, ◌||◌, IsTrue, IsFalse}
+use Rattle.std.specs.Prelude.{slice_index, nat_eq, nat_le, nat_lt, ◌&&◌, ◌||◌}
 use Rattle.std.specs.List.{range_with_len}
-use Rattle.std.proofs.Math.Nat.{mul-mod_right, mul-le-mul_left}
+use Rattle.std.proofs.Math.Nat.{mul-mod_right}
 use Rattle.std.proofs.lemmas.Bool.{and_from, and_parts, both_ways, cases_Bool, cases_lt, cond-false, cond-true, eq-eqb, eqb-true, false_from_ne_true, le-leb, leb-true, lt-ltb, ltb-true, ne_eqb, not-true, not_from_false, or_cases, or_left, or_right}
 use Rattle.std.proofs.lemmas.List.FromFn.{get_or-map-range_with_len, length-map-range_with_len}
 use Rattle.field_placing.specs.Ends.{end_of_first}
@@ -49,9 +49,9 @@ none_or_least p zero = inr (λ y lt. absurd (omega (arith, lt)))
 none_or_least p (suc n) = ⊎_elim
     (λ found. inl found)
     (λ none. ⊎_elim
-      (λ yes. inl (n, yes, λ y e. ⊎_elim (λ (lt : y < n). absurd (both_ways (p y) (none y lt) e)) (λ (ge : n ≤ y). ge) (cases_lt y n)))
-      (λ no. inr (λ y lt. ⊎_elim (λ (less : y < n). none y less) (λ (ge : n ≤ y). let same : y ≡ n = omega (arith, lt, ge) in ap p same ∙ no) (cases_lt y n)))
-      (cases_Bool (p n)))
+    (λ yes. inl (n, yes, λ y e. ⊎_elim (λ (lt : y < n). absurd (both_ways (p y) (none y lt) e)) (λ (ge : n ≤ y). ge) (cases_lt y n)))
+    (λ no. inr (λ y lt. ⊎_elim (λ (less : y < n). none y less) (λ (ge : n ≤ y). let same : y ≡ n = omega (arith, lt, ge) in ap p same ∙ no) (cases_lt y n)))
+    (cases_Bool (p n)))
     (none_or_least p n)
 
 least_of : (p : ℕ → Bool) (w : ℕ) → p w ≡ true → Least p
@@ -97,8 +97,8 @@ module _ (rooms : List Room) (promise : Option ℕ) (Conflict : ℕ → ℕ → 
       and_from (nat_le 16 x) _ (le-leb 16 x s.from_header)
       (and_from (nat_eq (x % alignment_at rooms k) 0) _ (eq-eqb (x % alignment_at rooms k) 0 s.aligned)
       (not_from_false (any_below (blocks offsets k x) (length rooms)) (false_from_ne_true (any_below (blocks offsets k x) (length rooms)) (λ e.
-        let f = any_found (blocks offsets k x) (length rooms) e in
-        let b = blocks_taken offsets k x f.0 f.1 f.2 in s.apart b.0 b.1 b.2))))
+      let f = any_found (blocks offsets k x) (length rooms) e in
+      let b = blocks_taken offsets k x f.0 f.1 f.2 in s.apart b.0 b.1 b.2))))
 
   stand_told : (offsets : List ℕ) (k x : ℕ) → can_stand offsets k x ≡ true → CanStand rooms promise Conflict offsets k x
   unfolding can_stand
@@ -109,7 +109,7 @@ module _ (rooms : List Room) (promise : Option ℕ) (Conflict : ℕ → ℕ → 
         from_header = leb-true 16 x p.0;
         aligned = eqb-true (x % alignment_at rooms k) 0 q.0;
         apart = λ byte i t. both_ways (any_below (blocks offsets k x) (length rooms)) (not-true (any_below (blocks offsets k x) (length rooms)) q.1)
-          (any_from (blocks offsets k x) (length rooms) t.by t.is_field (blocks_from offsets k x byte t i));
+            (any_from (blocks offsets k x) (length rooms) t.by t.is_field (blocks_from offsets k x byte t i));
       }
 
   -- behind all fields each field can stand
@@ -130,12 +130,14 @@ module _ (rooms : List Room) (promise : Option ℕ) (Conflict : ℕ → ℕ → 
   place_of : (offsets : List ℕ) (k : ℕ) → (x : ℕ) × IsItsPlace rooms promise Conflict offsets k x
   place_of offsets k = ⊎_elim
       (λ yes. (16, record { promise_behind_header = λ e. refl; can_stand = λ no. absurd (both_ways (is_promise promise k) no yes); least = λ no. absurd (both_ways (is_promise promise k) no yes) }))
-      (λ no. let found = least_of (can_stand offsets k) (alignment_at rooms k * (16 + end_of_first rooms offsets (length rooms))) (stand_from offsets k _ (far_off offsets k)) in
-        (found.0, record {
+      (λ no. let found = least_of (can_stand offsets k) (alignment_at rooms k * (16 + end_of_first rooms offsets (length rooms))) (stand_from offsets k _ (far_off offsets k)) in (
+        found.0,
+        record {
           promise_behind_header = λ yes. absurd (both_ways (is_promise promise k) no yes);
           can_stand = λ e. stand_told offsets k found.0 found.1;
           least = λ e y s. found.2 y (stand_from offsets k y s);
-        }))
+        },
+      ))
       (cases_Bool (is_promise promise k))
 
   -- ---- rank by rank
@@ -168,20 +170,23 @@ module _ (rooms : List Room) (promise : Option ℕ) (Conflict : ℕ → ℕ → 
   placed_below zero k lt low = absurd (omega arith)
   placed_below (suc m) k lt low = ⊎_elim
       (λ (less : rank rooms promise k < m).
-        subst (IsItsPlace rooms promise Conflict (listed (place (suc m))) k) (sym (place_kept m k less))
-        (place_moved rooms promise Conflict (listed (place m)) (listed (place (suc m))) k (place m k)
-          (λ j is first. let r = rank_rises rooms promise j k is first in kept_list m j is (omega (arith, r, less))) (placed_below m k lt less)))
+      subst (IsItsPlace rooms promise Conflict (listed (place (suc m))) k) (sym (place_kept m k less))
+      (place_moved rooms promise Conflict (listed (place m)) (listed (place (suc m))) k (place m k)
+      (λ j is first. let r = rank_rises rooms promise j k is first in kept_list m j is (omega (arith, r, less))) (placed_below m k lt less)))
       (λ (ge : m ≤ rank rooms promise k).
-        let same : rank rooms promise k ≡ m = omega (arith, low, ge) in
-        subst (IsItsPlace rooms promise Conflict (listed (place (suc m))) k) (sym (place_now m k same))
-        (place_moved rooms promise Conflict (listed (place m)) (listed (place (suc m))) k (place_of (listed (place m)) k).0
-          (λ j is first. let r = rank_rises rooms promise j k is first in kept_list m j is (omega (arith, r, same))) (place_of (listed (place m)) k).1))
+      let same : rank rooms promise k ≡ m = omega (arith, low, ge) in
+      subst (IsItsPlace rooms promise Conflict (listed (place (suc m))) k) (sym (place_now m k same))
+      (place_moved rooms promise Conflict (listed (place m)) (listed (place (suc m))) k (place_of (listed (place m)) k).0
+      (λ j is first. let r = rank_rises rooms promise j k is first in kept_list m j is (omega (arith, r, same))) (place_of (listed (place m)) k).1))
       (cases_lt (rank rooms promise k) m)
 
   pub is_placed : (offsets : List ℕ) × IsPlaced rooms promise Conflict offsets
   unfolding listed
-  is_placed = (listed (place (suc (length rooms))), record {
-    one_each = length-map-range_with_len (place (suc (length rooms))) 0 (length rooms);
-    each = λ k lt. subst (IsItsPlace rooms promise Conflict (listed (place (suc (length rooms)))) k) (sym (listed_at (place (suc (length rooms))) k lt))
-      (placed_below (suc (length rooms)) k lt (let r = rank_within rooms promise k in omega (arith, r)));
-  })
+  is_placed = (
+    listed (place (suc (length rooms))),
+    record {
+      one_each = length-map-range_with_len (place (suc (length rooms))) 0 (length rooms);
+      each = λ k lt. subst (IsItsPlace rooms promise Conflict (listed (place (suc (length rooms)))) k) (sym (listed_at (place (suc (length rooms))) k lt))
+          (placed_below (suc (length rooms)) k lt (let r = rank_within rooms promise k in omega (arith, r)));
+    },
+  )

@@ -1,6 +1,7 @@
 pub mod Adding
 pub mod Aligned
 pub mod Both
+pub mod Choosing
 pub mod Covering
 pub mod Covers
 pub mod Existing

@@ -1,5 +1,5 @@
 -- How many fields come before a field.
-use Rattle.std.proofs.Common.{◌≡◌, ℕ, zero, suc, ◌+◌, ◌<◌, ◌≤◌, ◌⊎◌, Bool, true, false, cond, List, length, Option, refl, sym, ap, ◌∙◌, subst, ⊎_elim, arith}
+use Rattle.std.proofs.Common.{◌≡◌, ℕ, zero, suc, ◌+◌, ◌<◌, ◌≤◌, Bool, true, false, cond, List, length, Option, refl, sym, ap, ◌∙◌, ⊎_elim, arith}
 use Rattle.std.specs.Prelude.{IsTrue}
 use Rattle.std.proofs.lemmas.Bool.{both_ways, cases_Bool, cases_lt}
 use Rattle.field_placing.specs.Rooms.{comes_first}
@@ -37,17 +37,17 @@ count_lt : (p q : ℕ → Bool) (n i : ℕ) → ((x : ℕ) → p x ≡ true → 
 count_lt p q zero i h lt e f = absurd (omega arith)
 count_lt p q (suc n) i h lt e f = ⊎_elim
     (λ (less : i < n).
-      let below = count_lt p q n i h less e f in
-      ⊎_elim
-      (λ a. let s = count_step p n true a in let t = count_step q n true (h n a) in omega (arith, s, t, below))
-      (λ a. let s = count_step p n false a in ⊎_elim (λ b. let t = count_step q n true b in omega (arith, s, t, below)) (λ b. let t = count_step q n false b in omega (arith, s, t, below)) (cases_Bool (q n)))
-      (cases_Bool (p n)))
+    let below = count_lt p q n i h less e f in
+    ⊎_elim
+    (λ a. let s = count_step p n true a in let t = count_step q n true (h n a) in omega (arith, s, t, below))
+    (λ a. let s = count_step p n false a in ⊎_elim (λ b. let t = count_step q n true b in omega (arith, s, t, below)) (λ b. let t = count_step q n false b in omega (arith, s, t, below)) (cases_Bool (q n)))
+    (cases_Bool (p n)))
     (λ (ge : n ≤ i).
-      let same : i ≡ n = omega (arith, lt, ge) in
-      let s = count_step p n false (ap p (sym same) ∙ e) in
-      let t = count_step q n true (ap q (sym same) ∙ f) in
-      let below = count_le p q n h in
-      omega (arith, s, t, below))
+    let same : i ≡ n = omega (arith, lt, ge) in
+    let s = count_step p n false (ap p (sym same) ∙ e) in
+    let t = count_step q n true (ap q (sym same) ∙ f) in
+    let below = count_le p q n h in
+    omega (arith, s, t, below))
     (cases_lt i n)
 
 unfoldable pub rank : List Room → Option ℕ → ℕ → ℕ

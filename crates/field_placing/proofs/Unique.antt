@@ -13,8 +13,8 @@ same_below rooms promise Conflict a b p q zero k lt low = absurd (omega arith)
 same_below rooms promise Conflict a b p q (suc m) k lt low =
     one_place rooms promise Conflict a k (slice_index a k) (slice_index b k) (p.each k lt)
     (place_moved rooms promise Conflict b a k (slice_index b k)
-      (λ j less first. let r = rank_rises rooms promise j k less first in sym (same_below rooms promise Conflict a b p q m j less (omega (arith, r, low))))
-      (q.each k lt))
+    (λ j less first. let r = rank_rises rooms promise j k less first in sym (same_below rooms promise Conflict a b p q m j less (omega (arith, r, low))))
+    (q.each k lt))
 
 pub placed_once : (rooms : List Room) (promise : Option ℕ) (Conflict : ℕ → ℕ → Type 0) (a b : List ℕ) → IsPlaced rooms promise Conflict a → IsPlaced rooms promise Conflict b → a ≡ b
 placed_once rooms promise Conflict a b p q =

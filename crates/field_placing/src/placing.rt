@@ -1,10 +1,10 @@
 //! The layouts of a frame.
 
-ghost use Rattle.std.specs.Prelude.{◌≡◌, ◌≤◌, ◌<◌, ◌+◌, ◌^◌, ◌⊎◌, ℕ, IfOk, MatchOption, length, slice_index};
+ghost use Rattle.std.specs.Prelude.{◌≡◌, ◌≤◌, ◌<◌, ◌+◌, ◌^◌, ℕ, IfOk, length, slice_index};
 ghost use Rattle.field_placing.specs.Placed.{Always};
-ghost use Rattle.field_placing.specs.Placings.{IsFrame, IsKeptPlain, IsPlacing, IsPlainPlacing, IsShared, IsTooLarge};
+ghost use Rattle.field_placing.specs.Placings.{IsFrame, IsPlacing, IsPlainPlacing};
 ghost use Rattle.field_placing.specs.Rooms.{size_at};
-ghost use Rattle.field_placing.specs.Steps.{IsOrder, IsPlacedWithin};
+ghost use Rattle.field_placing.specs.Steps.{AreChosen, IsOrder, IsPlacedWithin};
 
 use crate::ends::{end_of, frame_alignment};
 use crate::order::order_of;
@@ -29,8 +29,7 @@ pub struct Placing {
 fn frame_of(rooms: &[Room], offsets: Items<u64>) -> Placing
     requires one_each { length offsets ≡ length rooms.now }
     requires fit { (k : ℕ) → k < length rooms.now → slice_index offsets k + size_at rooms.now k ≤ 2 ^ 24 }
-    ensures offsets { result.offsets ≡ offsets }
-    ensures frame { IsFrame rooms.now result }
+    ensures { IsFrame rooms.now offsets result }
 {
     let end = end_of(rooms, offsets.as_slice());
     let align = frame_alignment(rooms);
@@ -51,7 +50,7 @@ pub fn place_plain(
     rooms: &[Room],
     promise: Option<usize>,
 ) -> Result<Option<Placing>, AllocError>
-    ensures { IfOk result (λ found. MatchOption found (IsTooLarge rooms.now promise) (λ placing. IsPlainPlacing rooms.now promise placing)) }
+    ensures { IfOk result (λ found. IsPlainPlacing rooms.now promise found) }
 {
     let order = order_of(alloc, rooms, promise)?;
     match place_behind(alloc, rooms, promise, order.as_slice(), LIMIT)? {
@@ -71,9 +70,7 @@ fn chosen(
 ) -> Result<Items<u64>, AllocError>
     requires order { IsOrder rooms.now promise order.now }
     requires plain { IsPlacedWithin rooms.now promise Always (2 ^ 24) plain }
-    ensures chosen { IfOk result (λ offsets. IsShared rooms.now promise conflicts.now plain offsets ⊎ IsKeptPlain rooms.now promise conflicts.now plain offsets) }
-    ensures one_each { IfOk result (λ offsets. length offsets ≡ length rooms.now) }
-    ensures fit { IfOk result (λ offsets. (k : ℕ) → k < length rooms.now → slice_index offsets k + size_at rooms.now k ≤ 2 ^ 24) }
+    ensures { IfOk result (λ offsets. AreChosen rooms.now promise conflicts.now plain offsets) }
 {
     let limit = end_of(rooms, plain.as_slice());
     match place_beside(alloc, rooms, promise, order, conflicts, limit)? {
@@ -93,7 +90,7 @@ pub fn place(
     promise: Option<usize>,
     conflicts: &[(usize, usize)],
 ) -> Result<Option<Placing>, AllocError>
-    ensures { IfOk result (λ found. MatchOption found (IsTooLarge rooms.now promise) (λ placing. IsPlacing rooms.now promise conflicts.now placing)) }
+    ensures { IfOk result (λ found. IsPlacing rooms.now promise conflicts.now found) }
 {
     let order = order_of(alloc, rooms, promise)?;
     match place_behind(alloc, rooms, promise, order.as_slice(), LIMIT)? {
