@@ -1,9 +1,9 @@
 -- Going up past bars to the least offset that meets none.
-use Rattle.std.proofs.Common.{◌≡◌, ℕ, ◌+◌, ◌%◌, ◌-◌, ◌<◌, ◌≤◌, List, length, max, Some, ap, sym, ◌∙◌, subst, ⊎_elim, arith}
+use Rattle.std.proofs.Common.{◌⊎◌, ◌≡◌, ℕ, ◌+◌, ◌%◌, ◌-◌, ◌<◌, ◌≤◌, List, length, max, Some, ap, sym, ◌∙◌, subst, ⊎_elim, arith}
 use Rattle.std.specs.Prelude.{slice_get}
 use Rattle.std.proofs.lemmas.Bool.{cases_lt}
 use Rattle.std.proofs.lemmas.Option.{slice_get_within, same_Some}
-use Rattle.field_placing.specs.Bars.{AreBars, IsCovered, IsFree, IsLeastFree, IsNextAligned, IsNoneAligned}
+use Rattle.field_placing.specs.Bars.{AreBars, IsCovered, IsFloor, IsFree, IsLeastFree, IsMore, IsNextAligned, IsNoneAligned}
 use Rattle.field_placing.specs.Placed.{IsByteOf}
 use Rattle.field_placing.specs.declared.bars.Bar.{Bar}
 
@@ -15,13 +15,13 @@ pub record IsPassing (bars : List Bar) (size align last done at : ℕ) : Type 0 
   pub behind : (a : ℕ) (x : Bar) → a < done → slice_get bars a ≡ Some x → x.end ≤ at
   pub least : (y : ℕ) → IsFree bars size align y → at ≤ y
 
-pub passing_begins : (bars : List Bar) (size align last at : ℕ) → IsNextAligned 16 align last at → IsPassing bars size align last 0 at
-passing_begins bars size align last at h = record {
-  from_header = h.from_on;
+pub passing_begins : (bars : List Bar) (size align from last at : ℕ) → IsFloor bars size align from → IsNextAligned from align last at → IsPassing bars size align last 0 at
+passing_begins bars size align from last at f h = record {
+  from_header = let a = f.from_header in let b = h.from_on in omega (arith, a, b);
   not_past = h.not_past;
   aligned = h.aligned;
   behind = λ a x lt is. absurd (omega (arith, lt));
-  least = λ y free. h.least y free.from_header free.aligned;
+  least = λ y free. h.least y (f.below y free) free.aligned;
 }
 
 -- a bar that the offset meets is behind each that meets none
@@ -99,13 +99,35 @@ pub passing_ends : (bars : List Bar) (size align last done at : ℕ) → length 
 passing_ends bars size align last done at all h =
     stands_free bars size align last done at h (λ a x ge there. let lt = slice_get_within bars a x there in absurd (omega (arith, lt, all, ge)))
 
+-- where no multiple is left, there is no room
+pub none_left : (bars : List Bar) (size align from limit last : ℕ) → size ≤ limit → last ≡ limit - size → IsFloor bars size align from → IsNoneAligned from align last → (x : ℕ) → IsFree bars size align x → limit < x + size
+none_left bars size align from limit last le is f none x free = let past = none x (f.below x free) free.aligned in omega (arith, past, is, le)
+
 -- a field of no bytes meets none
-pub nothing_met : (bars : List Bar) (size align last at : ℕ) → size ≡ 0 → IsNextAligned 16 align last at → IsLeastFree bars size align at
-nothing_met bars size align last at none next = record {
+pub nothing_met : (bars : List Bar) (size align from last at : ℕ) → size ≡ 0 → IsFloor bars size align from → IsNextAligned from align last at → IsLeastFree bars size align at
+nothing_met bars size align from last at none f next = record {
   is_free = record {
-    from_header = next.from_on;
+    from_header = let a = f.from_header in let b = next.from_on in omega (arith, a, b);
     aligned = next.aligned;
     apart = λ byte inside there. let a = inside.0 in let b = inside.1 in omega (arith, a, b, none);
   };
-  least = λ y free. next.least y free.from_header free.aligned;
+  least = λ y free. next.least y (f.below y free) free.aligned;
+}
+
+-- ---- offsets below which none is free
+
+pub header_floor : (bars : List Bar) (size align : ℕ) → IsFloor bars size align 16
+header_floor bars size align = record { from_header = omega arith; below = λ x free. free.from_header }
+
+pub same_floor : (bars : List Bar) (size align offset size2 align2 from : ℕ) → IsFloor bars size align offset → ((size ≡ size2) × ((align ≡ align2) × (from ≡ offset))) ⊎ (from ≡ 16) → IsFloor bars size2 align2 from
+same_floor bars size align offset size2 align2 from f h = ⊎_elim
+    (λ p. subst (IsFloor bars size2 align2) (sym p.1.1) (subst (λ (a : ℕ). IsFloor bars size2 a offset) p.1.0 (subst (λ (s : ℕ). IsFloor bars s align offset) p.0 f)))
+    (λ e. subst (IsFloor bars size2 align2) (sym e) (header_floor bars size2 align2))
+    h
+
+-- where a field was placed is a floor for the next one that needs the same
+pub next_floor : (bars all : List Bar) (more : Bar) (size align x : ℕ) → IsMore bars more all → IsLeastFree bars size align x → IsFloor all size align x
+next_floor bars all more size align x m h = record {
+  from_header = h.is_free.from_header;
+  below = λ y free. h.least y (record { from_header = free.from_header; aligned = free.aligned; apart = λ byte i c. free.apart byte i (m.has_others byte c) });
 }

@@ -47,3 +47,8 @@ pub record IsMore (bars : List Bar) (more : Bar) (all : List Bar) : Type 0 where
   pub told : (byte : ℕ) → IsCovered all byte → IsCovered bars byte ⊎ IsInBar byte more
   pub has_others : (byte : ℕ) → IsCovered bars byte → IsCovered all byte
   pub has_more : (byte : ℕ) → IsInBar byte more → IsCovered all byte
+
+-- wherever a field of the size and alignment meets no bar, it stands at the offset or behind it
+pub record IsFloor (bars : List Bar) (size align from : ℕ) : Type 0 where
+  pub from_header : 16 ≤ from
+  pub below : (x : ℕ) → IsFree bars size align x → from ≤ x

@@ -1,13 +1,10 @@
 //! Stretches of bytes that are taken, in order, and the least offset that meets none.
 
 ghost use Rattle.std.specs.Prelude.{◌≡◌, ℕ, ◌+◌, ◌%◌, ◌^◌, ◌<◌, ◌≤◌, ◌↔◌, ◌⊎◌, IfOk, OnOk, MatchOption};
-ghost use Rattle.field_placing.specs.Bars.{AreBars, IsFree, IsLeastFree, IsMore, IsNextAligned, IsNoneAligned};
+ghost use Rattle.field_placing.specs.Bars.{AreBars, IsFloor, IsFree, IsLeastFree, IsMore, IsNextAligned, IsNoneAligned};
 ghost use Rattle.field_placing.specs.Placed.{IsByteOf};
 
 use std::alloc::AllocError;
-
-/// Where the fields begin, behind the header.
-const BEHIND_HEADER: u64 = 16;
 
 /// A stretch of bytes that are taken, from its start to before its end.
 #[derive(Clone, Copy, Drop)]
@@ -30,17 +27,25 @@ fn next_aligned(from: u64, align: u64, last: u64) -> Option<u64>
     }
 }
 
-/// The least offset behind the header at which a field meets no bar, where it ends at or before the limit there.
-pub(crate) fn least_offset(bars: &[Bar], size: u64, align: u64, limit: u64) -> Option<u64>
+/// The least offset behind the header at which a field meets no bar, where it ends at or before the limit there. It is not
+/// sought below an offset below which it is not.
+pub(crate) fn least_offset(
+    bars: &[Bar],
+    size: u64,
+    align: u64,
+    from: u64,
+    limit: u64,
+) -> Option<u64>
     requires bars { AreBars bars.now }
     requires align { 0 < align }
+    requires from { IsFloor bars.now size align from }
     ensures { MatchOption result ((x : ℕ) → IsFree bars.now size align x → limit < x + size) (λ x. IsLeastFree bars.now size align x × (x + size ≤ limit)) }
 {
     if size > limit {
         return None;
     }
     let last = limit - size;
-    let mut at = next_aligned(BEHIND_HEADER, align, last)?;
+    let mut at = next_aligned(from, align, last)?;
     if size == 0 {
         return Some(at);
     }

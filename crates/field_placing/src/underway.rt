@@ -1,11 +1,11 @@
 //! Placing field by field in the order.
 
-ghost use Rattle.std.specs.Prelude.{◌≡◌, ℕ, ◌<◌, ◌≤◌, ◌+◌, ◌^◌, IfOk, MatchOption, OnOk, Some, length, map, replicate, slice_get, slice_index};
+ghost use Rattle.std.specs.Prelude.{◌≡◌, ℕ, ◌<◌, ◌≤◌, ◌+◌, ◌^◌, ◌⊎◌, IfOk, MatchOption, OnOk, Some, length, map, replicate, slice_get, slice_index};
 ghost use Rattle.std.specs.List.{Contains};
-ghost use Rattle.field_placing.specs.Bars.{AreBars, IsMore};
+ghost use Rattle.field_placing.specs.Bars.{AreBars, IsFloor, IsMore};
 ghost use Rattle.field_placing.specs.Placed.{Always, IsPair};
 ghost use Rattle.field_placing.specs.Rooms.{size_at};
-ghost use Rattle.field_placing.specs.Steps.{CoverFields, HasNoRoom, HasRoom, IsOrder, IsPlacedWithin, NoneWithin};
+ghost use Rattle.field_placing.specs.Steps.{CoverFields, HasNoRoom, HasRoom, IsOrder, IsPlacedWithin, NoneWithin, placed_by};
 
 use crate::bars::{Bar, add, least_offset};
 use crate::earlier::earlier;
@@ -13,29 +13,60 @@ use crate::room::{Room, alignment_at, is_promise, size_at};
 use coro_base::Items;
 use std::alloc::{AllocError, Global};
 
+/// Where the fields begin, behind the header.
+const BEHIND_HEADER: u64 = 16;
+
 fn zeros(alloc: Global, count: usize) -> Result<Items<u64>, AllocError>
     ensures { IfOk result (λ all. all ≡ replicate count 0) }
 {
     Ok(Items::from_vec(vec![in alloc; 0; count]?))
 }
 
-/// The least offset of a field beside the bars. The promise is the first, and stands behind the header whatever it needs.
+/// The alignment by which a field is placed. The promise is the first, and stands behind the header whatever it needs.
+fn placed_by(rooms: &[Room], promise: Option<usize>, k: usize) -> u64
+    ensures { result ≡ placed_by rooms.now promise k }
+{
+    if is_promise(promise, k) {
+        1
+    } else {
+        alignment_at(rooms, k)
+    }
+}
+
+/// The least offset of a field beside the bars, which is none below `from`.
 fn place_one(
     rooms: &[Room],
     promise: Option<usize>,
     bars: &[Bar],
     k: usize,
+    from: u64,
     limit: u64,
 ) -> Option<u64>
-    requires { AreBars bars.now }
+    requires bars { AreBars bars.now }
+    requires from { IsFloor bars.now (size_at rooms.now k) (placed_by rooms.now promise k) from }
     ensures { MatchOption result (HasNoRoom rooms.now promise bars.now k limit) (λ x. HasRoom rooms.now promise bars.now k limit x) }
 {
-    let align = if is_promise(promise, k) {
-        1
+    let align = placed_by(rooms, promise, k);
+    least_offset(bars, size_at(rooms, k), align, from, limit)
+}
+
+/// What the field placed last needed, and where it stands.
+#[derive(Clone, Copy, Drop)]
+struct Last {
+    size: u64,
+    align: u64,
+    offset: u64,
+}
+
+/// An offset below which none is free for a field: where the one before it stands, if that needed the same.
+fn floor_for(last: Last, size: u64, align: u64) -> u64
+    ensures { ((last.size ≡ size) × ((last.align ≡ align) × (result ≡ last.offset))) ⊎ (result ≡ 16) }
+{
+    if last.size == size && last.align == align {
+        last.offset
     } else {
-        alignment_at(rooms, k)
-    };
-    least_offset(bars, size_at(rooms, k), align, limit)
+        BEHIND_HEADER
+    }
 }
 
 /// The bytes of these fields, in order of their starts.
@@ -102,7 +133,7 @@ pub(crate) fn place_beside(
     for k in order {
         let row = row_at(rows.as_slice(), *k);
         let bars = bars_of(alloc, rooms, offsets.as_slice(), row)?;
-        match place_one(rooms, promise, bars.as_slice(), *k, limit) {
+        match place_one(rooms, promise, bars.as_slice(), *k, BEHIND_HEADER, limit) {
             None => return Ok(None),
             Some(offset) => offsets.set(*k, offset),
         }
@@ -125,11 +156,24 @@ pub(crate) fn place_behind(
 {
     let mut offsets = zeros(alloc, rooms.len())?;
     let mut bars = Vec::new(alloc);
+    let mut last = Last {
+        size: 0,
+        align: 1,
+        offset: BEHIND_HEADER,
+    };
     for k in order {
-        match place_one(rooms, promise, bars.as_slice(), *k, limit) {
+        let size = size_at(rooms, *k);
+        let align = placed_by(rooms, promise, *k);
+        let from = floor_for(last, size, align);
+        match place_one(rooms, promise, bars.as_slice(), *k, from, limit) {
             None => return Ok(None),
             Some(offset) => {
-                add_field(&mut bars, offset, size_at(rooms, *k))?;
+                add_field(&mut bars, offset, size)?;
+                last = Last {
+                    size,
+                    align,
+                    offset,
+                };
                 offsets.set(*k, offset);
             }
         }
