@@ -1,8 +1,7 @@
 //! Stretches of bytes that are taken, in order, and the least offset that meets none.
 
-ghost use Rattle.std.specs.Prelude.{◌≡◌, ℕ, ◌+◌, ◌%◌, ◌^◌, ◌<◌, ◌≤◌, ◌↔◌, ◌⊎◌, IfOk, OnOk, MatchOption};
+ghost use Rattle.std.specs.Prelude.{ℕ, ◌+◌, ◌<◌, ◌≤◌, OnOk, MatchOption};
 ghost use Rattle.field_placing.specs.Bars.{AreBars, IsFloor, IsFree, IsLeastFree, IsMore, IsNextAligned, IsNoneAligned};
-ghost use Rattle.field_placing.specs.Placed.{IsByteOf};
 
 use std::alloc::AllocError;
 

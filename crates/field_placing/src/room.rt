@@ -1,6 +1,6 @@
 //! What fields need, and which of them is placed first.
 
-ghost use Rattle.std.specs.Prelude.{◌≡◌, ◌<◌, length};
+ghost use Rattle.std.specs.Prelude.{◌≡◌};
 ghost use Rattle.field_placing.specs.Rooms.{alignment_at, comes_first, is_promise, needs_more, room_at, size_at};
 
 /// What a field needs: its size and alignment in bytes. An alignment of 0 stands for 1.
