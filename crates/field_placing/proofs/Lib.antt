@@ -1,0 +1,17 @@
+pub mod Adding
+pub mod Aligned
+pub mod Both
+pub mod Choosing
+pub mod Covering
+pub mod Covers
+pub mod Existing
+pub mod Firsts
+pub mod Greatest
+pub mod Orders
+pub mod Passing
+pub mod Places
+pub mod Ranks
+pub mod Rounding
+pub mod Rows
+pub mod Stepping
+pub mod Unique

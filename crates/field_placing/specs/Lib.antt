@@ -1,0 +1,6 @@
+pub mod Rooms
+pub mod Placed
+pub mod Ends
+pub mod Placings
+pub mod Bars
+pub mod Steps

@@ -1,0 +1,103 @@
+//! The layouts of a frame.
+
+ghost use Rattle.std.specs.Prelude.{◌≡◌, ◌≤◌, ◌<◌, ◌+◌, ◌^◌, ℕ, IfOk, length, slice_index};
+ghost use Rattle.field_placing.specs.Placed.{Always};
+ghost use Rattle.field_placing.specs.Placings.{IsFrame, IsPlacing, IsPlainPlacing};
+ghost use Rattle.field_placing.specs.Rooms.{size_at};
+ghost use Rattle.field_placing.specs.Steps.{AreChosen, IsOrder, IsPlacedWithin};
+
+use crate::ends::{end_of, frame_alignment};
+use crate::order::order_of;
+use crate::room::Room;
+use crate::underway::{place_behind, place_beside};
+use coro_base::Items;
+use std::alloc::{AllocError, Global};
+
+/// The greatest end of a layout.
+const LIMIT: u64 = 1 << 24;
+
+/// The layout of a frame: an offset for each field, where the last byte ends, and the frame's alignment and size.
+#[derive(Debug, Drop)]
+pub struct Placing {
+    pub offsets: Items<u64>,
+    pub end: u64,
+    pub align: u64,
+    pub size: u64,
+}
+
+/// The layout of these offsets.
+fn frame_of(rooms: &[Room], offsets: Items<u64>) -> Placing
+    requires one_each { length offsets ≡ length rooms.now }
+    requires fit { (k : ℕ) → k < length rooms.now → slice_index offsets k + size_at rooms.now k ≤ 2 ^ 24 }
+    ensures { IsFrame rooms.now offsets result }
+{
+    let end = end_of(rooms, offsets.as_slice());
+    let align = frame_alignment(rooms);
+    let size = end.next_multiple_of(align);
+    Placing {
+        offsets,
+        end,
+        align,
+        size,
+    }
+}
+
+/// The plain layout, in which all fields conflict. None where it ends above 2^24.
+///
+/// Fails only for want of memory.
+pub fn place_plain(
+    alloc: Global,
+    rooms: &[Room],
+    promise: Option<usize>,
+) -> Result<Option<Placing>, AllocError>
+    ensures { IfOk result (λ found. IsPlainPlacing rooms.now promise found) }
+{
+    let order = order_of(alloc, rooms, promise)?;
+    match place_behind(alloc, rooms, promise, order.as_slice(), LIMIT)? {
+        None => Ok(None),
+        Some(offsets) => Ok(Some(frame_of(rooms, offsets))),
+    }
+}
+
+/// The offsets by the conflicts, or the plain ones where those end later.
+fn chosen(
+    alloc: Global,
+    rooms: &[Room],
+    promise: Option<usize>,
+    order: &[usize],
+    conflicts: &[(usize, usize)],
+    plain: Items<u64>,
+) -> Result<Items<u64>, AllocError>
+    requires order { IsOrder rooms.now promise order.now }
+    requires plain { IsPlacedWithin rooms.now promise Always (2 ^ 24) plain }
+    ensures { IfOk result (λ offsets. AreChosen rooms.now promise conflicts.now plain offsets) }
+{
+    let limit = end_of(rooms, plain.as_slice());
+    match place_beside(alloc, rooms, promise, order, conflicts, limit)? {
+        None => Ok(plain),
+        Some(shared) => Ok(shared),
+    }
+}
+
+/// The layout in which fields may share bytes unless one of the pairs names them as in conflict; where it would end later
+/// than the plain layout, that one. None where the plain layout ends above 2^24. A pair that names no field, or a field with
+/// itself, says nothing.
+///
+/// Fails only for want of memory.
+pub fn place(
+    alloc: Global,
+    rooms: &[Room],
+    promise: Option<usize>,
+    conflicts: &[(usize, usize)],
+) -> Result<Option<Placing>, AllocError>
+    ensures { IfOk result (λ found. IsPlacing rooms.now promise conflicts.now found) }
+{
+    let order = order_of(alloc, rooms, promise)?;
+    match place_behind(alloc, rooms, promise, order.as_slice(), LIMIT)? {
+        None => Ok(None),
+        Some(plain) => {
+            let offsets = chosen(alloc, rooms, promise, order.as_slice(), conflicts, plain)?;
+            Ok(Some(frame_of(rooms, offsets)))
+        }
+    }
+}
