@@ -50,42 +50,6 @@ fn run(
 }
 
 #[test]
-fn commands_answer(rt: HostRuntime) -> Result<(), Fail> {
-    let lowered = "run --form lowered --entry main";
-    let cases: [(&str, &[u8], u8, &str, &str); 4] = [
-        (
-            lowered,
-            FIRST_RUN,
-            0,
-            "print(1)\nprint(2)\nreturned 0\n",
-            "",
-        ),
-        (
-            "run --form text --entry main",
-            b"define void @main() { ret void }",
-            0,
-            "returned\n",
-            "",
-        ),
-        (
-            "run --form text --entry main",
-            b"define i32 @main() { unreachable }",
-            3,
-            "undefined unreachable at @main %0 0\n",
-            "",
-        ),
-        ("lower", b"", 0, "", ""),
-    ];
-    for (line, text, code, out, err) in cases {
-        let left = run(rt.alloc(), line, text, 0, 0)?;
-        assert_eq!(rt; left.code, code, "{line}");
-        assert_eq!(rt; left.out.as_slice(), out.as_bytes(), "{line}");
-        assert_eq!(rt; left.err.as_slice(), err.as_bytes(), "{line}");
-    }
-    Ok(())
-}
-
-#[test]
 fn what_lower_writes_runs(rt: HostRuntime) -> Result<(), Fail> {
     let text = run(rt.alloc(), "lower", FIRST_RUN, 0, 0)?;
     assert_eq!(rt; text.code, 0);

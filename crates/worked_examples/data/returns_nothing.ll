@@ -1,0 +1,4 @@
+define void @main() {
+entry:
+  ret void
+}
