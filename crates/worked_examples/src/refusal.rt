@@ -10,7 +10,9 @@ use anyhow::Result;
 pub fn is_told(rt: &HostRuntime, words: &str, text: &[u8], told: &str) -> Result<bool> {
     let given = ask(rt.alloc(), words, text)?;
     if told.is_empty() {
-        return Ok(given.out.as_slice() == b"ok\n" && given.err.is_empty() && given.code == 0);
+        return Ok(
+            given.out.as_slice() == b"ok\n".as_slice() && given.err.is_empty() && given.code == 0,
+        );
     }
     let wanted = format!(in rt.alloc(); "{told}\n")?;
     Ok(given.err.as_slice() == wanted.as_bytes() && given.out.is_empty() && given.code == 1)
