@@ -1,0 +1,4 @@
+pub mod Spots
+pub mod Alive
+pub mod Classes
+pub mod Conflicts

@@ -1,0 +1,77 @@
+-- Where the addresses of a slot are used, and what lies behind a suspend.
+use Rattle.std.specs.Prelude.{◌≡◌, ◌⊎◌, ℕ, Bool, false, List, length, slice_get, Some, IsTrue, IsFalse, ◌&&◌, ◌++◌}
+use Rattle.flow_solver.specs.Paths.{IsListed}
+use Rattle.ir_model.specs.Names.{is_local}
+use Rattle.ir_model.specs.declared.instr.Instr.{Instr}
+use Rattle.ir_model.specs.declared.module.Block.{Block}
+use Rattle.ir_model.specs.declared.module.Function.{Function}
+use Rattle.ir_model.specs.declared.operand.Intrinsic.{Intrinsic}
+use Rattle.ir_paths.specs.Paths.{Leads, has_point}
+use Rattle.ir_paths.specs.Slots.{addresses_of, end_points, has_name, is_no_use, occurs, occurs_in_term}
+use Rattle.ir_paths.specs.Windows.{call_operand, instr_at, is_call_of, points_where}
+use Rattle.ir_paths.specs.declared.point.Point.{Point}
+use Rattle.slot_rules.specs.Early.{end_at}
+use Rattle.window_rules.specs.Windows.{own_edges}
+use Rattle.window_values.specs.Kept.{TakesFrom, front, own_blocks}
+
+-- where something of a slot stands: at a point, or, as what a phi takes, on the edge from one block to another
+pub data Spot : Type 0 where
+  At : Point → Spot
+  On : (from to : ℕ) → Spot
+
+-- the point at which it stands; what is on an edge stands at the end of the block that the edge leaves
+abbrev pub point_at : Function → Spot → Point
+point_at f (At p) = p
+point_at f (On from to) = end_at f from
+
+-- ---- uses
+
+-- markers and coro.id, in which an address isn't used
+abbrev pub is_no_use_in : Instr → Bool
+is_no_use_in (Instr.Call result must_tail ty callee args) = is_no_use callee
+is_no_use_in i = false
+
+-- what stands at the point, an instruction or a terminator, uses the value
+pub data UsesAt (f : Function) (v : ℕ) (p : Point) : Type 0 where
+  ByInstr : (i : Instr) → instr_at f p ≡ Some i → IsFalse (is_no_use_in i) → IsTrue (occurs v i) → UsesAt f v p
+  ByTerm : (b : Block) → slice_get f.blocks p.block ≡ Some b → p.at ≡ length b.instrs → IsTrue (occurs_in_term v b.term) → UsesAt f v p
+
+abbrev pub UsesIn : Function → ℕ → Spot → Type 0
+UsesIn f v (At p) = UsesAt f v p
+UsesIn f v (On from to) = TakesFrom f v from to
+
+-- a use of the slot: of its address, or of that of a getelementptr of it, chains of them too
+pub record IsUse (f : Function) (slot : ℕ) (spot : Spot) : Type 0 where
+  pub address : ℕ
+  pub is_address : IsTrue (has_name (addresses_of f slot) address)
+  pub uses : UsesIn f address spot
+
+-- ---- markers
+
+abbrev pub is_marker_of : Intrinsic → ℕ → Instr → Bool
+is_marker_of marker slot i = is_call_of marker i && is_local slot (call_operand i 1)
+
+abbrev pub starts_of : Function → ℕ → List Point
+starts_of f slot = points_where (is_marker_of Intrinsic.LifetimeStart slot) f
+
+abbrev pub ends_of : Function → ℕ → List Point
+ends_of f slot = points_where (is_marker_of Intrinsic.LifetimeEnd slot) f
+
+pub data IsStart (f : Function) (slot : ℕ) : Spot → Type 0 where
+  Marked : (p : Point) → IsTrue (has_point (starts_of f slot) p) → IsStart f slot (At p)
+
+-- ---- paths from and to what stands somewhere
+
+-- a path leads on to a point, with none of these between
+abbrev pub LeadsFrom : Function → List Point → Spot → Point → Type 0
+LeadsFrom f avoided (At p) q = Leads f avoided p q
+LeadsFrom f avoided (On from to) q = (front to ≡ q) ⊎ (IsFalse (has_point avoided (front to)) × Leads f avoided (front to) q)
+
+-- from a point on, itself among them, a path comes to another, with none of these before it
+abbrev pub Comes : Function → List Point → Point → Point → Type 0
+Comes f avoided r q = (r ≡ q) ⊎ (IsFalse (has_point avoided r) × Leads f avoided r q)
+
+-- it stands on a resume or destroy edge of the suspend, or a path comes to it from there, with none of these points and none of the end block before it, nor does it stand in the end block
+pub data IsBehind (f : Function) (s : Point) (avoided : List Point) : Spot → Type 0 where
+  OnEdge : (to : ℕ) → IsListed to (own_blocks f s) → IsBehind f s avoided (On s.block to)
+  Later : (spot : Spot) (r : Point) → IsTrue (has_point (own_edges f s) r) → Comes f (avoided ++ end_points f) r (point_at f spot) → IsFalse (has_point (end_points f) (point_at f spot)) → IsBehind f s avoided spot
