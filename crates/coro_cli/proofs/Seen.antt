@@ -1,14 +1,24 @@
 -- The text of a run is that of what is seen of it.
-use Rattle.std.proofs.Common.{◌≡◌, ℕ, List, [], ◌∷◌, ◌++◌, ap, refl, trans}
-use Rattle.std.specs.Prelude.{map, codes, slice_get, Some, None, Option}
+use Rattle.std.proofs.Common.{◌≡◌, ℕ, ℤ, List, [], ◌∷◌, ◌++◌, ◌∙◌, ap, refl, Ok, Err}
+use Rattle.std.specs.Prelude.{map, codes, slice_get, Some, None, Option, Result, IfOk}
 use Rattle.agreement.specs.Machines.{Seen, SeenEvent}
 use Rattle.coro_base.specs.declared.outcome.Event.{Event}
 use Rattle.coro_base.specs.declared.outcome.Outcome.{Outcome}
+use Rattle.coro_cli.specs.Answers.{plain_run, run_answer, run_verdict, seen_answer, shown, source_answer, source_run}
+use Rattle.coro_cli.specs.declared.verdict.Answer.{Answer}
+use Rattle.coro_cli.specs.declared.verdict.EntryCall.{EntryCall}
+use Rattle.coro_meaning.specs.Source.{SeenOf, SourceAt, state_at}
 use Rattle.coro_names.specs.Spelling.{spelling}
 use Rattle.coro_report.specs.Report.{declared_text, event_text, events_text, outcome_text, run_text, seen_event_text, seen_events_text, seen_text, words_text}
 use Rattle.ir_model.specs.declared.module.Declaration.{Declaration}
+use Rattle.ir_model.specs.declared.module.Frame.{Frame}
 use Rattle.ir_model.specs.declared.module.Module.{Module}
+use Rattle.ir_paths.specs.declared.point.Facts.{Facts}
 use Rattle.ordinary_step.specs.Runs.{name_of_declaration, seen_event}
+use Rattle.path_facts.specs.HaveFacts.{HaveFacts}
+use Rattle.plain_meaning.specs.Plain.{PlainAt, PlainGiven, plain_state_at}
+use Rattle.source_facts.proofs.Steps.{seen-same}
+use Rattle.source_program.specs.Given.{Given}
 
 declared : (d : Option Declaration) → declared_text d ≡ spelling (name_of_declaration d)
 declared None = refl
@@ -17,13 +27,28 @@ declared (Some d) = refl
 event : (m : Module) (e : Event) → event_text m e ≡ seen_event_text (seen_event m e)
 event m e = ap (λ (t : List ℕ). t ++ codes "(" ++ words_text e.args ++ codes ")\n") (declared (slice_get m.declarations e.func))
 
-pub events : (m : Module) (es : List Event) → events_text m es ≡ seen_events_text (map (seen_event m) es)
+events : (m : Module) (es : List Event) → events_text m es ≡ seen_events_text (map (seen_event m) es)
 events m [] = refl
-events m (e ∷ es) = trans (ap (λ (t : List ℕ). t ++ events_text m es) (event m e)) (ap (λ (t : List ℕ). seen_event_text (seen_event m e) ++ t) (events m es))
+events m (e ∷ es) = ap (λ (t : List ℕ). t ++ events_text m es) (event m e) ∙ ap (λ (t : List ℕ). seen_event_text (seen_event m e) ++ t) (events m es)
 
--- the text of a run by what is seen of it
-pub text_is_seen : (m : Module) (es : List Event) (outcome : Outcome) (seen : Seen) → map (seen_event m) es ≡ seen.events → outcome ≡ seen.outcome → run_text m es outcome ≡ seen_text m seen
-text_is_seen m es outcome seen same-events same-outcome =
-    trans
-    (ap (λ (t : List ℕ). t ++ outcome_text m outcome) (trans (events m es) (ap (λ (l : List SeenEvent). seen_events_text l) same-events)))
-    (ap (λ (o : Outcome). seen_events_text seen.events ++ outcome_text m o) same-outcome)
+-- the answer by the events and the outcome of a run is that by what is seen of it
+as_seen : (m : Module) (es : List Event) (allocs : ℕ) (outcome : Outcome) → shown (run_verdict outcome) (run_text m es outcome) ≡ seen_answer m (record { events = map (seen_event m) es; outcome = outcome; allocs = allocs })
+as_seen m es allocs outcome = ap (λ (t : List ℕ). shown (run_verdict outcome) (t ++ outcome_text m outcome)) (events m es)
+
+plain_is : (code : Module) (answers : List ℤ) (call : EntryCall) (steps : ℕ) → plain_run code answers call steps ≡ run_answer code answers call steps
+plain_is code answers call steps =
+    let s = plain_state_at (record { code = code; answers = answers }) call.func call.args steps in
+    as_seen code s.world.events s.world.allocs s.outcome
+
+pub plain_by : {E : Type 0} (code : Module) (answers : List ℤ) (call : EntryCall) (steps : ℕ) (r : Result Answer E) → IfOk r (λ a. a ≡ plain_run code answers call steps) → IfOk r (λ a. a ≡ run_answer code answers call steps)
+plain_by code answers call steps (Ok a) is = is ∙ plain_is code answers call steps
+plain_by code answers call steps (Err e) is = is
+
+source_is : (m : Module) (sizes : List Frame) (answers : List ℤ) (facts : List Facts) (call : EntryCall) (steps : ℕ) → HaveFacts m.functions facts → source_run (record { code = m; sizes = sizes; answers = answers; facts = facts }) call steps ≡ source_answer m sizes answers call steps
+source_is m sizes answers facts call steps have =
+    let s = state_at (record { code = m; sizes = sizes; answers = answers; facts = facts }) call.func call.args steps in
+    as_seen m s.world.events s.world.allocs s.outcome ∙ ap (λ (seen : Seen). seen_answer m seen) (seen-same m sizes answers facts call.func call.args steps have)
+
+pub source_by : {E : Type 0} (m : Module) (sizes : List Frame) (answers : List ℤ) (facts : List Facts) (call : EntryCall) (steps : ℕ) (r : Result Answer E) → HaveFacts m.functions facts → IfOk r (λ a. a ≡ source_run (record { code = m; sizes = sizes; answers = answers; facts = facts }) call steps) → IfOk r (λ a. a ≡ source_answer m sizes answers call steps)
+source_by m sizes answers facts call steps (Ok a) have is = is ∙ source_is m sizes answers facts call steps have
+source_by m sizes answers facts call steps (Err e) have is = is

@@ -10,9 +10,9 @@ use Rattle.coro_base.specs.declared.status.Status.{Status}
 use Rattle.coro_cli.specs.declared.verdict.Answer.{Answer}
 use Rattle.coro_cli.specs.declared.verdict.EntryCall.{EntryCall}
 use Rattle.coro_cli.specs.declared.verdict.Verdict.{Verdict}
-use Rattle.coro_meaning.specs.Source.{SourceAt}
+use Rattle.coro_meaning.specs.Source.{SourceAt, state_at}
 use Rattle.coro_names.specs.Spelling.{spelling}
-use Rattle.coro_report.specs.Report.{not_callable_text, refused_text, seen_text, syntax_text}
+use Rattle.coro_report.specs.Report.{not_callable_text, refused_text, run_text, seen_text, syntax_text}
 use Rattle.coro_words.specs.declared.words.Form.{Form}
 use Rattle.coro_words.specs.declared.words.RunWords.{RunWords}
 use Rattle.coro_words.specs.declared.words.Words.{Words}
@@ -33,7 +33,8 @@ use Rattle.lower_pipeline.specs.declared.whole.Lowering.{Lowering}
 use Rattle.ir_check.specs.Refused.{IsRefused}
 use Rattle.module_rules.specs.declared.order.Refusal.{Refusal}
 use Rattle.name_rules.specs.declared.stage.Stage.{Stage}
-use Rattle.plain_meaning.specs.Plain.{PlainAt}
+use Rattle.source_program.specs.Given.{Given}
+use Rattle.plain_meaning.specs.Plain.{PlainAt, PlainGiven, plain_state_at}
 
 -- ---- answers
 
@@ -131,6 +132,12 @@ run_verdict (Outcome.Undefined cause place) = Verdict.Undefined
 abbrev pub seen_answer : Module → Seen → Answer
 seen_answer m seen = shown (run_verdict seen.outcome) (seen_text m seen)
 
+-- the events and the outcome of a run of a module without coroutines
+abbrev pub plain_run : Module → List ℤ → EntryCall → ℕ → Answer
+plain_run code answers call steps =
+    let s = plain_state_at (record { code = code; answers = answers }) call.func call.args steps in
+    shown (run_verdict s.outcome) (run_text code s.world.events s.outcome)
+
 -- what is seen of a module without coroutines after so many steps
 abbrev pub run_answer : Module → List ℤ → EntryCall → ℕ → Answer
 run_answer code answers call steps = seen_answer code (PlainAt code call.func call.args answers steps)
@@ -178,6 +185,11 @@ size_of l = record { coroutine = l.coroutine; size = l.size; align = l.align }
 -- the sizes of the coroutines' frames, which coro.size and coro.align give
 abbrev pub sizes_of : Layouts → List Frame
 sizes_of layouts = map size_of layouts.coroutines
+
+-- the events and the outcome of a run of a source with these facts
+abbrev pub source_run : Given → EntryCall → ℕ → Answer
+source_run g call steps =
+    let s = state_at g call.func call.args steps in shown (run_verdict s.outcome) (run_text g.code s.world.events s.outcome)
 
 -- what is seen of a source after so many steps
 abbrev pub source_answer : Module → List Frame → List ℤ → EntryCall → ℕ → Answer

@@ -1,22 +1,20 @@
 //! Runs of modules.
 
 ghost use Rattle.std.specs.Prelude.{◌≡◌, IfOk, map};
-ghost use Rattle.agreement.specs.Machines.{Seen};
-ghost use Rattle.coro_cli.specs.Answers.{run_verdict, seen_answer, run_answer, not_callable, run_module, size_of, sizes_of, source_answer, source_or, entry_call};
-ghost use Rattle.ordinary_step.specs.Runs.{seen_event};
+ghost use Rattle.coro_cli.specs.Answers.{run_verdict, plain_run, run_answer, not_callable, run_module, size_of, sizes_of, source_run, source_answer, source_or, entry_call};
 
 use crate::entry::entry_call;
 use crate::texts::{shown, told};
 use crate::verdict::{Answer, EntryCall, Verdict};
-use coro_base::{Event, Items, Outcome};
+use coro_base::{Items, Outcome};
 use coro_meaning::SourceMachine;
 use coro_report::{not_callable_text, run_text};
 use coro_words::RunWords;
 use frame_layout::{Layout, Layouts};
 use ir_model::{Frame, Module};
+use ir_paths::Facts;
 use path_facts::all_facts;
 use plain_meaning::PlainMachine;
-use source_facts::facts_suffice;
 use std::alloc::{AllocError, Global};
 
 fn run_verdict(outcome: Outcome) -> Verdict
@@ -37,20 +35,23 @@ pub fn not_callable(alloc: Global, entry: &[u8]) -> Result<Answer, AllocError>
     Ok(told(alloc, Verdict::NotCallable, text))
 }
 
-/// The events and the outcome that are seen of a run.
-#[tactic(auto, using(crate::proofs::Seen::text_is_seen))]
-fn seen_answer(
+fn plain_run(
     alloc: Global,
-    code: &Module,
-    events: &[Event],
-    outcome: Outcome,
+    code: Module,
+    answers: &[i128],
+    call: &EntryCall,
+    steps: u64,
 ) -> Result<Answer, AllocError>
-    ensures { IfOk result (λ a. (seen : Seen) → map (seen_event code.now) events.now ≡ seen.events → outcome ≡ seen.outcome → a ≡ seen_answer code.now seen) }
+    ensures { IfOk result (λ a. a ≡ plain_run code answers.now call.now steps) }
 {
-    let text = run_text(alloc, code, events, outcome)?;
+    let mut machine = PlainMachine::start(alloc, code, call.func, call.args.as_slice(), answers)?;
+    let outcome = machine.run(steps)?;
+    let text = run_text(alloc, machine.code(), machine.events(), outcome)?;
     Ok(shown(alloc, run_verdict(outcome), Items::from_vec(text)))
 }
 
+/// What is seen of a run of a module without coroutines.
+#[tactic(auto, using(crate::proofs::Seen::plain_by))]
 fn run_answer(
     alloc: Global,
     code: Module,
@@ -60,9 +61,7 @@ fn run_answer(
 ) -> Result<Answer, AllocError>
     ensures { IfOk result (λ a. a ≡ run_answer code answers.now call.now steps) }
 {
-    let mut machine = PlainMachine::start(alloc, code, call.func, call.args.as_slice(), answers)?;
-    let outcome = machine.run(steps)?;
-    seen_answer(alloc, machine.code(), machine.events(), outcome)
+    plain_run(alloc, code, answers, call, steps)
 }
 
 /// Calls an entry of a module without coroutines.
@@ -91,6 +90,26 @@ fn sizes_of(alloc: Global, layouts: &[Layout]) -> Result<Items<Frame>, AllocErro
     Ok(sizes)
 }
 
+fn source_run(
+    alloc: Global,
+    source: Module,
+    sizes: &[Frame],
+    facts: Items<Facts>,
+    answers: &[i128],
+    call: &EntryCall,
+    steps: u64,
+) -> Result<Answer, AllocError>
+    ensures { IfOk result (λ a. a ≡ source_run (record { code = source; sizes = sizes.now; answers = answers.now; facts = facts }) call.now steps) }
+{
+    let args = call.args.as_slice();
+    let mut machine = SourceMachine::start(alloc, source, sizes, facts, call.func, args, answers)?;
+    let outcome = machine.run(steps)?;
+    let text = run_text(alloc, machine.code(), machine.events(), outcome)?;
+    Ok(shown(alloc, run_verdict(outcome), Items::from_vec(text)))
+}
+
+/// What is seen of a run of a source.
+#[tactic(auto, using(crate::proofs::Seen::source_by))]
 fn source_answer(
     alloc: Global,
     source: Module,
@@ -102,11 +121,7 @@ fn source_answer(
     ensures { IfOk result (λ a. a ≡ source_answer source sizes.now answers.now call.now steps) }
 {
     let facts = all_facts(alloc, source.functions.as_slice())?;
-    facts_suffice();
-    let args = call.args.as_slice();
-    let mut machine = SourceMachine::start(alloc, source, sizes, facts, call.func, args, answers)?;
-    let outcome = machine.run(steps)?;
-    seen_answer(alloc, machine.code(), machine.events(), outcome)
+    source_run(alloc, source, sizes, facts, answers, call, steps)
 }
 
 /// Calls an entry of a source whose coroutines have these layouts.
