@@ -1,5 +1,5 @@
 -- The text of a run is that of what is seen of it.
-use Rattle.std.proofs.Common.{◌≡◌, ℕ, ℤ, List, [], ◌∷◌, ◌++◌, ◌∙◌, ap, refl, Ok, Err}
+use Rattle.std.proofs.Common.{◌≡◌, ℕ, ℤ, List, [], ◌∷◌, ◌++◌, ◌∙◌, ap, refl, subst, Ok, Err}
 use Rattle.std.specs.Prelude.{map, codes, slice_get, Some, None, Option, Result, IfOk}
 use Rattle.agreement.specs.Machines.{Seen, SeenEvent}
 use Rattle.coro_base.specs.declared.outcome.Event.{Event}
@@ -7,11 +7,12 @@ use Rattle.coro_base.specs.declared.outcome.Outcome.{Outcome}
 use Rattle.coro_cli.specs.Answers.{plain_run, run_answer, run_verdict, seen_answer, shown, source_answer, source_run}
 use Rattle.coro_cli.specs.declared.verdict.Answer.{Answer}
 use Rattle.coro_cli.specs.declared.verdict.EntryCall.{EntryCall}
-use Rattle.coro_meaning.specs.Source.{SeenOf, SourceAt, state_at}
+use Rattle.coro_meaning.specs.Source.{state_at}
 use Rattle.coro_names.specs.Spelling.{spelling}
 use Rattle.coro_report.specs.Report.{declared_text, event_text, events_text, outcome_text, run_text, seen_event_text, seen_events_text, seen_text, words_text}
 use Rattle.ir_model.specs.declared.module.Declaration.{Declaration}
 use Rattle.ir_model.specs.declared.module.Frame.{Frame}
+use Rattle.ir_model.specs.declared.module.Function.{Function}
 use Rattle.ir_model.specs.declared.module.Module.{Module}
 use Rattle.ir_paths.specs.declared.point.Facts.{Facts}
 use Rattle.ordinary_step.specs.Runs.{name_of_declaration, seen_event}
@@ -49,6 +50,6 @@ source_is m sizes answers facts call steps have =
     let s = state_at (record { code = m; sizes = sizes; answers = answers; facts = facts }) call.func call.args steps in
     as_seen m s.world.events s.world.allocs s.outcome ∙ ap (λ (seen : Seen). seen_answer m seen) (seen-same m sizes answers facts call.func call.args steps have)
 
-pub source_by : {E : Type 0} (m : Module) (sizes : List Frame) (answers : List ℤ) (facts : List Facts) (call : EntryCall) (steps : ℕ) (r : Result Answer E) → HaveFacts m.functions facts → IfOk r (λ a. a ≡ source_run (record { code = m; sizes = sizes; answers = answers; facts = facts }) call steps) → IfOk r (λ a. a ≡ source_answer m sizes answers call steps)
-source_by m sizes answers facts call steps (Ok a) have is = is ∙ source_is m sizes answers facts call steps have
-source_by m sizes answers facts call steps (Err e) have is = is
+pub source_by : {E : Type 0} (m : Module) (sizes : List Frame) (answers : List ℤ) (facts : List Facts) (call : EntryCall) (steps : ℕ) (functions : List Function) (r : Result Answer E) → functions ≡ m.functions → HaveFacts functions facts → IfOk r (λ a. a ≡ source_run (record { code = m; sizes = sizes; answers = answers; facts = facts }) call steps) → IfOk r (λ a. a ≡ source_answer m sizes answers call steps)
+source_by m sizes answers facts call steps functions (Ok a) same have is = is ∙ source_is m sizes answers facts call steps (subst (λ (fs : List Function). HaveFacts fs facts) same have)
+source_by m sizes answers facts call steps functions (Err e) same have is = is

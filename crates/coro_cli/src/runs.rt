@@ -109,7 +109,6 @@ fn source_run(
 }
 
 /// What is seen of a run of a source.
-#[tactic(auto, using(crate::proofs::Seen::source_by))]
 fn source_answer(
     alloc: Global,
     source: Module,
