@@ -31,6 +31,10 @@ lower_app = with_rule (new_app (codes "lower")) (flag (codes "plain"))
 abbrev pub check_app : App
 check_app = with_rule (new_app (codes "check")) (flag (codes "lowered"))
 
+-- `layout [--plain]`
+abbrev pub layout_app : App
+layout_app = with_rule (new_app (codes "layout")) (flag (codes "plain"))
+
 -- `--form FORM --entry NAME`
 abbrev pub with_entry : App → App
 with_entry a = with_rule (with_rule a (required (codes "form"))) (required (codes "entry"))
@@ -46,6 +50,14 @@ run_app = with_rule (with_lists (with_entry (with_rule (new_app (codes "run")) (
 abbrev pub top_app : App
 top_app = on_top (λ s. record s { subcommand_required = true; no_binary_name = true }) (new_app (codes "corolower"))
 
+-- `lower` and `check`
+abbrev pub with_lowering : App → App
+with_lowering a = with_subcommand (with_subcommand a lower_app.top) check_app.top
+
+-- `layout` and `run`
+abbrev pub with_showing : App → App
+with_showing a = with_subcommand (with_subcommand a layout_app.top) run_app.top
+
 -- the program, with its commands
 abbrev pub the_app : App
-the_app = with_subcommand (with_subcommand (with_subcommand top_app lower_app.top) check_app.top) run_app.top
+the_app = with_showing (with_lowering top_app)

@@ -65,12 +65,18 @@ lower_read rows = Reading.Read (Words.Lower (has_flag (codes "plain") rows))
 abbrev pub check_read : List Row → Reading
 check_read rows = Reading.Read (Words.Check (has_flag (codes "lowered") rows))
 
+abbrev pub layout_read : List Row → Reading
+layout_read rows = Reading.Read (Words.Layout (has_flag (codes "plain") rows))
+
 -- a command with what was given to it
 abbrev pub command_read : Option (Text × List Row) → Reading
 command_read None = Reading.Refused
 command_read (Some p) =
     if bytes_eq p.0 (codes "lower") then lower_read p.1
-    else (if bytes_eq p.0 (codes "check") then check_read p.1 else (if bytes_eq p.0 (codes "run") then run_read p.1 else Reading.Refused))
+    else if bytes_eq p.0 (codes "check") then check_read p.1
+    else if bytes_eq p.0 (codes "layout") then layout_read p.1
+    else if bytes_eq p.0 (codes "run") then run_read p.1
+    else Reading.Refused
 
 -- what clap finds at fault comes first
 abbrev pub read_unless : Kinds → Option (Text × List Row) → Reading

@@ -4,7 +4,7 @@ ghost use Rattle.std.specs.Prelude.{◌≡◌, IfOk, false, codes};
 ghost use Rattle.clap.specs.Words.{app_of, rule_of, with_rule, with_subcommand};
 ghost use Rattle.clap.specs.declared.builder.command.Command.TheViews.{out-Command};
 ghost use Rattle.coro_words.specs.App as spec;
-ghost use Rattle.coro_words.specs.App.{check_app, flag, lower_app, run_app, the_app, top_app};
+ghost use Rattle.coro_words.specs.App.{check_app, flag, layout_app, lower_app, run_app, the_app, top_app};
 
 use clap::builder::ValueParser;
 use clap::{Arg, ArgAction, Command};
@@ -94,6 +94,14 @@ fn check_command<'a>(alloc: Global) -> Result<Command<'a>, AllocError>
     with_arg(command, lowered)
 }
 
+fn layout_command<'a>(alloc: Global) -> Result<Command<'a>, AllocError>
+    ensures app { IfOk result (λ c. app_of c ≡ layout_app) }
+    ensures local { IfOk result (λ r. (out-Command r).has_globals ≡ false) }
+{
+    let command = Command::new(alloc, "layout").about("Shows where the fields of frames lie");
+    with_arg(command, plain_flag(alloc))
+}
+
 fn with_entry<'a>(alloc: Global, command: Command<'a>) -> Result<Command<'a>, AllocError>
     requires { (out-Command command).has_globals ≡ false }
     ensures app { IfOk result (λ r. app_of r ≡ spec.with_entry (app_of command.entry)) }
@@ -135,14 +143,29 @@ fn top_command<'a>(alloc: Global) -> Command<'a>
         .subcommand_required(true)
 }
 
-/// The program's command line, with `lower`, `check` and `run`.
-pub fn command<'a>(alloc: Global) -> Result<Command<'a>, AllocError>
-    ensures app { IfOk result (λ c. app_of c ≡ the_app) }
+fn with_lowering<'a>(alloc: Global, command: Command<'a>) -> Result<Command<'a>, AllocError>
+    requires { (out-Command command).has_globals ≡ false }
+    ensures app { IfOk result (λ r. app_of r ≡ spec.with_lowering (app_of command.entry)) }
+    ensures local { IfOk result (λ r. (out-Command r).has_globals ≡ false) }
 {
     let lower = lower_command(alloc)?;
     let check = check_command(alloc)?;
+    with_command(with_command(command, lower)?, check)
+}
+
+fn with_showing<'a>(alloc: Global, command: Command<'a>) -> Result<Command<'a>, AllocError>
+    requires { (out-Command command).has_globals ≡ false }
+    ensures { IfOk result (λ r. app_of r ≡ spec.with_showing (app_of command.entry)) }
+{
+    let layout = layout_command(alloc)?;
     let run = run_command(alloc)?;
-    let command = with_command(top_command(alloc), lower)?;
-    let command = with_command(command, check)?;
-    with_command(command, run)
+    with_command(with_command(command, layout)?, run)
+}
+
+/// The program's command line, with `lower`, `check`, `layout` and `run`.
+pub fn command<'a>(alloc: Global) -> Result<Command<'a>, AllocError>
+    ensures app { IfOk result (λ c. app_of c ≡ the_app) }
+{
+    let command = with_lowering(alloc, top_command(alloc))?;
+    with_showing(alloc, command)
 }

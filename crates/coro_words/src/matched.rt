@@ -152,6 +152,9 @@ pub fn command_read(alloc: Global, matches: &ArgMatches<'_>) -> Result<Reading, 
     } else if name == "check" {
         let lowered = has_flag(given, "lowered");
         Ok(Reading::Read(Words::Check { lowered }))
+    } else if name == "layout" {
+        let plain = has_flag(given, "plain");
+        Ok(Reading::Read(Words::Layout { plain }))
     } else if name == "run" {
         run_read(alloc, given)
     } else {

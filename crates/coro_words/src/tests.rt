@@ -66,6 +66,12 @@ fn commands_are_taken(rt: HostRuntime) -> Result<(), Fail> {
             _ => panic!(rt; "{line} is taken"),
         }
     }
+    for (line, wanted) in [("layout", false), ("layout --plain", true)] {
+        match take_words(rt.alloc(), &words_of(rt.alloc(), line)?)? {
+            Taken::Words(Words::Layout { plain }) => assert_eq!(rt; plain, wanted),
+            _ => panic!(rt; "{line} is taken"),
+        }
+    }
     let runs: [(&str, bool, Form, &str, &[i128], &[i128], u64); 4] = [
         (
             "run --form lowered --entry main",

@@ -43,6 +43,11 @@ pub enum Words {
         /// By the rules of a module without coroutines.
         lowered: bool,
     },
+    /// Shows where the fields of the module's frames lie.
+    Layout {
+        /// Without shared bytes.
+        plain: bool,
+    },
     /// Runs the module.
     Run(RunWords),
 }
