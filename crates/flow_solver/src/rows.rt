@@ -1,25 +1,26 @@
 //! The edges of a graph by the node they leave.
 
-ghost use Rattle.std.specs.Prelude.{◌≡◌, ◌<◌, ◌∷◌, ◌++◌, [], IfOk, OnOk, Some, get_or, length, map, replicate, slice_get, slice_index_or, slice_set};
+ghost use Rattle.std.specs.Prelude.{◌≡◌, ◌<◌, ◌∷◌, ◌++◌, [], IfOk, OnOk, Some, get_or, length, replicate, slice_get, slice_index_or, slice_set};
 ghost use Rattle.flow_solver.specs.Paths.{HasNodes};
 ghost use Rattle.flow_solver.specs.Outgoing.{AreOutgoing};
 
+use coro_base::Short;
 use std::alloc::{AllocError, Global};
 
-fn empty_rows(alloc: Global, nodes: usize) -> Result<Vec<Vec<usize>>, AllocError>
-    ensures { IfOk result (λ rows. map (λ row. row.items) rows.items ≡ replicate nodes []) }
+fn empty_rows(alloc: Global, nodes: usize) -> Result<Vec<Short<usize>>, AllocError>
+    ensures { IfOk result (λ rows. rows.items ≡ replicate nodes []) }
 {
     let mut rows = Vec::new(alloc);
     for _ in 0..nodes {
-        rows.push(Vec::new(alloc))?;
+        rows.push(Short::new(alloc))?;
     }
     Ok(rows)
 }
 
 /// Puts an edge into the row of a node.
-fn file(rows: &mut Vec<Vec<usize>>, node: usize, edge: usize) -> Result<(), AllocError>
+fn file(rows: &mut Vec<Short<usize>>, node: usize, edge: usize) -> Result<(), AllocError>
     requires { node < length rows.old.items }
-    ensures { OnOk result (map (λ row. row.items) rows.new.items ≡ slice_set (map (λ row. row.items) rows.old.items) node (get_or (map (λ row. row.items) rows.old.items) node [] ++ edge ∷ [])) }
+    ensures { OnOk result (rows.new.items ≡ slice_set rows.old.items node (get_or rows.old.items node [] ++ edge ∷ [])) }
 {
     rows[node].push(edge)?;
     Ok(())
@@ -30,9 +31,9 @@ pub fn outgoing(
     alloc: Global,
     nodes: usize,
     edges: &[(usize, usize)],
-) -> Result<Vec<Vec<usize>>, AllocError>
+) -> Result<Vec<Short<usize>>, AllocError>
     requires { HasNodes nodes edges.now }
-    ensures { IfOk result (λ rows. AreOutgoing nodes edges.now (map (λ row. row.items) rows.items)) }
+    ensures { IfOk result (λ rows. AreOutgoing nodes edges.now rows.items) }
 {
     let mut rows = empty_rows(alloc, nodes)?;
     for (edge, pair) in edges.iter().enumerate() {
@@ -51,9 +52,9 @@ pub fn target(edges: &[(usize, usize)], edge: usize) -> usize
 }
 
 /// The edges that leave a node.
-pub fn row_of(rows: &[Vec<usize>], node: usize) -> &[usize]
+pub fn row_of(rows: &[Short<usize>], node: usize) -> &[usize]
     requires { node < length rows.now }
-    ensures { slice_get (map (λ row. row.items) rows.now) node ≡ Some result.now }
+    ensures { slice_get rows.now node ≡ Some result.now }
 {
     rows[node].as_slice()
 }

@@ -1,6 +1,6 @@
 //! The solver: a list of nodes whose facts have risen since their edges were followed.
 
-ghost use Rattle.std.specs.Prelude.{◌≡◌, ◌<◌, ◌≤◌, ℕ, [], IfOk, OnOk, Some, length, map, slice_get};
+ghost use Rattle.std.specs.Prelude.{◌≡◌, ◌<◌, ◌≤◌, ℕ, [], IfOk, OnOk, Some, length, slice_get};
 ghost use Rattle.flow_solver.specs.Outgoing.{AreOutgoing, LeaveNode};
 ghost use Rattle.flow_solver.specs.Paths.{AreKnown, AreStarts, HasNodes, IsLeastAbove};
 ghost use Rattle.flow_solver.specs.Steps.{IsUnderway, left_of};
@@ -9,6 +9,7 @@ use crate::flow::Flow;
 use crate::graph::Graph;
 use crate::rows::{outgoing, row_of, target};
 use crate::state::{State, blank, fact_at, raise};
+use coro_base::Short;
 use std::alloc::{AllocError, Global};
 
 /// The starts' own facts at their nodes.
@@ -63,13 +64,13 @@ fn settle<F: Flow>(
     flow: &F,
     graph: &Graph,
     starts: &[(usize, F::Fact)],
-    rows: &[Vec<usize>],
+    rows: &[Short<usize>],
     state: &mut State<F::Fact>,
 ) -> Result<(), AllocError>
     requires edges { HasNodes graph.now.nodes graph.now.edges }
     requires known { AreKnown (F.domain flow.now) graph.now.edges }
     requires starts { AreStarts (F.domain flow.now) graph.now.nodes starts.now }
-    requires rows { AreOutgoing graph.now.nodes graph.now.edges (map (λ row. row.items) rows.now) }
+    requires rows { AreOutgoing graph.now.nodes graph.now.edges rows.now }
     requires underway { IsUnderway (F.domain flow.now) graph.now.nodes graph.now.edges starts.now [] [] state.old.facts state.old.waiting state.old.todo.items }
     ensures { OnOk result (IsUnderway (F.domain flow.now) graph.now.nodes graph.now.edges starts.now [] [] state.new.facts state.new.waiting []) }
 {

@@ -1,5 +1,5 @@
-use Rattle.std.proofs.Common.{◌≡◌, [], map, replicate}
+use Rattle.std.proofs.Common.{◌≡◌, [], replicate}
 use Rattle.flow_solver.proofs.rows.empty_rows.Given as goal
 
 abbrev pub invariant-loop : goal.invariant-loop
-invariant-loop l = map (λ row. row.items) l.rows.items ≡ replicate l.counter []
+invariant-loop l = l.rows.items ≡ replicate l.counter []

@@ -1,5 +1,4 @@
 use Rattle.std.proofs.Common.{arith, get_or}
-use Rattle.std.proofs.lemmas.List.{length-map}
 use Rattle.std.proofs.lemmas.Option.{slice_get-get_or}
 use Rattle.flow_solver.proofs.Filing.{one_filed, all_filed}
 use Rattle.flow_solver.proofs.rows.outgoing.Goals as goal
@@ -9,8 +8,7 @@ file-requires c =
     let at = slice_get-get_or c.args.edges.now c.loop-edge.edge (0, 0) c.loop-edge-test.true in
     let inside = (c.requires c.loop-edge.edge (get_or c.args.edges.now c.loop-edge.edge (0, 0)).0 (get_or c.args.edges.now c.loop-edge.edge (0, 0)).1 at).0 in
     let len = c.loop-edge.invariant.rows_length in
-    let same = length-map c.loop-edge.rows.items (λ row. row.items) in
-    omega (arith, inside, len, same)
+    omega (arith, inside, len)
 
 pub loop-edge-preserved : goal.loop-edge-preserved
 loop-edge-preserved c =

@@ -1,6 +1,5 @@
-use Rattle.std.proofs.Common.{map}
 use Rattle.flow_solver.proofs.Filing.{AreFiled}
 use Rattle.flow_solver.proofs.rows.outgoing.Given as goal
 
 abbrev pub invariant-loop-edge : goal.invariant-loop-edge
-invariant-loop-edge l = AreFiled l.nodes l.edges l.edge (map (λ row. row.items) l.rows.items)
+invariant-loop-edge l = AreFiled l.nodes l.edges l.edge l.rows.items

@@ -1,5 +1,4 @@
 use Rattle.std.proofs.Common.{arith}
-use Rattle.std.proofs.lemmas.List.{length-map}
 use Rattle.flow_solver.proofs.Moving.{front_inside, front_taken}
 use Rattle.flow_solver.proofs.worklist.settle.Goals as goal
 
@@ -7,8 +6,7 @@ pub row_of-requires : goal.row_of-requires
 row_of-requires g c =
     let inside = front_inside c.loop-node.state.todo.items c.in-Some.node c.pop_front.new.self.items c.loop-node.invariant c.in-Some.ensures.items in
     let len = c.requires.rows.rows_length in
-    let same = length-map c.args.rows.now (λ row. row.items) in
-    omega (arith, inside, len, same)
+    omega (arith, inside, len)
 
 pub visit-requires-clause-node : goal.visit-requires-clause-node
 visit-requires-clause-node g c = front_inside c.loop-node.state.todo.items c.in-Some.node c.pop_front.new.self.items c.loop-node.invariant c.in-Some.ensures.items
