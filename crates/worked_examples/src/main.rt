@@ -1,13 +1,15 @@
 //! Runs the worked examples: the cases of the file `cases`, each words, a module and what the program answers to them, the
-//! one-line modules of the file `refusals`, and those that the file `limits` describes. Writes which are answered otherwise,
-//! and how many there were.
+//! one-line modules of the file `refusals`, those that the file `limits` describes, and the public calls of the file `calls`.
+//! Writes which are answered otherwise, and how many there were.
 #![tactic(auto)]
 
 mod again;
 mod answer;
+mod call;
 mod case;
 mod limit;
 mod refusal;
+mod sight;
 
 use crate::case::Cases;
 use anyhow::Result;
@@ -51,10 +53,23 @@ fn limits(rt: &HostRuntime) -> Result<usize> {
     Ok(count)
 }
 
+/// Makes the calls of the file `calls`, and gives how many there were.
+fn calls(rt: &HostRuntime) -> Result<usize> {
+    let text = fs::read_to_string(rt, "calls")?;
+    let mut count = 0usize;
+    for line in text.lines() {
+        if call::run(rt, line)? {
+            count = count.saturating_add(1);
+        }
+    }
+    Ok(count)
+}
+
 fn main(rt: HostRuntime) -> Result<()> {
     let cases = worked_cases(&rt)?;
     let lines = refused_lines(&rt)?;
     let limits = limits(&rt)?;
-    println!(rt; "{cases} cases, {lines} modules of a line, {limits} at or above a limit")?;
+    let calls = calls(&rt)?;
+    println!(rt; "{cases} cases, {lines} modules of a line, {limits} at or above a limit, {calls} calls")?;
     Ok(())
 }

@@ -1,0 +1,33 @@
+declare void @print(i32)
+declare ptr @malloc(i32)
+declare void @free(ptr)
+define ptr @f() presplitcoroutine {
+entry:
+  %a = alloca i32, align 4
+  %b = alloca i32, align 4
+  %id = call token @llvm.coro.id(i32 0, ptr null, ptr null, ptr null)
+  %size = call i32 @llvm.coro.size.i32()
+  %m = call ptr @malloc(i32 %size)
+  %h = call ptr @llvm.coro.begin(token %id, ptr %m)
+  store i32 1, ptr %b, align 4
+  %s = call i8 @llvm.coro.suspend(token none, i1 false)
+  switch i8 %s, label %end [ i8 0, label %r i8 1, label %clean ]
+r:
+  store i32 2, ptr %a, align 4
+  %x = load i32, ptr %a, align 4
+  call void @print(i32 %x)
+  br label %clean
+clean:
+  %fm = call ptr @llvm.coro.free(token %id, ptr %h)
+  call void @free(ptr %fm)
+  br label %end
+end:
+  %e = call i1 @llvm.coro.end(ptr %h, i1 false, token none)
+  ret ptr %h
+}
+define i32 @main() {
+entry:
+  %h = call ptr @f()
+  call void @llvm.coro.resume(ptr %h)
+  ret i32 0
+}
