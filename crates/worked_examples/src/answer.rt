@@ -24,16 +24,44 @@ fn words_of(alloc: Global, line: &str) -> Result<Vec<String>, AllocError> {
     Ok(words)
 }
 
-/// What the program answers to the words of a line and an input.
-pub fn ask(alloc: Global, line: &str, text: &[u8]) -> Result<Answer, AllocError> {
+/// What the program answers to the words of a line, over a source and two sinks.
+fn answer_over(
+    alloc: Global,
+    line: &str,
+    mut input: ByteSource,
+    mut out: ByteSink,
+    mut err: ByteSink,
+) -> Result<Answer, AllocError> {
     let words = words_of(alloc, line)?;
-    let mut input = ByteSource::new(Vec::from_slice(alloc, text)?, 4096, Vec::new(alloc));
-    let mut out = ByteSink::with_room(alloc, 33_554_432, 4096, Vec::new(alloc))?;
-    let mut err = ByteSink::with_room(alloc, 65_536, 4096, Vec::new(alloc))?;
     let status: Status = drive(alloc, &words, &mut input, &mut out, &mut err);
     Ok(Answer {
         code: status.code(),
         out: out.into_bytes(),
         err: err.into_bytes(),
     })
+}
+
+/// What the program answers to the words of a line and an input.
+pub fn ask(alloc: Global, line: &str, text: &[u8]) -> Result<Answer, AllocError> {
+    let input = ByteSource::new(Vec::from_slice(alloc, text)?, 4096, Vec::new(alloc));
+    let out = ByteSink::with_room(alloc, 33_554_432, 4096, Vec::new(alloc))?;
+    let err = ByteSink::with_room(alloc, 65_536, 4096, Vec::new(alloc))?;
+    answer_over(alloc, line, input, out, err)
+}
+
+/// The same over a source and sinks of 16 bytes a call, where a read and a write to standard output fail, each named by the
+/// number of its call, 0 for none.
+pub fn ask_failing(
+    alloc: Global,
+    line: &str,
+    text: &[u8],
+    read: usize,
+    write: usize,
+) -> Result<Answer, AllocError> {
+    let reads = Vec::from_slice(alloc, &[read as u64])?;
+    let writes = Vec::from_slice(alloc, &[write as u64])?;
+    let input = ByteSource::new(Vec::from_slice(alloc, text)?, 16, reads);
+    let out = ByteSink::with_room(alloc, 65_536, 16, writes)?;
+    let err = ByteSink::with_room(alloc, 65_536, 16, Vec::new(alloc))?;
+    answer_over(alloc, line, input, out, err)
 }

@@ -2,11 +2,11 @@
 //!
 //! A case begins with a line `> WORDS < FILE`. Lines `out TEXT` and `err TEXT` follow, of which standard output and standard
 //! error are made; a line `more` where standard output goes on behind them; and a line `status N`, which ends the case.
-//! `> again < FILE` asks that the module of the file is printed and read again as the same module. Empty lines and those
-//! that begin with `#` say nothing.
+//! `> again < FILE` asks that the module of the file is printed and read again as the same module, and `> lower then WORDS < FILE`
+//! gives the words what `lower` writes of the file. Empty lines and those that begin with `#` say nothing.
 
 use crate::again::is_read_again;
-use crate::answer::ask;
+use crate::answer::{Answer, ask};
 use anyhow::{Result, bail};
 use std::alloc::{AllocError, Global};
 use std::fs;
@@ -52,6 +52,17 @@ fn add(text: &mut String, line: &str) -> Result<(), AllocError> {
     text.push('\n')
 }
 
+/// What the program answers to the words and a text, or to the words behind `lower then` and what it writes of the text.
+fn answered(alloc: Global, words: &str, text: &[u8]) -> Result<Answer, AllocError> {
+    match words.strip_prefix("lower then ") {
+        None => ask(alloc, words, text),
+        Some(words) => {
+            let lowered = ask(alloc, "lower", text)?;
+            ask(alloc, words, &lowered.out)
+        }
+    }
+}
+
 impl Case {
     /// Adds what a line says of the case.
     fn say(&mut self, line: &str) -> Result<()> {
@@ -82,7 +93,7 @@ impl Case {
         let is_so = if self.words.as_str() == "again" {
             is_read_again(rt.alloc(), &text)?
         } else {
-            let given = ask(rt.alloc(), self.words.as_str(), &text)?;
+            let given = answered(rt.alloc(), self.words.as_str(), &text)?;
             given.code == self.code
                 && self.is_out(&given.out)
                 && given.err.as_slice() == self.err.as_bytes()

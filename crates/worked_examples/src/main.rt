@@ -1,12 +1,13 @@
 //! Runs the worked examples: the cases of the file `cases`, each words, a module and what the program answers to them, the
-//! one-line modules of the file `refusals`, those that the file `limits` describes, and the public calls of the file `calls`.
-//! Writes which are answered otherwise, and how many there were.
+//! one-line modules of the file `refusals`, those that the file `limits` describes, the public calls of the file `calls`, and
+//! the words of the file `faults` with failing reads and writes. Writes which are answered otherwise, and how many there were.
 #![tactic(auto)]
 
 mod again;
 mod answer;
 mod call;
 mod case;
+mod fault;
 mod limit;
 mod refusal;
 mod sight;
@@ -65,11 +66,26 @@ fn calls(rt: &HostRuntime) -> Result<usize> {
     Ok(count)
 }
 
+/// Runs the words of the file `faults` with failing reads and writes, and gives how many there were.
+fn faults(rt: &HostRuntime) -> Result<usize> {
+    let text = fs::read_to_string(rt, "faults")?;
+    let mut count = 0usize;
+    for line in text.lines() {
+        if fault::run(rt, line)? {
+            count = count.saturating_add(1);
+        }
+    }
+    Ok(count)
+}
+
 fn main(rt: HostRuntime) -> Result<()> {
     let cases = worked_cases(&rt)?;
     let lines = refused_lines(&rt)?;
     let limits = limits(&rt)?;
     let calls = calls(&rt)?;
-    println!(rt; "{cases} cases, {lines} modules of a line, {limits} at or above a limit, {calls} calls")?;
+    let faults = faults(&rt)?;
+    println!(rt;
+        "{cases} cases, {lines} modules of a line, {limits} at or above a limit, {calls} calls, {faults} with faults"
+    )?;
     Ok(())
 }

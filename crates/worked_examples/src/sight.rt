@@ -2,8 +2,8 @@
 
 use block_paths::{EdgeKind, after_end, edge_kind, reach, successors};
 use ir_model::Function;
-use slot_lifetime::{SlotClass, classes};
 use slot_conflicts::{alive_at, conflicts};
+use slot_lifetime::{SlotClass, classes};
 use std::alloc::{AllocError, Global};
 use suspend_crossing::crossing;
 
