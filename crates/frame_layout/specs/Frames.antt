@@ -15,5 +15,6 @@ index_alone coroutine suspends =
       size = 24;
       align = 8;
       index = 16;
+      offsets = 16 ∷ [];
       fields = record { kind = FieldKind.Index; name = None; offset = 16; size = index_size suspends } ∷ [];
     }

@@ -1,1 +1,4 @@
 pub mod Frames
+pub mod Conflicts
+pub mod Rows
+pub mod Layouts

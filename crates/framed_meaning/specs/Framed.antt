@@ -48,7 +48,7 @@ pub record FramedGiven : Type 0 where
   pub layouts : List Layout
 
 abbrev pub no_layout : ℕ → Layout
-no_layout f = record { coroutine = f; size = 0; align = 1; index = 0; fields = [] }
+no_layout f = record { coroutine = f; size = 0; align = 1; index = 0; offsets = []; fields = [] }
 
 abbrev pub layout_of : List Layout → ℕ → Layout
 layout_of layouts f = unwrap_or (find (λ l. l.coroutine == f) layouts) (no_layout f)

@@ -22,7 +22,7 @@ abbrev pub expected : Seen
 expected = record { events = (record { name = Name.Text (codes "print"); args = (record { width = 32; bits = 4 } ∷ []) } ∷ record { name = Name.Text (codes "print"); args = (record { width = 32; bits = 5 } ∷ []) } ∷ record { name = Name.Text (codes "print"); args = (record { width = 32; bits = 7 } ∷ []) } ∷ []); outcome = (Outcome.Returned (Some (record { width = 32; bits = 0 }))); allocs = 0 }
 
 abbrev pub Computes : Type 0
-Computes = FramedAt the_module (record { coroutines = (record { coroutine = 0; size = 24; align = 8; index = 20; fields = (record { kind = FieldKind.Value; name = None; offset = 16; size = 4 } ∷ record { kind = FieldKind.Index; name = None; offset = 20; size = 1 } ∷ []) } ∷ []) }) 1 [] [] 150 ≡ expected
+Computes = FramedAt the_module (record { coroutines = (record { coroutine = 0; size = 24; align = 8; index = 20; offsets = (16 ∷ 20 ∷ []); fields = (record { kind = FieldKind.Value; name = None; offset = 16; size = 4 } ∷ record { kind = FieldKind.Index; name = None; offset = 20; size = 1 } ∷ []) } ∷ []) }) 1 [] [] 150 ≡ expected
 
 pub computes : Computes
 computes = refl

@@ -24,7 +24,7 @@ abbrev pub expected : Seen
 expected = record { events = (record { name = Name.Text (codes "print"); args = (record { width = 32; bits = 4 } ∷ []) } ∷ []); outcome = (Outcome.Undefined Cause.Owned (record { item = Item.Function 0; block = Some 1; instr = Some 4 })); allocs = 1 }
 
 abbrev pub Computes : Type 0
-Computes = FramedAt the_module (record { coroutines = (record { coroutine = 0; size = 24; align = 8; index = 20; fields = (record { kind = FieldKind.Value; name = None; offset = 16; size = 4 } ∷ record { kind = FieldKind.Index; name = None; offset = 20; size = 1 } ∷ []) } ∷ []) }) 1 [] [] 150 ≡ expected
+Computes = FramedAt the_module (record { coroutines = (record { coroutine = 0; size = 24; align = 8; index = 20; offsets = (16 ∷ 20 ∷ []); fields = (record { kind = FieldKind.Value; name = None; offset = 16; size = 4 } ∷ record { kind = FieldKind.Index; name = None; offset = 20; size = 1 } ∷ []) } ∷ []) }) 1 [] [] 150 ≡ expected
 
 pub computes : Computes
 computes = refl

@@ -1,0 +1,182 @@
+//! The layouts of frames.
+
+ghost use Rattle.std.specs.Prelude.{◌≡◌, IfOk, map, position};
+ghost use Rattle.field_placing.specs.declared.placing.Placing.{Placing as ThePlacing};
+ghost use Rattle.frame_layout.specs.Layouts.{IsLaidOut, IsLaidOutPlain, IsLayoutBy, index_offset as index_offset_of, is_index as is_index_kind, is_promise as is_promise_kind, placed as placed_at, promise_of as promise_position, rooms_of as rooms_of_fields};
+ghost use Rattle.frame_layout.specs.declared.laying.LayoutError.TheVariants.{OutOfMemory};
+
+use crate::layout::{Field, FieldKind, Layout, PlacedField};
+use crate::order::{offset_at, order_of};
+use coro_base::{Data, FuncId, Items};
+use field_placing::{Placing, Room, place, place_plain};
+use std::alloc::{AllocError, Global};
+use thiserror::Error;
+
+/// Why fields have no layout.
+#[derive(Clone, Copy, Debug, PartialEq, Eq, Error)]
+pub enum LayoutError {
+    /// The plain layout ends above 2^24.
+    #[error("the frame is too large")]
+    FrameTooLarge,
+    /// Want of memory.
+    #[error("out of memory")]
+    OutOfMemory,
+}
+
+impl From<AllocError> for LayoutError {
+    ghost from_gives = { λ _ e. e ≡ OutOfMemory };
+
+    fn from(_e: AllocError) -> LayoutError {
+        LayoutError::OutOfMemory
+    }
+}
+
+fn is_promise(kind: FieldKind) -> bool
+    ensures { result ≡ is_promise_kind kind }
+{
+    match kind {
+        FieldKind::Promise => true,
+        FieldKind::Value | FieldKind::Slot | FieldKind::Index => false,
+    }
+}
+
+fn is_index(kind: FieldKind) -> bool
+    ensures { result ≡ is_index_kind kind }
+{
+    match kind {
+        FieldKind::Index => true,
+        FieldKind::Promise | FieldKind::Value | FieldKind::Slot => false,
+    }
+}
+
+fn promise_of(fields: &[Field]) -> Option<usize>
+    ensures { result ≡ promise_position fields.now }
+{
+    fields.iter().position(|field| is_promise(field.kind))
+}
+
+fn index_of(fields: &[Field]) -> Option<usize>
+    ensures { result ≡ position (λ f. is_index_kind f.kind) fields.now }
+{
+    fields.iter().position(|field| is_index(field.kind))
+}
+
+fn index_offset(fields: &[Field], offsets: &[u64]) -> u64
+    ensures { result ≡ index_offset_of fields.now offsets.now }
+{
+    offset_at(offsets, index_of(fields).unwrap_or(fields.len()))
+}
+
+fn rooms_of(alloc: Global, fields: &[Field]) -> Result<Vec<Room>, AllocError>
+    ensures { IfOk result (λ rooms. rooms.items ≡ rooms_of_fields fields.now) }
+{
+    let mut rooms = Vec::new(alloc);
+    for field in fields {
+        rooms.push(Room {
+            size: field.size,
+            align: field.align,
+        })?;
+    }
+    Ok(rooms)
+}
+
+/// The field at a position with its offset.
+fn placed(
+    alloc: Global,
+    fields: &[Field],
+    offsets: &[u64],
+    k: usize,
+) -> Result<PlacedField, AllocError>
+    ensures { IfOk result (λ field. field ≡ placed_at fields.now offsets.now k) }
+{
+    let offset = offset_at(offsets, k);
+    match fields.get(k) {
+        None => Ok(PlacedField {
+            kind: FieldKind::Index,
+            name: None,
+            offset,
+            size: 0,
+        }),
+        Some(field) => Ok(PlacedField {
+            kind: field.kind,
+            name: Data::copied(&field.name, alloc)?,
+            offset,
+            size: field.size,
+        }),
+    }
+}
+
+fn all_placed(
+    alloc: Global,
+    fields: &[Field],
+    offsets: &[u64],
+    order: &[usize],
+) -> Result<Items<PlacedField>, AllocError>
+    ensures { IfOk result (λ all. all ≡ map (placed_at fields.now offsets.now) order.now) }
+{
+    let mut all = Items::new(alloc);
+    for k in order {
+        all.push(placed(alloc, fields, offsets, *k)?)?;
+    }
+    Ok(all)
+}
+
+/// The layout of these offsets.
+fn layout_by(
+    alloc: Global,
+    coroutine: FuncId,
+    fields: &[Field],
+    placing: Placing,
+) -> Result<Layout, AllocError>
+    ensures { IfOk result (λ layout. IsLayoutBy coroutine fields.now placing layout) }
+{
+    let order = order_of(alloc, placing.offsets.as_slice())?;
+    let all = all_placed(alloc, fields, placing.offsets.as_slice(), order.as_slice())?;
+    let index = index_offset(fields, placing.offsets.as_slice());
+    Ok(Layout {
+        coroutine,
+        size: placing.size,
+        align: placing.align,
+        index,
+        offsets: placing.offsets,
+        fields: all,
+    })
+}
+
+/// The layout of a coroutine's frame, whose fields are given in order of the text, the index last. The promise stands at 16, and
+/// each other field, in order of falling alignment, then falling size, then of the text, at the least aligned offset from 16 on
+/// whose bytes meet no earlier field in conflict with it. `conflicts` are the pairs of positions of fields that conflict. Where
+/// the layout would end later than the plain one, it is the plain one.
+///
+/// The frame is too large exactly where the plain layout ends above 2^24.
+pub fn lay_out(
+    alloc: Global,
+    coroutine: FuncId,
+    fields: &[Field],
+    conflicts: &[(usize, usize)],
+) -> Result<Layout, LayoutError>
+    ensures { IsLaidOut coroutine fields.now conflicts.now result }
+{
+    let rooms = rooms_of(alloc, fields)?;
+    match place(alloc, &rooms, promise_of(fields), conflicts)? {
+        None => Err(LayoutError::FrameTooLarge),
+        Some(placing) => Ok(layout_by(alloc, coroutine, fields, placing)?),
+    }
+}
+
+/// The plain layout of a coroutine's frame, in which all fields conflict.
+///
+/// The frame is too large exactly where it ends above 2^24.
+pub fn lay_out_plain(
+    alloc: Global,
+    coroutine: FuncId,
+    fields: &[Field],
+) -> Result<Layout, LayoutError>
+    ensures { IsLaidOutPlain coroutine fields.now result }
+{
+    let rooms = rooms_of(alloc, fields)?;
+    match place_plain(alloc, &rooms, promise_of(fields))? {
+        None => Err(LayoutError::FrameTooLarge),
+        Some(placing) => Ok(layout_by(alloc, coroutine, fields, placing)?),
+    }
+}
