@@ -1,0 +1,44 @@
+-- What becomes of a module that is looked at for all rules.
+use Rattle.std.specs.Prelude.{◌≡◌, ℕ, Bool, false, ◌<◌, ◌≤◌, Some, None, Option, Ok, Err}
+use Rattle.coroutine_frames.specs.Frames.{AreLayouts}
+use Rattle.coroutine_frames.specs.declared.module_frames.LayoutsError.{LayoutsError}
+use Rattle.frame_layout.specs.declared.layout.Layouts.{Layouts}
+use Rattle.ir_check.specs.Refused.{IsRefused}
+use Rattle.ir_model.specs.declared.module.Module.{Module}
+use Rattle.module_acceptance.specs.Order.{looked_at, too_large}
+use Rattle.module_acceptance.specs.declared.accepting.Acceptance.{Acceptance}
+use Rattle.module_rules.specs.declared.order.Refusal.{Refusal}
+use Rattle.name_rules.specs.declared.stage.Stage.{Stage}
+
+-- the first function whose frame is too large
+abbrev pub IsTooLarge : Module → Bool → ℕ → Type 0
+IsTooLarge m share func = AreLayouts m share (Err (LayoutsError.TooLarge func))
+
+-- Of the first functions, so many, none has too large a frame: there are none, all frames of the module have plain layouts, or
+-- the first that is too large comes later.
+pub data AreFine (m : Module) (count : ℕ) : Type 0 where
+  NoneThere : count ≡ 0 → AreFine m count
+  All : (layouts : Layouts) → AreLayouts m false (Ok layouts) → AreFine m count
+  Later : (func : ℕ) → count ≤ func → IsTooLarge m false func → AreFine m count
+
+-- Where another rule is broken first: K12 at a function that is looked at before, or else that refusal.
+pub data ComesBefore (m : Module) (refusal : Refusal) : Refusal → Type 0 where
+  Large : (func : ℕ) → func < looked_at refusal → IsTooLarge m false func → ComesBefore m refusal (too_large func)
+  Same : AreFine m (looked_at refusal) → ComesBefore m refusal refusal
+
+-- Where no other rule is broken: K12 at the first function whose frame is too large.
+pub data ComesAlone (m : Module) (share : Bool) : Refusal → Type 0 where
+  Large : (func : ℕ) → IsTooLarge m share func → ComesAlone m share (too_large func)
+
+-- what comes of a module whose first broken rule, but for K12, is told
+abbrev pub ComesOf : Module → Bool → Option Refusal → Acceptance → Type 0
+ComesOf m share (Some refusal) (Acceptance.Refused told) = ComesBefore m refusal told
+ComesOf m share (Some refusal) (Acceptance.Accepted layouts) = ⊥
+ComesOf m share None (Acceptance.Refused told) = ComesAlone m share told
+ComesOf m share None (Acceptance.Accepted layouts) = AreLayouts m share (Ok layouts)
+
+-- a source is refused for the first broken rule at its first place, or accepted, with the layouts of its frames
+pub record IsAcceptance (m : Module) (share : Bool) (a : Acceptance) : Type 0 where
+  pub refusal : Option Refusal
+  pub refused : IsRefused Stage.Source m refusal
+  pub comes : ComesOf m share refusal a

@@ -1,0 +1,96 @@
+//! Looking at a module for all rules.
+
+ghost use Rattle.std.specs.Prelude.{◌≡◌, IfOk};
+ghost use Rattle.module_acceptance.specs.Acceptance.{ComesBefore, ComesOf, IsAcceptance};
+ghost use Rattle.module_acceptance.specs.Order.{looked_at as looked_at_before};
+
+use crate::order::{looked_at, too_large};
+use coroutine_frames::{LayoutsError, layouts_of};
+use frame_layout::Layouts;
+use ir_check::{Refusal, Stage, first_refusal};
+use ir_model::Module;
+use std::alloc::{AllocError, Global};
+
+/// What becomes of a module that is looked at for all rules.
+#[derive(Drop)]
+pub enum Acceptance {
+    /// It breaks a rule: the first one, and its first place.
+    Refused(Refusal),
+    /// It breaks none: the layouts of its coroutines' frames.
+    Accepted(Layouts),
+}
+
+/// The refusal of a module where another rule is broken than K12, and some functions are looked at before.
+fn with_large(
+    alloc: Global,
+    source: &Module,
+    refusal: Refusal,
+    count: usize,
+) -> Result<Refusal, AllocError>
+    requires { count ≡ looked_at_before refusal }
+    ensures { IfOk result (ComesBefore source.now refusal) }
+{
+    match layouts_of(alloc, source, false) {
+        Ok(_) => Ok(refusal),
+        Err(LayoutsError::TooLarge(func)) => {
+            if func < count {
+                Ok(too_large(func))
+            } else {
+                Ok(refusal)
+            }
+        }
+        Err(LayoutsError::OutOfMemory) => Err(AllocError),
+    }
+}
+
+/// The refusal of a module where another rule is broken than K12.
+fn refused_by(alloc: Global, source: &Module, refusal: Refusal) -> Result<Refusal, AllocError>
+    ensures { IfOk result (ComesBefore source.now refusal) }
+{
+    let count = looked_at(refusal)?;
+    if count == 0 {
+        return Ok(refusal);
+    }
+    with_large(alloc, source, refusal, count)
+}
+
+/// What comes of a module where no other rule is broken than K12.
+fn laid_out(alloc: Global, source: &Module, share: bool) -> Result<Acceptance, AllocError>
+    ensures { IfOk result (ComesOf source.now share None) }
+{
+    match layouts_of(alloc, source, share) {
+        Ok(layouts) => Ok(Acceptance::Accepted(layouts)),
+        Err(LayoutsError::TooLarge(func)) => Ok(Acceptance::Refused(too_large(func))),
+        Err(LayoutsError::OutOfMemory) => Err(AllocError),
+    }
+}
+
+/// What comes of a module whose first broken rule, but for K12, is told.
+fn with_frames(
+    alloc: Global,
+    source: &Module,
+    share: bool,
+    refusal: Option<Refusal>,
+) -> Result<Acceptance, AllocError>
+    ensures { IfOk result (ComesOf source.now share refusal) }
+{
+    match refusal {
+        Some(refusal) => {
+            let told = refused_by(alloc, source, refusal)?;
+            Ok(Acceptance::Refused(told))
+        }
+        None => laid_out(alloc, source, share),
+    }
+}
+
+/// Looks at a source for all rules. It is refused for the first broken rule in the one order of refusals, at its first place;
+/// K12, the greatest size of a frame, comes between the other rules of a function and its rule on markers (K13), behind all
+/// rules of the whole module and of globals. A module that breaks no rule is accepted, with the layouts of its frames: plain
+/// ones, or those that share bytes.
+#[tactic(auto, using(crate::proofs::Told::accepted_by))]
+pub fn accept(alloc: Global, source: &Module, share: bool) -> Result<Acceptance, AllocError>
+    ensures { IfOk result (IsAcceptance source.now share) }
+{
+    let refusal = first_refusal(alloc, Stage::Source, source)?;
+    with_frames(alloc, source, share, refusal)
+}
