@@ -1,9 +1,9 @@
 -- What is answered, where the first broken rule or the lowering is told.
-use Rattle.std.proofs.Common.{◌≡◌, ℕ, List, Option, Ok, Err}
+use Rattle.std.proofs.Common.{◌≡◌, ℕ, Bool, List, Option, Ok, Err}
 use Rattle.std.specs.Prelude.{Result, IfOk}
 use Rattle.std.specs.Io.KnownBytes.{Appends}
 use Rattle.coro_base.specs.declared.status.Status.{Status}
-use Rattle.coro_cli.specs.Answers.{IsAnswer, IsMadeOf, IsMadeOfRules, check_answer, checked_run, lower_answer, lowered_answer, source_form_answer, verdict_status}
+use Rattle.coro_cli.specs.Answers.{IsAnswer, IsMadeOf, IsMadeOfAcceptance, IsMadeOfRules, check_answer, checked_run, lower_answer, lowered_answer, verdict_status}
 use Rattle.coro_cli.specs.Endings.{Gives, IsTold}
 use Rattle.coro_cli.specs.declared.verdict.Answer.{Answer}
 use Rattle.coro_words.specs.declared.words.RunWords.{RunWords}
@@ -12,6 +12,8 @@ use Rattle.ir_check.specs.Refused.{IsRefused}
 use Rattle.ir_model.specs.declared.module.Module.{Module}
 use Rattle.lower_pipeline.specs.Lowering.{IsLowering}
 use Rattle.lower_pipeline.specs.declared.whole.Lowering.{Lowering}
+use Rattle.module_acceptance.specs.Acceptance.{IsAcceptance}
+use Rattle.module_acceptance.specs.declared.accepting.Acceptance.{Acceptance}
 use Rattle.module_rules.specs.declared.order.Refusal.{Refusal}
 use Rattle.name_rules.specs.declared.stage.Stage.{Stage}
 
@@ -19,7 +21,7 @@ pub run_where_checked : {E : Type 0} (m : Module) (w : RunWords) (refusal : Opti
 run_where_checked m w refusal (Ok a) refused is = record { refusal = refusal; refused = refused; is = is }
 run_where_checked m w refusal (Err e) refused is = is
 
-pub checked_by : {E : Type 0} (stage : Stage) (m : Module) (refusal : Option Refusal) (r : Result Answer E) → IsRefused stage m refusal → IfOk r (λ a. a ≡ check_answer m refusal) → IfOk r (λ a. IsMadeOfRules stage m (λ x. check_answer m x) a)
+pub checked_by : {E : Type 0} (stage : Stage) (m : Module) (refusal : Option Refusal) (r : Result Answer E) → IsRefused stage m refusal → IfOk r (λ a. a ≡ check_answer m refusal) → IfOk r (λ a. IsMadeOfRules stage m (check_answer m) a)
 checked_by stage m refusal (Ok a) refused is = record { refusal = refusal; refused = refused; is = is }
 checked_by stage m refusal (Err e) refused is = is
 
@@ -27,9 +29,9 @@ pub run_by : {E : Type 0} (bytes : List ℕ) (w : RunWords) (l : Lowering) (r : 
 run_by bytes w l (Ok a) lowered is = record { lowering = l; lowered = lowered; is = is }
 run_by bytes w l (Err e) lowered is = is
 
-pub source_by : {E : Type 0} (bytes : List ℕ) (w : RunWords) (l : Lowering) (r : Result Answer E) → IsLowering bytes l → IfOk r (λ a. a ≡ source_form_answer l w) → IfOk r (λ a. IsMadeOf bytes (λ x. source_form_answer x w) a)
-source_by bytes w l (Ok a) lowered is = record { lowering = l; lowered = lowered; is = is }
-source_by bytes w l (Err e) lowered is = is
+pub accepted_by : {E : Type 0} (m : Module) (share : Bool) (make : Acceptance → Answer) (x : Acceptance) (r : Result Answer E) → IsAcceptance m share x → IfOk r (λ a. a ≡ make x) → IfOk r (λ a. IsMadeOfAcceptance m share make a)
+accepted_by m share make x (Ok a) accepted is = record { acceptance = x; accepted = accepted; is = is }
+accepted_by m share make x (Err e) accepted is = is
 
 pub lowered_by : {E : Type 0} (bytes : List ℕ) (l : Lowering) (r : Result Answer E) → IsLowering bytes l → IfOk r (λ a. a ≡ lower_answer l) → IfOk r (λ a. IsMadeOf bytes lower_answer a)
 lowered_by bytes l (Ok a) lowered is = record { lowering = l; lowered = lowered; is = is }

@@ -16,6 +16,7 @@ use Rattle.coro_report.specs.Report.{not_callable_text, refused_text, run_text, 
 use Rattle.coro_words.specs.declared.words.Form.{Form}
 use Rattle.coro_words.specs.declared.words.RunWords.{RunWords}
 use Rattle.coro_words.specs.declared.words.Words.{Words}
+use Rattle.coroutine_frames.specs.Report.{layout_text}
 use Rattle.frame_layout.specs.declared.layout.Layout.{Layout}
 use Rattle.frame_layout.specs.declared.layout.Layouts.{Layouts}
 use Rattle.ir_ints.specs.Numbers.{word_of}
@@ -31,6 +32,8 @@ use Rattle.lower_pipeline.specs.Lowering.{IsLowering}
 use Rattle.lower_pipeline.specs.declared.whole.Lowered.{Lowered}
 use Rattle.lower_pipeline.specs.declared.whole.Lowering.{Lowering}
 use Rattle.ir_check.specs.Refused.{IsRefused}
+use Rattle.module_acceptance.specs.Acceptance.{IsAcceptance, refusal_of}
+use Rattle.module_acceptance.specs.declared.accepting.Acceptance.{Acceptance}
 use Rattle.module_rules.specs.declared.order.Refusal.{Refusal}
 use Rattle.name_rules.specs.declared.stage.Stage.{Stage}
 use Rattle.source_program.specs.Given.{Given}
@@ -199,30 +202,44 @@ abbrev pub source_or : Module → List Frame → RunWords → Option EntryCall �
 source_or m sizes w None = not_callable w.entry
 source_or m sizes w (Some call) = source_answer m sizes w.answers call w.steps
 
-abbrev pub run_source : Lowered → RunWords → Answer
-run_source l w = source_or l.source (sizes_of l.layouts) w (entry_call l.source w.entry w.args)
+-- a source with the layouts of its frames, or what it is refused for
+abbrev pub source_form_answer : Module → RunWords → Acceptance → Answer
+source_form_answer m w (Acceptance.Refused r) = refused m r.rule r.place
+source_form_answer m w (Acceptance.Accepted layouts) = source_or m (sizes_of layouts) w (entry_call m w.entry w.args)
 
--- so far the sizes of frames are known of modules that are lowered
-abbrev pub source_form_answer : Lowering → RunWords → Answer
-source_form_answer (Lowering.Syntax items) w = syntax_fault items
-source_form_answer (Lowering.Refused m rule place) w = refused m rule place
-source_form_answer (Lowering.Done l) w = run_source l w
+-- what is made of the acceptance of a module, by plain layouts or those that share bytes
+pub record IsMadeOfAcceptance (m : Module) (share : Bool) (make : Acceptance → Answer) (a : Answer) : Type 0 where
+  pub acceptance : Acceptance
+  pub accepted : IsAcceptance m share acceptance
+  pub is : a ≡ make acceptance
+
+-- a source is looked at for all rules and run, with the sizes of the frames that lowering it by these words gives
+abbrev pub IsSourceAnswer : Parsed → RunWords → Answer → Type 0
+IsSourceAnswer (Parsed.Syntax items) w a = a ≡ syntax_fault items
+IsSourceAnswer (Parsed.Module m) w a = IsMadeOfAcceptance m (not w.plain) (source_form_answer m w) a
+
+-- ---- layout
+
+-- the lines of the layouts
+abbrev pub layout_answer : Module → Acceptance → Answer
+layout_answer m (Acceptance.Refused r) = refused m r.rule r.place
+layout_answer m (Acceptance.Accepted layouts) = shown Verdict.Done (layout_text m layouts)
+
+abbrev pub IsLayoutAnswer : Bool → Parsed → Answer → Type 0
+IsLayoutAnswer plain (Parsed.Syntax items) a = a ≡ syntax_fault items
+IsLayoutAnswer plain (Parsed.Module m) a = IsMadeOfAcceptance m (not plain) (layout_answer m) a
 
 -- ---- check
-
--- the rules of a module without coroutines, or those of a source
-abbrev pub stage_of : Bool → Stage
-stage_of true = Stage.Plain
-stage_of false = Stage.Source
 
 -- `ok`, or the first broken rule with its place
 abbrev pub check_answer : Module → Option Refusal → Answer
 check_answer m None = shown Verdict.Done (codes "ok\n")
 check_answer m (Some r) = refused m r.rule r.place
 
-abbrev pub IsCheckAnswer : Stage → Parsed → Answer → Type 0
-IsCheckAnswer stage (Parsed.Syntax items) a = a ≡ syntax_fault items
-IsCheckAnswer stage (Parsed.Module m) a = IsMadeOfRules stage m (λ r. check_answer m r) a
+abbrev pub IsCheckAnswer : Bool → Parsed → Answer → Type 0
+IsCheckAnswer lowered (Parsed.Syntax items) a = a ≡ syntax_fault items
+IsCheckAnswer true (Parsed.Module m) a = IsMadeOfRules Stage.Plain m (check_answer m) a
+IsCheckAnswer false (Parsed.Module m) a = IsMadeOfAcceptance m false (λ x. check_answer m (refusal_of x)) a
 
 -- ---- the commands
 
@@ -233,12 +250,13 @@ pub record IsMadeOf (bytes : List ℕ) (make : Lowering → Answer) (a : Answer)
   pub is : a ≡ make lowering
 
 abbrev pub IsRunAnswer : Form → List ℕ → RunWords → Answer → Type 0
-IsRunAnswer Form.Source bytes w a = IsMadeOf bytes (λ l. source_form_answer l w) a
+IsRunAnswer Form.Source bytes w a = IsSourceAnswer (read_module bytes) w a
 IsRunAnswer Form.Text bytes w a = IsTextAnswer (read_module bytes) w a
 IsRunAnswer Form.Lowered bytes w a = IsMadeOf bytes (λ l. lowered_answer l w) a
 
 -- what the words' command answers to these bytes
 unfoldable pub IsAnswer : Words → List ℕ → Answer → Type 0
 IsAnswer (Words.Lower plain) bytes a = IsMadeOf bytes lower_answer a
-IsAnswer (Words.Check lowered) bytes a = IsCheckAnswer (stage_of lowered) (read_module bytes) a
+IsAnswer (Words.Check lowered) bytes a = IsCheckAnswer lowered (read_module bytes) a
+IsAnswer (Words.Layout plain) bytes a = IsLayoutAnswer plain (read_module bytes) a
 IsAnswer (Words.Run w) bytes a = IsRunAnswer w.form bytes w a

@@ -1,8 +1,9 @@
 //! What the commands answer to the bytes of their input.
 
-ghost use Rattle.std.specs.Prelude.{◌≡◌, IfOk, List, ℕ};
+ghost use Rattle.std.specs.Prelude.{◌≡◌, IfOk, not, false};
 ghost use Rattle.coro_words.specs.declared.words.Form.{Form};
-ghost use Rattle.coro_cli.specs.Answers.{lower_answer, checked_run, check_answer, stage_of, IsTextAnswer, IsCheckAnswer, IsMadeOfRules, run_lowered, lowered_answer, source_form_answer, IsRunAnswer, IsMadeOf, IsAnswer};
+ghost use Rattle.coro_cli.specs.Answers.{lower_answer, checked_run, check_answer, IsTextAnswer, IsCheckAnswer, IsLayoutAnswer, IsMadeOfAcceptance, IsMadeOfRules, IsSourceAnswer, layout_answer, run_lowered, lowered_answer, source_form_answer, IsRunAnswer, IsMadeOf, IsAnswer};
+ghost use Rattle.module_acceptance.specs.Acceptance.{refusal_of};
 ghost use Rattle.ir_parser.specs.Parse.{read_module};
 
 use crate::entry::entry_call;
@@ -11,10 +12,12 @@ use crate::texts::{refused, shown, syntax_fault};
 use crate::verdict::{Answer, Verdict};
 use coro_base::Items;
 use coro_words::{Form, RunWords, Words};
+use coroutine_frames::layout_text;
 use ir_check::{Refusal, Stage, first_refusal};
 use ir_model::Module;
 use ir_parser::{Parsed, parse};
 use lower_pipeline::{Lowered, Lowering, lower};
+use module_acceptance::{Acceptance, accept};
 use std::alloc::{AllocError, Global};
 
 fn lower_answer(alloc: Global, lowering: Lowering) -> Result<Answer, AllocError>
@@ -95,32 +98,43 @@ fn run_lowered_form(alloc: Global, bytes: &[u8], words: &RunWords) -> Result<Ans
     lowered_answer(alloc, lowering, words)
 }
 
+/// Runs a source that is looked at for all rules.
 fn source_form_answer(
     alloc: Global,
-    lowering: Lowering,
+    source: Module,
+    acceptance: Acceptance,
     words: &RunWords,
 ) -> Result<Answer, AllocError>
-    ensures { IfOk result (λ a. a ≡ source_form_answer lowering words.now) }
+    ensures { IfOk result (λ a. a ≡ source_form_answer source words.now acceptance) }
 {
-    match lowering {
-        Lowering::Done(
-            Lowered {
-                source,
-                layouts,
-                ..
-            },
-        ) => run_source(alloc, source, &layouts, words),
-        Lowering::Syntax(items) => syntax_fault(alloc, items),
-        Lowering::Refused(source, rule, place) => refused(alloc, &source, rule, place),
+    match acceptance {
+        Acceptance::Refused(refusal) => refused(alloc, &source, refusal.rule, refusal.place),
+        Acceptance::Accepted(layouts) => run_source(alloc, source, &layouts, words),
     }
 }
 
-#[tactic(auto, using(crate::proofs::Chosen::source_by))]
+#[tactic(auto, using(crate::proofs::Chosen::accepted_by))]
+fn accepted_run(alloc: Global, source: Module, words: &RunWords) -> Result<Answer, AllocError>
+    ensures { IfOk result (λ a. IsMadeOfAcceptance source (not words.now.plain) (source_form_answer source words.now) a) }
+{
+    let acceptance = accept(alloc, &source, !words.plain)?;
+    source_form_answer(alloc, source, acceptance, words)
+}
+
+fn source_answer(alloc: Global, parsed: Parsed, words: &RunWords) -> Result<Answer, AllocError>
+    ensures { IfOk result (λ a. IsSourceAnswer parsed words.now a) }
+{
+    match parsed {
+        Parsed::Syntax { items } => syntax_fault(alloc, items),
+        Parsed::Module(source) => accepted_run(alloc, source, words),
+    }
+}
+
 fn run_source_form(alloc: Global, bytes: &[u8], words: &RunWords) -> Result<Answer, AllocError>
     ensures { IfOk result (λ a. IsRunAnswer Form.Source bytes.now words.now a) }
 {
-    let lowering = lower(alloc, bytes)?;
-    source_form_answer(alloc, lowering, words)
+    let parsed = parse(alloc, bytes)?;
+    source_answer(alloc, parsed, words)
 }
 
 fn run_in(alloc: Global, bytes: &[u8], words: &RunWords) -> Result<Answer, AllocError>
@@ -141,12 +155,6 @@ fn lower_bytes(alloc: Global, bytes: &[u8]) -> Result<Answer, AllocError>
     lower_answer(alloc, lowering)
 }
 
-fn stage_of(lowered: bool) -> Stage
-    ensures { result ≡ stage_of lowered }
-{
-    if lowered { Stage::Plain } else { Stage::Source }
-}
-
 fn check_answer(
     alloc: Global,
     source: &Module,
@@ -165,19 +173,76 @@ fn check_answer(
 }
 
 #[tactic(auto, using(crate::proofs::Chosen::checked_by))]
-fn check_module(alloc: Global, stage: Stage, source: &Module) -> Result<Answer, AllocError>
-    ensures { IfOk result (λ a. IsMadeOfRules stage source.now (λ r. check_answer source.now r) a) }
+fn check_plain(alloc: Global, source: &Module) -> Result<Answer, AllocError>
+    ensures { IfOk result (λ a. IsMadeOfRules Stage.Plain source.now (check_answer source.now) a) }
 {
-    let refusal = first_refusal(alloc, stage, source)?;
+    let refusal = first_refusal(alloc, Stage::Plain, source)?;
     check_answer(alloc, source, refusal)
 }
 
-fn check_bytes(alloc: Global, bytes: &[u8], stage: Stage) -> Result<Answer, AllocError>
-    ensures { IfOk result (λ a. IsCheckAnswer stage (read_module bytes.now) a) }
+fn acceptance_answer(
+    alloc: Global,
+    source: &Module,
+    acceptance: &Acceptance,
+) -> Result<Answer, AllocError>
+    ensures { IfOk result (λ a. a ≡ check_answer source.now (refusal_of acceptance.now)) }
+{
+    check_answer(alloc, source, acceptance.refusal())
+}
+
+#[tactic(auto, using(crate::proofs::Chosen::accepted_by))]
+fn check_source(alloc: Global, source: &Module) -> Result<Answer, AllocError>
+    ensures { IfOk result (λ a. IsMadeOfAcceptance source.now false (λ x. check_answer source.now (refusal_of x)) a) }
+{
+    let acceptance = accept(alloc, source, false)?;
+    acceptance_answer(alloc, source, &acceptance)
+}
+
+fn check_bytes(alloc: Global, bytes: &[u8], lowered: bool) -> Result<Answer, AllocError>
+    ensures { IfOk result (λ a. IsCheckAnswer lowered (read_module bytes.now) a) }
 {
     match parse(alloc, bytes)? {
         Parsed::Syntax { items } => syntax_fault(alloc, items),
-        Parsed::Module(source) => check_module(alloc, stage, &source),
+        Parsed::Module(source) => {
+            if lowered {
+                check_plain(alloc, &source)
+            } else {
+                check_source(alloc, &source)
+            }
+        }
+    }
+}
+
+fn layout_answer(
+    alloc: Global,
+    source: &Module,
+    acceptance: &Acceptance,
+) -> Result<Answer, AllocError>
+    ensures { IfOk result (λ a. a ≡ layout_answer source.now acceptance.now) }
+{
+    match acceptance {
+        Acceptance::Refused(refusal) => refused(alloc, source, refusal.rule, refusal.place),
+        Acceptance::Accepted(layouts) => {
+            let text = layout_text(alloc, source, layouts)?;
+            Ok(shown(alloc, Verdict::Done, Items::from_vec(text)))
+        }
+    }
+}
+
+#[tactic(auto, using(crate::proofs::Chosen::accepted_by))]
+fn layout_module(alloc: Global, source: &Module, plain: bool) -> Result<Answer, AllocError>
+    ensures { IfOk result (λ a. IsMadeOfAcceptance source.now (not plain) (layout_answer source.now) a) }
+{
+    let acceptance = accept(alloc, source, !plain)?;
+    layout_answer(alloc, source, &acceptance)
+}
+
+fn layout_bytes(alloc: Global, bytes: &[u8], plain: bool) -> Result<Answer, AllocError>
+    ensures { IfOk result (λ a. IsLayoutAnswer plain (read_module bytes.now) a) }
+{
+    match parse(alloc, bytes)? {
+        Parsed::Syntax { items } => syntax_fault(alloc, items),
+        Parsed::Module(source) => layout_module(alloc, &source, plain),
     }
 }
 
@@ -188,7 +253,8 @@ pub fn answer(alloc: Global, words: &Words, bytes: &[u8]) -> Result<Answer, Allo
 {
     match words {
         Words::Lower { .. } => lower_bytes(alloc, bytes),
-        Words::Check { lowered } => check_bytes(alloc, bytes, stage_of(*lowered)),
+        Words::Check { lowered } => check_bytes(alloc, bytes, *lowered),
+        Words::Layout { plain } => layout_bytes(alloc, bytes, *plain),
         Words::Run(words) => run_in(alloc, bytes, words),
     }
 }

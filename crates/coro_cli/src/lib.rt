@@ -5,8 +5,6 @@ mod commands;
 mod entry;
 mod program;
 mod runs;
-#[cfg(test)]
-mod tests;
 mod texts;
 mod verdict;
 

@@ -1,5 +1,5 @@
 -- The passes in a row.
-use Rattle.std.specs.Prelude.{ℕ, List, [], map, slice_get, Some, None, Option, ◌≡◌, ◌+◌, ◌∷◌, ◌++◌, if◌then◌else◌}
+use Rattle.std.specs.Prelude.{ℕ, false, List, [], map, slice_get, Some, None, Option, ◌≡◌, ◌+◌, ◌∷◌, ◌++◌, if◌then◌else◌}
 use Rattle.coro_base.specs.declared.name.Name.{Name}
 use Rattle.coro_base.specs.declared.outcome.Place.{Place}
 use Rattle.coro_base.specs.declared.rule.Rule.{Rule}
@@ -9,7 +9,6 @@ use Rattle.early_lower.specs.Early.{early_module}
 use Rattle.frame_layout.specs.Frames.{index_alone}
 use Rattle.frame_layout.specs.declared.layout.Layout.{Layout}
 use Rattle.frame_layout.specs.declared.layout.Layouts.{Layouts}
-use Rattle.ir_check.specs.Refused.{IsRefused}
 use Rattle.ir_model.specs.declared.module.Function.{Function}
 use Rattle.ir_model.specs.declared.module.Module.{Module}
 use Rattle.ir_model.specs.declared.operand.Intrinsic.{Intrinsic}
@@ -19,8 +18,9 @@ use Rattle.ir_printer.specs.Items.{module_text}
 use Rattle.frame_lines.specs.Frames.{frames_text}
 use Rattle.frame_lines.specs.declared.frames.FrameLine.{FrameLine}
 use Rattle.lower_pipeline.specs.Served.{count_by, unserved}
+use Rattle.module_acceptance.specs.Acceptance.{IsAcceptance, refusal_of}
+use Rattle.module_acceptance.specs.declared.accepting.Acceptance.{Acceptance}
 use Rattle.module_rules.specs.declared.order.Refusal.{Refusal}
-use Rattle.name_rules.specs.declared.stage.Stage.{Stage}
 use Rattle.lower_pipeline.specs.declared.whole.Lowering.{Lowering}
 
 -- the layout of a coroutine whose frame holds the index alone
@@ -70,9 +70,9 @@ lowered_with r m = lowered_or m (or_unserved r (unserved m))
 
 -- what the lowering of a module comes to
 pub record IsModuleLowering (m : Module) (l : Lowering) : Type 0 where
-  pub refusal : Option Refusal
-  pub refused : IsRefused Stage.Source m refusal
-  pub is : l ≡ lowered_with refusal m
+  pub acceptance : Acceptance
+  pub accepted : IsAcceptance m false acceptance
+  pub is : l ≡ lowered_with (refusal_of acceptance) m
 
 -- what the lowering of a text that is read so comes to
 abbrev pub IsLoweringOf : Parsed → Lowering → Type 0

@@ -8,10 +8,11 @@ use crate::passes::{layouts_of, lowered_module};
 use crate::served::unserved;
 use coro_base::{Data, FuncId, Items, Name, Place, Rule};
 use frame_layout::{Layout, Layouts};
-use ir_check::{Refusal, Stage, first_refusal};
+use ir_check::Refusal;
 use ir_model::Module;
 use ir_parser::{Parsed, parse};
 use ir_printer::{FrameLine, print_frames, print_module};
+use module_acceptance::accept;
 use std::alloc::{AllocError, Global};
 
 /// What the lowering of an accepted module gives: its text (a frame line per coroutine, then the canonical text of the
@@ -120,7 +121,8 @@ fn lowered_with(
 pub fn lower_module(alloc: Global, source: Module) -> Result<Lowering, AllocError>
     ensures { IfOk result (λ l. IsModuleLowering source l) }
 {
-    let refusal = first_refusal(alloc, Stage::Source, &source)?;
+    let acceptance = accept(alloc, &source, false)?;
+    let refusal = acceptance.refusal();
     lowered_with(alloc, source, refusal)
 }
 

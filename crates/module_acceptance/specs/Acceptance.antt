@@ -37,6 +37,11 @@ ComesOf m share (Some refusal) (Acceptance.Accepted layouts) = ⊥
 ComesOf m share None (Acceptance.Refused told) = ComesAlone m share told
 ComesOf m share None (Acceptance.Accepted layouts) = AreLayouts m share (Ok layouts)
 
+-- what an acceptance refuses for
+abbrev pub refusal_of : Acceptance → Option Refusal
+refusal_of (Acceptance.Refused refusal) = Some refusal
+refusal_of (Acceptance.Accepted layouts) = None
+
 -- a source is refused for the first broken rule at its first place, or accepted, with the layouts of its frames
 pub record IsAcceptance (m : Module) (share : Bool) (a : Acceptance) : Type 0 where
   pub refusal : Option Refusal

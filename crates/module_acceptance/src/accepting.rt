@@ -20,6 +20,20 @@ pub enum Acceptance {
     Accepted(Layouts),
 }
 
+impl Acceptance {
+    ghost use Rattle.module_acceptance.specs.Acceptance.{refusal_of};
+
+    /// The first broken rule with its place, where one is broken.
+    pub fn refusal(&self) -> Option<Refusal>
+        ensures { result ≡ refusal_of self.now }
+    {
+        match self {
+            Acceptance::Refused(refusal) => Some(*refusal),
+            Acceptance::Accepted(_) => None,
+        }
+    }
+}
+
 /// The refusal of a module where another rule is broken than K12, and some functions are looked at before.
 fn with_large(
     alloc: Global,
