@@ -1,8 +1,10 @@
 //! Modules that hold many parts of one form: those at a limit, and one above it.
 //!
 //! A line of the file `limits` is `COUNT~HEAD~PART~TAIL~ANSWER`: the module is the head, the part so often, in which each `#`
-//! is the number of the part in hexadecimal digits, counted from 0, and the tail. The answer is as in `refusals`.
+//! is the number of the part in hexadecimal digits, counted from 0, and the tail. The answer is as in `refusals`; behind
+//! `layout ` it is what `layout` writes, with `;` at the end of each line.
 
+use crate::answer::ask;
 use crate::refusal::is_told;
 use anyhow::Result;
 use std::alloc::{AllocError, Global};
@@ -54,13 +56,35 @@ impl Limit<'_> {
     }
 }
 
+/// Whether `layout` writes these lines.
+fn is_shown(rt: &HostRuntime, text: &[u8], lines: &str) -> Result<bool> {
+    let given = ask(rt.alloc(), "layout", text)?;
+    let mut wanted = String::new(rt.alloc());
+    for line in lines.split(';') {
+        if !line.is_empty() {
+            wanted.push_str(line)?;
+            wanted.push('\n')?;
+        }
+    }
+    Ok(given.out.as_slice() == wanted.as_bytes() && given.err.is_empty() && given.code == 0)
+}
+
 /// Checks the module of a line, and writes where it is answered otherwise. Whether the line has a module.
 pub fn run(rt: &HostRuntime, line: &str) -> Result<bool> {
+    let (shown, line) = match line.strip_prefix("layout ") {
+        Some(rest) => (true, rest),
+        None => (false, line),
+    };
     let Some(limit) = limit_of(line) else {
         return Ok(false);
     };
     let text = limit.text(rt.alloc())?;
-    if !is_told(rt, "check", text.as_bytes(), limit.told)? {
+    let is_so = if shown {
+        is_shown(rt, text.as_bytes(), limit.told)?
+    } else {
+        is_told(rt, "check", text.as_bytes(), limit.told)?
+    };
+    if !is_so {
         println!(rt; "{line}: otherwise")?;
     }
     Ok(true)
