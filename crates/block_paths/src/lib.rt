@@ -10,5 +10,3 @@ pub use flow_solver::Graph;
 pub use kinds::{EdgeKind, edge_kind};
 pub use reaching::{after_end, reach};
 
-#[cfg(test)]
-mod tests;

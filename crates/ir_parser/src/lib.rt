@@ -4,8 +4,6 @@
 mod functions;
 mod items;
 mod known;
-#[cfg(test)]
-mod tests;
 mod text;
 
 pub use text::{Parsed, parse, stands_for_one};

@@ -9,8 +9,6 @@ mod blocks;
 mod framed;
 mod instrs;
 mod items;
-#[cfg(test)]
-mod tests;
 
 pub use frame_lines::{FrameLine, print_frames, read_frames};
 pub use framed::frames_before_a_module;

@@ -1,12 +1,14 @@
 //! Runs the worked examples: the cases of the file `cases`, each words, a module and what the program answers to them, the
 //! one-line modules of the file `refusals`, those that the file `limits` describes, the public calls of the file `calls`, and
-//! the words of the file `faults` with failing reads and writes. Writes which are answered otherwise, and how many there were.
+//! the words of the file `faults` with failing reads and writes, and the modules of the file `cuts`, cut behind each token. Writes
+//! which are answered otherwise, and how many there were.
 #![tactic(auto)]
 
 mod again;
 mod answer;
 mod call;
 mod case;
+mod cut;
 mod fault;
 mod limit;
 mod refusal;
@@ -78,14 +80,26 @@ fn faults(rt: &HostRuntime) -> Result<usize> {
     Ok(count)
 }
 
+/// Cuts the modules that the file `cuts` names, and gives how many there were.
+fn cuts(rt: &HostRuntime) -> Result<usize> {
+    let text = fs::read_to_string(rt, "cuts")?;
+    let mut count = 0usize;
+    for line in text.lines() {
+        if cut::run(rt, line)? {
+            count = count.saturating_add(1);
+        }
+    }
+    Ok(count)
+}
+
 fn main(rt: HostRuntime) -> Result<()> {
     let cases = worked_cases(&rt)?;
     let lines = refused_lines(&rt)?;
     let limits = limits(&rt)?;
     let calls = calls(&rt)?;
     let faults = faults(&rt)?;
-    println!(rt;
-        "{cases} cases, {lines} modules of a line, {limits} at or above a limit, {calls} calls, {faults} with faults"
-    )?;
+    let cuts = cuts(&rt)?;
+    println!(rt; "{cases} cases, {lines} modules of a line, {limits} at or above a limit")?;
+    println!(rt; "{calls} calls, {faults} with faults, {cuts} cut behind each token")?;
     Ok(())
 }
