@@ -28,6 +28,9 @@ fn cut_all(rt: &HostRuntime, file: &str, text: &[u8]) -> Result<()> {
     let mut at = 0usize;
     let mut items = 0usize;
     for _ in 0..text.len() {
+        if at > text.len() {
+            return Ok(());
+        }
         let Next::Tok(token) = next_token(text, at) else {
             return Ok(());
         };
