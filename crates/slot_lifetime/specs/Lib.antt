@@ -3,3 +3,4 @@ pub mod Classes
 pub mod Rows
 pub mod Ways
 pub mod Words
+pub mod Answer

@@ -1,5 +1,6 @@
 -- The ways behind suspends, and what stands on edges.
-use Rattle.std.specs.Prelude.{ℕ, Bool, false, List, [], map, length, slice_get, unwrap_or, Some, None, Option, bit_and, bit_or, ◌≡◌, ◌↔◌, ◌+◌, ◌||◌, ◌==◌, ◌∷◌, IsTrue, if◌then◌else◌}
+use Rattle.std.specs.Prelude.{ℕ, Bool, false, List, [], map, length, slice_get, unwrap_or, Some, None, Option, bit_and, bit_or, ◌<◌, ◌+◌, ◌||◌, ◌==◌, ◌∷◌, IsTrue, if◌then◌else◌}
+use Rattle.flow_solver.specs.Paths.{IsListed}
 use Rattle.ir_model.specs.Names.{position_of}
 use Rattle.ir_model.specs.declared.module.Block.{Block}
 use Rattle.ir_model.specs.declared.module.Function.{Function}
@@ -32,6 +33,10 @@ fronts_from at (way ∷ ways) words = (way.0, word_in words at) ∷ ((way.1, wor
 -- paths begin where the edges lead
 abbrev pub edge_fronts : List EdgeWord → List (ℕ × ℕ)
 edge_fronts edges = map (λ e. (e.to, e.word)) edges
+
+-- the edges lead to blocks of the function
+pub record LeadToBlocks (f : Function) (edges : List EdgeWord) : Type 0 where
+  pub each : (e : EdgeWord) → IsListed e edges → e.to < length f.blocks + 1
 
 -- what stands on edges and has a question of the words at the ends of the blocks that the edges leave
 abbrev pub edges_word : Function → List (List ℕ) → ℕ → List EdgeWord → ℕ

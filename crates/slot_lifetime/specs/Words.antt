@@ -6,7 +6,10 @@ use Rattle.ir_model.specs.declared.module.Function.{Function}
 use Rattle.ir_model.specs.declared.operand.Intrinsic.{Intrinsic}
 use Rattle.ir_paths.specs.Slots.{promise_of}
 use Rattle.ir_paths.specs.Windows.{end_block}
+use Rattle.ir_paths.specs.Paths.{has_point}
 use Rattle.ir_paths.specs.declared.point.Point.{Point}
+use Rattle.ir_paths.specs.declared.point.Window.{Window}
+use Rattle.std.specs.List.{list_any}
 use Rattle.point_graph.specs.Rows.{is_marked}
 use Rattle.point_reach.specs.Reached.{AreReachedAt}
 use Rattle.slot_lifetime.specs.Rows.{all_bits, block_words, call_rows, cleared, common, joined, kept_of, others, rows_word, set_rows}
@@ -31,9 +34,15 @@ pub record AreClosedRows (f : Function) (after rows : List (List ℕ)) : Type 0 
   pub is_set : AreThose (IsInSomeWindow f) set
   pub is : rows ≡ joined after (set_rows set 0 f.blocks)
 
--- the rows of the points behind suspends
-abbrev pub AreBehindRows : Function → List (List ℕ) → List (List ℕ) → Type 0
-AreBehindRows f suspends rows = AreReachedAt f (leaving (ways_of f) (block_words suspends) (call_rows Intrinsic.CoroEnd 0 f) (end_block f)) rows
+-- the rows of the points outside the end block to which paths lead on the ways from blocks with these words
+pub record AreBehindRows (f : Function) (own : List ℕ) (stops rows : List (List ℕ)) : Type 0 where
+  pub reached : List (List ℕ)
+  pub are_reached : AreReachedAt f (leaving (ways_of f) own stops (end_block f)) reached
+  pub is : rows ≡ cleared reached (end_block f)
+
+-- a point is inside one of these windows
+abbrev pub is_inside_any : List Window → Point → Bool
+is_inside_any windows p = list_any (λ w. has_point w.inside p) windows
 
 pub record IsPlanOf (f : Function) (p : Plan) : Type 0 where
   pub graph : p.graph ≡ graph_of f
@@ -45,7 +54,8 @@ pub record IsPlanOf (f : Function) (p : Plan) : Type 0 where
   pub suspends : p.suspends ≡ call_rows Intrinsic.CoroSuspend all_bits f
   pub after : AreAfterRows f p.after
   pub closed : AreClosedRows f p.after p.closed
-  pub behind : AreBehindRows f p.suspends p.behind
+  pub own : p.own ≡ block_words p.suspends
+  pub behind : AreBehindRows f p.own p.none p.behind
 
 -- ---- what is found of a chunk of slots
 
@@ -60,19 +70,24 @@ pub record IsChunkOf (f : Function) (slots : List ℕ) (c : Chunk) : Type 0 wher
   pub parting : c.parting ≡ marker_rows Intrinsic.LifetimeStart (kept_of (others c.escaped) c.own) f
   pub touches : c.touches ≡ joined c.uses (marker_rows Intrinsic.LifetimeStart (kept_of c.escaped c.own) f)
 
+-- the chunk is that of some slots
+pub record IsChunkBy (f : Function) (c : Chunk) : Type 0 where
+  pub slots : List ℕ
+  pub is_chunk : IsChunkOf f slots c
+
 -- ---- the words
 
 -- what has a question of the words where it stands, at a point or on an edge
 abbrev pub spots_word : Function → List (List ℕ) → List EdgeWord → List (List ℕ) → ℕ
 spots_word f rows edges words = edges_word f words (rows_word 0 (common rows words)) edges
 
--- what stands behind suspends: on the ways from blocks with these words, or outside the end block at points with those
+-- what stands behind suspends: on the ways from blocks with these words, or at points with those
 abbrev pub late_word : Function → List (List ℕ) → List EdgeWord → List ℕ → List (List ℕ) → ℕ
-late_word f touches edges own behind = ways_word (ways_of f) own (spots_word f touches edges (cleared behind (end_block f))) edges
+late_word f touches edges own behind = ways_word (ways_of f) own (spots_word f touches edges behind) edges
 
 -- used in a window or after the end, and touched behind a suspend
 abbrev pub away_word : Function → Plan → Chunk → ℕ
-away_word f p c = bit_and (spots_word f c.uses c.edges p.closed) (late_word f c.touches c.edges (block_words p.suspends) p.behind)
+away_word f p c = bit_and (spots_word f c.uses c.edges p.closed) (late_word f c.touches c.edges p.own p.behind)
 
 -- the questions whose uses come to suspends, with no start between that parts them
 pub record AreComing (f : Function) (p : Plan) (c : Chunk) (rows : List (List ℕ)) : Type 0 where
@@ -82,9 +97,9 @@ pub record AreComing (f : Function) (p : Plan) (c : Chunk) (rows : List (List �
 
 -- the questions that come to a suspend by these rows and are touched behind it
 pub record IsAcrossWord (f : Function) (c : Chunk) (rows : List (List ℕ)) (word : ℕ) : Type 0 where
-  pub reached : List (List ℕ)
-  pub are_reached : AreReachedAt f (leaving (ways_of f) (block_words rows) c.parting (end_block f)) reached
-  pub is : word ≡ late_word f c.touches c.edges (block_words rows) reached
+  pub behind : List (List ℕ)
+  pub are_behind : AreBehindRows f (block_words rows) c.parting behind
+  pub is : word ≡ late_word f c.touches c.edges (block_words rows) behind
 
 -- the questions whose slots have no markers
 abbrev pub unmarked_word : Chunk → ℕ

@@ -6,3 +6,4 @@ pub mod RowWords
 pub mod Points
 pub mod Telling
 pub mod Addressing
+pub mod Spotting

@@ -78,7 +78,7 @@ fn questions_of(alloc: Global, slots: &[ValueId]) -> Result<Vec<(usize, u64)>, A
     ensures { IfOk result (λ all. all.items ≡ questions_from 0 slots.now) }
 {
     let mut all = Vec::new(alloc);
-    let mut at = 0;
+    let mut at: usize = 0;
     for slot in slots {
         all.push((*slot, 1 << at))?;
         at += 1;
