@@ -1,7 +1,7 @@
 -- The uses of slots, at points and on edges.
 use Rattle.std.proofs.Common.{◌≡◌, ℕ, zero, suc, ◌+◌, ◌<◌, Bool, true, false, List, [], ◌∷◌, ◌++◌, length, Option, Some, None, refl, sym, ap, ◌∙◌, subst, ⊎_elim, inl, inr, arith}
-use Rattle.std.specs.Prelude.{◌↔◌, ◌⊎◌, ◌==◌, IsTrue, slice_get, if◌then◌else◌}
-use Rattle.std.proofs.lemmas.Bool.{false≢true}
+use Rattle.std.specs.Prelude.{◌↔◌, ◌⊎◌, ◌==◌, IsTrue, nat_lt, slice_get, if◌then◌else◌}
+use Rattle.std.proofs.lemmas.Bool.{false≢true, lt-ltb, ltb-true}
 use Rattle.std.proofs.lemmas.Option.{slice_get_within}
 use Rattle.bit_reach.specs.Bits.{HasBit}
 use Rattle.definite_use.specs.Uses.{local_of}
@@ -19,7 +19,7 @@ use Rattle.slot_uses.proofs.Telling.{address_of, has_address, use_complete, use_
 use Rattle.slot_uses.specs.Spots.{IsUse, Spot}
 use Rattle.slot_uses.specs.Spots.Spot.{At, On}
 use Rattle.slot_uses.specs.Told.{AreAddressWords}
-use Rattle.slot_uses.specs.Words.{edge_unless, edge_words, incoming_uses, name_word, phi_uses, phis_uses, use_on, use_rows, uses_from, word_at_point}
+use Rattle.slot_uses.specs.Words.{edge_unless, edge_words, incoming_uses, name_word, phi_uses, phis_uses, use_if, use_on, use_rows, uses_from, word_at_point}
 use Rattle.slot_uses.specs.declared.edge.EdgeWord.{EdgeWord}
 use Rattle.slot_uses.specs.declared.edge.PhiUse.{PhiUse}
 use Rattle.window_values.specs.Kept.{TakesFrom, phis_at, phis_in}
@@ -52,6 +52,7 @@ record IsIncoming (f : Function) (to : ℕ) (is : List Incoming) (u : PhiUse) : 
   pub is_from : position_of f incoming.from ≡ u.from
   pub is_to : u.to ≡ to
   pub takes : local_of incoming.value ≡ Some u.value
+  pub is_block : u.from < length f.blocks
 
 use_is : (from to : ℕ) (x : Operand) (u : PhiUse) → IsListed u (use_on from to x) → (from ≡ u.from) × ((u.to ≡ to) × (local_of x ≡ Some u.value))
 use_is from to (Operand.Local v) u (inl e) = (ap (λ (w : PhiUse). w.from) (sym e), (ap (λ (w : PhiUse). w.to) e, ap (λ (w : PhiUse). Some w.value) (sym e)))
@@ -64,12 +65,34 @@ use_is from to Operand.Null u h = absurd h
 use_is from to Operand.None u h = absurd h
 use_is from to Operand.Poison u h = absurd h
 
+record IsIf (f : Function) (b : Bool) (from to : ℕ) (x : Operand) (u : PhiUse) : Type 0 where
+  pub passes : b ≡ true
+  pub is_listed : IsListed u (use_on from to x)
+
+if_is : (f : Function) (b : Bool) (from to : ℕ) (x : Operand) (u : PhiUse) → IsListed u (use_if b from to x) → IsIf f b from to x u
+if_is f true from to x u h = record { passes = refl; is_listed = h }
+if_is f false from to x u h = absurd h
+
+if_has : (b : Bool) (from to : ℕ) (x : Operand) (u : PhiUse) → b ≡ true → IsListed u (use_on from to x) → IsListed u (use_if b from to x)
+if_has true from to x u e h = h
+if_has false from to x u e h = absurd (false≢true e)
+
 incoming_is : (f : Function) (to : ℕ) (is : List Incoming) (u : PhiUse) → IsListed u (incoming_uses f to is) → IsIncoming f to is u
 incoming_is f to [] u h = absurd h
 incoming_is f to (i ∷ is) u h = ⊎_elim
-    (λ here. let r = use_is (position_of f i.from) to i.value u here in record { incoming = i; comes = inl refl; is_from = r.0; is_to = r.1.0; takes = r.1.1 })
-    (λ later. let r = incoming_is f to is u later in record { incoming = r.incoming; comes = inr r.comes; is_from = r.is_from; is_to = r.is_to; takes = r.takes })
-    (parts u (use_on (position_of f i.from) to i.value) (incoming_uses f to is) h)
+    (λ here.
+    let passed = if_is f (nat_lt (position_of f i.from) (length f.blocks)) (position_of f i.from) to i.value u here in
+    let r = use_is (position_of f i.from) to i.value u passed.is_listed in
+    record {
+      incoming = i;
+      comes = inl refl;
+      is_from = r.0;
+      is_to = r.1.0;
+      takes = r.1.1;
+      is_block = subst (λ (n : ℕ). n < length f.blocks) r.0 (ltb-true (position_of f i.from) (length f.blocks) passed.passes);
+    })
+    (λ later. let r = incoming_is f to is u later in record { incoming = r.incoming; comes = inr r.comes; is_from = r.is_from; is_to = r.is_to; takes = r.takes; is_block = r.is_block })
+    (parts u (use_if (nat_lt (position_of f i.from) (length f.blocks)) (position_of f i.from) to i.value) (incoming_uses f to is) h)
 
 record IsOfPhi (f : Function) (to : ℕ) (ps : List Phi) (u : PhiUse) : Type 0 where
   pub phi : Phi
@@ -100,7 +123,7 @@ block_is f at (b ∷ bs) u h = ⊎_elim
     (parts u (phis_uses f at b.phis) (uses_from f (at + 1) bs) h)
 
 -- what is listed is taken by a phi of a block
-pub phi_use_sound : (f : Function) (u : PhiUse) → IsListed u (phi_uses f) → TakesFrom f u.value u.from u.to × (u.to < length f.blocks)
+pub phi_use_sound : (f : Function) (u : PhiUse) → IsListed u (phi_uses f) → TakesFrom f u.value u.from u.to × (u.from < length f.blocks) × (u.to < length f.blocks)
 phi_use_sound f u h =
     let r = block_is f 0 f.blocks u h in
     let z : 0 + r.place ≡ r.place = omega arith in
@@ -115,7 +138,7 @@ phi_use_sound f u h =
       comes = i.comes;
       is_from = i.is_from;
       takes = i.takes;
-    }, omega (arith, to, small))
+    }, i.is_block, omega (arith, to, small))
 
 on_use : (from to : ℕ) (x : Operand) (v : ℕ) → local_of x ≡ Some v → IsListed (phi_use from to v) (use_on from to x)
 on_use from to (Operand.Local u) v e = let same : v ≡ u = cc in inl (ap (phi_use from to) same)
@@ -127,13 +150,14 @@ on_use from to Operand.Null v e = absurd (cc)
 on_use from to Operand.None v e = absurd (cc)
 on_use from to Operand.Poison v e = absurd (cc)
 
-in_incoming : (f : Function) (to : ℕ) (is : List Incoming) (i : Incoming) (v : ℕ) → IsListed i is → local_of i.value ≡ Some v → IsListed (phi_use (position_of f i.from) to v) (incoming_uses f to is)
-in_incoming f to [] i v h e = absurd h
-in_incoming f to (j ∷ is) i v (inl same) e =
-    front (phi_use (position_of f i.from) to v) (use_on (position_of f j.from) to j.value) (incoming_uses f to is)
-    (subst (λ (x : Incoming). IsListed (phi_use (position_of f i.from) to v) (use_on (position_of f x.from) to x.value)) same (on_use (position_of f i.from) to i.value v e))
-in_incoming f to (j ∷ is) i v (inr later) e =
-    back (phi_use (position_of f i.from) to v) (use_on (position_of f j.from) to j.value) (incoming_uses f to is) (in_incoming f to is i v later e)
+in_incoming : (f : Function) (to : ℕ) (is : List Incoming) (i : Incoming) (v : ℕ) → position_of f i.from < length f.blocks → IsListed i is → local_of i.value ≡ Some v → IsListed (phi_use (position_of f i.from) to v) (incoming_uses f to is)
+in_incoming f to [] i v lt h e = absurd h
+in_incoming f to (j ∷ is) i v lt (inl same) e =
+    front (phi_use (position_of f i.from) to v) (use_if (nat_lt (position_of f j.from) (length f.blocks)) (position_of f j.from) to j.value) (incoming_uses f to is)
+    (subst (λ (x : Incoming). IsListed (phi_use (position_of f i.from) to v) (use_if (nat_lt (position_of f x.from) (length f.blocks)) (position_of f x.from) to x.value)) same
+    (if_has (nat_lt (position_of f i.from) (length f.blocks)) (position_of f i.from) to i.value (phi_use (position_of f i.from) to v) (lt-ltb (position_of f i.from) (length f.blocks) lt) (on_use (position_of f i.from) to i.value v e)))
+in_incoming f to (j ∷ is) i v lt (inr later) e =
+    back (phi_use (position_of f i.from) to v) (use_if (nat_lt (position_of f j.from) (length f.blocks)) (position_of f j.from) to j.value) (incoming_uses f to is) (in_incoming f to is i v lt later e)
 
 in_phis : (f : Function) (to : ℕ) (ps : List Phi) (p : Phi) (u : PhiUse) → IsListed p ps → IsListed u (incoming_uses f to p.incoming) → IsListed u (phis_uses f to ps)
 in_phis f to [] p u h e = absurd h
@@ -152,11 +176,12 @@ in_blocks f at (x ∷ bs) (suc k) b u e h =
     back u (phis_uses f at x.phis) (uses_from f (at + 1) bs) (in_blocks f (at + 1) bs k b u e (subst (λ (n : ℕ). IsListed u (phis_uses f n b.phis)) z h))
 
 -- what a phi of a block takes is listed
-pub phi_use_complete : (f : Function) (v from to : ℕ) → TakesFrom f v from to → IsListed (phi_use from to v) (phi_uses f)
-phi_use_complete f v from to t = by (slice_get f.blocks to) refl t.stands
+pub phi_use_complete : (f : Function) (v from to : ℕ) → from < length f.blocks → TakesFrom f v from to → IsListed (phi_use from to v) (phi_uses f)
+phi_use_complete f v from to lt t = by (slice_get f.blocks to) refl t.stands
   where
     taken : IsListed (phi_use from to v) (incoming_uses f to t.phi.incoming)
-    taken = subst (λ (n : ℕ). IsListed (phi_use n to v) (incoming_uses f to t.phi.incoming)) t.is_from (in_incoming f to t.phi.incoming t.incoming v t.comes t.takes)
+    taken = subst (λ (n : ℕ). IsListed (phi_use n to v) (incoming_uses f to t.phi.incoming)) t.is_from
+        (in_incoming f to t.phi.incoming t.incoming v (subst (λ (n : ℕ). n < length f.blocks) (sym t.is_from) lt) t.comes t.takes)
 
     by : (o : Option Block) → slice_get f.blocks to ≡ o → IsListed t.phi (phis_in o) → IsListed (phi_use from to v) (phi_uses f)
     by None e stands = absurd stands
@@ -203,7 +228,13 @@ in_edges words (x ∷ us) u c (inr later) has =
 pub edges_within : (words : List ℕ) (f : Function) (e : EdgeWord) → IsListed e (edge_words words (phi_uses f)) → e.to < length f.blocks
 edges_within words f e h =
     let r = edge_is words (phi_uses f) e h in
-    subst (λ (n : ℕ). n < length f.blocks) (ap (λ (x : EdgeWord). x.to) (sym r.is)) (phi_use_sound f r.use_of r.is_listed).1
+    subst (λ (n : ℕ). n < length f.blocks) (ap (λ (x : EdgeWord). x.to) (sym r.is)) (phi_use_sound f r.use_of r.is_listed).2
+
+-- and leave blocks
+pub edges_leave : (words : List ℕ) (f : Function) (e : EdgeWord) → IsListed e (edge_words words (phi_uses f)) → e.from < length f.blocks
+edges_leave words f e h =
+    let r = edge_is words (phi_uses f) e h in
+    subst (λ (n : ℕ). n < length f.blocks) (ap (λ (x : EdgeWord). x.from) (sym r.is)) (phi_use_sound f r.use_of r.is_listed).1
 
 -- ---- uses
 
@@ -223,13 +254,14 @@ module _ (f : Function) (slots words : List ℕ) (are : AreAddressWords f slots 
   edge_sound : (from to : ℕ) → HasEdge (edge_words words (phi_uses f)) from to c → IsUse f slot (On from to)
   edge_sound from to h =
       let r = edge_is words (phi_uses f) (edge_word from to h.word) h.is_listed in
-      let takes = (phi_use_sound f r.use_of r.is_listed).0 in
+      let sound = phi_use_sound f r.use_of r.is_listed in
+      let takes = sound.0 in
       let from_is : r.use_of.from ≡ from = ap (λ (e : EdgeWord). e.from) (sym r.is) in
       let to_is : r.use_of.to ≡ to = ap (λ (e : EdgeWord). e.to) (sym r.is) in
       record {
         address = r.use_of.value;
         is_address = address_of f slots words are c slot r.use_of.value lt is (subst (λ (w : ℕ). HasBit w c) (ap (λ (e : EdgeWord). e.word) r.is) h.has);
-        uses = subst (λ (n : ℕ). TakesFrom f r.use_of.value from n) to_is (subst (λ (n : ℕ). TakesFrom f r.use_of.value n r.use_of.to) from_is takes);
+        uses = (subst (λ (n : ℕ). n < length f.blocks) from_is sound.1, subst (λ (n : ℕ). TakesFrom f r.use_of.value from n) to_is (subst (λ (n : ℕ). TakesFrom f r.use_of.value n r.use_of.to) from_is takes));
       }
 
   edge_complete : (from to : ℕ) → IsUse f slot (On from to) → HasEdge (edge_words words (phi_uses f)) from to c
@@ -237,7 +269,7 @@ module _ (f : Function) (slots words : List ℕ) (are : AreAddressWords f slots 
       let has = has_address f slots words are c slot u.address lt is u.is_address in
       record {
         word = name_word words u.address;
-        is_listed = in_edges words (phi_uses f) (phi_use from to u.address) c (phi_use_complete f u.address from to u.uses) has;
+        is_listed = in_edges words (phi_uses f) (phi_use from to u.address) c (phi_use_complete f u.address from to u.uses.0 u.uses.1) has;
         has = has;
       }
 

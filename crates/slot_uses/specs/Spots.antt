@@ -1,5 +1,5 @@
 -- Where something of a slot stands, and what lies behind a suspend.
-use Rattle.std.specs.Prelude.{◌≡◌, ◌⊎◌, ℕ, List, IsTrue, IsFalse, ◌++◌}
+use Rattle.std.specs.Prelude.{◌≡◌, ◌<◌, ◌⊎◌, ℕ, List, length, IsTrue, IsFalse, ◌++◌}
 use Rattle.flow_solver.specs.Paths.{IsListed}
 use Rattle.ir_model.specs.declared.module.Function.{Function}
 use Rattle.ir_paths.specs.Paths.{Leads, has_point}
@@ -24,7 +24,7 @@ point_at f (On from to) = end_at f from
 
 abbrev pub UsesIn : Function → ℕ → Spot → Type 0
 UsesIn f v (At p) = UsesAt f v p
-UsesIn f v (On from to) = TakesFrom f v from to
+UsesIn f v (On from to) = (from < length f.blocks) × TakesFrom f v from to
 
 -- a use of the slot: of its address, or of that of a getelementptr of it, chains of them too
 pub record IsUse (f : Function) (slot : ℕ) (spot : Spot) : Type 0 where

@@ -1,5 +1,5 @@
 -- Words of 64 questions, each about one slot: the words of names, and of what takes those names.
-use Rattle.std.specs.Prelude.{ℕ, zero, suc, Bool, List, [], map, slice_get, unwrap_or, Some, None, Option, bit_or, ◌+◌, ◌^◌, ◌||◌, ◌==◌, ◌∷◌, ◌++◌, if◌then◌else◌}
+use Rattle.std.specs.Prelude.{ℕ, zero, suc, Bool, List, [], map, length, nat_lt, slice_get, unwrap_or, Some, None, Option, bit_or, ◌+◌, ◌^◌, ◌||◌, ◌==◌, ◌∷◌, ◌++◌, if◌then◌else◌}
 use Rattle.ir_model.specs.Names.{position_of}
 use Rattle.ir_model.specs.declared.instr.Incoming.{Incoming}
 use Rattle.ir_model.specs.declared.instr.Instr.{Instr}
@@ -104,9 +104,13 @@ abbrev pub use_on : ℕ → ℕ → Operand → List PhiUse
 use_on from to (Operand.Local v) = record { from = from; to = to; value = v } ∷ []
 use_on from to _ = []
 
+-- the same, if the block that the edge leaves is one of the function's
+abbrev pub use_if : Bool → ℕ → ℕ → Operand → List PhiUse
+use_if is_block from to x = if is_block then use_on from to x else []
+
 abbrev pub incoming_uses : Function → ℕ → List Incoming → List PhiUse
 incoming_uses f to [] = []
-incoming_uses f to (i ∷ is) = use_on (position_of f i.from) to i.value ++ incoming_uses f to is
+incoming_uses f to (i ∷ is) = use_if (nat_lt (position_of f i.from) (length f.blocks)) (position_of f i.from) to i.value ++ incoming_uses f to is
 
 abbrev pub phis_uses : Function → ℕ → List Phi → List PhiUse
 phis_uses f to [] = []

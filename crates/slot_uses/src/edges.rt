@@ -2,7 +2,7 @@
 
 ghost use Rattle.std.specs.Prelude.{◌≡◌, ◌==◌, ◌++◌, IfOk, OnOk};
 ghost use Rattle.ordinary_step.specs.Tables.{HasPositions};
-ghost use Rattle.slot_uses.specs.Words.{edge_unless, edge_words as words_of_edges, incoming_uses, phi_uses as uses_of_phis, phis_uses, use_on, uses_from};
+ghost use Rattle.slot_uses.specs.Words.{edge_unless, edge_words as words_of_edges, incoming_uses, phi_uses as uses_of_phis, phis_uses, use_if, use_on, uses_from};
 
 use crate::edge::{EdgeWord, PhiUse};
 use crate::words::name_word;
@@ -30,6 +30,21 @@ fn push_use(
     Ok(())
 }
 
+fn push_if(
+    uses: &mut Items<PhiUse>,
+    is_block: bool,
+    from: BlockId,
+    to: BlockId,
+    operand: &Operand,
+) -> Result<(), AllocError>
+    ensures { OnOk result (uses.new ≡ uses.old ++ use_if is_block from to operand.now) }
+{
+    if is_block {
+        push_use(uses, from, to, operand)?;
+    }
+    Ok(())
+}
+
 fn push_incoming(
     uses: &mut Items<PhiUse>,
     function: &Function,
@@ -41,7 +56,8 @@ fn push_incoming(
     ensures { OnOk result (uses.new ≡ uses.old ++ incoming_uses function.now to incoming.now) }
 {
     for one in incoming {
-        push_use(uses, position(function, table, one.from), to, &one.value)?;
+        let from = position(function, table, one.from);
+        push_if(uses, from < function.blocks.len(), from, to, &one.value)?;
     }
     Ok(())
 }

@@ -1,0 +1,5 @@
+pub mod Flips
+pub mod Zips
+pub mod Shapes
+pub mod Gathers
+pub mod Places
