@@ -151,9 +151,9 @@ ways_met ways own word (x ∷ edges) c e (inr later) has way owns = ways_met way
 -- ---- spots
 
 -- something with the question stands there, by rows and edges
-pub data HasSpot (rows : List (List ℕ)) (edges : List EdgeWord) (c : ℕ) : Spot → Type 0 where
-  AtPoint : (p : Point) → HasBit (word_at_point rows p) c → HasSpot rows edges c (At p)
-  OnEdge : (from to : ℕ) → HasEdge edges from to c → HasSpot rows edges c (On from to)
+abbrev pub HasSpot : List (List ℕ) → List EdgeWord → ℕ → Spot → Type 0
+HasSpot rows edges c (At p) = HasBit (word_at_point rows p) c
+HasSpot rows edges c (On from to) = HasEdge edges from to c
 
 pub record IsMet (f : Function) (rows : List (List ℕ)) (edges : List EdgeWord) (words : List (List ℕ)) (c : ℕ) : Type 0 where
   pub spot : Spot
@@ -164,13 +164,13 @@ pub spots_sound : (f : Function) (rows : List (List ℕ)) (edges : List EdgeWord
 spots_sound f rows edges words c h = ⊎_elim
     (λ here. ⊎_elim
       (λ none. absurd (no_bit c none))
-      (λ found. let two = common_sound rows words found.0 c found.1 in record { spot = At found.0; has = AtPoint found.0 two.0; met = two.1 })
+      (λ found. let two = common_sound rows words found.0 c found.1 in record { spot = At found.0; has = two.0; met = two.1 })
       (any_sound 0 (common rows words) c here))
-    (λ on. record { spot = On on.edge.from on.edge.to; has = OnEdge on.edge.from on.edge.to (record { word = on.edge.word; is_listed = on.is_listed; has = on.has }); met = on.met })
+    (λ on. record { spot = On on.edge.from on.edge.to; has = record { word = on.edge.word; is_listed = on.is_listed; has = on.has }; met = on.met })
     (edges_cases f words (rows_word 0 (common rows words)) edges c h)
 
 pub spots_complete : (f : Function) (rows : List (List ℕ)) (edges : List EdgeWord) (words : List (List ℕ)) (c : ℕ) (spot : Spot) → HasSpot rows edges c spot → HasBit (word_at_point words (point_at f spot)) c → HasBit (spots_word f rows edges words) c
-spots_complete f rows edges words c _ (AtPoint p h) met =
+spots_complete f rows edges words c (At p) h met =
     edges_before f words (rows_word 0 (common rows words)) edges c (any_complete 0 (common rows words) c p (common_complete rows words p c h met))
-spots_complete f rows edges words c _ (OnEdge from to e) met =
+spots_complete f rows edges words c (On from to) e met =
     edges_met f words (rows_word 0 (common rows words)) edges c (record { from = from; to = to; word = e.word }) e.is_listed e.has met

@@ -3,3 +3,9 @@ pub mod Zips
 pub mod Shapes
 pub mod Gathers
 pub mod Places
+pub mod Passing
+pub mod Coming
+pub mod Late
+pub mod Slots
+pub mod Sentences
+pub mod Deciding

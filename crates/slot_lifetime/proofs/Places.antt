@@ -1,5 +1,5 @@
 -- Rows with a word at the calls of an intrinsic, or at the points of a set.
-use Rattle.std.proofs.Common.{◌≡◌, ◌≢◌, ℕ, zero, suc, ◌+◌, ◌<◌, ◌≤◌, Bool, true, false, List, [], ◌∷◌, map, length, Option, Some, None, refl, sym, ap, ◌∙◌, subst, ⊎_elim, inl, inr, arith}
+use Rattle.std.proofs.Common.{◌≡◌, ◌≢◌, ℕ, zero, suc, ◌+◌, ◌<◌, ◌≤◌, Bool, true, false, List, [], ◌∷◌, ◌++◌, append_assoc, drop, map, length, Option, Some, None, refl, sym, ap, ◌∙◌, subst, ⊎_elim, inl, inr, arith}
 use Rattle.std.specs.Prelude.{◌↔◌, IsTrue, option_map, slice_get, slice_set, unwrap_or, if◌then◌else◌}
 use Rattle.std.proofs.lemmas.Option.{slice_get_within}
 use Rattle.bit_reach.specs.Bits.{HasBit}
@@ -92,3 +92,18 @@ cleared_sound rows block p c h = by (slice_get (cleared rows block) p.block) ref
 pub cleared_complete : (rows : List (List ℕ)) (block : ℕ) (p : Point) (c : ℕ) → p.block ≢ block → HasBit (word_at_point rows p) c → HasBit (word_at_point (cleared rows block) p) c
 cleared_complete rows block p c other h =
     subst (λ (o : Option (List ℕ)). HasBit (unwrap_or (slice_get (unwrap_or o []) p.at) 0) c) (sym (set_other rows block p.block [] other)) h
+
+-- one place more of a row
+row_step : (set : List (List Bool)) (block n : ℕ) (is : List Instr) (at : ℕ) → at < length is → set_row set block n (drop at is) ≡ word_of_mark (is_marked set (record { block = block; at = n })) ∷ set_row set block (n + 1) (drop (at + 1) is)
+row_step set block n [] at lt = absurd (omega arith)
+row_step set block n (i ∷ is) zero lt = refl
+row_step set block n (i ∷ is) (suc at) lt =
+    let z : suc at + 1 ≡ suc (at + 1) = omega arith in
+    row_step set block n is at (omega arith) ∙ ap (λ (k : ℕ). word_of_mark (is_marked set (record { block = block; at = n })) ∷ set_row set block (n + 1) (drop k (i ∷ is))) (sym z)
+
+pub set_row_more : (set : List (List Bool)) (block : ℕ) (is : List Instr) (at : ℕ) (row all : List ℕ) (word : ℕ) → at < length is → word ≡ word_of_mark (is_marked set (record { block = block; at = at })) → row ++ set_row set block at (drop at is) ≡ all → (row ++ word ∷ []) ++ set_row set block (at + 1) (drop (at + 1) is) ≡ all
+set_row_more set block is at row all word lt e so_far =
+    append_assoc row (word ∷ []) (set_row set block (at + 1) (drop (at + 1) is))
+    ∙ ap (λ (w : ℕ). row ++ (w ∷ set_row set block (at + 1) (drop (at + 1) is))) e
+    ∙ ap (λ (l : List ℕ). row ++ l) (sym (row_step set block at is at lt))
+    ∙ so_far

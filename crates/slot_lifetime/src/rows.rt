@@ -196,6 +196,7 @@ fn mark_word(set: &PointSet, point: Point) -> u64
     if set.has(point) { u64::MAX } else { 0 }
 }
 
+#[tactic(auto, using(crate::proofs::Places::set_row_more))]
 fn set_row(
     alloc: Global,
     set: &PointSet,

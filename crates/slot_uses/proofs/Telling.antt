@@ -90,27 +90,41 @@ word_marked marker words i c v h e takes =
     subst (λ (b : Bool). HasBit (if b then with_operand words 0 (call_operand i 1) else 0) c) (sym e)
     ((marks_operand words (λ v. false) 0 (marks_none words) (call_operand i 1)).complete c v h takes)
 
+-- the rows of markers have a question at the markers of the one name that has it
+pub marker_sound : (marker : Intrinsic) (f : Function) (words : List ℕ) (c slot : ℕ) → ((v : ℕ) → HasBit (name_word words v) c → v ≡ slot) → (p : Point) →
+    HasBit (word_at_point (marker_rows marker words f) p) c → has_point (points_where (is_marker_of marker slot) f) p ≡ true
+marker_sound marker f words c slot only p h = ⊎_elim
+    (λ here.
+    let one = marker_word marker words here.instr c here.has in
+    where_complete (is_marker_of marker slot) f p here.instr here.stands
+    (two_true (is_call_of marker here.instr) (is_local slot (call_operand here.instr 1)) one.1.1.0 (subst (λ (v : ℕ). is_local v (call_operand here.instr 1) ≡ true) (only one.0 one.1.0) one.1.1.1)))
+    (λ last. absurd (no_bit c last.has))
+    (point_cases (marked marker words) (λ t. 0) f p c h)
+
+pub marker_complete : (marker : Intrinsic) (f : Function) (words : List ℕ) (c slot : ℕ) → HasBit (name_word words slot) c → (p : Point) →
+    has_point (points_where (is_marker_of marker slot) f) p ≡ true → HasBit (word_at_point (marker_rows marker words f) p) c
+marker_complete marker f words c slot has p h =
+    let r = where_sound (is_marker_of marker slot) f p h in
+    let two = both (is_call_of marker r.instr) (is_local slot (call_operand r.instr 1)) r.passes in
+    subst (λ (w : ℕ). HasBit w c) (sym (at_instr (marked marker words) (λ t. 0) f p r.instr r.is))
+    (word_marked marker words r.instr c slot has two.0 two.1)
+
+-- and have only questions of names
+pub marker_name : (marker : Intrinsic) (f : Function) (words : List ℕ) (c : ℕ) (p : Point) → HasBit (word_at_point (marker_rows marker words f) p) c → (v : ℕ) × HasBit (name_word words v) c
+marker_name marker f words c p h = ⊎_elim
+    (λ here. let one = marker_word marker words here.instr c here.has in (one.0, one.1.0))
+    (λ last. absurd (no_bit c last.has))
+    (point_cases (marked marker words) (λ t. 0) f p c h)
+
+-- the name with the question is its slot
+pub slot_only : (slots words : List ℕ) → AreSlotWords slots words → (c slot : ℕ) → c < 64 → slice_get slots c ≡ Some slot → (v : ℕ) → HasBit (name_word words v) c → v ≡ slot
+slot_only slots words are c slot lt is v h = some_same (slice_get slots c) v slot ((are.each v c lt).0 h) is
+
 -- the rows of markers have the questions at the markers of their slots
 pub marker_told : (marker : Intrinsic) (f : Function) (slots words : List ℕ) → AreSlotWords slots words → (c slot : ℕ) → c < 64 → slice_get slots c ≡ Some slot → (p : Point) →
     HasBit (word_at_point (marker_rows marker words f) p) c ↔ IsTrue (has_point (points_where (is_marker_of marker slot) f) p)
-marker_told marker f slots words are c slot lt is p = (sound, complete)
-  where
-    sound : HasBit (word_at_point (marker_rows marker words f) p) c → has_point (points_where (is_marker_of marker slot) f) p ≡ true
-    sound h = ⊎_elim
-        (λ here.
-        let one = marker_word marker words here.instr c here.has in
-        let same = some_same (slice_get slots c) one.0 slot ((are.each one.0 c lt).0 one.1.0) is in
-        where_complete (is_marker_of marker slot) f p here.instr here.stands
-        (two_true (is_call_of marker here.instr) (is_local slot (call_operand here.instr 1)) one.1.1.0 (subst (λ (v : ℕ). is_local v (call_operand here.instr 1) ≡ true) same one.1.1.1)))
-        (λ last. absurd (no_bit c last.has))
-        (point_cases (marked marker words) (λ t. 0) f p c h)
-
-    complete : has_point (points_where (is_marker_of marker slot) f) p ≡ true → HasBit (word_at_point (marker_rows marker words f) p) c
-    complete h =
-        let r = where_sound (is_marker_of marker slot) f p h in
-        let two = both (is_call_of marker r.instr) (is_local slot (call_operand r.instr 1)) r.passes in
-        subst (λ (w : ℕ). HasBit w c) (sym (at_instr (marked marker words) (λ t. 0) f p r.instr r.is))
-        (word_marked marker words r.instr c slot ((are.each slot c lt).1 is) two.0 two.1)
+marker_told marker f slots words are c slot lt is p =
+    (marker_sound marker f words c slot (slot_only slots words are c slot lt is) p, marker_complete marker f words c slot ((are.each slot c lt).1 is) p)
 
 -- ---- escaped slots
 
