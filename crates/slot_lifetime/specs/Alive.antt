@@ -3,7 +3,7 @@ use Rattle.std.specs.Prelude.{◌≡◌, ℕ, List, [], IsTrue, ◌++◌}
 use Rattle.ir_model.specs.declared.module.Function.{Function}
 use Rattle.ir_paths.specs.Paths.{Leads, has_point}
 use Rattle.ir_paths.specs.declared.point.Point.{Point}
-use Rattle.slot_lifetime.specs.Spots.{ends_of, starts_of}
+use Rattle.slot_uses.specs.Uses.{ends_of, starts_of}
 use Rattle.window_rules.specs.Points.{begins}
 
 abbrev pub markers_of : Function → ℕ → List Point

@@ -7,9 +7,10 @@ use Rattle.ir_paths.specs.Slots.{IsRampSlot, allocas_of, is_escaped, is_promise}
 use Rattle.ir_paths.specs.Windows.{is_call_of, points_where}
 use Rattle.ir_paths.specs.declared.point.Point.{Point}
 use Rattle.slot_lifetime.specs.Alive.{MayBeAlive}
-use Rattle.slot_lifetime.specs.Spots.{Spot, At, On, IsBehind, IsStart, IsUse, LeadsFrom, point_at, starts_of}
 use Rattle.slot_lifetime.specs.declared.class.SlotClass.{SlotClass}
 use Rattle.slot_rules.specs.Closed.{IsClosed}
+use Rattle.slot_uses.specs.Spots.{Spot, At, On, IsBehind, IsStart, IsUse, LeadsFrom, point_at}
+use Rattle.slot_uses.specs.Uses.{starts_of}
 use Rattle.window_rules.specs.Sets.{IsAfterEnd}
 
 abbrev pub suspends : Function → List Point

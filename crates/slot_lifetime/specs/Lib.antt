@@ -1,4 +1,6 @@
-pub mod Spots
 pub mod Alive
 pub mod Classes
-pub mod Conflicts
+pub mod Rows
+pub mod Ways
+pub mod Words
+pub mod Answer

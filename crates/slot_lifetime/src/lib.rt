@@ -1,7 +1,14 @@
-//! Where the slots of a coroutine live: the classes of its allocas, which of them may be alive at which suspends, and which may
-//! share bytes ("Coroutines in LLVM", "Coroutine Representation"; LLVM Language Reference, "llvm.lifetime.start").
+//! Where the slots of a coroutine live: the classes of its allocas ("Coroutines in LLVM", "Coroutine Representation"; LLVM
+//! Language Reference, "llvm.lifetime.start").
 #![tactic(auto)]
 
+mod answer;
+mod chunk;
 mod class;
+mod frame;
+mod plan;
+mod rows;
+mod ways;
 
+pub use answer::classes;
 pub use class::SlotClass;

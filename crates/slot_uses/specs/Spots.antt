@@ -1,16 +1,12 @@
--- Where the addresses of a slot are used, and what lies behind a suspend.
-use Rattle.std.specs.Prelude.{◌≡◌, ◌⊎◌, ℕ, Bool, false, List, length, slice_get, Some, IsTrue, IsFalse, ◌&&◌, ◌++◌}
+-- Where something of a slot stands, and what lies behind a suspend.
+use Rattle.std.specs.Prelude.{◌≡◌, ◌<◌, ◌⊎◌, ℕ, List, length, IsTrue, IsFalse, ◌++◌}
 use Rattle.flow_solver.specs.Paths.{IsListed}
-use Rattle.ir_model.specs.Names.{is_local}
-use Rattle.ir_model.specs.declared.instr.Instr.{Instr}
-use Rattle.ir_model.specs.declared.module.Block.{Block}
 use Rattle.ir_model.specs.declared.module.Function.{Function}
-use Rattle.ir_model.specs.declared.operand.Intrinsic.{Intrinsic}
 use Rattle.ir_paths.specs.Paths.{Leads, has_point}
-use Rattle.ir_paths.specs.Slots.{addresses_of, end_points, has_name, is_no_use, occurs, occurs_in_term}
-use Rattle.ir_paths.specs.Windows.{call_operand, instr_at, is_call_of, points_where}
+use Rattle.ir_paths.specs.Slots.{addresses_of, end_points, has_name}
 use Rattle.ir_paths.specs.declared.point.Point.{Point}
 use Rattle.slot_rules.specs.Early.{end_at}
+use Rattle.slot_uses.specs.Uses.{UsesAt, starts_of}
 use Rattle.window_rules.specs.Windows.{own_edges}
 use Rattle.window_values.specs.Kept.{TakesFrom, front, own_blocks}
 
@@ -26,19 +22,9 @@ point_at f (On from to) = end_at f from
 
 -- ---- uses
 
--- markers and coro.id, in which an address isn't used
-abbrev pub is_no_use_in : Instr → Bool
-is_no_use_in (Instr.Call result must_tail ty callee args) = is_no_use callee
-is_no_use_in i = false
-
--- what stands at the point, an instruction or a terminator, uses the value
-pub data UsesAt (f : Function) (v : ℕ) (p : Point) : Type 0 where
-  ByInstr : (i : Instr) → instr_at f p ≡ Some i → IsFalse (is_no_use_in i) → IsTrue (occurs v i) → UsesAt f v p
-  ByTerm : (b : Block) → slice_get f.blocks p.block ≡ Some b → p.at ≡ length b.instrs → IsTrue (occurs_in_term v b.term) → UsesAt f v p
-
 abbrev pub UsesIn : Function → ℕ → Spot → Type 0
 UsesIn f v (At p) = UsesAt f v p
-UsesIn f v (On from to) = TakesFrom f v from to
+UsesIn f v (On from to) = (from < length f.blocks) × TakesFrom f v from to
 
 -- a use of the slot: of its address, or of that of a getelementptr of it, chains of them too
 pub record IsUse (f : Function) (slot : ℕ) (spot : Spot) : Type 0 where
@@ -46,16 +32,7 @@ pub record IsUse (f : Function) (slot : ℕ) (spot : Spot) : Type 0 where
   pub is_address : IsTrue (has_name (addresses_of f slot) address)
   pub uses : UsesIn f address spot
 
--- ---- markers
-
-abbrev pub is_marker_of : Intrinsic → ℕ → Instr → Bool
-is_marker_of marker slot i = is_call_of marker i && is_local slot (call_operand i 1)
-
-abbrev pub starts_of : Function → ℕ → List Point
-starts_of f slot = points_where (is_marker_of Intrinsic.LifetimeStart slot) f
-
-abbrev pub ends_of : Function → ℕ → List Point
-ends_of f slot = points_where (is_marker_of Intrinsic.LifetimeEnd slot) f
+-- ---- starts
 
 pub data IsStart (f : Function) (slot : ℕ) : Spot → Type 0 where
   Marked : (p : Point) → IsTrue (has_point (starts_of f slot) p) → IsStart f slot (At p)

@@ -1,0 +1,11 @@
+pub mod Flips
+pub mod Zips
+pub mod Shapes
+pub mod Gathers
+pub mod Places
+pub mod Passing
+pub mod Coming
+pub mod Late
+pub mod Slots
+pub mod Sentences
+pub mod Deciding

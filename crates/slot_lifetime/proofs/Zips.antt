@@ -1,0 +1,122 @@
+-- Rows made of two rows.
+use Rattle.std.proofs.Common.{◌≡◌, ℕ, zero, suc, ◌+◌, ◌<◌, List, [], ◌∷◌, map, length, Option, Some, None, refl, sym, ap, ◌∙◌, subst, ⊎_elim, inl, inr, arith}
+use Rattle.std.specs.Prelude.{◌↔◌, ◌⊎◌, bit_and, bit_or, option_map, slice_get, unwrap_or}
+use Rattle.bit_reach.specs.Bits.{HasBit}
+use Rattle.ir_paths.specs.declared.point.Point.{Point}
+use Rattle.point_reach.specs.Reached.{begins_at, pass_at, stops_at}
+use Rattle.point_reach.specs.declared.question.Pass.{Pass}
+use Rattle.slot_lifetime.specs.Rows.{common, joined, pass_by, passes_by, row_at, word_in, zipped, zipped_rows}
+use Rattle.slot_uses.proofs.Bits.{both_bits, common_bit, left_bit, no_bit, one_bit, right_bit}
+use Rattle.slot_uses.specs.Words.{word_at_point}
+
+zipped_at : {X : Type 0} (make : ℕ → ℕ → X) (n : ℕ) (row other : List ℕ) (k : ℕ) → slice_get (zipped make n row other) k ≡ option_map (λ w. make w (word_in other (n + k))) (slice_get row k)
+zipped_at make n [] other k = refl
+zipped_at make n (w ∷ row) other zero = let z : n ≡ n + 0 = omega arith in ap (λ (m : ℕ). Some (make w (word_in other m))) z
+zipped_at make n (w ∷ row) other (suc k) =
+    let z : n + 1 + k ≡ n + suc k = omega arith in
+    zipped_at make (n + 1) row other k ∙ ap (λ (m : ℕ). option_map (λ w. make w (word_in other m)) (slice_get row k)) z
+
+rows_at : {X : Type 0} (make : ℕ → ℕ → X) (n : ℕ) (rows others : List (List ℕ)) (k : ℕ) → slice_get (zipped_rows make n rows others) k ≡ option_map (λ row. zipped make 0 row (row_at others (n + k))) (slice_get rows k)
+rows_at make n [] others k = refl
+rows_at make n (row ∷ rows) others zero = let z : n ≡ n + 0 = omega arith in ap (λ (m : ℕ). Some (zipped make 0 row (row_at others m))) z
+rows_at make n (row ∷ rows) others (suc k) =
+    let z : n + 1 + k ≡ n + suc k = omega arith in
+    rows_at make (n + 1) rows others k ∙ ap (λ (m : ℕ). option_map (λ row. zipped make 0 row (row_at others m)) (slice_get rows k)) z
+
+-- ---- a place of the rows
+
+-- what stands at a point of rows
+abbrev pub at_point : {X : Type 0} → List (List X) → Point → Option X
+at_point rows p = slice_get (unwrap_or (slice_get rows p.block) []) p.at
+
+pub zip_at : {X : Type 0} (make : ℕ → ℕ → X) (rows others : List (List ℕ)) (p : Point) →
+    at_point (zipped_rows make 0 rows others) p ≡ option_map (λ w. make w (word_at_point others p)) (at_point rows p)
+zip_at {X} make rows others p =
+    ap (λ (o : Option (List X)). slice_get (unwrap_or o []) p.at) (rows_at make 0 rows others p.block)
+    ∙ by (slice_get rows p.block)
+  where
+    z : 0 + p.block ≡ p.block
+    z = omega arith
+
+    y : 0 + p.at ≡ p.at
+    y = omega arith
+
+    by : (o : Option (List ℕ)) → slice_get (unwrap_or (option_map (λ row. zipped make 0 row (row_at others (0 + p.block))) o) []) p.at ≡ option_map (λ w. make w (word_at_point others p)) (slice_get (unwrap_or o []) p.at)
+    by None = refl
+    by (Some row) =
+        zipped_at make 0 row (row_at others (0 + p.block)) p.at
+        ∙ ap (λ (m : ℕ). option_map (λ w. make w (word_in (row_at others (0 + p.block)) m)) (slice_get row p.at)) y
+        ∙ ap (λ (m : ℕ). option_map (λ w. make w (word_in (row_at others m) p.at)) (slice_get row p.at)) z
+
+-- a word with a bit stands in its row
+pub bit_inside : (rows : List (List ℕ)) (p : Point) (c : ℕ) → HasBit (word_at_point rows p) c → (w : ℕ) × (at_point rows p ≡ Some w)
+bit_inside rows p c h = by (at_point rows p) refl h
+  where
+    by : (o : Option ℕ) → at_point rows p ≡ o → HasBit (unwrap_or o 0) c → (w : ℕ) × (at_point rows p ≡ Some w)
+    by None e h = absurd (no_bit c h)
+    by (Some w) e h = (w, e)
+
+word_of : (o : Option ℕ) (w : ℕ) → o ≡ Some w → unwrap_or o 0 ≡ w
+word_of o w e = ap (λ (x : Option ℕ). unwrap_or x 0) e
+
+-- ---- the bits of both
+
+pub common_sound : (a b : List (List ℕ)) (p : Point) (c : ℕ) → HasBit (word_at_point (common a b) p) c → HasBit (word_at_point a p) c × HasBit (word_at_point b p) c
+common_sound a b p c h = by (at_point a p) refl (subst (λ (o : Option ℕ). HasBit (unwrap_or o 0) c) (zip_at bit_and a b p) h)
+  where
+    by : (o : Option ℕ) → at_point a p ≡ o → HasBit (unwrap_or (option_map (λ w. bit_and w (word_at_point b p)) o) 0) c → HasBit (word_at_point a p) c × HasBit (word_at_point b p) c
+    by None e h = absurd (no_bit c h)
+    by (Some w) e h = let two = both_bits w (word_at_point b p) c h in (subst (λ (x : ℕ). HasBit x c) (sym (word_of (at_point a p) w e)) two.0, two.1)
+
+pub common_complete : (a b : List (List ℕ)) (p : Point) (c : ℕ) → HasBit (word_at_point a p) c → HasBit (word_at_point b p) c → HasBit (word_at_point (common a b) p) c
+common_complete a b p c ha hb =
+    let i = bit_inside a p c ha in
+    subst (λ (o : Option ℕ). HasBit (unwrap_or o 0) c) (sym (zip_at bit_and a b p ∙ ap (option_map (λ w. bit_and w (word_at_point b p))) i.1))
+    (common_bit i.0 (word_at_point b p) c (subst (λ (x : ℕ). HasBit x c) (word_of (at_point a p) i.0 i.1) ha) hb)
+
+pub joined_sound : (a b : List (List ℕ)) (p : Point) (c : ℕ) → HasBit (word_at_point (joined a b) p) c → HasBit (word_at_point a p) c ⊎ HasBit (word_at_point b p) c
+joined_sound a b p c h = by (at_point a p) refl (subst (λ (o : Option ℕ). HasBit (unwrap_or o 0) c) (zip_at bit_or a b p) h)
+  where
+    by : (o : Option ℕ) → at_point a p ≡ o → HasBit (unwrap_or (option_map (λ w. bit_or w (word_at_point b p)) o) 0) c → HasBit (word_at_point a p) c ⊎ HasBit (word_at_point b p) c
+    by None e h = absurd (no_bit c h)
+    by (Some w) e h = ⊎_elim (λ l. inl (subst (λ (x : ℕ). HasBit x c) (sym (word_of (at_point a p) w e)) l)) (λ r. inr r) (one_bit w (word_at_point b p) c h)
+
+joined_is : (a b : List (List ℕ)) (p : Point) (w : ℕ) → at_point a p ≡ Some w → word_at_point (joined a b) p ≡ bit_or w (word_at_point b p)
+joined_is a b p w e = ap (λ (o : Option ℕ). unwrap_or o 0) (zip_at bit_or a b p ∙ ap (option_map (λ w. bit_or w (word_at_point b p))) e)
+
+pub joined_left : (a b : List (List ℕ)) (p : Point) (c : ℕ) → HasBit (word_at_point a p) c → HasBit (word_at_point (joined a b) p) c
+joined_left a b p c h =
+    let i = bit_inside a p c h in
+    subst (λ (x : ℕ). HasBit x c) (sym (joined_is a b p i.0 i.1)) (left_bit i.0 (word_at_point b p) c (subst (λ (x : ℕ). HasBit x c) (word_of (at_point a p) i.0 i.1) h))
+
+pub joined_right : (a b : List (List ℕ)) (p : Point) (c w : ℕ) → at_point a p ≡ Some w → HasBit (word_at_point b p) c → HasBit (word_at_point (joined a b) p) c
+joined_right a b p c w e h = subst (λ (x : ℕ). HasBit x c) (sym (joined_is a b p w e)) (right_bit w (word_at_point b p) c h)
+
+-- ---- passes
+
+abbrev pub no_pass : Pass
+no_pass = record { stops = 0; begins = 0 }
+
+pass_is : (stops begins : List (List ℕ)) (p : Point) → pass_at (passes_by stops begins) p ≡ unwrap_or (option_map (λ w. pass_by w (word_at_point begins p)) (at_point stops p)) no_pass
+pass_is stops begins p = ap (λ (o : Option Pass). unwrap_or o no_pass) (zip_at pass_by stops begins p)
+
+pub stops_are : (stops begins : List (List ℕ)) (p : Point) (c : ℕ) → HasBit (stops_at (passes_by stops begins) p) c ↔ HasBit (word_at_point stops p) c
+stops_are stops begins p c = (λ h. subst (λ (w : ℕ). HasBit w c) same h, λ h. subst (λ (w : ℕ). HasBit w c) (sym same) h)
+  where
+    by : (o : Option ℕ) → (unwrap_or (option_map (λ w. pass_by w (word_at_point begins p)) o) no_pass).stops ≡ unwrap_or o 0
+    by None = refl
+    by (Some w) = refl
+
+    same : stops_at (passes_by stops begins) p ≡ word_at_point stops p
+    same = ap (λ (x : Pass). x.stops) (pass_is stops begins p) ∙ by (at_point stops p)
+
+pub begins_sound : (stops begins : List (List ℕ)) (p : Point) (c : ℕ) → HasBit (begins_at (passes_by stops begins) p) c → HasBit (word_at_point begins p) c
+begins_sound stops begins p c h = by (at_point stops p) (subst (λ (x : Pass). HasBit x.begins c) (pass_is stops begins p) h)
+  where
+    by : (o : Option ℕ) → HasBit (unwrap_or (option_map (λ w. pass_by w (word_at_point begins p)) o) no_pass).begins c → HasBit (word_at_point begins p) c
+    by None h = absurd (no_bit c h)
+    by (Some w) h = h
+
+pub begins_complete : (stops begins : List (List ℕ)) (p : Point) (c w : ℕ) → at_point stops p ≡ Some w → HasBit (word_at_point begins p) c → HasBit (begins_at (passes_by stops begins) p) c
+begins_complete stops begins p c w e h =
+    subst (λ (x : Pass). HasBit x.begins c) (sym (pass_is stops begins p ∙ ap (λ (o : Option ℕ). unwrap_or (option_map (λ w. pass_by w (word_at_point begins p)) o) no_pass) e)) h

@@ -1,0 +1,86 @@
+//! What is found of a chunk of at most 64 slots.
+
+ghost use Rattle.std.specs.Prelude.{◌≡◌, ◌≤◌, IfOk, length};
+ghost use Rattle.ir_model.specs.declared.operand.Intrinsic.{Intrinsic as TheIntrinsic};
+ghost use Rattle.slot_lifetime.specs.Rows.{kept_of};
+ghost use Rattle.slot_lifetime.specs.Words.{IsChunkOf, IsPlanOf};
+ghost use Rattle.slot_uses.specs.Words.{marker_rows as marker_rows_of};
+
+use crate::plan::Plan;
+use crate::rows::{Rows, joined, kept_words, others};
+use coro_base::{Items, ValueId};
+use ir_model::{Function, Intrinsic};
+use slot_uses::{
+    EdgeWord, address_words, edge_words, escaped_word, marker_rows, slot_words, use_rows,
+};
+use std::alloc::{AllocError, Global};
+
+/// What is found of a chunk of at most 64 slots, each of which has a bit of the words.
+#[derive(Drop)]
+pub struct Chunk {
+    /// For each name the slot of that name.
+    pub own: Items<u64>,
+    /// For each name the slots of which it is an address.
+    pub addresses: Items<u64>,
+    /// The slots that are used at each point.
+    pub uses: Rows,
+    /// The slots that phis take on edges.
+    pub edges: Items<EdgeWord>,
+    /// The slots that escape.
+    pub escaped: u64,
+    /// The slots that start at each point.
+    pub starts: Rows,
+    /// The slots that end at each point.
+    pub ends: Rows,
+    /// The slots that start at each point and don't escape.
+    pub parting: Rows,
+    /// The slots that are used at each point, or start there and escape.
+    pub touches: Rows,
+}
+
+/// The starts at each point of those of the slots that have a bit of a word.
+fn kept_starts(
+    alloc: Global,
+    function: &Function,
+    own: &[u64],
+    mask: u64,
+) -> Result<Rows, AllocError>
+    ensures { IfOk result (λ rows. rows ≡ marker_rows_of TheIntrinsic.LifetimeStart (kept_of mask own.now) function.now) }
+{
+    let words = kept_words(alloc, mask, own)?;
+    marker_rows(alloc, Intrinsic::LifetimeStart, function, words.as_slice())
+}
+
+/// What is found of a chunk of at most 64 slots.
+pub fn chunk_words(
+    alloc: Global,
+    function: &Function,
+    plan: &Plan,
+    slots: &[ValueId],
+) -> Result<Chunk, AllocError>
+    requires count { length slots.now ≤ 64 }
+    requires plan { IsPlanOf function.now plan.now }
+    ensures { IfOk result (IsChunkOf function.now slots.now) }
+{
+    let own = slot_words(alloc, slots)?;
+    let addresses = address_words(alloc, function, slots)?;
+    let uses = use_rows(alloc, function, addresses.as_slice())?;
+    let edges = edge_words(alloc, addresses.as_slice(), plan.phis.as_slice())?;
+    let escaped = escaped_word(function, addresses.as_slice());
+    let starts = marker_rows(alloc, Intrinsic::LifetimeStart, function, own.as_slice())?;
+    let ends = marker_rows(alloc, Intrinsic::LifetimeEnd, function, own.as_slice())?;
+    let parting = kept_starts(alloc, function, own.as_slice(), others(escaped))?;
+    let again = kept_starts(alloc, function, own.as_slice(), escaped)?;
+    let touches = joined(alloc, &uses, &again)?;
+    Ok(Chunk {
+        own: Items::from_vec(own),
+        addresses: Items::from_vec(addresses),
+        uses,
+        edges,
+        escaped,
+        starts,
+        ends,
+        parting,
+        touches,
+    })
+}

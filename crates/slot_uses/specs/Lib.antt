@@ -1,0 +1,4 @@
+pub mod Uses
+pub mod Spots
+pub mod Words
+pub mod Told

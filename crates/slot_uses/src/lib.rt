@@ -1,0 +1,19 @@
+//! Where the slots of a function are used: the addresses of its allocas, what takes them, their lifetime markers, and which
+//! of them escape, for up to 64 slots at once (LLVM Language Reference, "getelementptr", "llvm.lifetime.start").
+#![tactic(auto)]
+
+mod addresses;
+mod edge;
+mod edges;
+mod escaped;
+mod rows;
+mod slots;
+mod words;
+
+pub use addresses::{address_words, slot_words};
+pub use edge::{EdgeWord, PhiUse};
+pub use edges::{edge_words, phi_uses};
+pub use escaped::escaped_word;
+pub use rows::{marker_rows, use_rows};
+pub use slots::{chunk_of, slots_of};
+pub use words::name_word;

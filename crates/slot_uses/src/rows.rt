@@ -1,0 +1,69 @@
+//! For each block a row of words: one for each instruction, and one for the terminator.
+
+ghost use Rattle.std.specs.Prelude.{◌≡◌, IfOk};
+ghost use Rattle.slot_uses.specs.Words.{marker_row as row_of_markers, marker_rows as rows_of_markers, use_row as row_of_uses, use_rows as rows_of_uses};
+
+use crate::words::{marked, used, with_term};
+use coro_base::Items;
+use ir_model::{Block, Function, Intrinsic};
+use std::alloc::{AllocError, Global};
+
+fn use_row(alloc: Global, words: &[u64], block: &Block) -> Result<Items<u64>, AllocError>
+    ensures { IfOk result (λ row. row ≡ row_of_uses words.now block.now) }
+{
+    let mut row = Items::new(alloc);
+    for instr in block.instrs.as_slice() {
+        row.push(used(words, instr))?;
+    }
+    row.push(with_term(words, 0, &block.term))?;
+    Ok(row)
+}
+
+/// For each block, and for each of its instructions and its terminator, the word of the names that are used there. A marker
+/// and coro.id use nothing; what phis take stands on edges.
+pub fn use_rows(
+    alloc: Global,
+    function: &Function,
+    words: &[u64],
+) -> Result<Items<Items<u64>>, AllocError>
+    ensures { IfOk result (λ rows. rows ≡ rows_of_uses words.now function.now) }
+{
+    let mut rows = Items::new(alloc);
+    for block in function.blocks.as_slice() {
+        rows.push(use_row(alloc, words, block)?)?;
+    }
+    Ok(rows)
+}
+
+fn marker_row(
+    alloc: Global,
+    marker: Intrinsic,
+    words: &[u64],
+    block: &Block,
+) -> Result<Items<u64>, AllocError>
+    ensures { IfOk result (λ row. row ≡ row_of_markers marker words.now block.now) }
+{
+    let mut row = Items::new(alloc);
+    for instr in block.instrs.as_slice() {
+        row.push(marked(marker, words, instr))?;
+    }
+    row.push(0)?;
+    Ok(row)
+}
+
+/// For each block, and for each of its instructions and its terminator, the word of the pointer of a marker that stands
+/// there.
+pub fn marker_rows(
+    alloc: Global,
+    marker: Intrinsic,
+    function: &Function,
+    words: &[u64],
+) -> Result<Items<Items<u64>>, AllocError>
+    ensures { IfOk result (λ rows. rows ≡ rows_of_markers marker words.now function.now) }
+{
+    let mut rows = Items::new(alloc);
+    for block in function.blocks.as_slice() {
+        rows.push(marker_row(alloc, marker, words, block)?)?;
+    }
+    Ok(rows)
+}
