@@ -1,5 +1,5 @@
 -- What the frame of a coroutine holds.
-use Rattle.std.specs.Prelude.{◌≡◌, ℕ, Bool, true, false, List, [], None, Some, Option, get_or, length, map, option_to_list, slice_get, ◌+◌, ◌∷◌, ◌++◌, ◌==◌, if◌then◌else◌}
+use Rattle.std.specs.Prelude.{ℕ, Bool, true, false, List, [], None, Some, Option, get_or, length, map, option_to_list, slice_get, ◌+◌, ◌∷◌, ◌++◌, ◌==◌, if◌then◌else◌}
 use Rattle.frame_layout.specs.Frames.{index_size}
 use Rattle.frame_layout.specs.declared.layout.Field.{Field}
 use Rattle.frame_layout.specs.declared.layout.FieldKind.{FieldKind}

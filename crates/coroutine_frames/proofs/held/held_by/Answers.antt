@@ -1,4 +1,4 @@
-use Rattle.std.proofs.Common.{ℕ, get_or, false}
+use Rattle.std.proofs.Common.{get_or, false}
 use Rattle.coroutine_frames.proofs.Marked.{held_joined}
 use Rattle.coroutine_frames.proofs.held.held_by.Goals as goal
 
