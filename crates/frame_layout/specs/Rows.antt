@@ -1,5 +1,5 @@
 -- Pairs by one of their halves, and marks of positions.
-use Rattle.std.specs.Prelude.{◌≡◌, ℕ, Bool, true, false, List, [], get_or, map, nat_lt, slice_set, ◌+◌, ◌&&◌, ◌||◌, ◌==◌, ◌∷◌, ◌++◌, if◌then◌else◌}
+use Rattle.std.specs.Prelude.{◌≡◌, ℕ, Bool, true, List, [], get_or, map, nat_lt, slice_set, ◌+◌, ◌&&◌, ◌||◌, ◌==◌, ◌∷◌, ◌++◌, if◌then◌else◌}
 use Rattle.frame_layout.specs.Conflicts.{is_apart, is_apart_at}
 use Rattle.frame_layout.specs.declared.conflicts.Tables.{Tables}
 use Rattle.frame_layout.specs.declared.layout.Field.{Field}

@@ -1,5 +1,4 @@
-use Rattle.std.proofs.Common.{◌∙◌, ap}
-use Rattle.frame_layout.specs.Rows.{marked_pairs}
+use Rattle.std.proofs.Common.{◌∙◌}
 use Rattle.frame_layout.proofs.Turns.{row_pushed}
 use Rattle.frame_layout.proofs.conflicts.field_conflicts.Goals as goal
 

@@ -1,0 +1,113 @@
+//! The frames of coroutines.
+
+ghost use Rattle.std.specs.Prelude.{◌≡◌, IfOk};
+ghost use Rattle.coroutine_frames.specs.Frames.{ArePairs, ArePositions, IfKnown, IsFrameOf, IsLaid};
+ghost use Rattle.ir_paths.specs.Slots.{allocas_of as allocas_of_function};
+
+use crate::fields::fields_of;
+use crate::held::{Holding, held_of};
+use crate::positions::{at_fields, both_at_fields, positions_of, slot_positions};
+use coro_base::{FuncId, Items, SuspendId, ValueId};
+use coro_shape::allocas_of;
+use frame_layout::{Field, Layout, LayoutError, field_conflicts, lay_out, lay_out_plain};
+use ir_model::Function;
+use slot_conflicts::{alive_at, conflicts};
+use slot_lifetime::classes;
+use std::alloc::{AllocError, Global};
+use suspend_crossing::crossing;
+use type_sizes::Sizes;
+
+/// The frame of a coroutine: what its fields keep, in order of the text; for each name of the function the position of its
+/// field, where it has one; and the layout. The field behind those of what is held is the index.
+#[derive(Drop)]
+pub struct CoroutineFrame {
+    pub held: Items<Holding>,
+    pub positions: Items<Option<usize>>,
+    pub layout: Layout,
+}
+
+/// The pairs of fields that conflict.
+fn pairs_of(
+    alloc: Global,
+    function: &Function,
+    allocas: &[ValueId],
+    fields: &[Field],
+    positions: &[Option<usize>],
+    crossing: &[(ValueId, SuspendId)],
+) -> Result<Items<(usize, usize)>, AllocError>
+    ensures { IfOk result (λ pairs. ArePairs function.now allocas.now fields.now positions.now crossing.now pairs) }
+{
+    let slots = slot_positions(alloc, positions, allocas)?;
+    let alive = alive_at(alloc, function)?;
+    let together = conflicts(alloc, function)?;
+    let crossing = at_fields(alloc, positions, crossing)?;
+    let alive = at_fields(alloc, &slots, alive.as_slice())?;
+    let together = both_at_fields(alloc, &slots, together.as_slice())?;
+    field_conflicts(alloc, fields, &crossing, &alive, &together)
+}
+
+/// The layout of these fields, in which bytes are shared, or the plain one.
+fn laid(
+    alloc: Global,
+    func: FuncId,
+    function: &Function,
+    share: bool,
+    allocas: &[ValueId],
+    held: &[Holding],
+    positions: &[Option<usize>],
+    crossing: &[(ValueId, SuspendId)],
+) -> Result<Layout, LayoutError>
+    requires allocas { allocas.now ≡ allocas_of_function function.now }
+    requires positions { ArePositions held.now positions.now }
+    ensures { IfKnown (IsLaid share function.now func held.now crossing.now) result }
+{
+    let fields = fields_of(alloc, function, held)?;
+    if share {
+        let pairs = pairs_of(alloc, function, allocas, &fields, positions, crossing)?;
+        lay_out(alloc, func, &fields, pairs.as_slice())
+    } else {
+        lay_out_plain(alloc, func, &fields)
+    }
+}
+
+/// The frame of a coroutine. It holds the promise, the values that cross suspends and the frame slots; with `share` fields that
+/// don't conflict may share bytes, else the layout is the plain one. For a plain layout no conflicts are asked for.
+///
+/// The frame is too large exactly where the plain layout ends above 2^24.
+pub fn frame_of(
+    alloc: Global,
+    sizes: &Sizes<'_>,
+    func: FuncId,
+    function: &Function,
+    share: bool,
+) -> Result<CoroutineFrame, LayoutError>
+    ensures { IsFrameOf sizes.now.names.now.source.now share func function.now result }
+{
+    let crossing = crossing(alloc, function)?;
+    let classes = classes(alloc, function)?;
+    let allocas = allocas_of(alloc, function)?;
+    let held = held_of(
+        alloc,
+        sizes,
+        function,
+        allocas.as_slice(),
+        classes.as_slice(),
+        crossing.as_slice(),
+    )?;
+    let positions = positions_of(alloc, function.names.len(), held.as_slice())?;
+    let layout = laid(
+        alloc,
+        func,
+        function,
+        share,
+        allocas.as_slice(),
+        held.as_slice(),
+        positions.as_slice(),
+        crossing.as_slice(),
+    )?;
+    Ok(CoroutineFrame {
+        held,
+        positions,
+        layout,
+    })
+}
