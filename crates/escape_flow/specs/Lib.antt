@@ -1,0 +1,12 @@
+pub mod Calls
+pub mod Edges
+pub mod Phis
+pub mod Guard
+pub mod Frames
+pub mod Frees
+pub mod Destroyed
+pub mod Chosen
+pub mod Elidable
+pub mod Handles
+pub mod Sites
+pub mod Rows
