@@ -1,3 +1,9 @@
 pub mod Counting
 pub mod DestroyRows
 pub mod Ending
+pub mod EdgeBounds
+pub mod Leading
+pub mod Destroying
+pub mod Choosing
+pub mod Flags
+pub mod SiteLists

@@ -1,5 +1,5 @@
 -- Paths from the entry, from resume edges and from destroy edges.
-use Rattle.std.specs.Prelude.{ℕ, Bool, true, false, not, List, [], map, flat_map, length, slice_get, unwrap_or, Some, None, Option, IsTrue, IsFalse, ◌≡◌, ◌↔◌, ◌+◌, ◌&&◌, ◌||◌, ◌∷◌, ◌==◌}
+use Rattle.std.specs.Prelude.{ℕ, Bool, true, false, not, List, [], map, flat_map, length, slice_get, unwrap_or, Some, None, Option, IsTrue, IsFalse, ◌≡◌, ◌↔◌, ◌+◌, ◌<◌, ◌||◌, ◌∷◌, ◌==◌}
 use Rattle.std.specs.Int.{bit_at}
 use Rattle.std.specs.List.{list_any}
 use Rattle.block_paths.specs.declared.kinds.EdgeKind.{EdgeKind}
@@ -103,10 +103,12 @@ abbrev pub is_odd : ℕ → Bool
 is_odd w = bit_at w 0 == 1
 
 -- no block has both marks
-abbrev pub are_apart : List Bool → List Bool → Bool
-are_apart [] marks = true
-are_apart (b ∷ led) [] = true
-are_apart (b ∷ led) (m ∷ marks) = not (b && m) && are_apart led marks
+pub record AreApart (led marks : List Bool) : Type 0 where
+  pub each : (b : ℕ) → slice_get led b ≡ Some true → mark_at marks b ≡ false
+
+-- the same of the first blocks
+pub record AreApartTo (count : ℕ) (led marks : List Bool) : Type 0 where
+  pub each : (b : ℕ) → b < count → slice_get led b ≡ Some true → mark_at marks b ≡ false
 
 -- for each block, and for the place behind the last, whether it is on the way
 pub record AreOn (way : Way) (f : Function) (led : List Bool) : Type 0 where

@@ -32,7 +32,7 @@ edges_into f block = count_by (λ e. block == e.to) (edges_of f)
 
 -- the labels of a branch on a value: where it is true, and where it is false
 abbrev pub ways_on : Option ℕ → Terminator → Option (ℕ × ℕ)
-ways_on v (Terminator.Branch x yes no) = if is_value v x then Some (yes, no) else None
+ways_on v (Terminator.Branch x one other) = if is_value v x then Some (one, other) else None
 ways_on v _ = None
 
 abbrev pub ways_in : Option ℕ → Option Block → Option (ℕ × ℕ)

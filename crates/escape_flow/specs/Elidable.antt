@@ -26,3 +26,8 @@ AreElidable m all = AreChosen (λ g. IsElidable (function_at m g)) (up_to (lengt
 pub record AreFlags (m : Module) (flags : List Bool) : Type 0 where
   pub count : length flags ≡ length m.functions
   pub each : (g : ℕ) (is : Bool) → slice_get flags g ≡ Some is → IsTrue is ↔ IsElidable (function_at m g)
+
+-- the same of the first functions
+pub record AreFlagsTo (number : ℕ) (m : Module) (flags : List Bool) : Type 0 where
+  pub count : length flags ≡ number
+  pub each : (g : ℕ) (is : Bool) → slice_get flags g ≡ Some is → IsTrue is ↔ IsElidable (function_at m g)

@@ -14,7 +14,7 @@ use ir_paths::Point;
 use window_rules::instr_at;
 
 /// What is called for memory: an allocator, or a deallocator.
-#[derive(Clone, Copy, Debug, Drop)]
+#[derive(Clone, Copy, Drop)]
 pub enum Dealing {
     Allocates,
     Frees,

@@ -1,8 +1,8 @@
 //! Paths from the entry, from resume edges and from destroy edges.
 
-ghost use Rattle.std.specs.Prelude.{◌≡◌, ◌+◌, ◌++◌, ◌∷◌, ◌↔◌, [], IfOk, OnOk, IsTrue, Some, flat_map, length, map, not, slice_get};
+ghost use Rattle.std.specs.Prelude.{◌≡◌, ◌&&◌, ◌+◌, ◌++◌, ◌∷◌, ◌↔◌, [], IfOk, OnOk, IsTrue, Some, flat_map, length, map, not, slice_get};
 ghost use Rattle.std.specs.List.{list_any};
-ghost use Rattle.escape_flow.specs.Destroyed.{AreOn, FreesWhenDestroyed, are_apart as are_apart_marks, is_destroy as is_destroy_kind, is_free, is_odd as is_odd_word, is_resume as is_resume_kind, is_start as is_start_of, is_stop, mark_at as mark_at_block, marks_of as marks_in, passes, passes_by as passes_marks, starts as starts_of_way, target_if, targets_of as targets_of_way, word_of as word_of_mark};
+ghost use Rattle.escape_flow.specs.Destroyed.{AreOn, FreesWhenDestroyed, AreApart, is_destroy as is_destroy_kind, is_free, is_odd as is_odd_word, is_resume as is_resume_kind, is_start as is_start_of, is_stop, mark_at as mark_at_block, marks_of as marks_in, passes, passes_by as passes_marks, starts as starts_of_way, target_if, targets_of as targets_of_way, word_of as word_of_mark};
 ghost use Rattle.escape_flow.specs.Edges.{edges_of as edges_of_function};
 ghost use Rattle.ir_paths.specs.Windows.{end_block as end_block_of};
 
@@ -17,11 +17,11 @@ use ir_model::{Function, Instr, Intrinsic};
 use std::alloc::{AllocError, Global};
 
 /// The test for coro.free.
-#[derive(Clone, Copy, Debug, Drop)]
+#[derive(Clone, Copy, Drop)]
 struct Free;
 
 /// The test for saves and suspends.
-#[derive(Clone, Copy, Debug, Drop)]
+#[derive(Clone, Copy, Drop)]
 struct Stop;
 
 impl InstrTest for Free {
@@ -220,10 +220,10 @@ fn led(
 
 /// Whether no block has both marks.
 fn are_apart(led: &[bool], marks: &[bool]) -> bool
-    ensures { result ≡ are_apart_marks led.now marks.now }
+    ensures { IsTrue result ↔ AreApart led.now marks.now }
 {
-    for (is_led, is_marked) in led.iter().zip(marks) {
-        if *is_led && *is_marked {
+    for (at, is_led) in led.iter().enumerate() {
+        if *is_led && mark_at(marks, at) {
             return false;
         }
     }
@@ -237,6 +237,12 @@ fn is_end_clear(function: &Function, led: &[bool]) -> Result<bool, AllocError>
         None => Err(AllocError),
         Some(is_led) => Ok(!*is_led),
     }
+}
+
+fn are_all(a: bool, b: bool, c: bool) -> bool
+    ensures { result ≡ (a && (b && c)) }
+{
+    a && (b && c)
 }
 
 /// Whether the coroutine frees its frame when it is destroyed and not before ("Coroutines in LLVM", "llvm.coro.free").
@@ -256,5 +262,5 @@ pub fn frees_when_destroyed(
     let is_calm = are_apart(calm.as_slice(), frees.as_slice());
     let is_still = are_apart(destroyed.as_slice(), stops.as_slice());
     let is_freed = is_end_clear(function, unfreed.as_slice())?;
-    Ok(is_calm && (is_freed && is_still))
+    Ok(are_all(is_calm, is_freed, is_still))
 }

@@ -18,7 +18,7 @@ use ordinary_step::position;
 use std::alloc::{AllocError, Global};
 
 /// An edge between blocks, with its kind.
-#[derive(Clone, Copy, Debug, Drop)]
+#[derive(Clone, Copy, Drop)]
 pub struct Edge {
     pub from: BlockId,
     pub to: BlockId,
@@ -27,7 +27,7 @@ pub struct Edge {
 
 /// Which paths are followed: from the entry and from resume edges over all but destroy edges; from destroy edges until a block
 /// with a free is left; from destroy edges over all edges.
-#[derive(Clone, Copy, Debug, Drop)]
+#[derive(Clone, Copy, Drop)]
 pub enum Way {
     Calm,
     Unfreed,

@@ -1,6 +1,6 @@
 //! The coroutines whose frames may lie in a caller.
 
-ghost use Rattle.std.specs.Prelude.{◌≡◌, ◌&&◌, ◌↔◌, IfOk, IsTrue};
+ghost use Rattle.std.specs.Prelude.{◌≡◌, ◌&&◌, ◌++◌, ◌∷◌, ◌↔◌, if◌then◌else◌, [], IfOk, IsTrue, OnOk};
 ghost use Rattle.escape_flow.specs.Elidable.{AreElidable, AreFlags, IsElidable};
 ghost use Rattle.escape_flow.specs.Frames.{rets_give_frame};
 ghost use Rattle.escape_flow.specs.Frees.{are_released};
@@ -25,6 +25,7 @@ fn is_formed(alloc: Global, facts: &Facts) -> Result<bool, AllocError>
 }
 
 /// Whether the function is a coroutine whose frame may lie in a caller.
+#[tactic(auto, using(crate::proofs::Flags::no_coroutine, crate::proofs::Flags::not_formed, crate::proofs::Flags::formed))]
 fn is_elidable(alloc: Global, function: &Function) -> Result<bool, AllocError>
     ensures { IfOk result (λ b. IsTrue b ↔ IsElidable function.now) }
 {
@@ -43,7 +44,7 @@ fn is_elidable(alloc: Global, function: &Function) -> Result<bool, AllocError>
 
 /// For each function whether it is elidable.
 pub fn flags_of(alloc: Global, module: &Module) -> Result<Items<bool>, AllocError>
-    ensures { IfOk result (λ flags. AreFlags module.now flags) }
+    ensures { IfOk result (λ flags. AreFlags «module».now flags) }
 {
     let functions = module.functions.as_slice();
     let mut flags = Items::new(alloc);
@@ -53,17 +54,24 @@ pub fn flags_of(alloc: Global, module: &Module) -> Result<Items<bool>, AllocErro
     Ok(flags)
 }
 
+fn push_if(is_elidable: bool, func: FuncId, all: &mut Items<FuncId>) -> Result<(), AllocError>
+    ensures { OnOk result (all.new ≡ all.old ++ (if is_elidable then func ∷ [] else [])) }
+{
+    if is_elidable {
+        all.push(func)?;
+    }
+    Ok(())
+}
+
 /// The coroutines whose frames may lie in a caller, in order of the text ("Coroutines in LLVM", "llvm.coro.alloc").
 pub fn elidable_callees(alloc: Global, module: &Module) -> Result<Items<FuncId>, AllocError>
-    ensures { IfOk result (AreElidable module.now) }
+    ensures { IfOk result (AreElidable «module».now) }
 {
     let flags = flags_of(alloc, module)?;
     let flags = flags.as_slice();
     let mut all = Items::new(alloc);
     for at in 0..flags.len() {
-        if flags[at] {
-            all.push(at)?;
-        }
+        push_if(flags[at], at, &mut all)?;
     }
     Ok(all)
 }

@@ -68,7 +68,7 @@ fn is_frame_call(instr: &Instr) -> bool
 }
 
 /// The values of begin and of coro.frame.
-#[derive(Clone, Copy, Debug, Drop)]
+#[derive(Clone, Copy, Drop)]
 pub struct FrameValues;
 
 impl Choice for FrameValues {

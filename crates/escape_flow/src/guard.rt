@@ -98,7 +98,7 @@ impl Facts<'_> {
         }
     }
 
-    #[tactic(auto, using(crate::proofs::Counting::count_map))]
+    #[tactic(auto, using(crate::proofs::Counting::phi_count))]
     fn is_used_by(&self, value: ValueId, phi: &Phi) -> Result<bool, AllocError>
         ensures { IfOk result (λ b. b ≡ (uses_of self.now.function.now value == count_by (is_local value) (phi_operands phi.now))) }
     {

@@ -46,7 +46,7 @@ fn count_first(counts: &mut Uses, args: &[Arg]) -> Result<(), AllocError>
 }
 
 /// The operands that are used as the handle of a site may be.
-#[derive(Clone, Copy, Debug, Drop)]
+#[derive(Clone, Copy, Drop)]
 pub struct Handles;
 
 impl Choice for Handles {

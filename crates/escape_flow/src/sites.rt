@@ -1,6 +1,6 @@
 //! The calls whose frames lie in the caller.
 
-ghost use Rattle.std.specs.Prelude.{◌≡◌, ◌++◌, ◌+◌, ◌↔◌, [], IfOk, OnOk, IsTrue, Some, length, not, replicate};
+ghost use Rattle.std.specs.Prelude.{◌≡◌, ◌++◌, ◌∷◌, ◌+◌, ◌↔◌, if◌then◌else◌, [], IfOk, OnOk, IsTrue, Some, length, not, replicate};
 ghost use Rattle.std.specs.List.{list_any};
 ghost use Rattle.std.specs.Option.{option_copied};
 ghost use Rattle.coro_shape.specs.Places.{places_where as places_of};
@@ -32,7 +32,7 @@ use std::alloc::{AllocError, Global};
 use window_rules::{instr_at, point_of};
 
 /// The test for calls of named functions.
-#[derive(Clone, Copy, Debug, Drop)]
+#[derive(Clone, Copy, Drop)]
 struct NamedCall;
 
 impl InstrTest for NamedCall {
@@ -156,8 +156,8 @@ fn callee_of(names: &Names, instr: Option<&Instr>) -> Option<FuncId>
 }
 
 fn is_flagged(module: &Module, flags: &Items<bool>, callee: FuncId) -> bool
-    requires { AreFlags module.now flags.now }
-    ensures { IsTrue result ↔ IsElidable (function_at module.now callee) }
+    requires { AreFlags «module».now flags.now }
+    ensures { IsTrue result ↔ IsElidable (function_at «module».now callee) }
 {
     match flags.get(callee) {
         None => false,
@@ -173,9 +173,9 @@ fn calls_elidable(
     function: &Function,
     call: Point,
 ) -> bool
-    requires names { names.now.source.now ≡ module.now }
-    requires flags { AreFlags module.now flags.now }
-    ensures { IsTrue result ↔ CallsElidable module.now function.now call }
+    requires names { names.now.source.now ≡ «module».now }
+    requires flags { AreFlags «module».now flags.now }
+    ensures { IsTrue result ↔ CallsElidable «module».now function.now call }
 {
     match callee_of(names, instr_at(function, call)) {
         None => false,
@@ -183,8 +183,8 @@ fn calls_elidable(
     }
 }
 
-/// Whether a call is a site.
-fn is_site(
+/// Whether the result of a call is used in the five ways only, and destroyed on each path.
+fn is_handled(
     alloc: Global,
     graph: &mut PointGraph,
     caller: &Caller,
@@ -205,6 +205,41 @@ fn is_site(
     }
 }
 
+/// Whether a call of an elidable function is a site.
+#[tactic(auto, using(crate::proofs::SiteLists::site_called, crate::proofs::SiteLists::not_called))]
+fn is_site_at(
+    alloc: Global,
+    module: &Module,
+    names: &Names,
+    flags: &Items<bool>,
+    graph: &mut PointGraph,
+    caller: &Caller,
+    destroys: &Destroys,
+    call: Point,
+) -> Result<bool, AllocError>
+    requires names { names.now.source.now ≡ «module».now }
+    requires flags { AreFlags «module».now flags.now }
+    requires graph { IsGraphOf caller.now.function.now graph.old }
+    requires destroys { AreDestroysOf caller.now.function.now destroys.now }
+    ensures is { IfOk result (λ b. IsTrue b ↔ IsSiteAt «module».now caller.now.function.now call) }
+    ensures kept { OnOk result (IsGraphOf caller.now.function.now graph.new) }
+{
+    if calls_elidable(module, names, flags, caller.function, call) {
+        is_handled(alloc, graph, caller, destroys, call)
+    } else {
+        Ok(false)
+    }
+}
+
+fn push_if(is_site: bool, place: Place, all: &mut Items<Place>) -> Result<(), AllocError>
+    ensures { OnOk result (all.new ≡ all.old ++ (if is_site then place ∷ [] else [])) }
+{
+    if is_site {
+        all.push(place)?;
+    }
+    Ok(())
+}
+
 /// Those of the calls of a function that are sites.
 fn chosen(
     alloc: Global,
@@ -214,9 +249,9 @@ fn chosen(
     function: &Function,
     calls: &[Place],
 ) -> Result<Items<Place>, AllocError>
-    requires names { names.now.source.now ≡ module.now }
-    requires flags { AreFlags module.now flags.now }
-    ensures { IfOk result (λ all. AreChosen (IsSite module.now function.now) calls.now all) }
+    requires names { names.now.source.now ≡ «module».now }
+    requires flags { AreFlags «module».now flags.now }
+    ensures { IfOk result (λ all. AreChosen (IsSite «module».now function.now) calls.now all) }
 {
     let mut graph = PointGraph::new(alloc, function)?;
     let caller = caller_of(alloc, function)?;
@@ -224,11 +259,10 @@ fn chosen(
     let mut all = Items::new(alloc);
     for place in calls {
         let call = point_of(function, *place);
-        if calls_elidable(module, names, flags, function, call)
-            && is_site(alloc, &mut graph, &caller, &destroys, call)?
-        {
-            all.push(*place)?;
-        }
+        let is_site = is_site_at(
+            alloc, module, names, flags, &mut graph, &caller, &destroys, call,
+        )?;
+        push_if(is_site, *place, &mut all)?;
     }
     Ok(all)
 }
@@ -261,7 +295,7 @@ fn push_all(places: &[Place], all: &mut Items<Place>) -> Result<(), AllocError>
 /// call of an elidable coroutine that is only resumed, destroyed, compared with null, or asked whether it is done or for its
 /// promise, and destroyed on each path to a ret or to the call again ("Coroutines in LLVM", "llvm.coro.alloc").
 pub fn elidable_sites(alloc: Global, module: &Module) -> Result<Items<Place>, AllocError>
-    ensures { IfOk result (AreSites module.now) }
+    ensures { IfOk result (AreSites «module».now) }
 {
     let flags = flags_of(alloc, module)?;
     let names = Names::new(alloc, module)?;
