@@ -1,14 +1,14 @@
 -- A destroy that stands behind the call in its block is passed by each path from the call.
-use Rattle.std.proofs.Common.{◌≡◌, ℕ, ◌+◌, ◌<◌, ◌≤◌, Bool, true, false, ◌&&◌, ◌||◌, List, [], ◌∷◌, length, Some, Option, refl, sym, ap, ◌∙◌, subst, inl, inr, ⊎_elim, arith}
+use Rattle.std.proofs.Common.{◌≡◌, ℕ, ◌+◌, ◌<◌, ◌≤◌, Bool, true, false, ◌&&◌, ◌||◌, List, [], ◌∷◌, length, map, Some, Option, refl, sym, ap, ◌∙◌, subst, inl, inr, ⊎_elim, arith}
 use Rattle.std.proofs.lemmas.Bool.{cases_eq, eqb-true, false≢true, lt-ltb, ltb-true}
 use Rattle.std.specs.Prelude.{slice_get, nat_lt, IsTrue, IsFalse, ◌⊎◌, ◌↔◌, ◌==◌, if◌then◌else◌}
 use Rattle.std.specs.List.{list_any}
 use Rattle.escape_flow.specs.Calls.{value_at}
-use Rattle.escape_flow.specs.Sites.{IsDestroyed, destroys_of, ends_use, is_ahead, is_ret_in}
+use Rattle.escape_flow.specs.Sites.{IsDestroyed, IsPassed, destroys_of, ends_use, is_ahead, is_ret_in}
 use Rattle.ir_model.specs.declared.module.Block.{Block}
 use Rattle.ir_model.specs.declared.module.Function.{Function}
 use Rattle.ir_paths.proofs.Search.{eq_from, same_point-itself, same_point-same}
-use Rattle.ir_paths.specs.Paths.{IsPath, Leads, has_point, nexts, nexts_in, same_point}
+use Rattle.ir_paths.specs.Paths.{IsPath, Leads, entry_point, has_point, nexts, nexts_in, same_point, targets}
 use Rattle.ir_paths.specs.declared.point.Point.{Point}
 use Rattle.point_graph.specs.Reached.{IsReached}
 use Rattle.window_rules.specs.Outside.{is_return}
@@ -45,11 +45,11 @@ only x p h = ⊎_elim (λ here. same_point-same p x here) (λ none. absurd (fals
 
 -- behind an instruction comes the next point of its block
 next_is : (f : Function) (q : Point) (b : Block) → slice_get f.blocks q.block ≡ Some b → q.at < length b.instrs → nexts f q ≡ record { block = q.block; at = q.at + 1 } ∷ []
-next_is f q b there lt = ap (nexts_in f q) there ∙ by (nat_lt q.at (length b.instrs)) (lt-ltb q.at (length b.instrs) lt)
+next_is f q b there lt = ap (nexts_in f q) there ∙ by (nat_lt q.at (length b.instrs)) (if q.at == length b.instrs then map (entry_point f) (targets b.term) else []) (lt-ltb q.at (length b.instrs) lt)
   where
-    by : (t : Bool) {rest : List Point} → t ≡ true → (if t then record { block = q.block; at = q.at + 1 } ∷ [] else rest) ≡ record { block = q.block; at = q.at + 1 } ∷ []
-    by true e = refl
-    by false e = absurd (false≢true e)
+    by : (t : Bool) (rest : List Point) → t ≡ true → (if t then record { block = q.block; at = q.at + 1 } ∷ [] else rest) ≡ record { block = q.block; at = q.at + 1 } ∷ []
+    by true rest e = refl
+    by false rest e = absurd (false≢true e)
 
 pub record IsBetween (k low high : ℕ) (p : Point) : Type 0 where
   pub block : p.block ≡ k
@@ -135,3 +135,6 @@ ahead_is f call b destroys there are some = ((λ e. record { before = before }),
         let path : Leads f (destroys_of f (value_at f call)) call p = subst (λ (s : Point). Leads f (destroys_of f (value_at f call)) s p) start reached.path in
         ends_no_use f call call.block found.0.at b p there inside
         (walk f (destroys_of f (value_at f call)) call.block found.0.at b there inside avoids call path.between p refl after path.is_path)
+
+pub passed_is : (f : Function) (call : Point) (destroys : List Point) (b : Bool) → destroys ≡ destroys_of f (value_at f call) → (IsTrue b → IsPassed f destroys call) → b ≡ true → IsTrue true ↔ IsDestroyed f call
+passed_is f call destroys b are passed so = let is = passed so in ahead_is f call is.block destroys is.is_block are is.is_passed

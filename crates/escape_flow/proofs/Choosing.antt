@@ -7,28 +7,19 @@ use Rattle.escape_flow.specs.Chosen.{AreChosen, up_to}
 use Rattle.escape_flow.specs.Chosen.AreChosen.{Nothing, Taken, LeftOut}
 use Rattle.point_graph.proofs.Tests.{take-all}
 
-one_more : {T : Type 0} (xs : List T) (i : ℕ) (x : T) → i < length xs → x ≡ get_or xs i x → take (i + 1) xs ≡ take i xs ++ x ∷ []
-one_more xs i x lt is = take_more xs i x lt ∙ ap (λ y. take i xs ++ y ∷ []) (sym is)
-
-pub taken_at : {T : Type 0} (Holds : T → Type 0) (xs : List T) (i : ℕ) (x : T) (all next : List T) → i < length xs → x ≡ get_or xs i x → Holds x → next ≡ all ++ x ∷ [] → AreChosen Holds (take i xs) all → AreChosen Holds (take (i + 1) xs) next
-taken_at Holds xs i x all next lt is holds put before =
-    subst (AreChosen Holds (take (i + 1) xs)) (sym put)
-    (subst (λ l. AreChosen Holds l (all ++ x ∷ [])) (sym (one_more xs i x lt is)) (Taken x (take i xs) all before holds))
-
-pub left_at : {T : Type 0} (Holds : T → Type 0) (xs : List T) (i : ℕ) (x : T) (all next : List T) → i < length xs → x ≡ get_or xs i x → (Holds x → ⊥) → next ≡ all → AreChosen Holds (take i xs) all → AreChosen Holds (take (i + 1) xs) next
-left_at Holds xs i x all next lt is fails same before =
-    subst (AreChosen Holds (take (i + 1) xs)) (sym same)
-    (subst (λ l. AreChosen Holds l all) (sym (one_more xs i x lt is)) (LeftOut x (take i xs) all before fails))
-
 nothing_more : {T : Type 0} (xs : List T) → xs ++ [] ≡ xs
 nothing_more [] = refl
 nothing_more (x ∷ xs) = ap (λ l. x ∷ l) (nothing_more xs)
 
 -- one element more, with a test that tells whether the fact holds
-pub chosen_step : {T : Type 0} (Holds : T → Type 0) (xs : List T) (i : ℕ) (x : T) (all next : List T) (b : Bool) → i < length xs → x ≡ get_or xs i x → IsTrue b ↔ Holds x → next ≡ all ++ (if b then x ∷ [] else []) →
+pub chosen_step : {T : Type 0} (Holds : T → Type 0) (xs : List T) (i : ℕ) (d : T) (all next : List T) (b : Bool) → i < length xs → IsTrue b ↔ Holds (get_or xs i d) → next ≡ all ++ (if b then get_or xs i d ∷ [] else []) →
     AreChosen Holds (take i xs) all → AreChosen Holds (take (i + 1) xs) next
-chosen_step Holds xs i x all next true lt is right put before = taken_at Holds xs i x all next lt is (right.0 refl) put before
-chosen_step Holds xs i x all next false lt is right put before = left_at Holds xs i x all next lt is (λ h. false≢true (right.1 h)) (put ∙ nothing_more all) before
+chosen_step Holds xs i d all next true lt right put before =
+    subst (AreChosen Holds (take (i + 1) xs)) (sym put)
+    (subst (λ l. AreChosen Holds l (all ++ get_or xs i d ∷ [])) (sym (take_more xs i d lt)) (Taken (get_or xs i d) (take i xs) all before (right.0 refl)))
+chosen_step Holds xs i d all next false lt right put before =
+    subst (AreChosen Holds (take (i + 1) xs)) (sym (put ∙ nothing_more all))
+    (subst (λ l. AreChosen Holds l all) (sym (take_more xs i d lt)) (LeftOut (get_or xs i d) (take i xs) all before (λ h. false≢true (right.1 h))))
 
 pub chosen_all : {T : Type 0} (Holds : T → Type 0) (xs : List T) (i : ℕ) (all : List T) → length xs ≤ i → AreChosen Holds (take i xs) all → AreChosen Holds xs all
 chosen_all Holds xs i all le before = subst (λ l. AreChosen Holds l all) (take-all xs i le) before

@@ -1,10 +1,13 @@
 -- Whether functions are elidable, one after another.
 use Rattle.std.proofs.Common.{◌≡◌, ℕ, zero, suc, ◌+◌, ◌<◌, ◌≤◌, Bool, true, false, ◌&&◌, List, [], ◌∷◌, ◌++◌, length, get_or, Some, None, refl, sym, ap, ◌∙◌, subst, ⊎_elim, inl, inr, arith, length-append}
 use Rattle.std.proofs.lemmas.Bool.{cases_lt, false≢true}
-use Rattle.std.specs.Prelude.{slice_get, unwrap_or, Option, IsTrue, ◌↔◌, ◌⊎◌}
-use Rattle.escape_flow.proofs.Destroying.{past, within}
+use Rattle.std.specs.Prelude.{slice_get, unwrap_or, Option, IsTrue, ◌↔◌, ◌⊎◌, if◌then◌else◌}
+use Rattle.std.proofs.lemmas.Option.{slice_get-get_or}
+use Rattle.escape_flow.proofs.Choosing.{number_step, numbers_all}
+use Rattle.escape_flow.proofs.Destroying.{past}
+use Rattle.escape_flow.specs.Chosen.{AreChosen, up_to}
 use Rattle.escape_flow.specs.Destroyed.{FreesWhenDestroyed}
-use Rattle.escape_flow.specs.Elidable.{AreFlags, AreFlagsTo, IsElidable}
+use Rattle.escape_flow.specs.Elidable.{AreElidable, AreFlags, AreFlagsTo, IsElidable}
 use Rattle.escape_flow.specs.Frames.{rets_give_frame}
 use Rattle.escape_flow.specs.Frees.{are_released}
 use Rattle.escape_flow.specs.Guard.{is_guarded}
@@ -99,3 +102,21 @@ no_flag m flags g are none = no_coroutine (function_at m g) (ap (λ (f : Functio
 
 pub the_flag : (m : Module) (flags : List Bool) (g : ℕ) (b : Bool) → AreFlags m flags → slice_get flags g ≡ Some b → IsTrue b ↔ IsElidable (function_at m g)
 the_flag m flags g b are e = are.each g b e
+
+-- ---- along a list
+
+pub flags_at : (m : Module) (functions : List Function) (i : ℕ) (f : Function) (flags next : List Bool) (is : Bool) → functions ≡ m.functions → i < length functions → f ≡ get_or functions i f → IsTrue is ↔ IsElidable f → next ≡ flags ++ is ∷ [] → AreFlagsTo i m flags → AreFlagsTo (i + 1) m next
+flags_at m functions i f flags next is are lt at right put before =
+    flags_step m i f flags next is (subst (λ (l : List Function). i < length l) are lt) (at ∙ ap (λ (l : List Function). get_or l i f) are) right put before
+
+pub callee_step : (m : Module) (flags items : List Bool) (at : ℕ) (d : Bool) (all next : List ℕ) → AreFlags m flags → items ≡ flags → at < length items → next ≡ all ++ (if get_or items at d then at ∷ [] else []) →
+    AreChosen (λ g. IsElidable (function_at m g)) (up_to at) all → AreChosen (λ g. IsElidable (function_at m g)) (up_to (at + 1)) next
+callee_step m flags items at d all next are same lt put before =
+    number_step (λ g. IsElidable (function_at m g)) at all next (get_or items at d)
+    (are.each at (get_or items at d) (ap (λ (l : List Bool). slice_get l at) (sym same) ∙ slice_get-get_or items at d lt)) put before
+
+pub callees_all : (m : Module) (flags items : List Bool) (at : ℕ) (all : List ℕ) → AreFlags m flags → items ≡ flags → at ≤ length items → length items ≤ at → AreChosen (λ g. IsElidable (function_at m g)) (up_to at) all → AreElidable m all
+callees_all m flags items at all are same le ge before =
+    let len = ap (λ (l : List Bool). length l) same in
+    let count = are.count in
+    numbers_all (λ g. IsElidable (function_at m g)) at (length m.functions) all (omega (arith, le, ge, len, count)) before

@@ -2,9 +2,11 @@
 use Rattle.std.proofs.Common.{◌≡◌, ℕ, ◌+◌, ◌<◌, ◌≤◌, Bool, true, false, not, ◌&&◌, List, [], ◌∷◌, ◌++◌, length, take, get_or, Some, None, refl, sym, ap, ◌∙◌, subst, arith}
 use Rattle.std.proofs.lemmas.Bool.{false≢true}
 use Rattle.std.proofs.lemmas.List.{take_more, length-take-le}
-use Rattle.std.specs.Prelude.{slice_get, Option, IsTrue, ◌↔◌}
+use Rattle.std.specs.Prelude.{slice_get, Option, IsTrue, ◌↔◌, if◌then◌else◌}
 use Rattle.coro_base.specs.declared.outcome.Place.{Place}
+use Rattle.escape_flow.proofs.Choosing.{chosen_step}
 use Rattle.escape_flow.specs.Calls.{value_at}
+use Rattle.window_rules.specs.Points.{point_of}
 use Rattle.escape_flow.specs.Chosen.{AreChosen}
 use Rattle.escape_flow.specs.Elidable.{IsElidable}
 use Rattle.escape_flow.specs.Handles.{is_handle}
@@ -45,14 +47,23 @@ site_called m f call a b calls so handles = ((λ e. record { calls = calls.0 so;
 pub not_called : (m : Module) (f : Function) (call : Point) (a : Bool) → IsTrue a ↔ CallsElidable m f call → a ≡ false → IsTrue false ↔ IsSiteAt m f call
 not_called m f call a calls not_so = ((λ e. absurd (false≢true e)), (λ is. absurd (false≢true (sym not_so ∙ calls.1 is.calls))))
 
+pub place_step : (m : Module) (f g : Function) (calls : List Place) (i : ℕ) (d : Place) (call : Point) (all next : List Place) (b : Bool) → i < length calls → g ≡ f → call ≡ point_of f (get_or calls i d) → IsTrue b ↔ IsSiteAt m g call →
+    next ≡ all ++ (if b then get_or calls i d ∷ [] else []) → AreChosen (IsSite m f) (take i calls) all → AreChosen (IsSite m f) (take (i + 1) calls) next
+place_step m f g calls i d call all next b lt same at right put before =
+    chosen_step (IsSite m f) calls i d all next b lt
+    (subst (λ (p : Point). IsTrue b ↔ IsSiteAt m f p) at (subst (λ (h : Function). IsTrue b ↔ IsSiteAt m h call) same right)) put before
+
 -- ---- all functions
 
-pub sites_step : (m : Module) (i : ℕ) (f : Function) (calls all here next : List Place) → i < length m.functions → f ≡ get_or m.functions i f → calls ≡ plain_calls i f → AreChosen (IsSite m f) calls here → next ≡ all ++ here → AreSitesOf m (take i m.functions) all → AreSitesOf m (take (i + 1) m.functions) next
-sites_step m i f calls all here next lt is called chosen put before =
-    let len : length (take i m.functions) ≡ i = length-take-le i m.functions (omega (arith, lt)) in
+pub sites_step : (m : Module) (functions : List Function) (i : ℕ) (f : Function) (calls all here next : List Place) → functions ≡ m.functions → i < length functions → f ≡ get_or functions i f → calls ≡ plain_calls i f → AreChosen (IsSite m f) calls here → next ≡ all ++ here →
+    AreSitesOf m (take i m.functions) all → AreSitesOf m (take (i + 1) m.functions) next
+sites_step m functions i f calls all here next are lt is called chosen put before =
+    let inside : i < length m.functions = subst (λ (l : List Function). i < length l) are lt in
+    let there : f ≡ get_or m.functions i f = is ∙ ap (λ (l : List Function). get_or l i f) are in
+    let len : length (take i m.functions) ≡ i = length-take-le i m.functions (omega (arith, inside)) in
     let own : AreChosen (IsSite m f) (plain_calls (length (take i m.functions)) f) here = subst (λ l. AreChosen (IsSite m f) l here) (called ∙ ap (λ n. plain_calls n f) (sym len)) chosen in
     subst (AreSitesOf m (take (i + 1) m.functions)) (sym put)
-    (subst (λ fs. AreSitesOf m fs (all ++ here)) (ap (λ (x : Function). take i m.functions ++ x ∷ []) is ∙ sym (take_more m.functions i f lt)) (More (take i m.functions) f all here before own))
+    (subst (λ fs. AreSitesOf m fs (all ++ here)) (ap (λ (x : Function). take i m.functions ++ x ∷ []) there ∙ sym (take_more m.functions i f inside)) (More (take i m.functions) f all here before own))
 
 pub sites_all : (m : Module) (i : ℕ) (all : List Place) → length m.functions ≤ i → AreSitesOf m (take i m.functions) all → AreSites m all
 sites_all m i all le before = subst (λ fs. AreSitesOf m fs all) (take-all m.functions i le) before

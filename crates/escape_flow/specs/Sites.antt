@@ -1,5 +1,6 @@
 -- The calls whose frames lie in the caller.
-use Rattle.std.specs.Prelude.{ℕ, Bool, true, false, List, [], length, slice_get, Some, None, Option, option_and_then, IsTrue, IsFalse, ◌≡◌, ◌&&◌, ◌||◌, ◌∷◌, ◌++◌, ◌==◌, if◌then◌else◌}
+use Rattle.std.specs.List.{list_any}
+use Rattle.std.specs.Prelude.{ℕ, Bool, true, false, List, [], length, nat_lt, slice_get, Some, None, Option, option_and_then, IsTrue, IsFalse, ◌≡◌, ◌&&◌, ◌||◌, ◌∷◌, ◌++◌, ◌==◌, if◌then◌else◌}
 use Rattle.coro_base.specs.declared.outcome.Place.{Place}
 use Rattle.coro_shape.specs.Places.{places_where}
 use Rattle.escape_flow.specs.Calls.{value_at}
@@ -90,3 +91,15 @@ pub data AreSitesOf (m : Module) : List Function → List Place → Type 0 where
 -- exactly the sites in functions that are no coroutines, in order of place
 abbrev pub AreSites : Module → List Place → Type 0
 AreSites m all = AreSitesOf m m.functions all
+
+-- ---- a test that needs no search
+
+-- the other point stands behind the call in its block, and is one of so many instructions
+abbrev pub is_ahead : ℕ → Point → Point → Bool
+is_ahead count call p = (p.block == call.block) && (nat_lt call.at p.at && nat_lt p.at count)
+
+-- one of these points stands behind the call in its block
+pub record IsPassed (f : Function) (points : List Point) (call : Point) : Type 0 where
+  pub block : Block
+  pub is_block : slice_get f.blocks call.block ≡ Some block
+  pub is_passed : IsTrue (list_any (is_ahead (length block.instrs) call) points)

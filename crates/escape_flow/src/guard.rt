@@ -1,7 +1,7 @@
 //! How an elidable coroutine asks whether its frame is to be allocated.
 
 ghost use Rattle.std.specs.Prelude.{◌≡◌, IfOk, MatchOption, None, Some, count_by, find, slice_get};
-ghost use Rattle.std.specs.Prelude.{◌==◌};
+ghost use Rattle.std.specs.Prelude.{◌==◌, ◌∷◌};
 ghost use Rattle.std.specs.Option.{option_copied};
 ghost use Rattle.coro_calls.specs.Calls.{is_null as is_null_operand};
 ghost use Rattle.coro_shape.specs.Uses.{phi_operands, uses_of};
@@ -126,6 +126,23 @@ impl Facts<'_> {
         Ok(takes_begin(value, block.instrs.as_slice()) && self.uses_of(value)? == 1)
     }
 
+    fn joins_at(
+        &self,
+        a: BlockId,
+        d: BlockId,
+        memory: ValueId,
+        block: &Block,
+        first: &Phi,
+        rest: &[Phi],
+    ) -> Result<bool, AllocError>
+        ensures { IfOk result (λ b. b ≡ joins_by self.now.function.now a d memory block.now (first.now ∷ rest.now)) }
+    {
+        Ok(
+            self.is_memory_phi(a, d, memory, first)?
+                && (self.give_same(a, d, rest) && self.begins_with(first.result, block)?),
+        )
+    }
+
     fn joins(
         &self,
         a: BlockId,
@@ -137,10 +154,7 @@ impl Facts<'_> {
     {
         match block.phis.as_slice() {
             [] => Ok(false),
-            [first, rest @ ..] => Ok(
-                self.is_memory_phi(a, d, memory, first)?
-                    && (self.give_same(a, d, rest) && self.begins_with(first.result, block)?),
-            ),
+            [first, rest @ ..] => self.joins_at(a, d, memory, block, first, rest),
         }
     }
 
@@ -192,7 +206,7 @@ impl Facts<'_> {
     {
         match ways {
             None => Ok(false),
-            Some((yes, no)) => self.is_guard(a, self.position(yes), self.position(no)),
+            Some(ways) => self.is_guard(a, self.position(ways.0), self.position(ways.1)),
         }
     }
 

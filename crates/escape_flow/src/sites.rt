@@ -11,7 +11,7 @@ ghost use Rattle.escape_flow.specs.Elidable.{AreFlags, IsElidable};
 ghost use Rattle.escape_flow.specs.Frames.{all_from};
 ghost use Rattle.escape_flow.specs.Handles.{handles as handles_in, is_handle as is_handle_of};
 ghost use Rattle.escape_flow.specs.Rows.{AreDestroysOf};
-ghost use Rattle.escape_flow.specs.Sites.{AreSites, AreSitesOf, CallsElidable, IsDestroyed, IsHandled, IsSite, IsSiteAt, callee_in, destroys_of as destroys_in, ends_use as ends_use_at, is_named_call as is_named_call_of, is_ret_at as is_ret_at_point, plain_calls as plain_calls_of};
+ghost use Rattle.escape_flow.specs.Sites.{AreSites, AreSitesOf, CallsElidable, IsDestroyed, IsHandled, IsPassed, IsSite, IsSiteAt, callee_in, destroys_of as destroys_in, ends_use as ends_use_at, is_ahead as is_ahead_of, is_named_call as is_named_call_of, is_ret_at as is_ret_at_point, plain_calls as plain_calls_of};
 ghost use Rattle.ir_model.specs.Names.{function_at};
 ghost use Rattle.ir_paths.specs.Windows.{instr_at as instr_at_point};
 ghost use Rattle.point_graph.specs.Reached.{IsGraphOf};
@@ -121,8 +121,35 @@ fn end_use(function: &Function, call: Point, points: &[Point]) -> bool
     false
 }
 
+fn is_ahead(count: usize, call: Point, point: Point) -> bool
+    ensures { result ≡ is_ahead_of count call point }
+{
+    point.block == call.block && (call.at < point.at && point.at < count)
+}
+
+fn any_ahead(count: usize, call: Point, points: &[Point]) -> bool
+    ensures { result ≡ list_any (is_ahead_of count call) points.now }
+{
+    for point in points {
+        if is_ahead(count, call, *point) {
+            return true;
+        }
+    }
+    false
+}
+
+/// Whether one of these points stands behind the call in its block.
+fn is_passed(function: &Function, points: &[Point], call: Point) -> bool
+    ensures { IsTrue result → IsPassed function.now points.now call }
+{
+    match function.blocks.get(call.block) {
+        None => false,
+        Some(block) => any_ahead(block.instrs.len(), call, points),
+    }
+}
+
 /// Whether each path from the call to a ret or to the call again passes one of these calls of coro.destroy.
-#[tactic(auto, using(crate::proofs::Ending::destroyed_is))]
+#[tactic(auto, using(crate::proofs::Ending::destroyed_is, crate::proofs::Ahead::passed_is))]
 fn is_destroyed(
     alloc: Global,
     graph: &mut PointGraph,
@@ -135,6 +162,10 @@ fn is_destroyed(
     ensures is { IfOk result (λ b. IsTrue b ↔ IsDestroyed function.now call) }
     ensures kept { OnOk result (IsGraphOf function.now graph.new) }
 {
+    // Most often a destroy stands behind the call in its own block, and no search is needed.
+    if is_passed(function, destroys, call) {
+        return Ok(true);
+    }
     let found = graph.reached_from(alloc, function, &[call], destroys)?;
     Ok(!end_use(function, call, found.as_slice()))
 }
