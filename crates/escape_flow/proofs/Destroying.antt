@@ -68,14 +68,16 @@ apart_step at led marks is lt got none before = record { each = each }
     each b below e = ⊎_elim (λ less. before.each b less e) (λ more. here b (omega (arith, below, more)) e) (cases_lt b at)
 
 pub not_apart : (at : ℕ) (led marks : List Bool) (is mark : Bool) → at < length led → is ≡ get_or led at is → mark ≡ mark_at marks at → is ≡ true → mark ≡ true → IsTrue false ↔ AreApart led marks
-not_apart at led marks is mark lt got is_mark so marked =
-    ((λ e. absurd (false≢true e)),
-    (λ apart. absurd (false≢true (sym (apart.each at (read_at led at is lt got ∙ ap (λ (b : Bool). Some b) so)) ∙ sym is_mark ∙ marked))))
+not_apart at led marks is mark lt got is_mark so marked = (
+  (λ e. absurd (false≢true e)),
+  (λ apart. absurd (false≢true (sym (apart.each at (read_at led at is lt got ∙ ap (λ (b : Bool). Some b) so)) ∙ sym is_mark ∙ marked))),
+)
 
 pub are_apart : (at : ℕ) (led marks : List Bool) → length led ≤ at → AreApartTo at led marks → IsTrue true ↔ AreApart led marks
-are_apart at led marks le all =
-    ((λ e. record { each = λ b is. let lt = within led b true is in all.each b (omega (arith, lt)) is }),
-    (λ apart. refl))
+are_apart at led marks le all = (
+  (λ e. record { each = λ b is. let lt = within led b true is in all.each b (omega (arith, lt)) is }),
+  (λ apart. refl),
+)
 
 -- ---- marks and paths
 

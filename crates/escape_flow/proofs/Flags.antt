@@ -39,21 +39,23 @@ pub no_coroutine : (f : Function) → f.coroutine ≡ false → IsTrue false ↔
 no_coroutine f none = ((λ e. absurd (false≢true e)), (λ is. absurd (false≢true (sym none ∙ is.coroutine))))
 
 pub not_formed : (f : Function) → is_formed f ≡ false → IsTrue false ↔ IsElidable f
-not_formed f none =
-    ((λ e. absurd (false≢true e)),
-    (λ is. absurd (false≢true (sym none ∙ and_all (is_guarded f) (rets_give_frame f) (are_released f) is.guarded is.returned is.released))))
+not_formed f none = (
+  (λ e. absurd (false≢true e)),
+  (λ is. absurd (false≢true (sym none ∙ and_all (is_guarded f) (rets_give_frame f) (are_released f) is.guarded is.returned is.released))),
+)
 
 pub formed : (f : Function) (b : Bool) → f.coroutine ≡ true → is_formed f ≡ true → IsTrue b ↔ FreesWhenDestroyed f → IsTrue b ↔ IsElidable f
 formed f b so all frees =
-    let rest = and_second (is_guarded f) (rets_give_frame f && are_released f) all in
-    ((λ e. record {
-      coroutine = so;
-      guarded = and_first (is_guarded f) (rets_give_frame f && are_released f) all;
-      returned = and_first (rets_give_frame f) (are_released f) rest;
-      released = and_second (rets_give_frame f) (are_released f) rest;
-      destroyed = frees.0 e;
-    }),
-    (λ is. frees.1 is.destroyed))
+    let rest = and_second (is_guarded f) (rets_give_frame f && are_released f) all in (
+      (λ e. record {
+        coroutine = so;
+        guarded = and_first (is_guarded f) (rets_give_frame f && are_released f) all;
+        returned = and_first (rets_give_frame f) (are_released f) rest;
+        released = and_second (rets_give_frame f) (are_released f) rest;
+        destroyed = frees.0 e;
+      }),
+      (λ is. frees.1 is.destroyed),
+    )
 
 -- ---- all functions
 

@@ -67,9 +67,10 @@ pub has_nodes : (f : Function) → HasNodes (length f.blocks + 1) (map pair_of (
 has_nodes f i from to at =
     let found : (x : Edge) × ((slice_get (edges_of f) i ≡ Some x) × ((from, to) ≡ pair_of x)) = from_map pair_of (edges_of f) i (from, to) at in
     let bounds = edge_bounded f found.0 (listed_at (edges_of f) i found.0 found.1.0) in
-    let lt = bounds.0 in
-    (subst (λ n. n < length f.blocks + 1) (sym (ap (λ (p : ℕ × ℕ). p.0) found.1.1)) (omega (arith, lt)),
-    subst (λ n. n < length f.blocks + 1) (sym (ap (λ (p : ℕ × ℕ). p.1) found.1.1)) bounds.1)
+    let lt = bounds.0 in (
+      subst (λ n. n < length f.blocks + 1) (sym (ap (λ (p : ℕ × ℕ). p.0) found.1.1)) (omega (arith, lt)),
+      subst (λ n. n < length f.blocks + 1) (sym (ap (λ (p : ℕ × ℕ). p.1) found.1.1)) bounds.1,
+    )
 
 target_if-is : (b : Bool) (e : Edge) (n : ℕ) → IsListed n (target_if b e) → n ≡ e.to
 target_if-is true e n h = ⊎_elim (λ is. is) (λ none. absurd none) h
@@ -152,9 +153,10 @@ module _ (way : Way) (f : Function) where
       each : (b : ℕ) (is : Bool) → slice_get (map is_odd words) b ≡ Some is → IsTrue is ↔ IsOn way f b
       each b is at =
           let found : (w : ℕ) × ((slice_get words b ≡ Some w) × (is ≡ is_odd w)) = from_map is_odd words b is at in
-          let answer = answers b found.0 found.1.0 in
-          ((λ so. to_path b (answer.is_reached 0 (omega arith) (eqb-true (bit_at found.0 0) 1 (sym found.1.1 ∙ so)))),
-          (λ path. found.1.1 ∙ eq-eqb (bit_at found.0 0) 1 (answer.is_told 0 (omega arith) (from_path b path))))
+          let answer = answers b found.0 found.1.0 in (
+            (λ so. to_path b (answer.is_reached 0 (omega arith) (eqb-true (bit_at found.0 0) 1 (sym found.1.1 ∙ so)))),
+            (λ path. found.1.1 ∙ eq-eqb (bit_at found.0 0) 1 (answer.is_told 0 (omega arith) (from_path b path))),
+          )
 
 -- ---- the same of a function's own values
 

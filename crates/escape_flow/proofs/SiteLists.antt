@@ -31,9 +31,10 @@ pub calls_none : (m : Module) (f : Function) (call : Point) → callee_in m (ins
 calls_none m f call none = ((λ e. absurd (false≢true e)), (λ is. absurd (none_called is.callee (sym none ∙ is.is_callee))))
 
 pub calls_some : (m : Module) (f : Function) (call : Point) (g : ℕ) (b : Bool) → callee_in m (instr_at f call) ≡ Some g → IsTrue b ↔ IsElidable (function_at m g) → IsTrue b ↔ CallsElidable m f call
-calls_some m f call g b called right =
-    ((λ e. record { callee = g; is_callee = called; is_elidable = right.0 e }),
-    (λ is. right.1 (subst (λ h. IsElidable (function_at m h)) (same_some is.callee g (sym is.is_callee ∙ called)) is.is_elidable)))
+calls_some m f call g b called right = (
+  (λ e. record { callee = g; is_callee = called; is_elidable = right.0 e }),
+  (λ is. right.1 (subst (λ h. IsElidable (function_at m h)) (same_some is.callee g (sym is.is_callee ∙ called)) is.is_elidable)),
+)
 
 pub handled : (f : Function) (call : Point) (b : Bool) → is_handle f (value_at f call) ≡ true → IsTrue b ↔ IsDestroyed f call → IsTrue b ↔ IsHandled f call
 handled f call b so right = ((λ e. record { is_handle = so; is_destroyed = right.0 e }), (λ is. right.1 is.is_destroyed))

@@ -18,10 +18,7 @@ use std::alloc::{AllocError, Global};
 fn is_formed(alloc: Global, facts: &Facts) -> Result<bool, AllocError>
     ensures { IfOk result (λ b. b ≡ (is_guarded facts.now.function.now && (rets_give_frame facts.now.function.now && are_released facts.now.function.now))) }
 {
-    Ok(
-        facts.is_guarded(alloc)?
-            && (facts.rets_give_frame()? && facts.are_released(alloc)?),
-    )
+    Ok(facts.is_guarded(alloc)? && (facts.rets_give_frame()? && facts.are_released(alloc)?))
 }
 
 /// Whether the function is a coroutine whose frame may lie in a caller.

@@ -21,11 +21,7 @@ pub trait Choice: Sized {
 }
 
 #[tactic(auto, using(coro_shape::proofs::Counts::counted_append))]
-fn count_in<C: Choice>(
-    choice: &C,
-    counts: &mut Uses,
-    instrs: &[Instr],
-) -> Result<(), AllocError>
+fn count_in<C: Choice>(choice: &C, counts: &mut Uses, instrs: &[Instr]) -> Result<(), AllocError>
     ensures { OnOk result (counts.new ≡ counted_all counts.old (flat_map (C.chosen choice.now) instrs.now)) }
 {
     for instr in instrs {
@@ -35,11 +31,7 @@ fn count_in<C: Choice>(
 }
 
 #[tactic(auto, using(coro_shape::proofs::Counts::counted_append))]
-fn count_by<C: Choice>(
-    choice: &C,
-    counts: &mut Uses,
-    blocks: &[Block],
-) -> Result<(), AllocError>
+fn count_by<C: Choice>(choice: &C, counts: &mut Uses, blocks: &[Block]) -> Result<(), AllocError>
     ensures { OnOk result (counts.new ≡ counted_all counts.old (all_from (C.chosen choice.now) blocks.now)) }
 {
     for block in blocks {

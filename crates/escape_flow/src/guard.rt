@@ -197,11 +197,7 @@ impl Facts<'_> {
         }
     }
 
-    fn is_guard_to(
-        &self,
-        a: BlockId,
-        ways: Option<(ValueId, ValueId)>,
-    ) -> Result<bool, AllocError>
+    fn is_guard_to(&self, a: BlockId, ways: Option<(ValueId, ValueId)>) -> Result<bool, AllocError>
         ensures { IfOk result (λ b. b ≡ is_guard_by self.now.function.now a ways) }
     {
         match ways {

@@ -299,11 +299,7 @@ fn chosen(
 }
 
 /// The calls of named functions, where the function is no coroutine.
-fn plain_calls(
-    alloc: Global,
-    func: FuncId,
-    function: &Function,
-) -> Result<Items<Place>, AllocError>
+fn plain_calls(alloc: Global, func: FuncId, function: &Function) -> Result<Items<Place>, AllocError>
     ensures { IfOk result (λ all. all ≡ plain_calls_of func function.now) }
 {
     if function.coroutine {

@@ -17,5 +17,5 @@ pub loop-place-preserved : goal.loop-place-preserved
 loop-place-preserved c = record {
   graph = subst (λ (f : Function). IsGraphOf f c.is_site_at.new.graph) c.in_ok-caller.ensures c.in_ok-is_site.ensures.kept;
   sites = place_step c.args.module.now c.args.function.now c.in_ok-caller.caller.function.now c.args.calls.now c.loop-place.place-index _ c.point_of-call.result c.loop-place.all c.push_if.new.all c.in_ok-is_site.is_site
-    c.loop-place-test.true c.in_ok-caller.ensures c.point_of-call.ensures c.in_ok-is_site.ensures.is c.in_ok-push_if.ensures c.loop-place.invariant.sites;
+      c.loop-place-test.true c.in_ok-caller.ensures c.point_of-call.ensures c.in_ok-is_site.ensures.is c.in_ok-push_if.ensures c.loop-place.invariant.sites;
 }
