@@ -3,7 +3,7 @@ use Rattle.std.proofs.Common.{◌≡◌, ℕ, ◌+◌, ◌<◌, ◌≤◌, Bool,
 use Rattle.std.proofs.lemmas.Bool.{cases_eq, eqb-true, false≢true, lt-ltb, ltb-true}
 use Rattle.std.specs.Prelude.{slice_get, nat_lt, IsTrue, IsFalse, ◌⊎◌, ◌↔◌, ◌==◌, if◌then◌else◌}
 use Rattle.std.specs.List.{list_any}
-use Rattle.escape_flow.specs.Calls.{value_at}
+use Rattle.elidable_shape.specs.Calls.{value_at}
 use Rattle.escape_flow.specs.Sites.{IsDestroyed, IsPassed, destroys_of, ends_use, is_ahead, is_ret_in}
 use Rattle.ir_model.specs.declared.module.Block.{Block}
 use Rattle.ir_model.specs.declared.module.Function.{Function}

@@ -5,7 +5,7 @@ use Rattle.std.proofs.lemmas.Bool.{cases_lt, false≢true}
 use Rattle.std.proofs.lemmas.Option.{slice_get-get_or}
 use Rattle.escape_flow.proofs.Leading.{mark_is}
 use Rattle.escape_flow.specs.Destroyed.{AreApart, AreApartTo, AreOn, FreesWhenDestroyed, IsOn, has_at, has_in, is_free, is_stop, mark_at, marks_of}
-use Rattle.escape_flow.specs.declared.edges.Way.{Way}
+use Rattle.escape_flow.specs.declared.destroyed.Way.{Way}
 use Rattle.ir_model.specs.declared.instr.Instr.{Instr}
 use Rattle.ir_model.specs.declared.module.Block.{Block}
 use Rattle.ir_model.specs.declared.module.Function.{Function}

@@ -3,7 +3,7 @@ use Rattle.std.proofs.Common.{◌≡◌, Bool, true, false, not, List, [], ◌�
 use Rattle.std.proofs.lemmas.Bool.{false≢true}
 use Rattle.std.specs.Prelude.{IsTrue, IsFalse, ◌⊎◌, ◌↔◌, ◌||◌}
 use Rattle.std.specs.List.{list_any}
-use Rattle.escape_flow.specs.Calls.{value_at}
+use Rattle.elidable_shape.specs.Calls.{value_at}
 use Rattle.escape_flow.specs.Sites.{IsDestroyed, destroys_of, ends_use}
 use Rattle.ir_model.specs.declared.module.Function.{Function}
 use Rattle.ir_paths.proofs.Search.{same_point-itself, same_point-same}

@@ -11,12 +11,12 @@ use Rattle.bit_reach.specs.Bits.{HasBit}
 use Rattle.bit_reach.specs.Reaching.{AnswersAt, Reaches, StartAt}
 use Rattle.bit_reach.specs.Reaching.Reaches.{Start as AskedStart, Edge as AskedEdge}
 use Rattle.block_paths.proofs.Elements.{listed_append, listed_map, map_listed}
-use Rattle.escape_flow.proofs.EdgeBounds.{edge_bounded}
+use Rattle.elidable_shape.proofs.EdgeBounds.{edge_bounded}
 use Rattle.escape_flow.specs.Destroyed.{AreOn, IsLed, IsOn, has_at, has_in, is_free, is_odd, is_start, mark_at, marks_of, passes, passes_by, starts, target_if, targets_of, word_of}
 use Rattle.escape_flow.specs.Destroyed.IsLed.{Start, Step}
-use Rattle.escape_flow.specs.Edges.{edges_of}
-use Rattle.escape_flow.specs.declared.edges.Edge.{Edge}
-use Rattle.escape_flow.specs.declared.edges.Way.{Way}
+use Rattle.elidable_shape.specs.Edges.{edges_of}
+use Rattle.elidable_shape.specs.declared.edges.Edge.{Edge}
+use Rattle.escape_flow.specs.declared.destroyed.Way.{Way}
 use Rattle.flow_solver.proofs.Lists.{listed_at, place_of}
 use Rattle.flow_solver.specs.Paths.{HasNodes, IsListed}
 use Rattle.ir_model.specs.declared.instr.Instr.{Instr}

@@ -1,11 +1,8 @@
-pub mod Counting
 pub mod DestroyRows
 pub mod Ending
 pub mod Ahead
-pub mod EdgeBounds
 pub mod Leading
 pub mod Destroying
 pub mod Choosing
 pub mod Flags
-pub mod Guarding
 pub mod SiteLists

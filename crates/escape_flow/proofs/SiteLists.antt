@@ -5,7 +5,7 @@ use Rattle.std.proofs.lemmas.List.{take_more, length-take-le}
 use Rattle.std.specs.Prelude.{slice_get, Option, IsTrue, ◌↔◌, if◌then◌else◌}
 use Rattle.coro_base.specs.declared.outcome.Place.{Place}
 use Rattle.escape_flow.proofs.Choosing.{chosen_step}
-use Rattle.escape_flow.specs.Calls.{value_at}
+use Rattle.elidable_shape.specs.Calls.{value_at}
 use Rattle.window_rules.specs.Points.{point_of}
 use Rattle.escape_flow.specs.Chosen.{AreChosen}
 use Rattle.escape_flow.specs.Elidable.{IsElidable}

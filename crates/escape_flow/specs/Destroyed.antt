@@ -3,9 +3,9 @@ use Rattle.std.specs.Prelude.{ℕ, Bool, true, false, not, List, [], map, flat_m
 use Rattle.std.specs.Int.{bit_at}
 use Rattle.std.specs.List.{list_any}
 use Rattle.block_paths.specs.declared.kinds.EdgeKind.{EdgeKind}
-use Rattle.escape_flow.specs.Edges.{edges_of}
-use Rattle.escape_flow.specs.declared.edges.Edge.{Edge}
-use Rattle.escape_flow.specs.declared.edges.Way.{Way}
+use Rattle.elidable_shape.specs.Edges.{edges_of}
+use Rattle.elidable_shape.specs.declared.edges.Edge.{Edge}
+use Rattle.escape_flow.specs.declared.destroyed.Way.{Way}
 use Rattle.flow_solver.specs.Paths.{IsListed}
 use Rattle.ir_model.specs.declared.instr.Instr.{Instr}
 use Rattle.ir_model.specs.declared.module.Block.{Block}

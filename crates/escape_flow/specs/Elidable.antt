@@ -2,9 +2,9 @@
 use Rattle.std.specs.Prelude.{ℕ, Bool, List, length, slice_get, Some, IsTrue, ◌≡◌, ◌↔◌}
 use Rattle.escape_flow.specs.Chosen.{AreChosen, up_to}
 use Rattle.escape_flow.specs.Destroyed.{FreesWhenDestroyed}
-use Rattle.escape_flow.specs.Frames.{rets_give_frame}
-use Rattle.escape_flow.specs.Frees.{are_released}
-use Rattle.escape_flow.specs.Guard.{is_guarded}
+use Rattle.elidable_shape.specs.Frames.{rets_give_frame}
+use Rattle.elidable_shape.specs.Frees.{are_released}
+use Rattle.elidable_shape.specs.Guard.{is_guarded}
 use Rattle.ir_model.specs.Names.{function_at}
 use Rattle.ir_model.specs.declared.module.Function.{Function}
 use Rattle.ir_model.specs.declared.module.Module.{Module}

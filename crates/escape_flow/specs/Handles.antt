@@ -2,7 +2,7 @@
 use Rattle.std.specs.Prelude.{ℕ, Bool, true, false, List, [], count_by, Some, None, Option, ◌∷◌, ◌==◌, if◌then◌else◌}
 use Rattle.coro_calls.specs.Calls.{is_null}
 use Rattle.coro_shape.specs.Uses.{uses_of}
-use Rattle.escape_flow.specs.Frames.{all_from}
+use Rattle.elidable_shape.specs.Frames.{all_from}
 use Rattle.ir_model.specs.Names.{is_local}
 use Rattle.ir_model.specs.declared.instr.Instr.{Instr}
 use Rattle.ir_model.specs.declared.module.Function.{Function}

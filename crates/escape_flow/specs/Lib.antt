@@ -1,9 +1,3 @@
-pub mod Calls
-pub mod Edges
-pub mod Phis
-pub mod Guard
-pub mod Frames
-pub mod Frees
 pub mod Destroyed
 pub mod Chosen
 pub mod Elidable

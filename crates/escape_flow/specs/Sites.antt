@@ -3,7 +3,7 @@ use Rattle.std.specs.List.{list_any}
 use Rattle.std.specs.Prelude.{ℕ, Bool, true, false, List, [], length, nat_lt, slice_get, Some, None, Option, option_and_then, IsTrue, IsFalse, ◌≡◌, ◌&&◌, ◌||◌, ◌∷◌, ◌++◌, ◌==◌, if◌then◌else◌}
 use Rattle.coro_base.specs.declared.outcome.Place.{Place}
 use Rattle.coro_shape.specs.Places.{places_where}
-use Rattle.escape_flow.specs.Calls.{value_at}
+use Rattle.elidable_shape.specs.Calls.{value_at}
 use Rattle.escape_flow.specs.Chosen.{AreChosen}
 use Rattle.escape_flow.specs.Elidable.{IsElidable}
 use Rattle.escape_flow.specs.Handles.{is_handle}

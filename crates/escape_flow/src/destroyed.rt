@@ -3,18 +3,27 @@
 ghost use Rattle.std.specs.Prelude.{◌≡◌, ◌&&◌, ◌+◌, ◌++◌, ◌∷◌, ◌↔◌, [], IfOk, OnOk, IsTrue, Some, flat_map, length, map, not, slice_get};
 ghost use Rattle.std.specs.List.{list_any};
 ghost use Rattle.escape_flow.specs.Destroyed.{AreOn, FreesWhenDestroyed, AreApart, is_destroy as is_destroy_kind, is_free, is_odd as is_odd_word, is_resume as is_resume_kind, is_start as is_start_of, is_stop, mark_at as mark_at_block, marks_of as marks_in, passes, passes_by as passes_marks, starts as starts_of_way, target_if, targets_of as targets_of_way, word_of as word_of_mark};
-ghost use Rattle.escape_flow.specs.Edges.{edges_of as edges_of_function};
+ghost use Rattle.elidable_shape.specs.Edges.{edges_of as edges_of_function};
 ghost use Rattle.ir_paths.specs.Windows.{end_block as end_block_of};
 
-use crate::edges::{Edge, Way};
 use bit_reach::{Graph, reached};
 use block_paths::EdgeKind;
 use coro_base::{BlockId, Items};
 use coro_calls::{InstrTest, is_call_of};
 use coro_shape::end_block;
+use elidable_shape::Edge;
 use function_parts::next;
 use ir_model::{Function, Instr, Intrinsic};
 use std::alloc::{AllocError, Global};
+
+/// Which paths are followed: from the entry and from resume edges over all but destroy edges; from destroy edges until a block
+/// with a free is left; from destroy edges over all edges.
+#[derive(Clone, Copy, Drop)]
+pub enum Way {
+    Calm,
+    Unfreed,
+    Destroyed,
+}
 
 /// The test for coro.free.
 #[derive(Clone, Copy, Drop)]

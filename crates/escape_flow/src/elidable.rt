@@ -2,14 +2,13 @@
 
 ghost use Rattle.std.specs.Prelude.{◌≡◌, ◌&&◌, ◌++◌, ◌∷◌, ◌↔◌, if◌then◌else◌, [], IfOk, IsTrue, OnOk};
 ghost use Rattle.escape_flow.specs.Elidable.{AreElidable, AreFlags, IsElidable};
-ghost use Rattle.escape_flow.specs.Frames.{rets_give_frame};
-ghost use Rattle.escape_flow.specs.Frees.{are_released};
-ghost use Rattle.escape_flow.specs.Guard.{is_guarded};
+ghost use Rattle.elidable_shape.specs.Frames.{rets_give_frame};
+ghost use Rattle.elidable_shape.specs.Frees.{are_released};
+ghost use Rattle.elidable_shape.specs.Guard.{is_guarded};
 
 use crate::destroyed::frees_when_destroyed;
-use crate::edges::edges_of;
-use crate::facts::{Facts, facts_of};
 use coro_base::{FuncId, Items};
+use elidable_shape::{Facts, edges_of, facts_of};
 use ir_model::{Function, Module};
 use ordinary_step::positions_of;
 use std::alloc::{AllocError, Global};

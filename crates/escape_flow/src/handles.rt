@@ -5,9 +5,9 @@ ghost use Rattle.coro_shape.specs.Uses.{counted_all};
 ghost use Rattle.escape_flow.specs.Handles.{beside_null, handles, takes_handle as takes_handle_of};
 ghost use Rattle.ir_paths.specs.Windows.{operand_at};
 
-use crate::frames::Choice;
 use coro_calls::{is_null, operand_of};
 use coro_shape::Uses;
+use elidable_shape::Choice;
 use ir_model::{Arg, Callee, Instr, Intrinsic, Operand};
 use std::alloc::AllocError;
 

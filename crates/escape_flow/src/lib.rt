@@ -2,14 +2,8 @@
 //! Elision" in the introduction).
 #![tactic(auto)]
 
-mod calls;
 mod destroyed;
-mod edges;
 mod elidable;
-mod facts;
-mod frames;
-mod frees;
-mod guard;
 mod handles;
 mod rows;
 mod sites;
