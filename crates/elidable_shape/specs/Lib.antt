@@ -1,0 +1,6 @@
+pub mod Calls
+pub mod Edges
+pub mod Phis
+pub mod Guard
+pub mod Frames
+pub mod Frees

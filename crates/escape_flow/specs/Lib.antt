@@ -1,0 +1,6 @@
+pub mod Destroyed
+pub mod Chosen
+pub mod Elidable
+pub mod Handles
+pub mod Sites
+pub mod Rows
