@@ -11,35 +11,32 @@ use crate::row::{out_word, row_words, shut_word, stops_word, word_at};
 use bit_reach::reached;
 use coro_base::{BlockId, Items};
 use flow_solver::Graph;
+use function_parts::next;
 use ir_model::Function;
 use std::alloc::{AllocError, Global};
 
 /// For each block the questions whose paths begin in it and leave it.
-fn made_words(
-    alloc: Global,
-    closed: BlockId,
-    rows: &[Items<Pass>],
-) -> Result<Vec<u64>, AllocError>
+fn made_words(alloc: Global, closed: BlockId, rows: &[Items<Pass>]) -> Result<Vec<u64>, AllocError>
     ensures { IfOk result (λ words. words.items ≡ each_from (made_of closed) 0 rows.now) }
 {
     let mut words = Vec::new(alloc);
-    for (at, row) in rows.iter().enumerate() {
+    let mut at = 0;
+    for row in rows {
         words.push(out_word(shut_word(closed, at), 0, row.as_slice()))?;
+        at = next(at)?;
     }
     Ok(words)
 }
 
 /// For each block the questions whose paths don't lead through it.
-fn stop_words(
-    alloc: Global,
-    closed: BlockId,
-    rows: &[Items<Pass>],
-) -> Result<Vec<u64>, AllocError>
+fn stop_words(alloc: Global, closed: BlockId, rows: &[Items<Pass>]) -> Result<Vec<u64>, AllocError>
     ensures { IfOk result (λ words. words.items ≡ each_from (stops_of closed) 0 rows.now) }
 {
     let mut words = Vec::new(alloc);
-    for (at, row) in rows.iter().enumerate() {
+    let mut at = 0;
+    for row in rows {
         words.push(stops_word(shut_word(closed, at), row.as_slice()))?;
+        at = next(at)?;
     }
     Ok(words)
 }
@@ -103,9 +100,16 @@ fn all_words(
     ensures { IfOk result (λ all. all ≡ each_from (words_of closed words.now) 0 rows.now) }
 {
     let mut all = Items::new(alloc);
-    for (at, row) in rows.iter().enumerate() {
-        let here = row_words(alloc, shut_word(closed, at), word_at(words, at), row.as_slice())?;
+    let mut at = 0;
+    for row in rows {
+        let here = row_words(
+            alloc,
+            shut_word(closed, at),
+            word_at(words, at),
+            row.as_slice(),
+        )?;
         all.push(here)?;
+        at = next(at)?;
     }
     Ok(all)
 }
