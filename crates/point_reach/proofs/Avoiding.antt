@@ -18,9 +18,6 @@ no_true true n = absurd (n refl)
 no_true false n = refl
 
 module _ (f : Function) (passes : Passes) (c : ℕ) (avoided : List Point) (known : AreAvoided f passes c avoided) where
-  -- on from a point to which a path leads
-  on_path : (p : Point) → IsReached f passes c p → has_point avoided p ≡ false → (between : List Point) (q : Point) → IsPath f avoided p between q → IsReached f passes c q
-
   step_on : (p : Point) → IsReached f passes c p → has_point avoided p ≡ false → (q : Point) → has_point (nexts f p) q ≡ true → IsReached f passes c q
   step_on p r free q next =
       let is = source_is_point f p q next in
@@ -28,6 +25,9 @@ module _ (f : Function) (passes : Passes) (c : ℕ) (avoided : List Point) (know
       (λ s. false≢true (sym free ∙ (known.each p is).1 (inl s)))
       (λ e. false≢true (sym free ∙ (known.each p is).1 (inr e)))
       next
+
+  -- on from a point to which a path leads
+  on_path : (p : Point) → IsReached f passes c p → has_point avoided p ≡ false → (between : List Point) (q : Point) → IsPath f avoided p between q → IsReached f passes c q
   on_path p r free [] q h = step_on p r free q h
   on_path p r free (v ∷ between) q h = on_path v (step_on p r free v h.0) h.1 between q h.2
 

@@ -1,9 +1,11 @@
 -- Something for each row of a function.
 use Rattle.std.proofs.Common.{◌≡◌, ℕ, zero, suc, ◌+◌, ◌<◌, List, [], ◌∷◌, ◌++◌, length, map, drop, Some, refl, sym, ap, ◌∙◌, subst, arith}
 use Rattle.std.specs.Prelude.{slice_get}
-use Rattle.flow_solver.proofs.Lists.{some_same}
 use Rattle.ir_model.specs.declared.module.Block.{Block}
 use Rattle.point_reach.specs.Rows.{each_from}
+
+pub some_same : {X : Type 0} (x y : X) → Some x ≡ Some y → x ≡ y
+some_same x y e = cc
 
 pub each_gets : {X Y : Type 0} (make : ℕ → X → Y) (at : ℕ) (xs : List X) (k : ℕ) (x : X) → slice_get xs k ≡ Some x → slice_get (each_from make at xs) k ≡ Some (make (at + k) x)
 each_gets make at [] k x e = absurd (cc)

@@ -11,7 +11,7 @@ use Rattle.block_paths.proofs.Elements.{listed_append, listed_map, map_listed}
 use Rattle.block_paths.proofs.Reached.{word_within}
 use Rattle.block_paths.specs.Edges.{block_edges}
 use Rattle.block_paths.specs.Words.{word_at}
-use Rattle.flow_solver.proofs.Lists.{listed_at, listed_front, place_of, some_same}
+use Rattle.flow_solver.proofs.Lists.{listed_at, listed_front, place_of}
 use Rattle.flow_solver.specs.Paths.{IsListed}
 use Rattle.ir_model.specs.declared.module.Block.{Block}
 use Rattle.ir_model.specs.declared.module.Function.{Function}
@@ -22,7 +22,7 @@ use Rattle.point_graph.proofs.Tests.{point-is, same_point-from}
 use Rattle.ir_paths.proofs.Search.{or_left}
 use Rattle.ir_paths.specs.Paths.{same_point}
 use Rattle.point_reach.proofs.Bits.{all_bit, bit_or_not, flipped_off, flipped_on, no_bit}
-use Rattle.point_reach.proofs.Each.{HasRow, each_gets, row_of_block}
+use Rattle.point_reach.proofs.Each.{HasRow, each_gets, row_of_block, some_same}
 use Rattle.point_reach.proofs.Stepping.{GoesOn, GoesThrough, after_step, begins_stepped, goes_stepped, none_stopped, out_has, out_step, stepped_has, stops_through, through_out, through_stops, word_after}
 use Rattle.point_reach.proofs.Ways.{LeavesBlock, branch_is, edge_leaves, listed_back}
 use Rattle.point_reach.specs.Reached.{AreBlocks, HaveShape, IsReached, begins_at, front, pass_at, row_of, stops_at}

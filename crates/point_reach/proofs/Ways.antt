@@ -4,7 +4,7 @@ use Rattle.std.specs.Prelude.{slice_get}
 use Rattle.std.proofs.lemmas.Bool.{false≢true}
 use Rattle.block_paths.proofs.Elements.{listed_append, listed_map, map_listed}
 use Rattle.block_paths.specs.Edges.{block_edges, edges_of_blocks, edges_out}
-use Rattle.flow_solver.proofs.Lists.{listed_front, some_same}
+use Rattle.flow_solver.proofs.Lists.{listed_front}
 use Rattle.flow_solver.specs.Paths.{IsListed}
 use Rattle.ir_model.specs.Names.{position_of}
 use Rattle.ir_model.specs.declared.module.Block.{Block}
@@ -13,6 +13,7 @@ use Rattle.ir_paths.proofs.Search.{either, or_left, or_right, same_point-itself,
 use Rattle.ir_paths.specs.Paths.{entry_point, has_point, nexts, same_point, targets}
 use Rattle.ir_paths.specs.declared.point.Point.{Point}
 use Rattle.point_graph.proofs.Neighbours.{IsBranch, IsInner, edge-cases, next-term}
+use Rattle.point_reach.proofs.Each.{some_same}
 use Rattle.point_reach.specs.Reached.{IsPointOf, front}
 
 pub listed_back : {X : Type 0} (y : X) (xs zs : List X) → IsListed y zs → IsListed y (xs ++ zs)

@@ -8,5 +8,5 @@ pub reached-requires-clause-edges : goal.reached-requires-clause-edges
 reached-requires-clause-edges c = graph_has_nodes c.args.function.now c.args.graph.now c.requires.graph
 
 pub reached-requires-clause-starts : goal.reached-requires-clause-starts
-reached-requires-clause-starts c = starts_within c.args.function.now c.args.graph.now c.args.fronts.now c.as_slice-edges.result.now c.as_slice-2.result.now c.args.made.now c.requires.graph c.requires.fronts c.as_slice-edges.ensures
-    (c.as_slice-2.ensures.value ∙ c.in_ok-push_made.ensures ∙ ap (λ (l : List (ℕ × ℕ)). l ++ map (made_start c.args.made.now) c.as_slice-edges.result.now) c.in_ok-starts.ensures.items)
+reached-requires-clause-starts c = starts_within c.args.function.now c.args.graph.now c.args.fronts.now c.as_slice-edges.result.now c.as_slice.result.now c.args.made.now c.requires.graph c.requires.fronts c.as_slice-edges.ensures
+    (c.as_slice.ensures.value ∙ c.in_ok-push_made.ensures ∙ ap (λ (l : List (ℕ × ℕ)). l ++ map (made_start c.args.made.now) c.as_slice-edges.result.now) c.in_ok-starts.ensures.items)
