@@ -1,5 +1,6 @@
 -- What is known of the slots of a function, and by it which of them conflict.
-use Rattle.std.specs.Prelude.{◌≡◌, ◌↔◌, ◌⊎◌, ◌<◌, ◌≤◌, ◌*◌, ◌/◌, ◌%◌, ℕ, List, [], bit_and, drop, length, slice_get, take, unwrap_or, option_map, Some}
+use Rattle.std.specs.Prelude.{◌≡◌, ◌↔◌, ◌⊎◌, ◌<◌, ◌≤◌, ◌*◌, ◌/◌, ◌%◌, ◌==◌, ◌||◌, ℕ, Bool, true, false, not, Option, None, List, [], bit_and, drop, length, slice_get, take, unwrap_or, option_map, Some}
+use Rattle.std.specs.Int.{bit_at}
 use Rattle.bit_reach.specs.Bits.{HasBit}
 use Rattle.block_paths.specs.Words.{word_at}
 use Rattle.ir_model.specs.declared.module.Function.{Function}
@@ -14,6 +15,7 @@ use Rattle.slot_conflicts.specs.declared.facts.Chunk.{Chunk}
 use Rattle.slot_conflicts.specs.declared.facts.Known.{Known}
 use Rattle.slot_lifetime.specs.Alive.{markers_of}
 use Rattle.slot_lifetime.specs.Classes.{AreClasses}
+use Rattle.slot_lifetime.specs.declared.class.SlotClass.{SlotClass}
 
 -- the position is that of a frame slot
 pub record IsFrameAt (f : Function) (i : ℕ) : Type 0 where
@@ -69,8 +71,21 @@ pub record AreMetFor (chunks : List Chunk) (a n : ℕ) (met : List (List ℕ)) :
   pub is_long : length met ≡ n
   pub are_met : AreMet chunks a met
 
-abbrev pub IsLooseAt : List Chunk → ℕ → Type 0
-IsLooseAt chunks i = HasBit (loose_at chunks (i / 64)) (i % 64)
+-- the bit of a position is set
+abbrev pub is_loose_at : List Chunk → ℕ → Bool
+is_loose_at chunks i = bit_at (loose_at chunks (i / 64)) (i % 64) == 1
 
-abbrev pub HaveMetAt : List (List ℕ) → ℕ → ℕ → Type 0
-HaveMetAt met i k = HasBit (word_at (row_of met (k / 64)) (i % 64)) (k % 64)
+abbrev pub have_met_at : List (List ℕ) → ℕ → ℕ → Bool
+have_met_at met i k = bit_at (word_at (row_of met (k / 64)) (i % 64)) (k % 64) == 1
+
+-- the slots of two positions lack markers, are used before begin, or are alive together
+abbrev pub are_apart : List Chunk → List (List ℕ) → ℕ → ℕ → Bool
+are_apart chunks met i k = not (is_loose_at chunks i) || (not (is_loose_at chunks k) || have_met_at met i k)
+
+-- ---- frame slots
+
+abbrev pub is_frame_class : Option SlotClass → Bool
+is_frame_class None = false
+is_frame_class (Some SlotClass.Frame) = true
+is_frame_class (Some SlotClass.Ramp) = false
+is_frame_class (Some SlotClass.Local) = false

@@ -1,5 +1,5 @@
 -- Who is alive with whom at the points looked at, by words.
-use Rattle.std.specs.Prelude.{◌≡◌, ◌↔◌, ◌⊎◌, ◌<◌, ◌≤◌, ℕ, List, [], length, slice_get, unwrap_or, Some}
+use Rattle.std.specs.Prelude.{◌≡◌, ◌↔◌, ◌⊎◌, ◌<◌, ℕ, Bool, List, length, ◌==◌, ◌&&◌, ◌||◌}
 use Rattle.bit_reach.specs.Bits.{HasBit}
 use Rattle.block_paths.specs.Words.{word_at}
 
@@ -35,6 +35,6 @@ pub record HaveMet (x y n : ℕ) (old new : List ℕ) : Type 0 where
 pub record AreCovered (x y : ℕ) (words : List ℕ) : Type 0 where
   pub each : (c d : ℕ) → c < 64 → HasBit x c → HasBit y d → HasBit (word_at words c) d
 
--- nothing of x and y is new
-pub record AreOf (x y last_x last_y : ℕ) : Type 0 where
-  pub each : (c d : ℕ) → HasBit x c → HasBit y d → HasBit last_x c × HasBit last_y d
+-- two words have nothing that the two before them haven't
+abbrev pub are_of : ℕ → ℕ → ℕ → ℕ → Bool
+are_of x y last_x last_y = (x == 0) || ((y == 0) || ((x == last_x) && (y == last_y)))

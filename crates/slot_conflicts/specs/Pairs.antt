@@ -1,5 +1,5 @@
 -- Pairs of numbers, in order.
-use Rattle.std.specs.Prelude.{◌≡◌, ◌⊎◌, ◌↔◌, ◌<◌, ⊤, ℕ, Bool, List, [], ◌∷◌, if◌then◌else◌}
+use Rattle.std.specs.Prelude.{◌≡◌, ◌⊎◌, ◌↔◌, ◌<◌, ℕ, Bool, List, [], ◌∷◌, if◌then◌else◌}
 use Rattle.flow_solver.specs.Paths.{IsListed}
 
 -- a pair stands before another
@@ -7,11 +7,11 @@ abbrev pub IsBefore : ℕ × ℕ → ℕ × ℕ → Type 0
 IsBefore x y = (x.0 < y.0) ⊎ ((x.0 ≡ y.0) × (x.1 < y.1))
 
 abbrev pub IsBeforeAll : ℕ × ℕ → List (ℕ × ℕ) → Type 0
-IsBeforeAll x [] = ⊤
+IsBeforeAll x [] = Unit {0}
 IsBeforeAll x (y ∷ ys) = IsBefore x y × IsBeforeAll x ys
 
 abbrev pub AreInOrder : List (ℕ × ℕ) → Type 0
-AreInOrder [] = ⊤
+AreInOrder [] = Unit {0}
 AreInOrder (x ∷ xs) = IsBeforeAll x xs × AreInOrder xs
 
 -- just the pairs of which the fact holds, in order

@@ -2,7 +2,7 @@
 
 ghost use Rattle.std.specs.Prelude.{◌≡◌, ◌<◌, ◌≤◌, ◌+◌, ◌*◌, ◌/◌, ◌↔◌, IfOk, IsTrue, OnOk, length, min};
 ghost use Rattle.slot_conflicts.specs.Conflicts.{AliveAt, AreAliveAt, AreConflicts, ConflictAt};
-ghost use Rattle.slot_conflicts.specs.Known.{AreMetFor, HaveMetAt, IsFrameAt, IsKnown, IsLooseAt, loose_at as loose_of_chunk};
+ghost use Rattle.slot_conflicts.specs.Known.{AreMetFor, IsFrameAt, IsKnown, are_apart as are_apart_by, have_met_at, is_loose_at, loose_at as loose_of_chunk};
 ghost use Rattle.slot_conflicts.specs.Pairs.{AreUpTo};
 
 use crate::bits::{chunk_end, chunks_of, has_bit, word_at};
@@ -29,14 +29,14 @@ fn loose_at(chunks: &Items<Chunk>, at: usize) -> u64
 
 /// Whether the slot of a position has markers and isn't used before begin.
 fn is_loose(known: &Known, at: usize) -> bool
-    ensures { IsTrue result ↔ IsLooseAt known.now.chunks at }
+    ensures { result ≡ is_loose_at known.now.chunks at }
 {
     has_bit(loose_at(&known.chunks, at / 64), at % 64)
 }
 
 /// Whether the slots of two positions are alive together at a point looked at.
 fn have_met(met: &Items<Items<u64>>, one: usize, other: usize) -> bool
-    ensures { IsTrue result ↔ HaveMetAt met.now one other }
+    ensures { result ≡ have_met_at met.now one other }
 {
     match met.get(other / 64) {
         None => false,
@@ -44,7 +44,15 @@ fn have_met(met: &Items<Items<u64>>, one: usize, other: usize) -> bool
     }
 }
 
-fn conflict(
+/// Whether the slots of two positions lack markers, are used before begin, or are alive together.
+fn are_apart(known: &Known, met: &Items<Items<u64>>, one: usize, other: usize) -> bool
+    ensures { result ≡ are_apart_by known.now.chunks met.now one other }
+{
+    !is_loose(known, one) || !is_loose(known, other) || have_met(met, one, other)
+}
+
+/// Whether a frame slot conflicts with the slot of a position behind it.
+fn is_conflict(
     function: &Function,
     known: &Known,
     met: &Items<Items<u64>>,
@@ -57,8 +65,11 @@ fn conflict(
     requires order { one < other }
     ensures { IsTrue result ↔ ConflictAt function.now one other }
 {
-    is_frame(function, &known.classes, other)
-        && (!is_loose(known, one) || !is_loose(known, other) || have_met(met, one, other))
+    if is_frame(function, &known.classes, other) {
+        are_apart(known, met, one, other)
+    } else {
+        false
+    }
 }
 
 /// Adds the pairs of a frame slot with those behind it.
@@ -77,12 +88,8 @@ fn push_row(
     ensures { OnOk result (AreUpTo (ConflictAt function.now) (one + 1) 0 pairs.new) }
 {
     for other in one + 1..known.count {
-        push_if(
-            pairs,
-            conflict(function, known, met, one, other),
-            one,
-            other,
-        )?;
+        let holds = is_conflict(function, known, met, one, other);
+        push_if(pairs, holds, one, other)?;
     }
     Ok(())
 }

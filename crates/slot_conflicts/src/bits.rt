@@ -1,7 +1,7 @@
 //! Words of bits, and chunks of 64.
 
-ghost use Rattle.std.specs.Prelude.{◌≡◌, ◌<◌, ◌≤◌, ◌*◌, ◌+◌, ℕ, IsTrue, ◌↔◌};
-ghost use Rattle.bit_reach.specs.Bits.{HasBit};
+ghost use Rattle.std.specs.Prelude.{◌≡◌, ◌<◌, ◌≤◌, ◌*◌, ◌+◌, ◌==◌, ℕ};
+ghost use Rattle.std.specs.Int.{bit_at};
 ghost use Rattle.block_paths.specs.Words.{word_at as word_of_node};
 ghost use Rattle.point_reach.specs.Reached.{word_at_point as word_of_point};
 
@@ -29,10 +29,9 @@ pub fn word_at_point(rows: &Items<Items<u64>>, point: Point) -> u64
 }
 
 /// Whether a word has a bit.
-#[tactic(auto, using(crate::proofs::Bits::bit_shown, crate::proofs::Bits::bit_told))]
 pub fn has_bit(word: u64, bit: usize) -> bool
     requires { bit < 64 }
-    ensures { IsTrue result ↔ HasBit word bit }
+    ensures { result ≡ (bit_at word bit == 1) }
 {
     (word >> bit) & 1 == 1
 }

@@ -1,9 +1,9 @@
 //! What is found once of the slots of a function.
 
-ghost use Rattle.std.specs.Prelude.{◌≡◌, ◌<◌, ◌≤◌, ◌/◌, ◌↔◌, ℕ, IfOk, IsTrue, length, map};
+ghost use Rattle.std.specs.Prelude.{◌≡◌, ◌<◌, ◌≤◌, ◌/◌, ◌↔◌, ℕ, IfOk, IsTrue, length, map, slice_get};
 ghost use Rattle.block_paths.specs.Edges.{graph_of};
 ghost use Rattle.ir_paths.specs.Slots.{allocas_of as slots_in};
-ghost use Rattle.slot_conflicts.specs.Known.{IsFrameAt, IsKnown, TellsChunk, AreChunks, seen_word as word_seen};
+ghost use Rattle.slot_conflicts.specs.Known.{IsFrameAt, IsKnown, TellsChunk, AreChunks, is_frame_class as is_frame_by, seen_word as word_seen};
 ghost use Rattle.slot_conflicts.specs.Looked.{AreLooked};
 ghost use Rattle.slot_lifetime.specs.Classes.{AreClasses};
 ghost use Rattle.slot_rules.specs.Early.{IsBeforeBegin};
@@ -13,7 +13,7 @@ ghost use Rattle.window_rules.specs.Sets.{AreThose};
 use crate::bits::{chunks_of, word_at_point};
 use crate::early::{before_begin, early_word};
 use crate::looked::looked_points;
-use crate::started::started;
+use crate::started::started_slots;
 use block_paths::block_graph;
 use coro_base::{Items, ValueId};
 use flow_solver::Graph;
@@ -41,12 +41,18 @@ pub struct Known {
     pub chunks: Items<Chunk>,
 }
 
+fn is_frame_class(classes: &Items<SlotClass>, at: usize) -> bool
+    ensures { result ≡ is_frame_by (slice_get classes.now at) }
+{
+    matches!(classes.get(at), Some(SlotClass::Frame))
+}
+
 /// Whether the slot of a position lives in the frame.
 pub fn is_frame(function: &Function, classes: &Items<SlotClass>, at: usize) -> bool
     requires { AreClasses function.now classes.now }
     ensures { IsTrue result ↔ IsFrameAt function.now at }
 {
-    matches!(classes.get(at), Some(SlotClass::Frame))
+    is_frame_class(classes, at)
 }
 
 fn seen_words(
@@ -80,7 +86,7 @@ fn chunk_facts(
     requires slots { length slots.now ≤ 64 }
     ensures { IfOk result (TellsChunk function.now looked.now slots.now) }
 {
-    let here = started(alloc, function, graph, slots)?;
+    let here = started_slots(alloc, function, graph, slots)?;
     let early = early_word(alloc, function, before, uses, slots)?;
     let loose = here.marked & (early ^ u64::MAX);
     let seen = seen_words(alloc, &here.rows, loose, looked)?;

@@ -1,8 +1,8 @@
 //! Who is alive with whom.
 
-ghost use Rattle.std.specs.Prelude.{◌≡◌, ◌<◌, ◌≤◌, ℕ, IfOk, IsTrue, length, slice_get, Some};
+ghost use Rattle.std.specs.Prelude.{◌≡◌, ◌≤◌, IfOk, length};
 ghost use Rattle.slot_conflicts.specs.Known.{AreMetFor, seen_at as seen_of_chunk};
-ghost use Rattle.slot_conflicts.specs.Meeting.{AreMeetings, AreOf, HaveMet};
+ghost use Rattle.slot_conflicts.specs.Meeting.{AreMeetings, HaveMet, are_of as are_of_those};
 
 use crate::bits::{has_bit, word_at};
 use crate::facts::Chunk;
@@ -24,7 +24,7 @@ fn meet(words: &mut Items<u64>, one: u64, other: u64)
 
 /// Whether two words have nothing that the two before them haven't.
 fn are_of(one: u64, other: u64, last_one: u64, last_other: u64) -> bool
-    ensures { IsTrue result → AreOf one other last_one last_other }
+    ensures { result ≡ are_of_those one other last_one last_other }
 {
     one == 0 || other == 0 || (one == last_one && other == last_other)
 }

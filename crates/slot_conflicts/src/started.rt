@@ -90,7 +90,7 @@ fn pass_rows(
 
 /// For each point of a function a word with the bit of each of these slots to whose starts a path leads back from there without
 /// an end of the slot between, and the slots that have markers.
-pub fn started(
+pub fn started_slots(
     alloc: Global,
     function: &Function,
     graph: &Graph,

@@ -15,7 +15,7 @@ ghost use Rattle.window_rules.specs.Sets.{AreThose};
 use crate::bits::{chunk_end, has_bit, word_at, word_at_point};
 use crate::facts::is_frame;
 use crate::pairs::push_if;
-use crate::started::{Started, started};
+use crate::started::{Started, started_slots};
 use block_paths::block_graph;
 use coro_base::{Items, ValueId};
 use coro_calls::CallOf;
@@ -70,7 +70,7 @@ fn suspend_words(
     requires slots { length slots.now ≤ 64 }
     ensures { IfOk result (λ words. TellSuspends function.now slots.now words.items) }
 {
-    let here = started(alloc, function, graph, slots)?;
+    let here = started_slots(alloc, function, graph, slots)?;
     alive_words(alloc, &here, behind, suspends)
 }
 
