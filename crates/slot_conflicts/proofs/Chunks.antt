@@ -23,9 +23,9 @@ use Rattle.slot_lifetime.specs.Alive.{markers_of}
 
 -- ---- one chunk
 
-pub chunk_tells : (f : Function) (looked slots2 : List Point) (slots : List ℕ) (rows : List (List ℕ)) (marked early loose : ℕ) (seen : List ℕ) → AreLooked f looked → AreStarted f slots rows → HaveMarkers f slots marked → AreEarly f slots early →
+pub chunk_tells : (f : Function) (looked : List Point) (slots : List ℕ) (rows : List (List ℕ)) (marked early loose : ℕ) (seen : List ℕ) → AreLooked f looked → AreStarted f slots rows → HaveMarkers f slots marked → AreEarly f slots early →
     loose ≡ bit_and marked (bit_xor early all_bits) → seen ≡ map (seen_word rows loose) looked → TellsChunk f looked slots (record { loose = loose; seen = seen })
-chunk_tells f looked slots2 slots rows marked early loose seen are_looked started markers are_early loose_is seen_is = record { loose = is_loose; tight = is_tight; seen = λ c slot k lt is h. (to c slot k lt is h, from c slot k lt is h) }
+chunk_tells f looked slots rows marked early loose seen are_looked started markers are_early loose_is seen_is = record { loose = is_loose; tight = is_tight; seen = λ c slot k lt is h. (to c slot k lt is h, from c slot k lt is h) }
   where
     two : (c : ℕ) → HasBit loose c → HasBit marked c × HasBit (bit_xor early all_bits) c
     two c h = both_bits marked (bit_xor early all_bits) c (subst (λ (w : ℕ). HasBit w c) loose_is h)

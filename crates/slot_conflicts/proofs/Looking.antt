@@ -249,3 +249,9 @@ module _ (f : Function) (after : List (List Bool)) (set : AreThose (IsAfterEnd f
 
   pub are_looked : AreLooked f (looked_blocks after (end_block f) 0 f.blocks)
   are_looked = record { are_outside = listed_outside; are_enough = looked_enough }
+
+pub looked_made : (f : Function) (points none all first : List Point) (after : List (List Bool)) (end : ℕ) (blocks : List Block) → AreThose (IsReached f points none) after → points ≡ ends f → none ≡ [] → end ≡ end_block f → blocks ≡ f.blocks → first ≡ [] → all ≡ first ++ looked_blocks after end 0 blocks → AreLooked f all
+looked_made f points none all first after end blocks set points_are none_is end_is blocks_are first_is is =
+    subst (AreLooked f)
+    (sym (is ∙ ap (λ (l : List Point). l ++ looked_blocks after end 0 blocks) first_is ∙ ap (λ (e : ℕ). looked_blocks after e 0 blocks) end_is ∙ ap (looked_blocks after (end_block f) 0) blocks_are))
+    (are_looked f after (subst (λ (l : List Point). AreThose (IsReached f l []) after) points_are (subst (λ (l : List Point). AreThose (IsReached f points l) after) none_is set)))

@@ -92,7 +92,7 @@ module _ (one other : List ℕ) where
 
   pub nothing_met : (words : List ℕ) → words ≡ replicate 64 0 → AreMeetingsBefore one other 0 words
   nothing_met words is = subst (AreMeetingsBefore one other 0) (sym is) (record {
-    is_long = length-replicate 64 0;
+    is_long = length-replicate {A = ℕ} 64 0;
     each = λ c d small. (λ h. absurd (no_words 64 c d h), λ k. let lt = k.is_before in absurd (omega (arith, lt)));
   })
 
@@ -158,3 +158,15 @@ module _ (one other : List ℕ) where
       λ b. let lt = bit_within one b.at c b.has_one in (m.each c d small).1 (record { at = b.at; is_before = omega (arith, lt, le); has_one = b.has_one; has_other = b.has_other }),
     );
   }
+
+  pub step_met : (words next after : List ℕ) (n x y lx ly : ℕ) → after ≡ next → lx ≡ x → ly ≡ y → x ≡ word_at one n → y ≡ word_at other n → HaveMet x y 64 words next → AreMeetingsBefore one other n words → AreMeetingsBefore one other (n + 1) after × AreCovered lx ly after
+  step_met words next after n x y lx ly is x_last y_last x_is y_is met m = (
+    subst (AreMeetingsBefore one other (n + 1)) (sym is) (all_met words next n x y x_is y_is met m),
+    subst (AreCovered lx ly) (sym is) (subst (λ (k : ℕ). AreCovered k ly next) (sym x_last) (subst (λ (k : ℕ). AreCovered x k next) (sym y_last) (met_covered words next x y met))),
+  )
+
+  pub step_none : (words after : List ℕ) (n x y lx ly lx2 ly2 : ℕ) → after ≡ words → lx2 ≡ lx → ly2 ≡ ly → x ≡ word_at one n → y ≡ word_at other n → are_of x y lx ly ≡ true → AreMeetingsBefore one other n words × AreCovered lx ly words → AreMeetingsBefore one other (n + 1) after × AreCovered lx2 ly2 after
+  step_none words after n x y lx ly lx2 ly2 is x_last y_last x_is y_is e m = (
+    subst (AreMeetingsBefore one other (n + 1)) (sym is) (none_new words n x y lx ly x_is y_is e m.1 m.0),
+    subst (AreCovered lx2 ly2) (sym is) (subst (λ (k : ℕ). AreCovered k ly2 words) (sym x_last) (subst (λ (k : ℕ). AreCovered lx k words) (sym y_last) m.1)),
+  )

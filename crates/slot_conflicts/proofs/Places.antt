@@ -1,7 +1,8 @@
 -- Places of lists, and places of points.
-use Rattle.std.proofs.Common.{◌≡◌, ℕ, zero, suc, ◌+◌, ◌*◌, ◌/◌, ◌%◌, ◌<◌, ◌≤◌, ◌⊎◌, Bool, true, false, List, [], ◌∷◌, ◌++◌, length, map, take, drop, Some, None, Option, refl, sym, ap, ◌∙◌, subst, ⊎_elim, inl, inr, arith}
-use Rattle.std.specs.Prelude.{option_map, slice_get, unwrap_or}
-use Rattle.std.proofs.lemmas.Bool.{cases_lt, false≢true}
+use Rattle.std.proofs.Common.{◌≡◌, ℕ, zero, suc, ◌+◌, ◌*◌, ◌/◌, ◌%◌, ◌<◌, ◌≤◌, ◌⊎◌, Bool, true, false, List, [], ◌∷◌, ◌++◌, length, map, take, drop, Some, None, Option, refl, sym, ap, ◌∙◌, subst, ⊎_elim, inl, inr, arith, eq-eqb}
+use Rattle.std.specs.Prelude.{min, option_map, slice_get, unwrap_or, ◌==◌}
+use Rattle.std.specs.Int.{bit_at}
+use Rattle.std.proofs.lemmas.Bool.{cases_lt, eqb-true, false≢true}
 use Rattle.std.proofs.lemmas.Option.{slice_get_within}
 use Rattle.bit_reach.specs.Bits.{HasBit}
 use Rattle.block_paths.specs.Words.{word_at}
@@ -94,3 +95,20 @@ instr_point f p i e = by (slice_get f.blocks p.block) refl e
     by : (o : Option Block) → slice_get f.blocks p.block ≡ o → instr_in o p.at ≡ Some i → IsPointOf f p
     by None is h = absurd (no_some i h)
     by (Some b) is h = let lt = slice_get_within b.instrs p.at i h in record { block = b; is_block = is; within = omega (arith, lt) }
+
+-- a bit by a test
+pub bit_test : (b : Bool) (w v c : ℕ) → b ≡ (bit_at w c == 1) → w ≡ v → (b ≡ true → HasBit v c) × (HasBit v c → b ≡ true)
+bit_test b w v c is same = (
+  λ e. subst (λ (x : ℕ). HasBit x c) same (eqb-true (bit_at w c) 1 (sym is ∙ e)),
+  λ h. is ∙ eq-eqb (bit_at w c) 1 (subst (λ (x : ℕ). HasBit x c) (sym same) h),
+)
+
+pub no_both : {A : Type 0} (b : Bool) → b ≡ true → b ≡ false → A
+no_both b e f = absurd (false≢true (sym f ∙ e))
+
+-- where a chunk ends
+pub chunk_ends : (a count end at : ℕ) → end ≤ count → end ≤ a + 64 → (end < a + 64 → end ≡ count) → at ≡ end → at ≡ min (a + 64) count
+chunk_ends a count end at within most whole is = ⊎_elim
+    (λ less. let same = whole less in omega (arith, same, less, is))
+    (λ more. omega (arith, within, most, more, is))
+    (cases_lt end (a + 64))

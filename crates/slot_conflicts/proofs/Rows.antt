@@ -91,7 +91,7 @@ stops_are starts ends p row w is_row is_word =
 -- ---- shapes
 
 row_long : (g : Instr → ℕ) (h : Terminator → ℕ) (b : Block) → length (row_with g h b) ≡ length b.instrs + 1
-row_long g h b = length-append (map g b.instrs) (h b.term ∷ []) ∙ ap (λ (n : ℕ). n + 1) (length-map g b.instrs)
+row_long g h b = length-append (map g b.instrs) (h b.term ∷ []) ∙ ap (λ (n : ℕ). n + 1) (length-map b.instrs g)
 
 pub rows_long : (g : Instr → ℕ) (h : Terminator → ℕ) (bs : List Block) → map length (map (row_with g h) bs) ≡ map (λ (b : Block). length b.instrs + 1) bs
 rows_long g h [] = refl

@@ -17,6 +17,7 @@ use Rattle.point_reach.proofs.Each.{HasRow, row_of_block}
 use Rattle.point_reach.specs.Reached.{AreAvoided, AreReachedAt, HaveShape, IsFrom, IsPointOf, IsReached, begins_at, stops_at, word_at_point}
 use Rattle.point_reach.specs.Reached.IsFrom.{FromBegin, FromFront}
 use Rattle.point_reach.specs.Rows.{each_from}
+use Rattle.point_reach.specs.declared.question.Pass.{Pass}
 use Rattle.point_reach.specs.declared.question.Passes.{Passes}
 use Rattle.slot_conflicts.proofs.Places.{none_has}
 use Rattle.slot_conflicts.proofs.Rows.{HasAt, begins_are, first_rows, in_rows, of_rows, passes_long, rows_long, stops_are}
@@ -121,3 +122,18 @@ module _ (f : Function) (slots words : List ℕ) (known : AreSlotWords slots wor
 
   pub passes_shape : (passes : Passes) → passes.rows ≡ each_from (pass_row ends) 0 starts → HaveShape f passes.rows
   passes_shape passes rows_are = subst (HaveShape f) (sym rows_are) (passes_long f starts ends starts_long)
+
+pub rows_made : (f : Function) (words names : List ℕ) (first last marks : List (List ℕ)) (pass : List (List Pass)) → names ≡ words → first ≡ marker_rows Intrinsic.LifetimeStart names f → last ≡ marker_rows Intrinsic.LifetimeEnd names f → marks ≡ first → pass ≡ each_from (pass_row last) 0 marks →
+    pass ≡ each_from (pass_row (marker_rows Intrinsic.LifetimeEnd words f)) 0 (marker_rows Intrinsic.LifetimeStart words f)
+rows_made f words names first last marks pass names_are first_is last_is marks_are is =
+    is
+    ∙ ap (each_from (pass_row last) 0) (marks_are ∙ first_is ∙ ap (λ (w : List ℕ). marker_rows Intrinsic.LifetimeStart w f) names_are)
+    ∙ ap (λ (l : List (List ℕ)). each_from (pass_row l) 0 (marker_rows Intrinsic.LifetimeStart words f)) (last_is ∙ ap (λ (w : List ℕ). marker_rows Intrinsic.LifetimeEnd w f) names_are)
+
+pub marked_made : (f : Function) (slots words names : List ℕ) (first last marks stops : List (List ℕ)) (before word : ℕ) → AreSlotWords slots words → names ≡ words → first ≡ marker_rows Intrinsic.LifetimeStart names f → last ≡ marker_rows Intrinsic.LifetimeEnd names f → marks ≡ first → stops ≡ last →
+    before ≡ rows_word 0 marks → word ≡ rows_word before stops → HaveMarkers f slots word
+marked_made f slots words names first last marks stops before word known names_are first_is last_is marks_are stops_are before_is is =
+    subst (HaveMarkers f slots)
+    (sym (is ∙ ap (λ (w : ℕ). rows_word w stops) (before_is ∙ ap (rows_word 0) (marks_are ∙ first_is ∙ ap (λ (w : List ℕ). marker_rows Intrinsic.LifetimeStart w f) names_are))
+    ∙ ap (rows_word (rows_word 0 (marker_rows Intrinsic.LifetimeStart words f))) (stops_are ∙ last_is ∙ ap (λ (w : List ℕ). marker_rows Intrinsic.LifetimeEnd w f) names_are)))
+    (have_markers f slots words known)

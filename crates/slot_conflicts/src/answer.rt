@@ -87,7 +87,8 @@ fn push_row(
     requires pairs { AreUpTo (ConflictAt function.now) one 0 pairs.old }
     ensures { OnOk result (AreUpTo (ConflictAt function.now) (one + 1) 0 pairs.new) }
 {
-    for other in one + 1..known.count {
+    let count = known.count;
+    for other in one + 1..count {
         let holds = is_conflict(function, known, met, one, other);
         push_if(pairs, holds, one, other)?;
     }
@@ -127,9 +128,10 @@ fn push_chunk(
     requires pairs { AreUpTo (ConflictAt function.now) (chunk * 64) 0 pairs.old }
     ensures { OnOk result (AreUpTo (ConflictAt function.now) (min (chunk * 64 + 64) known.now.count) 0 pairs.new) }
 {
-    let met = all_meetings(alloc, &known.chunks, chunk)?;
+    let count = known.count;
     let start = chunk * 64;
-    for one in start..chunk_end(known.count, start) {
+    let met = all_meetings(alloc, &known.chunks, chunk)?;
+    for one in start..chunk_end(count, start) {
         push_slot(function, known, &met, one, pairs)?;
     }
     Ok(())

@@ -103,8 +103,12 @@ pub fn early_word(
     ensures { IfOk result (AreEarly function.now slots.now) }
 {
     let words = address_words(alloc, function, slots)?;
-    let rows = use_rows(alloc, function, words.as_slice())?;
-    let edges = edge_words(alloc, words.as_slice(), uses)?;
-    let early = early_rows(before, rows.as_slice())?;
-    Ok(early_edges(function, before, early, edges.as_slice()))
+    let names = words.as_slice();
+    let rows = use_rows(alloc, function, names)?;
+    let edges = edge_words(alloc, names, uses)?;
+    let marks = rows.as_slice();
+    let early = early_rows(before, marks)?;
+    let on_edges = edges.as_slice();
+    let word = early_edges(function, before, early, on_edges);
+    Ok(word)
 }

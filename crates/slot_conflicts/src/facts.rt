@@ -111,7 +111,7 @@ fn all_chunks(
     let mut chunks = Items::new(alloc);
     for chunk in 0..chunks_of(slots.len()) {
         let here = chunk_of(slots, chunk);
-        chunks.push(chunk_facts(
+        let facts = chunk_facts(
             alloc,
             function,
             &graph,
@@ -119,7 +119,8 @@ fn all_chunks(
             looked,
             uses.as_slice(),
             here,
-        )?)?;
+        )?;
+        chunks.push(facts)?;
     }
     Ok(chunks)
 }

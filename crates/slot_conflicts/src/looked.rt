@@ -84,20 +84,15 @@ pub fn looked_points(
     requires { IsGraphOf function.now graph.old }
     ensures { IfOk result (AreLooked function.now) }
 {
-    let ends = points_where(
-        alloc,
-        &CallOf {
-            intrinsic: Intrinsic::CoroEnd,
-        },
-        function,
-    )?;
-    let after = reached_set(alloc, graph, function, ends.as_slice(), &[])?;
+    let end = CallOf {
+        intrinsic: Intrinsic::CoroEnd,
+    };
+    let found = points_where(alloc, &end, function)?;
+    let ends = found.as_slice();
+    let after = reached_set(alloc, graph, function, ends, &[])?;
     let mut all = Items::new(alloc);
-    push_blocks(
-        &mut all,
-        &after,
-        end_block(function),
-        function.blocks.as_slice(),
-    )?;
+    let last = end_block(function);
+    let blocks = function.blocks.as_slice();
+    push_blocks(&mut all, &after, last, blocks)?;
     Ok(all)
 }

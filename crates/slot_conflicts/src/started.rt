@@ -102,14 +102,21 @@ pub fn started_slots(
     ensures marked { IfOk result (λ s. HaveMarkers function.now slots.now s.marked) }
 {
     let words = slot_words(alloc, slots)?;
-    let starts = marker_rows(alloc, Intrinsic::LifetimeStart, function, words.as_slice())?;
-    let ends = marker_rows(alloc, Intrinsic::LifetimeEnd, function, words.as_slice())?;
-    let marked = rows_word(rows_word(0, starts.as_slice()), ends.as_slice());
+    let names = words.as_slice();
+    let starts = marker_rows(alloc, Intrinsic::LifetimeStart, function, names)?;
+    let ends = marker_rows(alloc, Intrinsic::LifetimeEnd, function, names)?;
+    let marks = starts.as_slice();
+    let stops = ends.as_slice();
+    let marked = rows_word(rows_word(0, marks), stops);
+    let pass = pass_rows(alloc, marks, &ends)?;
     let passes = Passes {
-        rows: pass_rows(alloc, starts.as_slice(), &ends)?,
+        rows: pass,
         fronts: Items::new(alloc),
         closed: function.blocks.len(),
     };
-    let rows = reached_points(alloc, function, graph, &passes)?;
-    Ok(Started { rows, marked })
+    let found = reached_points(alloc, function, graph, &passes)?;
+    Ok(Started {
+        rows: found,
+        marked,
+    })
 }

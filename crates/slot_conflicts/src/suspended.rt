@@ -71,7 +71,8 @@ fn suspend_words(
     ensures { IfOk result (λ words. TellSuspends function.now slots.now words.items) }
 {
     let here = started_slots(alloc, function, graph, slots)?;
-    alive_words(alloc, &here, behind, suspends)
+    let words = alive_words(alloc, &here, behind, suspends)?;
+    Ok(words)
 }
 
 // ---- pairs
@@ -185,20 +186,9 @@ pub fn push_chunk(
     requires pairs { AreUpTo (AliveAt function.now) (chunk * 64) 0 pairs.old }
     ensures { OnOk result (AreUpTo (AliveAt function.now) (min (chunk * 64 + 64) (length slots.now)) 0 pairs.new) }
 {
-    let words = suspend_words(
-        alloc,
-        function,
-        &known.graph,
-        &known.behind,
-        known.suspends.as_slice(),
-        chunk_of(slots, chunk),
-    )?;
-    push_slots(
-        function,
-        classes,
-        slots.len(),
-        chunk,
-        words.as_slice(),
-        pairs,
-    )
+    let here = chunk_of(slots, chunk);
+    let suspends = known.suspends.as_slice();
+    let words = suspend_words(alloc, function, &known.graph, &known.behind, suspends, here)?;
+    let count = slots.len();
+    push_slots(function, classes, count, chunk, words.as_slice(), pairs)
 }
