@@ -1,5 +1,5 @@
 -- Paths of questions as paths on which some points are avoided.
-use Rattle.std.proofs.Common.{◌≡◌, ℕ, ◌+◌, ◌⊎◌, Bool, true, false, List, [], ◌∷◌, ◌++◌, refl, sym, ap, ◌∙◌, subst, ⊎_elim, inl, inr}
+use Rattle.std.proofs.Common.{◌≡◌, ℕ, Bool, true, false, List, [], ◌∷◌, refl, sym, ap, ◌∙◌, subst, ⊎_elim, inl, inr}
 use Rattle.std.proofs.lemmas.Bool.{false≢true}
 use Rattle.bit_reach.specs.Bits.{HasBit}
 use Rattle.flow_solver.specs.Paths.{IsListed}
@@ -8,7 +8,7 @@ use Rattle.ir_paths.proofs.Search.{leads-more}
 use Rattle.ir_paths.specs.Paths.{IsPath, Leads, has_point, nexts}
 use Rattle.ir_paths.specs.declared.point.Point.{Point}
 use Rattle.point_reach.proofs.Ways.{source_is_point}
-use Rattle.point_reach.specs.Reached.{AreAvoided, ComesTo, IsFrom, IsReached, begins_at, front, stops_at}
+use Rattle.point_reach.specs.Reached.{AreAvoided, ComesTo, IsFrom, IsReached, begins_at, front}
 use Rattle.point_reach.specs.Reached.IsFrom.{FromBegin, FromFront}
 use Rattle.point_reach.specs.Reached.IsReached.{AtFront, Behind, On}
 use Rattle.point_reach.specs.declared.question.Passes.{Passes}

@@ -1,8 +1,8 @@
 -- The words that are solved for, and paths of points.
 use Rattle.std.proofs.Common.{◌≡◌, ℕ, zero, suc, ◌+◌, ◌<◌, ◌≤◌, ◌⊎◌, Bool, true, false, List, [], ◌∷◌, ◌++◌, length, map, Some, refl, sym, ap, ◌∙◌, subst, ⊎_elim, inl, inr, arith, eq-eqb}
-use Rattle.std.specs.Prelude.{bit_xor, option_map, slice_get, unwrap_or, if◌then◌else◌, ◌==◌}
+use Rattle.std.specs.Prelude.{option_map, slice_get, unwrap_or, if◌then◌else◌, ◌==◌}
 use Rattle.std.proofs.lemmas.Bool.{eqb-true}
-use Rattle.std.proofs.lemmas.Option.{slice_get-map, slice_get_within}
+use Rattle.std.proofs.lemmas.Option.{slice_get-map}
 use Rattle.bit_reach.specs.Bits.{HasBit}
 use Rattle.bit_reach.specs.Reaching.{AnswersAt, Reaches}
 use Rattle.bit_reach.specs.Reaching.Reaches.{Start, Edge}
@@ -21,7 +21,7 @@ use Rattle.point_graph.proofs.Neighbours.{IsBranch, IsInner, edge-cases, next-in
 use Rattle.point_graph.proofs.Tests.{point-is, same_point-from}
 use Rattle.ir_paths.proofs.Search.{or_left}
 use Rattle.ir_paths.specs.Paths.{same_point}
-use Rattle.point_reach.proofs.Bits.{all_bit, bit_or_not, flipped_off, flipped_on, no_bit}
+use Rattle.point_reach.proofs.Bits.{all_bit, flipped_off, flipped_on, no_bit}
 use Rattle.point_reach.proofs.Each.{HasRow, each_gets, row_of_block, some_same}
 use Rattle.point_reach.proofs.Stepping.{GoesOn, GoesThrough, after_step, begins_stepped, goes_stepped, none_stopped, out_has, out_step, stepped_has, stops_through, through_out, through_stops, word_after}
 use Rattle.point_reach.proofs.Ways.{LeavesBlock, branch_is, edge_leaves, listed_back}

@@ -1,9 +1,9 @@
 -- What a row of passes does to a question.
-use Rattle.std.proofs.Common.{◌≡◌, ℕ, zero, suc, ◌+◌, ◌<◌, ◌≤◌, ◌⊎◌, List, [], ◌∷◌, length, Some, refl, ap, ◌∙◌, subst, ⊎_elim, inl, inr, arith}
+use Rattle.std.proofs.Common.{◌≡◌, ℕ, zero, suc, ◌+◌, ◌<◌, ◌⊎◌, List, [], ◌∷◌, length, Some, refl, ap, ⊎_elim, inl, inr, arith}
 use Rattle.std.specs.Prelude.{bit_or, slice_get}
 use Rattle.bit_reach.specs.Bits.{HasBit}
 use Rattle.point_reach.proofs.Each.{some_same}
-use Rattle.point_reach.proofs.Bits.{bit_or_not, in_without, left_bit, no_bit, one_bit, right_bit, still_without}
+use Rattle.point_reach.proofs.Bits.{in_without, left_bit, one_bit, right_bit, still_without}
 use Rattle.point_reach.specs.Rows.{out_word, row_words, stepped, stops_word, without}
 use Rattle.point_reach.specs.declared.question.Pass.{Pass}
 

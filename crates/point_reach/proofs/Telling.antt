@@ -16,8 +16,8 @@ use Rattle.ir_paths.specs.declared.point.Point.{Point}
 use Rattle.point_reach.proofs.Each.{HasRow, each_gets, length_each, row_of_block}
 use Rattle.point_reach.proofs.Fronts.{all_told, has_reached, to_points, walk}
 use Rattle.point_reach.proofs.Stepping.{length_words, word_after, word_stands}
-use Rattle.point_reach.specs.Reached.{AreBlocks, AreReachedAt, HaveShape, IsPointOf, IsReached, row_of, word_at_point}
-use Rattle.point_reach.specs.Rows.{each_from, kept_word, made_of, made_start, shut_of, stops_of, words_of, row_words}
+use Rattle.point_reach.specs.Reached.{AreBlocks, AreReachedAt, HaveShape, IsPointOf, IsReached, word_at_point}
+use Rattle.point_reach.specs.Rows.{each_from, kept_word, made_of, made_start, shut_of, stops_of, words_of}
 use Rattle.point_reach.specs.declared.question.Pass.{Pass}
 use Rattle.point_reach.specs.declared.question.Passes.{Passes}
 

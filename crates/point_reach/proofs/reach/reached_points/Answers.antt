@@ -1,4 +1,4 @@
-use Rattle.std.proofs.Common.{◌∙◌, sym, subst}
+use Rattle.std.proofs.Common.{sym, subst}
 use Rattle.block_paths.proofs.Making.{of_ok}
 use Rattle.point_reach.specs.Reached.{AreBlocks}
 use Rattle.point_reach.proofs.Telling.{points_told}
