@@ -1,0 +1,7 @@
+pub mod Bits
+pub mod Stepping
+pub mod Each
+pub mod Ways
+pub mod Fronts
+pub mod Telling
+pub mod Avoiding

@@ -1,0 +1,11 @@
+//! To which points of a function the paths of up to 64 questions lead: each question has points behind which its paths begin and
+//! points where they end.
+#![tactic(auto)]
+
+mod question;
+mod reach;
+mod row;
+
+pub use flow_solver::Graph;
+pub use question::{Pass, Passes};
+pub use reach::reached_points;

@@ -1,0 +1,11 @@
+pub mod Order
+pub mod Places
+pub mod Rows
+pub mod Starting
+pub mod Suspending
+pub mod Frames
+pub mod Looking
+pub mod Earliness
+pub mod Meetings
+pub mod Chunks
+pub mod Deciding

@@ -1,0 +1,15 @@
+//! Which slots of a frame may be alive at which suspends, and which of them may not share bytes ("Coroutines in LLVM",
+//! "Coroutine Representation"; LLVM Language Reference, "llvm.lifetime.start").
+#![tactic(auto)]
+
+mod answer;
+mod bits;
+mod early;
+mod facts;
+mod looked;
+mod meeting;
+mod pairs;
+mod started;
+mod suspended;
+
+pub use answer::{alive_at, conflicts};

@@ -1,0 +1,194 @@
+//! Which slots may be alive at the suspends.
+
+ghost use Rattle.std.specs.Prelude.{◌≡◌, ◌<◌, ◌≤◌, ◌+◌, ◌*◌, ◌%◌, [], IfOk, OnOk, length, map, min};
+ghost use Rattle.block_paths.specs.Edges.{graph_of};
+ghost use Rattle.ir_paths.specs.Slots.{allocas_of};
+ghost use Rattle.point_graph.specs.Reached.{IsReached};
+ghost use Rattle.slot_conflicts.specs.Conflicts.{AliveAt};
+ghost use Rattle.slot_conflicts.specs.Known.{chunk_slots};
+ghost use Rattle.slot_conflicts.specs.Pairs.{AreUpTo};
+ghost use Rattle.slot_conflicts.specs.Suspended.{TellSlot, TellSuspends, alive_word as word_alive};
+ghost use Rattle.slot_lifetime.specs.Classes.{AreClasses, suspends as suspends_of};
+ghost use Rattle.window_rules.specs.Points.{begins};
+ghost use Rattle.window_rules.specs.Sets.{AreThose};
+
+use crate::bits::{chunk_end, has_bit, word_at, word_at_point};
+use crate::facts::is_frame;
+use crate::pairs::push_if;
+use crate::started::{Started, started_slots};
+use block_paths::block_graph;
+use coro_base::{Items, ValueId};
+use coro_calls::CallOf;
+use flow_solver::Graph;
+use ir_model::{Function, Intrinsic};
+use ir_paths::Point;
+use point_graph::PointGraph;
+use slot_lifetime::SlotClass;
+use slot_uses::chunk_of;
+use std::alloc::{AllocError, Global};
+use window_rules::{PointSet, points_where, reached_set};
+
+/// The slots that may be alive at a point: from a start of theirs on, or without markers from begin on.
+fn alive_word(here: &Started, behind: &PointSet, point: Point) -> u64
+    ensures { result ≡ word_alive here.now.rows here.now.marked behind.now point }
+{
+    let word = word_at_point(&here.rows, point);
+    if behind.has(point) {
+        word | (here.marked ^ u64::MAX)
+    } else {
+        word
+    }
+}
+
+fn alive_words(
+    alloc: Global,
+    here: &Started,
+    behind: &PointSet,
+    suspends: &[Point],
+) -> Result<Vec<u64>, AllocError>
+    ensures { IfOk result (λ words. words.items ≡ map (word_alive here.now.rows here.now.marked behind.now) suspends.now) }
+{
+    let mut words = Vec::new(alloc);
+    for suspend in suspends {
+        words.push(alive_word(here, behind, *suspend))?;
+    }
+    Ok(words)
+}
+
+/// For each suspend the slots of a chunk that may be alive there.
+fn suspend_words(
+    alloc: Global,
+    function: &Function,
+    graph: &Graph,
+    behind: &PointSet,
+    suspends: &[Point],
+    slots: &[ValueId],
+) -> Result<Vec<u64>, AllocError>
+    requires graph { graph.now ≡ graph_of function.now }
+    requires behind { AreThose (IsReached function.now (begins function.now) []) behind.now }
+    requires suspends { suspends.now ≡ suspends_of function.now }
+    requires slots { length slots.now ≤ 64 }
+    ensures { IfOk result (λ words. TellSuspends function.now slots.now words.items) }
+{
+    let here = started_slots(alloc, function, graph, slots)?;
+    let words = alive_words(alloc, &here, behind, suspends)?;
+    Ok(words)
+}
+
+// ---- pairs
+
+/// Adds the pairs of a frame slot with the suspends at which it may be alive.
+fn push_suspends(
+    function: &Function,
+    at: usize,
+    words: &[u64],
+    pairs: &mut Items<(usize, usize)>,
+) -> Result<(), AllocError>
+    requires told { TellSlot function.now at (at % 64) words.now }
+    requires pairs { AreUpTo (AliveAt function.now) at 0 pairs.old }
+    ensures { OnOk result (AreUpTo (AliveAt function.now) (at + 1) 0 pairs.new) }
+{
+    for suspend in 0..words.len() {
+        let is_alive = has_bit(word_at(words, suspend), at % 64);
+        push_if(pairs, is_alive, at, suspend)?;
+    }
+    Ok(())
+}
+
+/// The same for any slot of a chunk.
+fn push_slot(
+    function: &Function,
+    classes: &Items<SlotClass>,
+    chunk: usize,
+    at: usize,
+    words: &[u64],
+    pairs: &mut Items<(usize, usize)>,
+) -> Result<(), AllocError>
+    requires classes { AreClasses function.now classes.now }
+    requires told { TellSuspends function.now (chunk_slots function.now chunk) words.now }
+    requires low { chunk * 64 ≤ at }
+    requires high { at < chunk * 64 + 64 }
+    requires pairs { AreUpTo (AliveAt function.now) at 0 pairs.old }
+    ensures { OnOk result (AreUpTo (AliveAt function.now) (at + 1) 0 pairs.new) }
+{
+    if is_frame(function, classes, at) {
+        push_suspends(function, at, words, pairs)?;
+    }
+    Ok(())
+}
+
+/// The same for the slots of a chunk.
+fn push_slots(
+    function: &Function,
+    classes: &Items<SlotClass>,
+    count: usize,
+    chunk: usize,
+    words: &[u64],
+    pairs: &mut Items<(usize, usize)>,
+) -> Result<(), AllocError>
+    requires classes { AreClasses function.now classes.now }
+    requires told { TellSuspends function.now (chunk_slots function.now chunk) words.now }
+    requires chunk { chunk * 64 < count }
+    requires pairs { AreUpTo (AliveAt function.now) (chunk * 64) 0 pairs.old }
+    ensures { OnOk result (AreUpTo (AliveAt function.now) (min (chunk * 64 + 64) count) 0 pairs.new) }
+{
+    let start = chunk * 64;
+    for at in start..chunk_end(count, start) {
+        push_slot(function, classes, chunk, at, words, pairs)?;
+    }
+    Ok(())
+}
+
+/// What is found once of the suspends of a function.
+#[derive(Drop)]
+pub struct Suspended {
+    pub graph: Graph,
+    pub behind: PointSet,
+    pub suspends: Items<Point>,
+}
+
+pub fn suspended_of(alloc: Global, function: &Function) -> Result<Suspended, AllocError>
+    ensures graph { IfOk result (λ s. s.graph ≡ graph_of function.now) }
+    ensures behind { IfOk result (λ s. AreThose (IsReached function.now (begins function.now) []) s.behind) }
+    ensures suspends { IfOk result (λ s. s.suspends ≡ suspends_of function.now) }
+{
+    let begin = CallOf {
+        intrinsic: Intrinsic::CoroBegin,
+    };
+    let suspend = CallOf {
+        intrinsic: Intrinsic::CoroSuspend,
+    };
+    let mut points = PointGraph::new(alloc, function)?;
+    let begins = points_where(alloc, &begin, function)?;
+    Ok(Suspended {
+        graph: block_graph(alloc, function)?,
+        behind: reached_set(alloc, &mut points, function, begins.as_slice(), &[])?,
+        suspends: points_where(alloc, &suspend, function)?,
+    })
+}
+
+/// Adds the pairs of the slots of a chunk.
+pub fn push_chunk(
+    alloc: Global,
+    function: &Function,
+    known: &Suspended,
+    classes: &Items<SlotClass>,
+    slots: &[ValueId],
+    chunk: usize,
+    pairs: &mut Items<(usize, usize)>,
+) -> Result<(), AllocError>
+    requires graph { known.now.graph ≡ graph_of function.now }
+    requires behind { AreThose (IsReached function.now (begins function.now) []) known.now.behind }
+    requires suspends { known.now.suspends ≡ suspends_of function.now }
+    requires classes { AreClasses function.now classes.now }
+    requires slots { slots.now ≡ allocas_of function.now }
+    requires chunk { chunk * 64 < length slots.now }
+    requires pairs { AreUpTo (AliveAt function.now) (chunk * 64) 0 pairs.old }
+    ensures { OnOk result (AreUpTo (AliveAt function.now) (min (chunk * 64 + 64) (length slots.now)) 0 pairs.new) }
+{
+    let here = chunk_of(slots, chunk);
+    let suspends = known.suspends.as_slice();
+    let words = suspend_words(alloc, function, &known.graph, &known.behind, suspends, here)?;
+    let count = slots.len();
+    push_slots(function, classes, count, chunk, words.as_slice(), pairs)
+}
