@@ -9,4 +9,3 @@ pub use edges::{block_graph, successors};
 pub use flow_solver::Graph;
 pub use kinds::{EdgeKind, edge_kind};
 pub use reaching::{after_end, reach};
-

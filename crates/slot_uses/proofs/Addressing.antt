@@ -111,11 +111,12 @@ module _ (slots : List ℕ) where
   pub slot_words_are : (nodes : ℕ) (words : List ℕ) → length words ≡ nodes → AreBelow slots nodes →
       ((node word : ℕ) → slice_get words node ≡ Some word → AnswersAt [] [] (questions_from 0 slots) node word) → AreSlotWords slots words
   slot_words_are nodes words len below answers = record {
-    each = λ v c lt.
-        (λ h. own_to c v (reached_by [] (questions_from 0 slots) [] words answers v c lt h),
-        λ e. let small = below v (name_at slots c v e) in
-        told_of [] (questions_from 0 slots) [] words answers v c lt (omega (arith, small, len))
-        (Reaches.Start v (2 ^ c) (start_of slots c v e) (bit_at-pow_same c)));
+    each = λ v c lt. (
+      λ h. own_to c v (reached_by [] (questions_from 0 slots) [] words answers v c lt h),
+      λ e. let small = below v (name_at slots c v e) in
+          told_of [] (questions_from 0 slots) [] words answers v c lt (omega (arith, small, len))
+          (Reaches.Start v (2 ^ c) (start_of slots c v e) (bit_at-pow_same c)),
+    );
   }
 
 -- ---- their addresses
@@ -155,11 +156,12 @@ module _ (f : Function) (slots : List ℕ) where
   address_words_are : (nodes : ℕ) (words : List ℕ) → length words ≡ nodes → AreBelow slots nodes → HasNodes nodes (steps_of f) →
       ((node word : ℕ) → slice_get words node ≡ Some word → AnswersAt (steps_of f) ways (questions_from 0 slots) node word) → AreAddressWords f slots words
   address_words_are nodes words len below within answers = record {
-    each = λ v c lt.
-        (λ h. to_address c v (reached_by (steps_of f) (questions_from 0 slots) ways words answers v c lt h),
-        λ a. let met = from_address c v lt a in
-        let small = met_below nodes below within c v met in
-        told_of (steps_of f) (questions_from 0 slots) ways words answers v c lt (omega (arith, small, len)) met);
+    each = λ v c lt. (
+      λ h. to_address c v (reached_by (steps_of f) (questions_from 0 slots) ways words answers v c lt h),
+      λ a. let met = from_address c v lt a in
+          let small = met_below nodes below within c v met in
+          told_of (steps_of f) (questions_from 0 slots) ways words answers v c lt (omega (arith, small, len)) met,
+    );
   }
 
 -- ---- by equations

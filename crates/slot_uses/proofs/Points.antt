@@ -105,4 +105,3 @@ pub where_complete : (test : Instr → Bool) (f : Function) (p : Point) (i : Ins
 where_complete test f p i e t =
     let z : 0 + p.block ≡ p.block = omega arith in
     subst (λ (m : ℕ). Has (points_where test f) (record { block = m; at = p.at })) z (in-complete test 0 f.blocks p.block p.at i e t)
-

@@ -130,15 +130,18 @@ phi_use_sound f u h =
     let p = r.is_of_phi in
     let i = p.is_incoming in
     let to : u.to ≡ r.place = i.is_to ∙ z in
-    let small = slice_get_within f.blocks r.place r.block r.is_block in
-    (record {
-      phi = p.phi;
-      incoming = i.incoming;
-      stands = subst (λ (ps : List Phi). IsListed p.phi ps) (ap phis_in (sym r.is_block) ∙ ap (phis_at f) (sym to)) p.stands;
-      comes = i.comes;
-      is_from = i.is_from;
-      takes = i.takes;
-    }, i.is_block, omega (arith, to, small))
+    let small = slice_get_within f.blocks r.place r.block r.is_block in (
+      record {
+        phi = p.phi;
+        incoming = i.incoming;
+        stands = subst (λ (ps : List Phi). IsListed p.phi ps) (ap phis_in (sym r.is_block) ∙ ap (phis_at f) (sym to)) p.stands;
+        comes = i.comes;
+        is_from = i.is_from;
+        takes = i.takes;
+      },
+      i.is_block,
+      omega (arith, to, small),
+    )
 
 on_use : (from to : ℕ) (x : Operand) (v : ℕ) → local_of x ≡ Some v → IsListed (phi_use from to v) (use_on from to x)
 on_use from to (Operand.Local u) v e = let same : v ≡ u = cc in inl (ap (phi_use from to) same)
@@ -248,8 +251,9 @@ module _ (f : Function) (slots words : List ℕ) (are : AreAddressWords f slots 
   -- the rows have the question at the uses of its slot
   pub use_told : (p : Point) → HasBit (word_at_point (use_rows words f) p) c ↔ IsUse f slot (At p)
   use_told p = (
-      λ h. let one = use_sound words f p c h in record { address = one.name; is_address = address_of f slots words are c slot one.name lt is one.has; uses = one.uses },
-      λ u. use_complete words f p c u.address (has_address f slots words are c slot u.address lt is u.is_address) u.uses)
+    λ h. let one = use_sound words f p c h in record { address = one.name; is_address = address_of f slots words are c slot one.name lt is one.has; uses = one.uses },
+    λ u. use_complete words f p c u.address (has_address f slots words are c slot u.address lt is u.is_address) u.uses,
+  )
 
   edge_sound : (from to : ℕ) → HasEdge (edge_words words (phi_uses f)) from to c → IsUse f slot (On from to)
   edge_sound from to h =

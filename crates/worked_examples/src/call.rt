@@ -1,7 +1,8 @@
 //! Public calls on functions of the worked modules.
 //!
 //! A line of the file `calls` is `CALL FUNCTION WORDS < FILE ~ ANSWER`: the call, the position of a function of the file's
-//! module, further numbers, and what the call gives, as numbers and names with spaces between.
+//! module, further numbers, and what the call gives, as numbers and names with spaces between. A call on the whole module names
+//! no function.
 
 use crate::sight::Sight;
 use anyhow::Result;
@@ -39,10 +40,13 @@ fn numbers_of(alloc: Global, words: &str) -> Result<Vec<usize>, AllocError> {
     Ok(numbers)
 }
 
-/// What a call gives on a function of a module.
+/// What a call gives on a module or a function of it.
 fn given(alloc: Global, words: &str, module: &Module) -> Result<String, AllocError> {
     let numbers = numbers_of(alloc, words)?;
     let mut sight = Sight::new(alloc);
+    if numbers.is_empty() {
+        sight.look_over(alloc, words, module)?;
+    }
     if let [func, rest @ ..] = numbers.as_slice() {
         if let Some(function) = module.functions.get(*func) {
             sight.look(alloc, words, function, rest)?;

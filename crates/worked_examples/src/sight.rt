@@ -1,7 +1,9 @@
 //! What public calls give on a function, as text.
 
 use block_paths::{EdgeKind, after_end, edge_kind, reach, successors};
-use ir_model::Function;
+use coro_base::{Item, Place};
+use escape_flow::{elidable_callees, elidable_sites};
+use ir_model::{Function, Module};
 use slot_conflicts::{alive_at, conflicts};
 use slot_lifetime::{SlotClass, classes};
 use std::alloc::{AllocError, Global};
@@ -103,6 +105,37 @@ impl Sight {
     fn crossing(&mut self, alloc: Global, function: &Function) -> Result<(), AllocError> {
         let all = crossing(alloc, function)?;
         self.say_pairs(alloc, all.as_slice())
+    }
+
+    /// The position of a place's function, its block, and the position there.
+    fn say_place(&mut self, alloc: Global, place: Place) -> Result<(), AllocError> {
+        if let (Item::Function(func), Some(block), Some(at)) = (
+            place.item,
+            place.block,
+            place.instr,
+        ) {
+            let word = format!(in alloc; "{func}-{block}-{at}")?;
+            self.say(word.as_str())?;
+        }
+        Ok(())
+    }
+
+    /// What the call of the words gives on a whole module.
+    pub fn look_over(
+        &mut self,
+        alloc: Global,
+        words: &str,
+        module: &Module,
+    ) -> Result<(), AllocError> {
+        if words == "elidable_callees" {
+            let all = elidable_callees(alloc, module)?;
+            return self.say_all(alloc, all.as_slice());
+        }
+        let all = elidable_sites(alloc, module)?;
+        for place in all.as_slice() {
+            self.say_place(alloc, *place)?;
+        }
+        Ok(())
     }
 
     /// What the call of the words gives.
