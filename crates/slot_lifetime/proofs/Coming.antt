@@ -43,12 +43,13 @@ module _ (f : Function) (c : ℕ) (lt : c < 64) (rows : List (List ℕ)) (edges 
     (are : AreReachedAt f (coming f rows edges stops) reached) (avoids : Avoids f stops c avoided) where
   coming_known : AreAvoided f (coming f rows edges stops) c avoided
   coming_known = record {
-    each = λ p is.
-        (λ h. inl ((stops_are stops rows p c).1 ((avoids.each p is).0 h)),
-        λ s. ⊎_elim
-        (λ h. (avoids.each p is).1 ((stops_are stops rows p c).0 h))
-        (λ e. let small = slice_get_within f.blocks p.block is.block is.is_block in absurd (omega (arith, e, small)))
-        s);
+    each = λ p is. (
+      λ h. inl ((stops_are stops rows p c).1 ((avoids.each p is).0 h)),
+      λ s. ⊎_elim
+          (λ h. (avoids.each p is).1 ((stops_are stops rows p c).0 h))
+          (λ e. let small = slice_get_within f.blocks p.block is.block is.is_block in absurd (omega (arith, e, small)))
+          s,
+    );
   }
 
   pub coming_sound : (q : Point) → HasBit (word_at_point reached q) c → SpotLeads f rows edges c avoided q
@@ -133,15 +134,16 @@ module _ (f : Function) (c : ℕ) (lt : c < 64) (own : List ℕ) (stops reached 
     (are : AreReachedAt f (leaving (ways_of f) own stops (end_block f)) reached) (avoids : Avoids f stops c avoided) where
   leaving_known : AreAvoided f (leaving (ways_of f) own stops (end_block f)) c (avoided ++ end_points f)
   leaving_known = record {
-    each = λ p is.
-        (λ h. ⊎_elim
-        (λ here. inl ((stops_are stops [] p c).1 ((avoids.each p is).0 here)))
-        (λ there. inr (end_sound f p there))
-        (has_append avoided (end_points f) p h),
-        λ s. ⊎_elim
-        (λ h. has_left avoided (end_points f) p ((avoids.each p is).1 ((stops_are stops [] p c).0 h)))
-        (λ e. has_right avoided (end_points f) p (end_complete f p is e))
-        s);
+    each = λ p is. (
+      λ h. ⊎_elim
+          (λ here. inl ((stops_are stops [] p c).1 ((avoids.each p is).0 here)))
+          (λ there. inr (end_sound f p there))
+          (has_append avoided (end_points f) p h),
+      λ s. ⊎_elim
+          (λ h. has_left avoided (end_points f) p ((avoids.each p is).1 ((stops_are stops [] p c).0 h)))
+          (λ e. has_right avoided (end_points f) p (end_complete f p is e))
+          s,
+    );
   }
 
   first_is : (b : Block) (from at block : ℕ) → slice_get f.blocks from ≡ Some b → (block ≡ (way_of f b).0) ⊎ (block ≡ (way_of f b).1) → has_point (own_edges f (point from at)) (point block 0) ≡ true
@@ -151,7 +153,7 @@ module _ (f : Function) (c : ℕ) (lt : c < 64) (own : List ℕ) (stops reached 
       (⊎_elim
       (λ one. or_left (same_point (point block 0) (point (way_of f b).0 0)) (same_point (point block 0) (point (way_of f b).1 0) || false) (subst (λ (n : ℕ). same_point (point block 0) (point n 0) ≡ true) one (same_point-itself (point block 0))))
       (λ two. or_right (same_point (point block 0) (point (way_of f b).0 0)) (same_point (point block 0) (point (way_of f b).1 0) || false)
-        (or_left (same_point (point block 0) (point (way_of f b).1 0)) false (subst (λ (n : ℕ). same_point (point block 0) (point n 0) ≡ true) two (same_point-itself (point block 0)))))
+      (or_left (same_point (point block 0) (point (way_of f b).1 0)) false (subst (λ (n : ℕ). same_point (point block 0) (point n 0) ≡ true) two (same_point-itself (point block 0)))))
       either_way)
 
   pub leaving_sound : (q : Point) → HasBit (word_at_point reached q) c → WayComes f own c avoided q
@@ -178,9 +180,9 @@ module _ (f : Function) (c : ℕ) (lt : c < 64) (own : List ℕ) (stops reached 
   leaving_complete s q s_is q_is owns first is_first comes = ⊎_elim
       (λ one. on_way (way_of f s_is.block).0 listed.0 (same_point-same first (entry_point f (resume_label f s)) one ∙ ap (λ (o : Option Block). entry_point f (label_at 0 o)) s_is.is_block))
       (λ rest. ⊎_elim
-        (λ two. on_way (way_of f s_is.block).1 listed.1 (same_point-same first (entry_point f (destroy_label f s)) two ∙ ap (λ (o : Option Block). entry_point f (label_at 1 o)) s_is.is_block))
-        (λ none. absurd (false≢true none))
-        (either (same_point first (entry_point f (destroy_label f s))) false rest))
+      (λ two. on_way (way_of f s_is.block).1 listed.1 (same_point-same first (entry_point f (destroy_label f s)) two ∙ ap (λ (o : Option Block). entry_point f (label_at 1 o)) s_is.is_block))
+      (λ none. absurd (false≢true none))
+      (either (same_point first (entry_point f (destroy_label f s))) false rest))
       (either (same_point first (entry_point f (resume_label f s))) (same_point first (entry_point f (destroy_label f s)) || false) is_first)
     where
       z : 0 + s.block ≡ s.block

@@ -34,7 +34,6 @@ of_ok (Err e) P Q h p = tt
 
 -- ---- windows
 
-
 inside_sound : (f : Function) (ws : List Window) → All (IsWindow f) ws → (p : Point) → is_inside_any ws p ≡ true → IsInOneOf f (map (λ w. (w.save, w.suspend)) ws) p
 inside_sound f [] all p h = absurd (false≢true h)
 inside_sound f (w ∷ ws) all p h = ⊎_elim
@@ -64,9 +63,10 @@ window_set_is f ws old new saves all empty more = record { each = λ p. (sound p
 
 pub chunk_told : (f : Function) (p : Plan) → IsPlanOf f p → (slots : List ℕ) (ch : Chunk) → IsChunkOf f slots ch → (word : ℕ) → IsFrameWord f p ch word → IsFrameWordOf f slots word
 chunk_told f p plan slots ch is word w = record {
-  each = λ c slot lt at.
-      (frame_sound f p plan slots ch is c slot lt at word w,
-      frame_complete f p plan slots ch is c slot lt at (shape_of_parting f ch (record { slots = slots; is_chunk = is })) word w);
+  each = λ c slot lt at. (
+    frame_sound f p plan slots ch is c slot lt at word w,
+    frame_complete f p plan slots ch is c slot lt at (shape_of_parting f ch (record { slots = slots; is_chunk = is })) word w,
+  );
 }
 
 -- ---- chunk by chunk

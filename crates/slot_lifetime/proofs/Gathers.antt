@@ -92,9 +92,9 @@ edges_cases : (f : Function) (rows : List (List ℕ)) (word : ℕ) (edges : List
 edges_cases f rows word [] c h = inl h
 edges_cases f rows word (e ∷ edges) c h = ⊎_elim
     (λ before. ⊎_elim
-      (λ l. inl l)
-      (λ r. let two = both_bits e.word (word_at_point rows (end_at f e.from)) c r in inr (record { edge = e; is_listed = inl refl; has = two.0; met = two.1 }))
-      (one_bit word (bit_and e.word (word_at_point rows (end_at f e.from))) c before))
+    (λ l. inl l)
+    (λ r. let two = both_bits e.word (word_at_point rows (end_at f e.from)) c r in inr (record { edge = e; is_listed = inl refl; has = two.0; met = two.1 }))
+    (one_bit word (bit_and e.word (word_at_point rows (end_at f e.from))) c before))
     (λ later. inr (record { edge = later.edge; is_listed = inr later.is_listed; has = later.has; met = later.met }))
     (edges_cases f rows (bit_or word (bit_and e.word (word_at_point rows (end_at f e.from)))) edges c h)
 
@@ -129,9 +129,9 @@ pub ways_cases : (ways : List (ℕ × ℕ)) (own : List ℕ) (word : ℕ) (edges
 ways_cases ways own word [] c h = inl h
 ways_cases ways own word (e ∷ edges) c h = ⊎_elim
     (λ before. ⊎_elim
-      (λ l. inl l)
-      (λ r. let three = own_cases (is_either e.to (slice_get ways e.from)) e.word (word_in own e.from) c r in inr (record { edge = e; is_listed = inl refl; has = three.1.0; is_way = three.0; owns = three.1.1 }))
-      (one_bit word (own_if (is_either e.to (slice_get ways e.from)) e.word (word_in own e.from)) c before))
+    (λ l. inl l)
+    (λ r. let three = own_cases (is_either e.to (slice_get ways e.from)) e.word (word_in own e.from) c r in inr (record { edge = e; is_listed = inl refl; has = three.1.0; is_way = three.0; owns = three.1.1 }))
+    (one_bit word (own_if (is_either e.to (slice_get ways e.from)) e.word (word_in own e.from)) c before))
     (λ later. inr (record { edge = later.edge; is_listed = inr later.is_listed; has = later.has; is_way = later.is_way; owns = later.owns }))
     (ways_cases ways own (bit_or word (own_if (is_either e.to (slice_get ways e.from)) e.word (word_in own e.from))) edges c h)
 
@@ -163,9 +163,9 @@ pub record IsMet (f : Function) (rows : List (List ℕ)) (edges : List EdgeWord)
 pub spots_sound : (f : Function) (rows : List (List ℕ)) (edges : List EdgeWord) (words : List (List ℕ)) (c : ℕ) → HasBit (spots_word f rows edges words) c → IsMet f rows edges words c
 spots_sound f rows edges words c h = ⊎_elim
     (λ here. ⊎_elim
-      (λ none. absurd (no_bit c none))
-      (λ found. let two = common_sound rows words found.0 c found.1 in record { spot = At found.0; has = two.0; met = two.1 })
-      (any_sound 0 (common rows words) c here))
+    (λ none. absurd (no_bit c none))
+    (λ found. let two = common_sound rows words found.0 c found.1 in record { spot = At found.0; has = two.0; met = two.1 })
+    (any_sound 0 (common rows words) c here))
     (λ on. record { spot = On on.edge.from on.edge.to; has = record { word = on.edge.word; is_listed = on.is_listed; has = on.has }; met = on.met })
     (edges_cases f words (rows_word 0 (common rows words)) edges c h)
 

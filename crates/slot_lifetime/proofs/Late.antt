@@ -52,9 +52,9 @@ listed_way f s to is h =
     ⊎_elim
     (λ one. or_left (to == (way_of f is.block).0) (to == (way_of f is.block).1) (subst (λ (n : ℕ). (to == n) ≡ true) one (eq_itself to)))
     (λ rest. ⊎_elim
-      (λ two. or_right (to == (way_of f is.block).0) (to == (way_of f is.block).1) (subst (λ (n : ℕ). (to == n) ≡ true) two (eq_itself to)))
-      (λ none. absurd none)
-      rest)
+    (λ two. or_right (to == (way_of f is.block).0) (to == (way_of f is.block).1) (subst (λ (n : ℕ). (to == n) ≡ true) two (eq_itself to)))
+    (λ none. absurd none)
+    rest)
     (subst P is.is_block h)
 
 module _ (f : Function) (c : ℕ) (lt : c < 64) (touches : List (List ℕ)) (edges : List EdgeWord) (rows : List (List ℕ)) (avoided : List Point) (stops behind : List (List ℕ))

@@ -87,14 +87,16 @@ pub way_in_front : (ways : List (ℕ × ℕ)) (n : ℕ) (own : List ℕ) (at : �
 way_in_front [] n own at way e = absurd (cc)
 way_in_front (x ∷ ways) n own zero way e =
     let same : way ≡ x = cc in
-    let z : n + 0 ≡ n = omega arith in
-    (inl (ap (λ (y : ℕ × ℕ). (y.0, word_in own (n + 0))) same ∙ ap (λ (m : ℕ). (x.0, word_in own m)) z),
-    inr (inl (ap (λ (y : ℕ × ℕ). (y.1, word_in own (n + 0))) same ∙ ap (λ (m : ℕ). (x.1, word_in own m)) z)))
+    let z : n + 0 ≡ n = omega arith in (
+      inl (ap (λ (y : ℕ × ℕ). (y.0, word_in own (n + 0))) same ∙ ap (λ (m : ℕ). (x.0, word_in own m)) z),
+      inr (inl (ap (λ (y : ℕ × ℕ). (y.1, word_in own (n + 0))) same ∙ ap (λ (m : ℕ). (x.1, word_in own m)) z)),
+    )
 way_in_front (x ∷ ways) n own (suc at) way e =
     let r = way_in_front ways (n + 1) own at way e in
-    let z : n + 1 + at ≡ n + suc at = omega arith in
-    (inr (inr (subst (λ (m : ℕ). IsListed (way.0, word_in own m) (fronts_from (n + 1) ways own)) z r.0)),
-    inr (inr (subst (λ (m : ℕ). IsListed (way.1, word_in own m) (fronts_from (n + 1) ways own)) z r.1)))
+    let z : n + 1 + at ≡ n + suc at = omega arith in (
+      inr (inr (subst (λ (m : ℕ). IsListed (way.0, word_in own m) (fronts_from (n + 1) ways own)) z r.0)),
+      inr (inr (subst (λ (m : ℕ). IsListed (way.1, word_in own m) (fronts_from (n + 1) ways own)) z r.1)),
+    )
 
 -- the way of a block
 pub way_at : (f : Function) (bs : List Block) (at : ℕ) (way : ℕ × ℕ) → slice_get (map (way_of f) bs) at ≡ Some way → (b : Block) × ((slice_get bs at ≡ Some b) × (way ≡ way_of f b))
@@ -116,5 +118,5 @@ no_edges f = record { each = λ e h. absurd h }
 
 pub chunk_edges : (f : Function) (c : Chunk) → IsChunkBy f c → LeadToBlocks f c.edges
 chunk_edges f c by = record {
-  each = λ e h. let lt = edges_within c.addresses f e (subst (λ (l : List EdgeWord). IsListed e l) by.is_chunk.edges h) in omega (arith, lt)
+  each = λ e h. let lt = edges_within c.addresses f e (subst (λ (l : List EdgeWord). IsListed e l) by.is_chunk.edges h) in omega (arith, lt);
 }

@@ -74,8 +74,9 @@ mark_bit false c lt = (λ h. absurd (no_bit c h), λ e. absurd (cc))
 
 pub set_told : (set : List (List Bool)) (f : Function) (p : Point) (c : ℕ) → c < 64 → IsPointOf f p → HasBit (word_at_point (set_rows set 0 f.blocks) p) c ↔ IsTrue (is_marked set p)
 set_told set f p c lt is = (
-    λ h. (mark_bit (is_marked set p) c lt).0 (subst (λ (w : ℕ). HasBit w c) (set_word set f p is) h),
-    λ e. subst (λ (w : ℕ). HasBit w c) (sym (set_word set f p is)) ((mark_bit (is_marked set p) c lt).1 e))
+  λ h. (mark_bit (is_marked set p) c lt).0 (subst (λ (w : ℕ). HasBit w c) (set_word set f p is) h),
+  λ e. subst (λ (w : ℕ). HasBit w c) (sym (set_word set f p is)) ((mark_bit (is_marked set p) c lt).1 e),
+)
 
 -- ---- the rows without that of a block
 

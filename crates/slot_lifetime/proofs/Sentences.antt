@@ -288,14 +288,14 @@ module _ (f : Function) (p : Plan) (plan : IsPlanOf f p) (slots : List ℕ) (ch 
       (common_bit ch.escaped (bit_or (met_rows rows known.alive) (after_word known.alive)) c (escaped_complete f slots ch is c slot lt at a.is_escaped)
       (⊎_elim
       (λ leads. left_bit (met_rows rows known.alive) (after_word known.alive) c
-        (any_complete 0 (common rows known.alive) c a.suspend
-        (common_complete rows known.alive a.suspend c
-        (comes_complete rows are shape a.suspend a.is_suspend a.spot a.is_use (subst (λ (l : List Point). LeadsFrom f l a.spot a.suspend) (sym (none_parts a.is_escaped)) leads))
-        alive)))
+      (any_complete 0 (common rows known.alive) c a.suspend
+      (common_complete rows known.alive a.suspend c
+      (comes_complete rows are shape a.suspend a.is_suspend a.spot a.is_use (subst (λ (l : List Point). LeadsFrom f l a.spot a.suspend) (sym (none_parts a.is_escaped)) leads))
+      alive)))
       (λ after. right_bit (met_rows rows known.alive) (after_word known.alive) c
-        (common_bit (spots_word f ch.uses ch.edges p.after) (rows_word 0 (common p.suspends known.alive)) c
-        (spots_complete f ch.uses ch.edges p.after c a.spot (use_complete f slots ch is c slot lt at a.spot a.is_use) (after_complete f p plan c lt (point_at f a.spot) (use_point f slots ch is c slot lt at a.spot a.is_use) after))
-        (any_complete 0 (common p.suspends known.alive) c a.suspend (common_complete p.suspends known.alive a.suspend c (suspend_complete f p plan c lt a.suspend a.is_suspend) alive))))
+      (common_bit (spots_word f ch.uses ch.edges p.after) (rows_word 0 (common p.suspends known.alive)) c
+      (spots_complete f ch.uses ch.edges p.after c a.spot (use_complete f slots ch is c slot lt at a.spot a.is_use) (after_complete f p plan c lt (point_at f a.spot) (use_point f slots ch is c slot lt at a.spot a.is_use) after))
+      (any_complete 0 (common p.suspends known.alive) c a.suspend (common_complete p.suspends known.alive a.suspend c (suspend_complete f p plan c lt a.suspend a.is_suspend) alive))))
       a.meets))
 
   -- ---- the promise
@@ -325,12 +325,12 @@ module _ (f : Function) (p : Plan) (plan : IsPlanOf f p) (slots : List ℕ) (ch 
   frame_sound word w h = ⊎_elim
       (λ promise. NeedsFrame.Promise (promise_sound (promise_of f) (subst (λ (o : Option ℕ). HasBit (promise_word o ch.own) c) plan.promise promise)))
       (λ rest. ⊎_elim
-        (λ away. NeedsFrame.Away (away_sound away))
-        (λ later. ⊎_elim
-          (λ across. NeedsFrame.Across (across_sound w.rows w.are_coming w.across w.is_across across))
-          (λ alive. NeedsFrame.Alive (across_alive_sound w.rows w.are_coming w.alive w.is_alive alive))
-          (one_bit w.across w.alive c later))
-        (one_bit (away_word f p ch) (bit_or w.across w.alive) c rest))
+      (λ away. NeedsFrame.Away (away_sound away))
+      (λ later. ⊎_elim
+      (λ across. NeedsFrame.Across (across_sound w.rows w.are_coming w.across w.is_across across))
+      (λ alive. NeedsFrame.Alive (across_alive_sound w.rows w.are_coming w.alive w.is_alive alive))
+      (one_bit w.across w.alive c later))
+      (one_bit (away_word f p ch) (bit_or w.across w.alive) c rest))
       (one_bit (promise_word p.promise ch.own) (rest_of w.across w.alive) c (subst (λ (x : ℕ). HasBit x c) w.is h))
 
   pub frame_complete : HaveShape f ch.parting → (word : ℕ) → IsFrameWord f p ch word → NeedsFrame f slot → HasBit word c

@@ -117,12 +117,14 @@ module _ (f : Function) (slots : List ℕ) (ch : Chunk) (is : IsChunkOf f slots 
     where
       by : (b : Bool) → is_escaped f slot ≡ b → (p : Point) → IsTrue (has_point (parting b f slot) p) ↔ HasBit (word_at_point ch.parting p) c
       by true e p = (
-          λ h. absurd (false≢true h),
-          λ h. absurd (no_other ch.escaped c lt (some_mask (others ch.escaped) p (same_rows ch.parting (marker_rows Intrinsic.LifetimeStart (kept_of (others ch.escaped) ch.own) f) p is.parting h)) (escaped_complete e)))
+        λ h. absurd (false≢true h),
+        λ h. absurd (no_other ch.escaped c lt (some_mask (others ch.escaped) p (same_rows ch.parting (marker_rows Intrinsic.LifetimeStart (kept_of (others ch.escaped) ch.own) f) p is.parting h)) (escaped_complete e)),
+      )
       by false e p = (
-          λ h. same_rows (marker_rows Intrinsic.LifetimeStart (kept_of (others ch.escaped) ch.own) f) ch.parting p (sym is.parting)
+        λ h. same_rows (marker_rows Intrinsic.LifetimeStart (kept_of (others ch.escaped) ch.own) f) ch.parting p (sym is.parting)
             (some_complete (others ch.escaped) p (other_bit ch.escaped c lt (λ k. false≢true (sym e ∙ escaped_sound k))) h),
-          λ h. some_sound (others ch.escaped) p (same_rows ch.parting (marker_rows Intrinsic.LifetimeStart (kept_of (others ch.escaped) ch.own) f) p is.parting h))
+        λ h. some_sound (others ch.escaped) p (same_rows ch.parting (marker_rows Intrinsic.LifetimeStart (kept_of (others ch.escaped) ch.own) f) p is.parting h),
+      )
 
   -- touches
   start_at : (spot : Spot) → IsStart f slot spot → (p : Point) → spot ≡ At p → has_point (starts_of f slot) p ≡ true
@@ -180,9 +182,9 @@ module _ (f : Function) (slots : List ℕ) (ch : Chunk) (is : IsChunkOf f slots 
   no_bits : markers_of f slot ≡ [] → HasBit (rows_word (rows_word 0 ch.starts) ch.ends) c → ⊥
   no_bits e h = ⊎_elim
       (λ first. ⊎_elim
-        (λ none. no_bit c none)
-        (λ s. none_there s.0 (has_left (starts_of f slot) (ends_of f slot) s.0 (start_sound s.0 s.1)))
-        (any_sound 0 ch.starts c first))
+      (λ none. no_bit c none)
+      (λ s. none_there s.0 (has_left (starts_of f slot) (ends_of f slot) s.0 (start_sound s.0 s.1)))
+      (any_sound 0 ch.starts c first))
       (λ s. none_there s.0 (has_right (starts_of f slot) (ends_of f slot) s.0 (end_sound s.0 s.1)))
       (any_sound (rows_word 0 ch.starts) ch.ends c h)
     where

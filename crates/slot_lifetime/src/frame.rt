@@ -56,7 +56,14 @@ fn away_word(
 {
     let edges = chunk.edges.as_slice();
     let early = spots_word(alloc, function, &chunk.uses, edges, &plan.closed)?;
-    let late = late_word(alloc, function, plan, chunk, plan.own.as_slice(), &plan.behind)?;
+    let late = late_word(
+        alloc,
+        function,
+        plan,
+        chunk,
+        plan.own.as_slice(),
+        &plan.behind,
+    )?;
     Ok(early & late)
 }
 
@@ -72,7 +79,14 @@ fn suspend_rows(
     ensures { IfOk result (AreComing function.now plan.now chunk.now) }
 {
     let edges = chunk.edges.as_slice();
-    let reached = coming_rows(alloc, function, &plan.graph, &chunk.uses, edges, &chunk.parting)?;
+    let reached = coming_rows(
+        alloc,
+        function,
+        &plan.graph,
+        &chunk.uses,
+        edges,
+        &chunk.parting,
+    )?;
     common(alloc, &plan.suspends, &reached)
 }
 

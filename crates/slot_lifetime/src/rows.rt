@@ -104,7 +104,11 @@ fn pass_row(alloc: Global, stops: &[u64], begins: &[u64]) -> Result<Items<Pass>,
 }
 
 /// The questions that end where the one says, and begin where the other says.
-pub fn passes_by(alloc: Global, stops: &Rows, begins: &Rows) -> Result<Items<Items<Pass>>, AllocError>
+pub fn passes_by(
+    alloc: Global,
+    stops: &Rows,
+    begins: &Rows,
+) -> Result<Items<Items<Pass>>, AllocError>
     ensures { IfOk result (λ all. all ≡ passes_of stops.now begins.now) }
 {
     let mut all = Items::new(alloc);
@@ -155,7 +159,11 @@ pub fn block_words(alloc: Global, rows: &Rows) -> Result<Items<u64>, AllocError>
 fn call_word(intrinsic: Intrinsic, word: u64, instr: &Instr) -> u64
     ensures { result ≡ word_of_call intrinsic word instr.now }
 {
-    if is_call_of(intrinsic, instr) { word } else { 0 }
+    if is_call_of(intrinsic, instr) {
+        word
+    } else {
+        0
+    }
 }
 
 fn call_row(

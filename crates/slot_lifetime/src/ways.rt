@@ -92,10 +92,7 @@ pub fn way_fronts(
 // ---- edges
 
 /// Fronts of paths: where the edges lead, with their words.
-pub fn edge_fronts(
-    alloc: Global,
-    edges: &[EdgeWord],
-) -> Result<Items<(BlockId, u64)>, AllocError>
+pub fn edge_fronts(alloc: Global, edges: &[EdgeWord]) -> Result<Items<(BlockId, u64)>, AllocError>
     ensures { IfOk result (λ all. all ≡ fronts_of_edges edges.now) }
 {
     let mut all = Items::new(alloc);

@@ -1,17 +1,16 @@
 -- The words of names that paths over the steps of getelementptrs give.
-use Rattle.std.proofs.Common.{◌≡◌, ◌≢◌, ℕ, zero, suc, ◌+◌, ◌-◌, ◌^◌, ◌<◌, ◌≤◌, true, List, [], ◌∷◌, length, replicate, Option, Some, None, refl, sym, ap, ◌∙◌, subst, ⊎_elim, inl, inr, arith}
-use Rattle.std.specs.Prelude.{◌↔◌, ◌⊎◌, ◌==◌, Err, IfOk, IsTrue, Ok, Result, get_or, slice_get, unwrap_or}
-use Rattle.std.specs.Int.{bit_at}
+use Rattle.std.proofs.Common.{◌≡◌, ℕ, zero, suc, ◌+◌, ◌-◌, ◌^◌, ◌<◌, ◌≤◌, true, List, [], ◌∷◌, length, replicate, Option, Some, refl, sym, ap, ◌∙◌, subst, ⊎_elim, inl, inr, arith}
+use Rattle.std.specs.Prelude.{◌==◌, Err, IfOk, IsTrue, Ok, Result, slice_get, unwrap_or}
 use Rattle.std.proofs.lemmas.Bool.{cases_eq, cases_lt}
 use Rattle.std.proofs.lemmas.Nat.Bits.{bit_at_ones, bit_at-pow_other, bit_at-pow_same}
-use Rattle.std.proofs.lemmas.Option.{slice_get-get_or, slice_get_past, slice_get_within}
+use Rattle.std.proofs.lemmas.Option.{slice_get_past, slice_get_within}
 use Rattle.bit_reach.specs.Bits.{HasBit}
 use Rattle.bit_reach.specs.Reaching.{AnswersAt, Reaches, StartAt}
 use Rattle.flow_solver.proofs.Lists.{listed_at, place_of}
 use Rattle.flow_solver.specs.Paths.{HasNodes, IsListed}
 use Rattle.ir_model.specs.declared.module.Function.{Function}
 use Rattle.ir_paths.proofs.Search.{eq_itself, or_left, or_right}
-use Rattle.ir_paths.specs.Slots.{addresses_of, has_name}
+use Rattle.ir_paths.specs.Slots.{has_name}
 use Rattle.slot_rules.proofs.Chains.{addresses-by, itself-is, step-is}
 use Rattle.slot_rules.specs.Steps.{steps_of}
 use Rattle.slot_uses.proofs.Bits.{no_bit}
@@ -111,11 +110,12 @@ module _ (slots : List ℕ) where
   pub slot_words_are : (nodes : ℕ) (words : List ℕ) → length words ≡ nodes → AreBelow slots nodes →
       ((node word : ℕ) → slice_get words node ≡ Some word → AnswersAt [] [] (questions_from 0 slots) node word) → AreSlotWords slots words
   slot_words_are nodes words len below answers = record {
-    each = λ v c lt.
-        (λ h. own_to c v (reached_by [] (questions_from 0 slots) [] words answers v c lt h),
-        λ e. let small = below v (name_at slots c v e) in
-        told_of [] (questions_from 0 slots) [] words answers v c lt (omega (arith, small, len))
-        (Reaches.Start v (2 ^ c) (start_of slots c v e) (bit_at-pow_same c)));
+    each = λ v c lt. (
+      λ h. own_to c v (reached_by [] (questions_from 0 slots) [] words answers v c lt h),
+      λ e. let small = below v (name_at slots c v e) in
+          told_of [] (questions_from 0 slots) [] words answers v c lt (omega (arith, small, len))
+          (Reaches.Start v (2 ^ c) (start_of slots c v e) (bit_at-pow_same c)),
+    );
   }
 
 -- ---- their addresses
@@ -155,11 +155,12 @@ module _ (f : Function) (slots : List ℕ) where
   address_words_are : (nodes : ℕ) (words : List ℕ) → length words ≡ nodes → AreBelow slots nodes → HasNodes nodes (steps_of f) →
       ((node word : ℕ) → slice_get words node ≡ Some word → AnswersAt (steps_of f) ways (questions_from 0 slots) node word) → AreAddressWords f slots words
   address_words_are nodes words len below within answers = record {
-    each = λ v c lt.
-        (λ h. to_address c v (reached_by (steps_of f) (questions_from 0 slots) ways words answers v c lt h),
-        λ a. let met = from_address c v lt a in
-        let small = met_below nodes below within c v met in
-        told_of (steps_of f) (questions_from 0 slots) ways words answers v c lt (omega (arith, small, len)) met);
+    each = λ v c lt. (
+      λ h. to_address c v (reached_by (steps_of f) (questions_from 0 slots) ways words answers v c lt h),
+      λ a. let met = from_address c v lt a in
+          let small = met_below nodes below within c v met in
+          told_of (steps_of f) (questions_from 0 slots) ways words answers v c lt (omega (arith, small, len)) met,
+    );
   }
 
 -- ---- by equations

@@ -1,5 +1,5 @@
 -- The points of instructions that pass a test.
-use Rattle.std.proofs.Common.{◌≡◌, ℕ, zero, suc, ◌+◌, Bool, true, false, List, [], ◌∷◌, Option, Some, None, refl, ap, sym, ◌∙◌, subst, ⊎_elim, inl, inr, arith}
+use Rattle.std.proofs.Common.{◌≡◌, ℕ, zero, suc, ◌+◌, Bool, true, false, List, [], ◌∷◌, Option, Some, refl, ap, sym, ◌∙◌, subst, ⊎_elim, inl, inr, arith}
 use Rattle.std.specs.Prelude.{slice_get, if◌then◌else◌, ◌⊎◌}
 use Rattle.std.proofs.lemmas.Bool.{false≢true}
 use Rattle.ir_model.specs.declared.instr.Instr.{Instr}
@@ -105,4 +105,3 @@ pub where_complete : (test : Instr → Bool) (f : Function) (p : Point) (i : Ins
 where_complete test f p i e t =
     let z : 0 + p.block ≡ p.block = omega arith in
     subst (λ (m : ℕ). Has (points_where test f) (record { block = m; at = p.at })) z (in-complete test 0 f.blocks p.block p.at i e t)
-

@@ -1,6 +1,6 @@
 -- The uses of slots, at points and on edges.
 use Rattle.std.proofs.Common.{◌≡◌, ℕ, zero, suc, ◌+◌, ◌<◌, Bool, true, false, List, [], ◌∷◌, ◌++◌, length, Option, Some, None, refl, sym, ap, ◌∙◌, subst, ⊎_elim, inl, inr, arith}
-use Rattle.std.specs.Prelude.{◌↔◌, ◌⊎◌, ◌==◌, IsTrue, nat_lt, slice_get, if◌then◌else◌}
+use Rattle.std.specs.Prelude.{◌↔◌, ◌⊎◌, ◌==◌, nat_lt, slice_get}
 use Rattle.std.proofs.lemmas.Bool.{false≢true, lt-ltb, ltb-true}
 use Rattle.std.proofs.lemmas.Option.{slice_get_within}
 use Rattle.bit_reach.specs.Bits.{HasBit}
@@ -16,7 +16,7 @@ use Rattle.ir_paths.proofs.Search.{eq_from}
 use Rattle.ir_paths.specs.declared.point.Point.{Point}
 use Rattle.slot_uses.proofs.Bits.{no_bit}
 use Rattle.slot_uses.proofs.Telling.{address_of, has_address, use_complete, use_sound}
-use Rattle.slot_uses.specs.Spots.{IsUse, Spot}
+use Rattle.slot_uses.specs.Spots.{IsUse}
 use Rattle.slot_uses.specs.Spots.Spot.{At, On}
 use Rattle.slot_uses.specs.Told.{AreAddressWords}
 use Rattle.slot_uses.specs.Words.{edge_unless, edge_words, incoming_uses, name_word, phi_uses, phis_uses, use_if, use_on, use_rows, uses_from, word_at_point}
@@ -130,15 +130,18 @@ phi_use_sound f u h =
     let p = r.is_of_phi in
     let i = p.is_incoming in
     let to : u.to ≡ r.place = i.is_to ∙ z in
-    let small = slice_get_within f.blocks r.place r.block r.is_block in
-    (record {
-      phi = p.phi;
-      incoming = i.incoming;
-      stands = subst (λ (ps : List Phi). IsListed p.phi ps) (ap phis_in (sym r.is_block) ∙ ap (phis_at f) (sym to)) p.stands;
-      comes = i.comes;
-      is_from = i.is_from;
-      takes = i.takes;
-    }, i.is_block, omega (arith, to, small))
+    let small = slice_get_within f.blocks r.place r.block r.is_block in (
+      record {
+        phi = p.phi;
+        incoming = i.incoming;
+        stands = subst (λ (ps : List Phi). IsListed p.phi ps) (ap phis_in (sym r.is_block) ∙ ap (phis_at f) (sym to)) p.stands;
+        comes = i.comes;
+        is_from = i.is_from;
+        takes = i.takes;
+      },
+      i.is_block,
+      omega (arith, to, small),
+    )
 
 on_use : (from to : ℕ) (x : Operand) (v : ℕ) → local_of x ≡ Some v → IsListed (phi_use from to v) (use_on from to x)
 on_use from to (Operand.Local u) v e = let same : v ≡ u = cc in inl (ap (phi_use from to) same)
@@ -248,8 +251,9 @@ module _ (f : Function) (slots words : List ℕ) (are : AreAddressWords f slots 
   -- the rows have the question at the uses of its slot
   pub use_told : (p : Point) → HasBit (word_at_point (use_rows words f) p) c ↔ IsUse f slot (At p)
   use_told p = (
-      λ h. let one = use_sound words f p c h in record { address = one.name; is_address = address_of f slots words are c slot one.name lt is one.has; uses = one.uses },
-      λ u. use_complete words f p c u.address (has_address f slots words are c slot u.address lt is u.is_address) u.uses)
+    λ h. let one = use_sound words f p c h in record { address = one.name; is_address = address_of f slots words are c slot one.name lt is one.has; uses = one.uses },
+    λ u. use_complete words f p c u.address (has_address f slots words are c slot u.address lt is u.is_address) u.uses,
+  )
 
   edge_sound : (from to : ℕ) → HasEdge (edge_words words (phi_uses f)) from to c → IsUse f slot (On from to)
   edge_sound from to h =
