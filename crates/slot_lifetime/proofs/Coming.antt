@@ -1,17 +1,16 @@
 -- Paths of questions as paths between points.
-use Rattle.std.proofs.Common.{◌≡◌, ◌≢◌, ℕ, zero, suc, ◌+◌, ◌<◌, ◌≤◌, Bool, true, false, ◌||◌, List, [], ◌∷◌, ◌++◌, map, length, Option, Some, None, refl, sym, ap, ◌∙◌, subst, ⊎_elim, inl, inr, arith}
-use Rattle.std.specs.Prelude.{◌↔◌, ◌⊎◌, ◌==◌, IsTrue, IsFalse, option_map, slice_get}
+use Rattle.std.proofs.Common.{◌≡◌, ◌≢◌, ℕ, zero, suc, ◌+◌, ◌<◌, ◌≤◌, Bool, true, false, ◌||◌, List, [], ◌∷◌, ◌++◌, length, Option, Some, None, refl, sym, ap, ◌∙◌, subst, ⊎_elim, inl, inr, arith}
+use Rattle.std.specs.Prelude.{◌↔◌, ◌⊎◌, IsTrue, option_map, slice_get}
 use Rattle.std.proofs.lemmas.Bool.{false≢true}
 use Rattle.std.proofs.lemmas.Option.{slice_get_within, slice_get-map}
 use Rattle.bit_reach.specs.Bits.{HasBit}
 use Rattle.flow_solver.specs.Paths.{IsListed}
-use Rattle.ir_model.specs.Names.{position_of}
 use Rattle.ir_model.specs.declared.module.Block.{Block}
 use Rattle.ir_model.specs.declared.module.Function.{Function}
-use Rattle.ir_paths.proofs.Search.{eq_from, eq_itself, either, has_append, has_left, has_right, or_left, or_right, same_point-itself, same_point-same}
-use Rattle.ir_paths.specs.Paths.{Leads, block_points, entry_point, has_point, same_point}
+use Rattle.ir_paths.proofs.Search.{either, has_append, has_left, has_right, or_left, or_right, same_point-itself, same_point-same}
+use Rattle.ir_paths.specs.Paths.{block_points, entry_point, has_point, same_point}
 use Rattle.ir_paths.specs.Slots.{end_points, points_at}
-use Rattle.ir_paths.specs.Windows.{destroy_label, end_block, label_at, label_of_term, resume_label}
+use Rattle.ir_paths.specs.Windows.{destroy_label, end_block, label_at, resume_label}
 use Rattle.ir_paths.specs.declared.point.Point.{Point}
 use Rattle.point_reach.proofs.Avoiding.{comes_reached, leads_reached, reached_from}
 use Rattle.point_reach.specs.Reached.{AreAvoided, AreReachedAt, ComesTo, HaveShape, IsFrom, IsPointOf}

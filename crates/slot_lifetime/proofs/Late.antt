@@ -1,6 +1,6 @@
 -- What is touched behind suspends.
-use Rattle.std.proofs.Common.{◌≡◌, ◌≢◌, ℕ, ◌<◌, Bool, true, false, ◌||◌, List, [], ◌∷◌, ◌++◌, Option, Some, None, refl, sym, ap, ◌∙◌, subst, ⊎_elim, inl, inr}
-use Rattle.std.specs.Prelude.{◌⊎◌, ◌==◌, slice_get}
+use Rattle.std.proofs.Common.{◌≡◌, ℕ, ◌<◌, true, List, [], ◌∷◌, Option, Some, None, refl, sym, ap, ◌∙◌, subst, ⊎_elim, inl, inr}
+use Rattle.std.specs.Prelude.{◌==◌, slice_get}
 use Rattle.std.proofs.lemmas.Bool.{false≢true}
 use Rattle.bit_reach.specs.Bits.{HasBit}
 use Rattle.flow_solver.specs.Paths.{IsListed}
@@ -8,18 +8,18 @@ use Rattle.ir_model.specs.Names.{position_of}
 use Rattle.ir_model.specs.declared.module.Block.{Block}
 use Rattle.ir_model.specs.declared.module.Function.{Function}
 use Rattle.ir_paths.proofs.Search.{either, eq_from, eq_itself, or_left, or_right}
-use Rattle.ir_paths.specs.Windows.{end_block, label_at, label_of_term}
+use Rattle.ir_paths.specs.Windows.{end_block, label_at}
 use Rattle.ir_paths.specs.declared.point.Point.{Point}
 use Rattle.point_reach.specs.Reached.{IsPointOf}
 use Rattle.slot_lifetime.proofs.Coming.{Avoids, leaving_complete, leaving_sound, not_in_end, outside_end, way_is}
 use Rattle.slot_lifetime.proofs.Gathers.{HasSpot, block_complete, block_sound, point, spots_complete, spots_sound, ways_before, ways_cases, ways_met}
 use Rattle.slot_lifetime.proofs.Passing.{way_at}
 use Rattle.slot_lifetime.proofs.Places.{cleared_complete, cleared_sound}
-use Rattle.slot_lifetime.specs.Rows.{block_words, cleared}
+use Rattle.slot_lifetime.specs.Rows.{block_words}
 use Rattle.slot_lifetime.specs.Ways.{is_either, way_of, ways_of}
 use Rattle.slot_lifetime.specs.Words.{AreBehindRows, late_word, spots_word}
 use Rattle.slot_uses.specs.Spots.{IsBehind, Spot, point_at}
-use Rattle.slot_uses.specs.Spots.Spot.{At, On}
+use Rattle.slot_uses.specs.Spots.Spot.{On}
 use Rattle.slot_uses.specs.Words.{word_at_point}
 use Rattle.slot_uses.specs.declared.edge.EdgeWord.{EdgeWord}
 use Rattle.window_values.specs.Kept.{own_blocks}

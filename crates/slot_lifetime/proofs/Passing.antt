@@ -1,6 +1,6 @@
 -- What questions about paths require.
 use Rattle.std.proofs.Common.{◌≡◌, ℕ, zero, suc, ◌+◌, ◌<◌, List, [], ◌∷◌, length, map, refl, sym, ap, ◌∙◌, subst, ⊎_elim, inl, inr, arith}
-use Rattle.std.specs.Prelude.{◌⊎◌, bit_or, slice_get, Some}
+use Rattle.std.specs.Prelude.{◌⊎◌, slice_get, Some}
 use Rattle.block_paths.proofs.Bounds.{position_bounded}
 use Rattle.flow_solver.specs.Paths.{IsListed}
 use Rattle.ir_model.specs.declared.module.Block.{Block}
@@ -14,7 +14,7 @@ use Rattle.slot_lifetime.specs.Ways.{LeadToBlocks, edge_fronts, fronts_from, way
 use Rattle.slot_lifetime.specs.Words.{IsChunkBy}
 use Rattle.slot_lifetime.specs.declared.chunk.Chunk.{Chunk}
 use Rattle.slot_uses.proofs.Spotting.{edges_within}
-use Rattle.slot_uses.specs.Words.{edge_words, marked, marker_rows, phi_uses, use_rows, used, with_term}
+use Rattle.slot_uses.specs.Words.{marked, marker_rows, use_rows, used, with_term}
 use Rattle.slot_uses.specs.declared.edge.EdgeWord.{EdgeWord}
 
 -- ---- shapes

@@ -1,7 +1,6 @@
 -- Rows with a word at the calls of an intrinsic, or at the points of a set.
-use Rattle.std.proofs.Common.{◌≡◌, ◌≢◌, ℕ, zero, suc, ◌+◌, ◌<◌, ◌≤◌, Bool, true, false, List, [], ◌∷◌, ◌++◌, append_assoc, drop, map, length, Option, Some, None, refl, sym, ap, ◌∙◌, subst, ⊎_elim, inl, inr, arith}
-use Rattle.std.specs.Prelude.{◌↔◌, IsTrue, option_map, slice_get, slice_set, unwrap_or, if◌then◌else◌}
-use Rattle.std.proofs.lemmas.Option.{slice_get_within}
+use Rattle.std.proofs.Common.{◌≡◌, ◌≢◌, ℕ, zero, suc, ◌+◌, ◌<◌, ◌≤◌, Bool, true, false, List, [], ◌∷◌, ◌++◌, append_assoc, drop, length, Option, Some, None, refl, sym, ap, ◌∙◌, subst, ⊎_elim, arith}
+use Rattle.std.specs.Prelude.{◌↔◌, IsTrue, slice_get, unwrap_or, if◌then◌else◌}
 use Rattle.bit_reach.specs.Bits.{HasBit}
 use Rattle.flow_solver.proofs.Lists.{set_cases, set_other}
 use Rattle.ir_model.specs.declared.instr.Instr.{Instr}
@@ -14,7 +13,7 @@ use Rattle.ir_paths.specs.declared.point.Point.{Point}
 use Rattle.point_graph.specs.Rows.{is_marked}
 use Rattle.point_reach.specs.Reached.{IsPointOf}
 use Rattle.slot_lifetime.proofs.Flips.{all_bit}
-use Rattle.slot_lifetime.specs.Rows.{all_bits, call_rows, call_word, cleared, set_row, set_rows, word_of_mark}
+use Rattle.slot_lifetime.specs.Rows.{call_rows, call_word, cleared, set_row, set_rows, word_of_mark}
 use Rattle.slot_uses.proofs.Bits.{no_bit}
 use Rattle.slot_uses.proofs.Points.{where_complete, where_sound}
 use Rattle.slot_uses.proofs.RowWords.{at_instr, point_cases}

@@ -1,41 +1,36 @@
 -- The words that put slots into the frame, sentence by sentence.
-use Rattle.std.proofs.Common.{◌≡◌, ℕ, ◌+◌, ◌<◌, Bool, true, false, ◌||◌, List, [], ◌∷◌, ◌++◌, Option, Some, None, refl, sym, ap, ◌∙◌, subst, ⊎_elim, inl, inr}
-use Rattle.std.specs.Prelude.{◌↔◌, ◌⊎◌, ◌==◌, IsTrue, bit_and, bit_or, option_to_list, slice_get}
+use Rattle.std.proofs.Common.{◌≡◌, ℕ, ◌<◌, Bool, true, false, List, [], ◌∷◌, ◌++◌, Option, Some, None, sym, ap, ◌∙◌, subst, ⊎_elim, inl, inr}
+use Rattle.std.specs.Prelude.{◌⊎◌, ◌==◌, IsTrue, bit_and, bit_or, option_to_list, slice_get}
 use Rattle.std.proofs.lemmas.Bool.{false≢true}
 use Rattle.bit_reach.specs.Bits.{HasBit}
 use Rattle.ir_model.specs.declared.module.Function.{Function}
 use Rattle.ir_model.specs.declared.operand.Intrinsic.{Intrinsic}
 use Rattle.ir_paths.proofs.Search.{either, eq_from, eq_itself, or_left}
 use Rattle.ir_paths.specs.Paths.{Leads, has_point}
-use Rattle.ir_paths.specs.Slots.{has_name, is_escaped, is_promise, promise_of}
-use Rattle.ir_paths.specs.Windows.{is_call_of, points_where}
+use Rattle.ir_paths.specs.Slots.{has_name, is_escaped, promise_of}
 use Rattle.ir_paths.specs.declared.point.Point.{Point}
-use Rattle.point_graph.specs.Reached.{IsReached}
-use Rattle.point_reach.specs.Reached.{AreReachedAt, HaveShape, IsPointOf}
+use Rattle.point_reach.specs.Reached.{HaveShape, IsPointOf}
 use Rattle.slot_lifetime.proofs.Coming.{Avoids, SpotLeads, coming_complete, coming_sound}
 use Rattle.slot_lifetime.proofs.Flips.{all_bit}
 use Rattle.slot_lifetime.proofs.Gathers.{HasSpot, any_complete, any_sound, spots_complete, spots_sound}
-use Rattle.slot_lifetime.proofs.Late.{IsLate, late_complete, late_sound}
+use Rattle.slot_lifetime.proofs.Late.{late_complete, late_sound}
 use Rattle.slot_lifetime.proofs.Passing.{shape_of_calls}
 use Rattle.slot_lifetime.proofs.Places.{call_complete, call_sound, set_told}
 use Rattle.slot_lifetime.proofs.Shapes.{bit_point, point_inside, shape_of_zip}
 use Rattle.slot_lifetime.proofs.Slots.{avoids_ends, avoids_parting, ends_shape, escaped_complete, escaped_sound, start_complete, start_sound, starts_shape, touch_complete, touch_point, touch_sound, unmarked_complete, unmarked_sound, use_complete, use_point, use_sound, uses_shape}
 use Rattle.slot_lifetime.proofs.Zips.{common_complete, common_sound, joined_left, joined_right, joined_sound}
 use Rattle.slot_lifetime.specs.Alive.{MayBeAlive, markers_of}
-use Rattle.slot_lifetime.specs.Classes.{IsAliveAcross, IsUsedAcross, IsUsedAway, MeetsLater, NeedsFrame, parting, suspends}
+use Rattle.slot_lifetime.specs.Classes.{IsAliveAcross, IsUsedAcross, IsUsedAway, NeedsFrame, parting, suspends}
 use Rattle.slot_lifetime.specs.Rows.{all_bits, block_words, call_rows, common, joined, rows_word, set_rows}
-use Rattle.slot_lifetime.specs.Ways.{coming}
 use Rattle.slot_lifetime.specs.Words.{AreAliveRows, AreBehindRows, AreComing, IsAcrossWord, IsAliveWord, IsChunkOf, IsFrameWord, IsPlanOf, away_word, birth_rows, late_word, promise_word, spots_word, unmarked_word}
 use Rattle.slot_lifetime.specs.declared.chunk.Chunk.{Chunk}
 use Rattle.slot_lifetime.specs.declared.plan.Plan.{Plan}
 use Rattle.slot_rules.specs.Closed.{IsClosed}
 use Rattle.slot_uses.proofs.Bits.{both_bits, common_bit, left_bit, no_bit, one_bit, right_bit}
-use Rattle.slot_uses.proofs.Spotting.{HasEdge}
-use Rattle.slot_uses.specs.Spots.{IsBehind, IsUse, LeadsFrom, Spot, point_at}
+use Rattle.slot_uses.specs.Spots.{IsUse, LeadsFrom, Spot, point_at}
 use Rattle.slot_uses.specs.Spots.Spot.{At, On}
 use Rattle.slot_uses.specs.Uses.{ends_of, starts_of}
-use Rattle.slot_uses.specs.Words.{name_word, word_at_point}
-use Rattle.window_rules.specs.Points.{begins, ends}
+use Rattle.slot_uses.specs.Words.{word_at_point}
 use Rattle.window_rules.specs.Sets.{IsAfterEnd}
 
 -- ---- a function's rows

@@ -1,6 +1,6 @@
 -- What the words of a chunk say of one of its slots.
-use Rattle.std.proofs.Common.{◌≡◌, ℕ, zero, suc, ◌+◌, ◌<◌, Bool, true, false, ◌||◌, List, [], ◌∷◌, ◌++◌, map, length, Option, Some, None, refl, sym, ap, ◌∙◌, subst, ⊎_elim, inl, inr, arith}
-use Rattle.std.specs.Prelude.{◌↔◌, ◌⊎◌, ◌==◌, IsTrue, bit_and, option_map, slice_get, unwrap_or}
+use Rattle.std.proofs.Common.{◌≡◌, ℕ, zero, suc, ◌<◌, Bool, true, false, List, [], ◌∷◌, ◌++◌, length, Option, Some, None, refl, sym, ap, ◌∙◌, subst, ⊎_elim, inl, inr, arith}
+use Rattle.std.specs.Prelude.{◌↔◌, IsTrue, bit_and, option_map, slice_get, unwrap_or}
 use Rattle.std.proofs.lemmas.Bool.{false≢true}
 use Rattle.std.proofs.lemmas.Option.{slice_get-map}
 use Rattle.bit_reach.specs.Bits.{HasBit}
@@ -23,15 +23,14 @@ use Rattle.slot_lifetime.specs.Classes.{Touches, parting}
 use Rattle.slot_lifetime.specs.Rows.{joined, kept_of, others, rows_word}
 use Rattle.slot_lifetime.specs.Words.{IsChunkOf, unmarked_word}
 use Rattle.slot_lifetime.specs.declared.chunk.Chunk.{Chunk}
-use Rattle.slot_rules.specs.Early.{end_at, instr_count}
+use Rattle.slot_rules.specs.Early.{instr_count}
 use Rattle.slot_uses.proofs.Bits.{both_bits, common_bit, no_bit}
 use Rattle.slot_uses.proofs.Spotting.{HasEdge, edge_told, use_told}
 use Rattle.slot_uses.proofs.Telling.{escaped_told, marker_complete, marker_name, marker_sound, marker_told, slot_only}
 use Rattle.slot_uses.specs.Spots.{IsStart, IsUse, Spot, point_at}
 use Rattle.slot_uses.specs.Spots.Spot.{At, On}
-use Rattle.slot_uses.specs.Told.{AreSlotWords}
 use Rattle.slot_uses.specs.Uses.{ends_of, starts_of}
-use Rattle.slot_uses.specs.Words.{edge_words, marker_rows, name_word, phi_uses, use_rows, word_at_point}
+use Rattle.slot_uses.specs.Words.{marker_rows, name_word, use_rows, word_at_point}
 use Rattle.slot_uses.specs.declared.edge.EdgeWord.{EdgeWord}
 
 -- ---- words of names, of which some questions are kept

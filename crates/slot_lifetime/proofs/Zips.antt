@@ -1,5 +1,5 @@
 -- Rows made of two rows.
-use Rattle.std.proofs.Common.{◌≡◌, ℕ, zero, suc, ◌+◌, ◌<◌, List, [], ◌∷◌, map, length, Option, Some, None, refl, sym, ap, ◌∙◌, subst, ⊎_elim, inl, inr, arith}
+use Rattle.std.proofs.Common.{◌≡◌, ℕ, zero, suc, ◌+◌, List, [], ◌∷◌, Option, Some, None, refl, sym, ap, ◌∙◌, subst, ⊎_elim, inl, inr, arith}
 use Rattle.std.specs.Prelude.{◌↔◌, ◌⊎◌, bit_and, bit_or, option_map, slice_get, unwrap_or}
 use Rattle.bit_reach.specs.Bits.{HasBit}
 use Rattle.ir_paths.specs.declared.point.Point.{Point}

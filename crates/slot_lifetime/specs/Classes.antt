@@ -1,5 +1,5 @@
 -- The classes of slots.
-use Rattle.std.specs.Prelude.{◌≡◌, ◌⊎◌, ℕ, Bool, true, false, List, [], ◌∷◌, length, slice_get, Some, IsTrue, IsFalse}
+use Rattle.std.specs.Prelude.{◌≡◌, ◌⊎◌, ℕ, Bool, true, false, List, [], length, slice_get, Some, IsTrue}
 use Rattle.ir_model.specs.declared.module.Function.{Function}
 use Rattle.ir_model.specs.declared.operand.Intrinsic.{Intrinsic}
 use Rattle.ir_paths.specs.Paths.{has_point}
@@ -9,7 +9,7 @@ use Rattle.ir_paths.specs.declared.point.Point.{Point}
 use Rattle.slot_lifetime.specs.Alive.{MayBeAlive}
 use Rattle.slot_lifetime.specs.declared.class.SlotClass.{SlotClass}
 use Rattle.slot_rules.specs.Closed.{IsClosed}
-use Rattle.slot_uses.specs.Spots.{Spot, At, On, IsBehind, IsStart, IsUse, LeadsFrom, point_at}
+use Rattle.slot_uses.specs.Spots.{Spot, IsBehind, IsStart, IsUse, LeadsFrom, point_at}
 use Rattle.slot_uses.specs.Uses.{starts_of}
 use Rattle.window_rules.specs.Sets.{IsAfterEnd}
 

@@ -1,11 +1,10 @@
 -- Rows of words, one row for each block of a function, with a word for each instruction and one for the terminator.
-use Rattle.std.specs.Prelude.{ℕ, Bool, List, [], map, length, slice_get, slice_set, unwrap_or, bit_and, bit_or, bit_xor, ◌+◌, ◌-◌, ◌^◌, ◌∷◌, if◌then◌else◌}
+use Rattle.std.specs.Prelude.{ℕ, Bool, List, [], map, slice_get, slice_set, unwrap_or, bit_and, bit_or, bit_xor, ◌+◌, ◌-◌, ◌^◌, ◌∷◌, if◌then◌else◌}
 use Rattle.ir_model.specs.declared.instr.Instr.{Instr}
 use Rattle.ir_model.specs.declared.module.Block.{Block}
 use Rattle.ir_model.specs.declared.module.Function.{Function}
 use Rattle.ir_model.specs.declared.operand.Intrinsic.{Intrinsic}
 use Rattle.ir_paths.specs.Windows.{is_call_of}
-use Rattle.ir_paths.specs.declared.point.Point.{Point}
 use Rattle.point_graph.specs.Rows.{is_marked}
 use Rattle.point_reach.specs.declared.question.Pass.{Pass}
 use Rattle.slot_uses.specs.Words.{row_with}

@@ -1,5 +1,5 @@
 -- The ways behind suspends, and what stands on edges.
-use Rattle.std.specs.Prelude.{ℕ, Bool, false, List, [], map, length, slice_get, unwrap_or, Some, None, Option, bit_and, bit_or, ◌<◌, ◌+◌, ◌||◌, ◌==◌, ◌∷◌, IsTrue, if◌then◌else◌}
+use Rattle.std.specs.Prelude.{ℕ, Bool, false, List, [], map, length, slice_get, Some, None, Option, bit_and, bit_or, ◌<◌, ◌+◌, ◌||◌, ◌==◌, ◌∷◌, if◌then◌else◌}
 use Rattle.flow_solver.specs.Paths.{IsListed}
 use Rattle.ir_model.specs.Names.{position_of}
 use Rattle.ir_model.specs.declared.module.Block.{Block}

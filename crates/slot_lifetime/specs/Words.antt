@@ -1,6 +1,5 @@
 -- The words of a chunk of slots: what puts them into the frame.
-use Rattle.std.specs.Prelude.{ℕ, Bool, List, [], bit_and, bit_or, ◌≡◌, ◌↔◌, ◌<◌, ◌≤◌, length, Option, unwrap_or, option_map, IsTrue, Some, None, slice_get}
-use Rattle.bit_reach.specs.Bits.{HasBit}
+use Rattle.std.specs.Prelude.{ℕ, Bool, List, [], bit_and, bit_or, ◌≡◌, Option, Some, None}
 use Rattle.block_paths.specs.Edges.{graph_of}
 use Rattle.ir_model.specs.declared.module.Function.{Function}
 use Rattle.ir_model.specs.declared.operand.Intrinsic.{Intrinsic}
@@ -10,7 +9,6 @@ use Rattle.ir_paths.specs.Paths.{has_point}
 use Rattle.ir_paths.specs.declared.point.Point.{Point}
 use Rattle.ir_paths.specs.declared.point.Window.{Window}
 use Rattle.std.specs.List.{list_any}
-use Rattle.point_graph.specs.Rows.{is_marked}
 use Rattle.point_reach.specs.Reached.{AreReachedAt}
 use Rattle.slot_lifetime.specs.Rows.{all_bits, block_words, call_rows, cleared, common, joined, kept_of, others, rows_word, set_rows}
 use Rattle.slot_lifetime.specs.Ways.{coming, edges_word, leaving, ways_of, ways_word}

@@ -1,17 +1,16 @@
 -- The words of names that paths over the steps of getelementptrs give.
-use Rattle.std.proofs.Common.{◌≡◌, ◌≢◌, ℕ, zero, suc, ◌+◌, ◌-◌, ◌^◌, ◌<◌, ◌≤◌, true, List, [], ◌∷◌, length, replicate, Option, Some, None, refl, sym, ap, ◌∙◌, subst, ⊎_elim, inl, inr, arith}
-use Rattle.std.specs.Prelude.{◌↔◌, ◌⊎◌, ◌==◌, Err, IfOk, IsTrue, Ok, Result, get_or, slice_get, unwrap_or}
-use Rattle.std.specs.Int.{bit_at}
+use Rattle.std.proofs.Common.{◌≡◌, ℕ, zero, suc, ◌+◌, ◌-◌, ◌^◌, ◌<◌, ◌≤◌, true, List, [], ◌∷◌, length, replicate, Option, Some, refl, sym, ap, ◌∙◌, subst, ⊎_elim, inl, inr, arith}
+use Rattle.std.specs.Prelude.{◌==◌, Err, IfOk, IsTrue, Ok, Result, slice_get, unwrap_or}
 use Rattle.std.proofs.lemmas.Bool.{cases_eq, cases_lt}
 use Rattle.std.proofs.lemmas.Nat.Bits.{bit_at_ones, bit_at-pow_other, bit_at-pow_same}
-use Rattle.std.proofs.lemmas.Option.{slice_get-get_or, slice_get_past, slice_get_within}
+use Rattle.std.proofs.lemmas.Option.{slice_get_past, slice_get_within}
 use Rattle.bit_reach.specs.Bits.{HasBit}
 use Rattle.bit_reach.specs.Reaching.{AnswersAt, Reaches, StartAt}
 use Rattle.flow_solver.proofs.Lists.{listed_at, place_of}
 use Rattle.flow_solver.specs.Paths.{HasNodes, IsListed}
 use Rattle.ir_model.specs.declared.module.Function.{Function}
 use Rattle.ir_paths.proofs.Search.{eq_itself, or_left, or_right}
-use Rattle.ir_paths.specs.Slots.{addresses_of, has_name}
+use Rattle.ir_paths.specs.Slots.{has_name}
 use Rattle.slot_rules.proofs.Chains.{addresses-by, itself-is, step-is}
 use Rattle.slot_rules.specs.Steps.{steps_of}
 use Rattle.slot_uses.proofs.Bits.{no_bit}

@@ -1,14 +1,13 @@
 -- The names that are exposed.
 use Rattle.std.proofs.Common.{◌≡◌, ℕ, Bool, true, false, ◌||◌, List, [], ◌∷◌, refl}
-use Rattle.std.specs.Prelude.{◌&&◌, ◌==◌, not, bit_or, if◌then◌else◌}
+use Rattle.std.specs.Prelude.{◌&&◌, not, bit_or, if◌then◌else◌}
 use Rattle.std.specs.List.{list_any}
 use Rattle.ir_model.specs.Names.{is_local}
 use Rattle.ir_model.specs.declared.instr.Incoming.{Incoming}
 use Rattle.ir_model.specs.declared.instr.Instr.{Instr}
 use Rattle.ir_model.specs.declared.instr.Phi.{Phi}
 use Rattle.ir_model.specs.declared.module.Block.{Block}
-use Rattle.ir_model.specs.declared.operand.Callee.{Callee}
-use Rattle.ir_paths.specs.Slots.{exposed_in_block, exposes, is_in_args, is_memcpy, is_no_use, occurs, occurs_in_phi, occurs_in_term}
+use Rattle.ir_paths.specs.Slots.{exposed_in_block, exposes, is_memcpy, is_no_use, occurs, occurs_in_phi, occurs_in_term}
 use Rattle.slot_uses.proofs.Marks.{Marks, marks_args, marks_none, marks_operand, marks_or, marks_same, or_again}
 use Rattle.slot_uses.proofs.Occurring.{marks_occurring, marks_term}
 use Rattle.slot_uses.specs.Words.{block_word, blocks_word, exposed, incoming_word, instrs_word, occurring, phis_word, with_operand}

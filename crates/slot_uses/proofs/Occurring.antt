@@ -1,11 +1,11 @@
 -- The names that instructions and terminators take.
 use Rattle.std.proofs.Common.{◌≡◌, ℕ, Bool, true, false, ◌||◌, List, Some, None, refl}
-use Rattle.std.specs.Prelude.{◌&&◌, ◌==◌, not, if◌then◌else◌}
+use Rattle.std.specs.Prelude.{◌&&◌, ◌==◌, not}
 use Rattle.ir_model.specs.Names.{is_local}
 use Rattle.ir_model.specs.declared.instr.Instr.{Instr}
 use Rattle.ir_model.specs.declared.instr.Terminator.{Terminator}
 use Rattle.ir_model.specs.declared.operand.Callee.{Callee}
-use Rattle.ir_paths.specs.Slots.{is_in_args, occurs, occurs_in_term}
+use Rattle.ir_paths.specs.Slots.{occurs, occurs_in_term}
 use Rattle.slot_uses.proofs.Marks.{Marks, marks_args, marks_if, marks_name, marks_none, marks_operand, marks_same}
 use Rattle.slot_uses.specs.Uses.{is_no_use_in}
 use Rattle.slot_uses.specs.Words.{name_word, occurring, used, with_operand, with_term}

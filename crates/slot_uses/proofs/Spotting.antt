@@ -1,6 +1,6 @@
 -- The uses of slots, at points and on edges.
 use Rattle.std.proofs.Common.{◌≡◌, ℕ, zero, suc, ◌+◌, ◌<◌, Bool, true, false, List, [], ◌∷◌, ◌++◌, length, Option, Some, None, refl, sym, ap, ◌∙◌, subst, ⊎_elim, inl, inr, arith}
-use Rattle.std.specs.Prelude.{◌↔◌, ◌⊎◌, ◌==◌, IsTrue, nat_lt, slice_get, if◌then◌else◌}
+use Rattle.std.specs.Prelude.{◌↔◌, ◌⊎◌, ◌==◌, nat_lt, slice_get}
 use Rattle.std.proofs.lemmas.Bool.{false≢true, lt-ltb, ltb-true}
 use Rattle.std.proofs.lemmas.Option.{slice_get_within}
 use Rattle.bit_reach.specs.Bits.{HasBit}
@@ -16,7 +16,7 @@ use Rattle.ir_paths.proofs.Search.{eq_from}
 use Rattle.ir_paths.specs.declared.point.Point.{Point}
 use Rattle.slot_uses.proofs.Bits.{no_bit}
 use Rattle.slot_uses.proofs.Telling.{address_of, has_address, use_complete, use_sound}
-use Rattle.slot_uses.specs.Spots.{IsUse, Spot}
+use Rattle.slot_uses.specs.Spots.{IsUse}
 use Rattle.slot_uses.specs.Spots.Spot.{At, On}
 use Rattle.slot_uses.specs.Told.{AreAddressWords}
 use Rattle.slot_uses.specs.Words.{edge_unless, edge_words, incoming_uses, name_word, phi_uses, phis_uses, use_if, use_on, use_rows, uses_from, word_at_point}

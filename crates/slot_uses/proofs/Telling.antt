@@ -1,6 +1,6 @@
 -- What the rows and words of a chunk tell of its slots.
-use Rattle.std.proofs.Common.{◌≡◌, ℕ, ◌<◌, Bool, true, false, ◌||◌, List, [], ◌∷◌, length, Option, Some, None, refl, sym, ap, ◌∙◌, subst, ⊎_elim, inl, inr}
-use Rattle.std.specs.Prelude.{◌↔◌, ◌⊎◌, ◌&&◌, ◌==◌, IsTrue, not, slice_get, if◌then◌else◌}
+use Rattle.std.proofs.Common.{◌≡◌, ℕ, ◌<◌, Bool, true, false, List, [], ◌∷◌, Option, Some, refl, sym, ◌∙◌, subst, ⊎_elim}
+use Rattle.std.specs.Prelude.{◌↔◌, ◌&&◌, ◌==◌, IsTrue, not, slice_get, if◌then◌else◌}
 use Rattle.std.specs.List.{list_any}
 use Rattle.std.proofs.lemmas.Bool.{false≢true}
 use Rattle.bit_reach.specs.Bits.{HasBit}
@@ -10,16 +10,16 @@ use Rattle.ir_model.specs.declared.module.Function.{Function}
 use Rattle.ir_model.specs.declared.operand.Intrinsic.{Intrinsic}
 use Rattle.ir_paths.proofs.Search.{both, either, eq_from, eq_itself, or_left, or_right}
 use Rattle.ir_paths.specs.Paths.{has_point}
-use Rattle.ir_paths.specs.Slots.{addresses_of, exposed_in_block, has_name, is_escaped, occurs, occurs_in_term}
-use Rattle.ir_paths.specs.Windows.{call_operand, instr_at, is_call_of, points_where}
+use Rattle.ir_paths.specs.Slots.{addresses_of, exposed_in_block, has_name, is_escaped, occurs}
+use Rattle.ir_paths.specs.Windows.{call_operand, is_call_of, points_where}
 use Rattle.ir_paths.specs.declared.point.Point.{Point}
 use Rattle.slot_uses.proofs.Bits.{no_bit}
 use Rattle.slot_uses.proofs.Exposing.{marks_blocks}
-use Rattle.slot_uses.proofs.Marks.{Marks, marks_none, marks_operand}
+use Rattle.slot_uses.proofs.Marks.{marks_none, marks_operand}
 use Rattle.slot_uses.proofs.Occurring.{marks_term, marks_used}
 use Rattle.slot_uses.proofs.Points.{where_complete, where_sound}
 use Rattle.slot_uses.proofs.RowWords.{at_instr, at_term, point_cases}
-use Rattle.slot_uses.specs.Told.{AreAddressWords, AreSlotWords, IsAddressIn}
+use Rattle.slot_uses.specs.Told.{AreAddressWords, AreSlotWords}
 use Rattle.slot_uses.specs.Uses.{UsesAt, is_marker_of, is_no_use_in}
 use Rattle.slot_uses.specs.Words.{blocks_word, marked, marker_rows, name_word, use_rows, used, with_operand, with_term, word_at_point}
 

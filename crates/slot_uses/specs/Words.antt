@@ -1,5 +1,5 @@
 -- Words of 64 questions, each about one slot: the words of names, and of what takes those names.
-use Rattle.std.specs.Prelude.{ℕ, zero, suc, Bool, List, [], map, length, nat_lt, slice_get, unwrap_or, Some, None, Option, bit_or, ◌+◌, ◌^◌, ◌||◌, ◌==◌, ◌∷◌, ◌++◌, if◌then◌else◌}
+use Rattle.std.specs.Prelude.{ℕ, Bool, List, [], map, length, nat_lt, slice_get, unwrap_or, Some, None, bit_or, ◌+◌, ◌^◌, ◌==◌, ◌∷◌, ◌++◌, if◌then◌else◌}
 use Rattle.ir_model.specs.Names.{position_of}
 use Rattle.ir_model.specs.declared.instr.Incoming.{Incoming}
 use Rattle.ir_model.specs.declared.instr.Instr.{Instr}

@@ -1,4 +1,4 @@
-use Rattle.std.proofs.Common.{List, ap, subst, sym, ℕ, ◌∙◌}
+use Rattle.std.proofs.Common.{List, ap, subst, ℕ, ◌∙◌}
 use Rattle.slot_lifetime.proofs.Deciding.{classes_are, of_ok}
 use Rattle.slot_lifetime.specs.Answer.{AreFrameWords, AreNamed, classes_from}
 use Rattle.slot_lifetime.proofs.answer.classes.Goals as goal

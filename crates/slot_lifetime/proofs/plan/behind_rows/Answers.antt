@@ -1,4 +1,4 @@
-use Rattle.std.proofs.Common.{ap, subst, sym, ◌∙◌}
+use Rattle.std.proofs.Common.{subst, sym, ◌∙◌}
 use Rattle.point_reach.specs.Reached.{HaveShape}
 use Rattle.slot_lifetime.proofs.Passing.{shape_of_passes, way_blocks}
 use Rattle.slot_lifetime.proofs.plan.behind_rows.Goals as goal

@@ -1,4 +1,4 @@
-use Rattle.std.proofs.Common.{subst, sym, ◌∙◌}
+use Rattle.std.proofs.Common.{subst, sym}
 use Rattle.point_reach.specs.Reached.{HaveShape}
 use Rattle.slot_lifetime.proofs.Passing.{edge_blocks, shape_of_passes}
 use Rattle.slot_lifetime.proofs.plan.coming_rows.Goals as goal

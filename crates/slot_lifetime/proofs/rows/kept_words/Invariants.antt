@@ -1,4 +1,4 @@
-use Rattle.std.proofs.Common.{◌≡◌, map, take}
+use Rattle.std.proofs.Common.{◌≡◌, take}
 use Rattle.slot_lifetime.specs.Rows.{kept_of}
 use Rattle.slot_lifetime.proofs.rows.kept_words.Given as goal
 

@@ -1,4 +1,4 @@
-use Rattle.std.proofs.Common.{◌≡◌, map, take}
+use Rattle.std.proofs.Common.{◌≡◌, take}
 use Rattle.slot_lifetime.specs.Ways.{edge_fronts}
 use Rattle.slot_lifetime.proofs.ways.edge_fronts.Given as goal
 
