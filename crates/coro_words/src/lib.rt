@@ -6,8 +6,6 @@ mod command;
 mod list;
 mod matched;
 mod taken;
-#[cfg(test)]
-mod tests;
 mod words;
 
 pub use answer::Taken;
