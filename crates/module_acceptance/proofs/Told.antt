@@ -1,12 +1,37 @@
--- What comes of a module, where its first broken rule is told.
-use Rattle.std.proofs.Common.{Option, Ok, Err, Bool}
+-- What comes of a module, where its first broken rule and the first frame that is too large are told.
+use Rattle.std.proofs.Common.{◌≡◌, ℕ, ◌<◌, ◌≤◌, Bool, false, Option, Ok, Err, sym, subst, ◌∙◌}
 use Rattle.std.specs.Prelude.{Result, IfOk}
+use Rattle.coroutine_frames.specs.Frames.{AreLayouts}
+use Rattle.frame_layout.specs.declared.layout.Layouts.{Layouts}
 use Rattle.ir_check.specs.Refused.{IsRefused}
 use Rattle.ir_model.specs.declared.module.Module.{Module}
-use Rattle.module_acceptance.specs.Acceptance.{ComesOf, IsAcceptance}
+use Rattle.module_acceptance.specs.Acceptance.{AreFine, ComesAlone, ComesBefore, ComesOf, IsAcceptance, IsTooLarge}
+use Rattle.module_acceptance.specs.Order.{looked_at, too_large}
 use Rattle.module_acceptance.specs.declared.accepting.Acceptance.{Acceptance}
 use Rattle.module_rules.specs.declared.order.Refusal.{Refusal}
 use Rattle.name_rules.specs.declared.stage.Stage.{Stage}
+
+-- ---- K12 and another refusal
+
+pub large_before : (m : Module) (r told : Refusal) (func count : ℕ) → count ≡ looked_at r → func < count → IsTooLarge m false func → told ≡ too_large func → ComesBefore m r told
+large_before m r told func count is lt large same =
+    subst (ComesBefore m r) (sym same) (ComesBefore.Large func (subst (λ (n : ℕ). func < n) is lt) large)
+
+pub large_later : (m : Module) (r : Refusal) (func count : ℕ) → count ≡ looked_at r → count ≤ func → IsTooLarge m false func → ComesBefore m r r
+large_later m r func count is le large = ComesBefore.Same (AreFine.Later func (subst (λ (n : ℕ). n ≤ func) is le) large)
+
+pub none_large : (m : Module) (r : Refusal) (layouts : Layouts) → AreLayouts m false (Ok layouts) → ComesBefore m r r
+none_large m r layouts laid = ComesBefore.Same (AreFine.All layouts laid)
+
+pub none_before : (m : Module) (r : Refusal) (count : ℕ) → count ≡ looked_at r → count ≡ 0 → ComesBefore m r r
+none_before m r count is none = ComesBefore.Same (AreFine.NoneThere (sym is ∙ none))
+
+-- ---- K12 alone
+
+pub large_alone : (m : Module) (share : Bool) (func : ℕ) (told : Refusal) → IsTooLarge m share func → told ≡ too_large func → ComesAlone m share told
+large_alone m share func told large same = subst (ComesAlone m share) (sym same) (ComesAlone.Large func large)
+
+-- ---- all rules
 
 pub accepted_by : {E : Type 0} (m : Module) (share : Bool) (refusal : Option Refusal) (r : Result Acceptance E) → IsRefused Stage.Source m refusal → IfOk r (ComesOf m share refusal) → IfOk r (IsAcceptance m share)
 accepted_by m share refusal (Ok a) refused comes = record { refusal = refusal; refused = refused; comes = comes }

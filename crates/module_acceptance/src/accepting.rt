@@ -35,6 +35,7 @@ impl Acceptance {
 }
 
 /// The refusal of a module where another rule is broken than K12, and some functions are looked at before.
+#[tactic(auto, using(crate::proofs::Told::large_before, crate::proofs::Told::large_later, crate::proofs::Told::none_large))]
 fn with_large(
     alloc: Global,
     source: &Module,
@@ -44,20 +45,19 @@ fn with_large(
     requires { count ≡ looked_at_before refusal }
     ensures { IfOk result (ComesBefore source.now refusal) }
 {
-    match layouts_of(alloc, source, false) {
-        Ok(_) => Ok(refusal),
-        Err(LayoutsError::TooLarge(func)) => {
-            if func < count {
-                Ok(too_large(func))
-            } else {
-                Ok(refusal)
-            }
-        }
-        Err(LayoutsError::OutOfMemory) => Err(AllocError),
+    let func = match layouts_of(alloc, source, false) {
+        Ok(_) => return Ok(refusal),
+        Err(LayoutsError::OutOfMemory) => return Err(AllocError),
+        Err(LayoutsError::TooLarge(func)) => func,
+    };
+    if func < count {
+        return Ok(too_large(func));
     }
+    Ok(refusal)
 }
 
 /// The refusal of a module where another rule is broken than K12.
+#[tactic(auto, using(crate::proofs::Told::none_before))]
 fn refused_by(alloc: Global, source: &Module, refusal: Refusal) -> Result<Refusal, AllocError>
     ensures { IfOk result (ComesBefore source.now refusal) }
 {
@@ -69,6 +69,7 @@ fn refused_by(alloc: Global, source: &Module, refusal: Refusal) -> Result<Refusa
 }
 
 /// What comes of a module where no other rule is broken than K12.
+#[tactic(auto, using(crate::proofs::Told::large_alone))]
 fn laid_out(alloc: Global, source: &Module, share: bool) -> Result<Acceptance, AllocError>
     ensures { IfOk result (ComesOf source.now share None) }
 {
