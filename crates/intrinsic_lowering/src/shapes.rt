@@ -136,7 +136,8 @@ fn push_suspends_by(all: &mut Items<SuspendPoint>, blocks: &[Block]) -> Result<(
     Ok(())
 }
 
-fn suspends_of(alloc: Global, function: &Function) -> Result<Items<SuspendPoint>, AllocError>
+/// The suspends of a coroutine, in order of the text.
+pub fn suspends_of(alloc: Global, function: &Function) -> Result<Items<SuspendPoint>, AllocError>
     ensures { IfOk result (λ x. x ≡ suspends_of function.now) }
 {
     let mut all = Items::new(alloc);
@@ -166,7 +167,8 @@ fn set_saves(
     Ok(())
 }
 
-fn saves_of(
+/// For each name the suspend whose save it is.
+pub fn saves_of(
     alloc: Global,
     function: &Function,
     suspends: &[SuspendPoint],

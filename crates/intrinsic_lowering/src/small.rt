@@ -29,6 +29,7 @@ pub fn thrice_later(id: ValueId, count: usize) -> Result<ValueId, AllocError>
     }
 }
 
+/// An operand that is a number of a width.
 pub fn number_arg(width: IntWidth, number: i128) -> Arg
     ensures { result ≡ number_arg (bits_of width) number }
 {
@@ -38,6 +39,7 @@ pub fn number_arg(width: IntWidth, number: i128) -> Arg
     }
 }
 
+/// An operand that is a pointer.
 pub fn pointer_arg(value: Operand) -> Arg
     ensures { result ≡ pointer_arg value }
 {

@@ -1,0 +1,2 @@
+//! Frame slots that are used before begin have a temporary, which is copied at begin.
+#![tactic(auto)]

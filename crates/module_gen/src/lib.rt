@@ -1,0 +1,2 @@
+//! The generated module, by which lowering is measured.
+#![tactic(auto)]

@@ -1,0 +1,2 @@
+//! The framed form of a module: what coroutines keep behind their suspends goes into their frames.
+#![tactic(auto)]
