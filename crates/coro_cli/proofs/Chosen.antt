@@ -1,9 +1,10 @@
 -- What is answered, where the first broken rule or the lowering is told.
-use Rattle.std.proofs.Common.{◌≡◌, ℕ, Bool, List, Option, Ok, Err}
+use Rattle.std.proofs.Common.{◌≡◌, ℕ, Bool, List, Option, Ok, Err, subst}
 use Rattle.std.specs.Prelude.{Result, IfOk}
 use Rattle.std.specs.Io.KnownBytes.{Appends}
+use Rattle.coro_base.specs.declared.status.Options.{Options}
 use Rattle.coro_base.specs.declared.status.Status.{Status}
-use Rattle.coro_cli.specs.Answers.{IsAnswer, IsMadeOf, IsMadeOfAcceptance, IsMadeOfRules, check_answer, checked_run, lower_answer, lowered_answer, verdict_status}
+use Rattle.coro_cli.specs.Answers.{IsAnswer, IsMadeOf, IsMadeOfAcceptance, IsMadeOfRefusal, IsMadeOfRules, check_answer, checked_run, options_of, verdict_status}
 use Rattle.coro_cli.specs.Endings.{Gives, IsTold}
 use Rattle.coro_cli.specs.declared.verdict.Answer.{Answer}
 use Rattle.coro_words.specs.declared.words.RunWords.{RunWords}
@@ -12,7 +13,7 @@ use Rattle.ir_check.specs.Refused.{IsRefused}
 use Rattle.ir_model.specs.declared.module.Module.{Module}
 use Rattle.lower_pipeline.specs.Lowering.{IsLowering}
 use Rattle.lower_pipeline.specs.declared.whole.Lowering.{Lowering}
-use Rattle.module_acceptance.specs.Acceptance.{IsAcceptance}
+use Rattle.module_acceptance.specs.Acceptance.{IsAcceptance, IsRefusedFor}
 use Rattle.module_acceptance.specs.declared.accepting.Acceptance.{Acceptance}
 use Rattle.module_rules.specs.declared.order.Refusal.{Refusal}
 use Rattle.name_rules.specs.declared.stage.Stage.{Stage}
@@ -25,17 +26,17 @@ pub checked_by : {E : Type 0} (stage : Stage) (m : Module) (refusal : Option Ref
 checked_by stage m refusal (Ok a) refused is = record { refusal = refusal; refused = refused; is = is }
 checked_by stage m refusal (Err e) refused is = is
 
-pub run_by : {E : Type 0} (bytes : List ℕ) (w : RunWords) (l : Lowering) (r : Result Answer E) → IsLowering bytes l → IfOk r (λ a. a ≡ lowered_answer l w) → IfOk r (λ a. IsMadeOf bytes (λ x. lowered_answer x w) a)
-run_by bytes w l (Ok a) lowered is = record { lowering = l; lowered = lowered; is = is }
-run_by bytes w l (Err e) lowered is = is
+pub made_by : {E : Type 0} (plain : Bool) (options : Options) (bytes : List ℕ) (make : Lowering → Answer) (l : Lowering) (r : Result Answer E) → options ≡ options_of plain → IsLowering options bytes l → IfOk r (λ a. a ≡ make l) → IfOk r (λ a. IsMadeOf plain bytes make a)
+made_by plain options bytes make l (Ok a) same lowered is = record { lowering = l; lowered = subst (λ (o : Options). IsLowering o bytes l) same lowered; is = is }
+made_by plain options bytes make l (Err e) same lowered is = is
+
+pub refused_by : {E : Type 0} (m : Module) (refusal : Option Refusal) (r : Result Answer E) → IsRefusedFor m refusal → IfOk r (λ a. a ≡ check_answer m refusal) → IfOk r (λ a. IsMadeOfRefusal m (check_answer m) a)
+refused_by m refusal (Ok a) refused is = record { refusal = refusal; refused = refused; is = is }
+refused_by m refusal (Err e) refused is = is
 
 pub accepted_by : {E : Type 0} (m : Module) (share : Bool) (make : Acceptance → Answer) (x : Acceptance) (r : Result Answer E) → IsAcceptance m share x → IfOk r (λ a. a ≡ make x) → IfOk r (λ a. IsMadeOfAcceptance m share make a)
 accepted_by m share make x (Ok a) accepted is = record { acceptance = x; accepted = accepted; is = is }
 accepted_by m share make x (Err e) accepted is = is
-
-pub lowered_by : {E : Type 0} (bytes : List ℕ) (l : Lowering) (r : Result Answer E) → IsLowering bytes l → IfOk r (λ a. a ≡ lower_answer l) → IfOk r (λ a. IsMadeOf bytes lower_answer a)
-lowered_by bytes l (Ok a) lowered is = record { lowering = l; lowered = lowered; is = is }
-lowered_by bytes l (Err e) lowered is = is
 
 pub gives_by : (w : Words) (bytes : List ℕ) (out out-new err err-new : Option (List ℕ)) (status : Status) (a : Answer) → IsAnswer w bytes a → (IsTold status → verdict_status a.verdict ≡ status) → (IsTold status → Appends out out-new a.out) → (IsTold status → Appends err err-new a.err) → IsTold status → Gives w bytes out out-new err err-new status
 gives_by w bytes out out-new err err-new status a is ends gives-out gives-err t = record { answer = a; is = is; ends = ends t; out = gives-out t; err = gives-err t }

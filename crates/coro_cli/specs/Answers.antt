@@ -6,6 +6,7 @@ use Rattle.coro_base.specs.declared.outcome.Outcome.{Outcome}
 use Rattle.coro_base.specs.declared.outcome.Place.{Place}
 use Rattle.coro_base.specs.declared.outcome.Word.{Word}
 use Rattle.coro_base.specs.declared.rule.Rule.{Rule}
+use Rattle.coro_base.specs.declared.status.Options.{Options}
 use Rattle.coro_base.specs.declared.status.Status.{Status}
 use Rattle.coro_cli.specs.declared.verdict.Answer.{Answer}
 use Rattle.coro_cli.specs.declared.verdict.EntryCall.{EntryCall}
@@ -17,6 +18,7 @@ use Rattle.coro_words.specs.declared.words.Form.{Form}
 use Rattle.coro_words.specs.declared.words.RunWords.{RunWords}
 use Rattle.coro_words.specs.declared.words.Words.{Words}
 use Rattle.coroutine_frames.specs.Report.{layout_text}
+use Rattle.framed_meaning.specs.Framed.{FramedAt, framed_given, framed_state_at}
 use Rattle.frame_layout.specs.declared.layout.Layout.{Layout}
 use Rattle.frame_layout.specs.declared.layout.Layouts.{Layouts}
 use Rattle.ir_ints.specs.Numbers.{word_of}
@@ -28,12 +30,14 @@ use Rattle.ir_model.specs.declared.module.Module.{Module}
 use Rattle.ir_model.specs.declared.module.Param.{Param}
 use Rattle.ir_parser.specs.Parse.{read_module}
 use Rattle.ir_parser.specs.declared.text.Parsed.{Parsed}
+use Rattle.ir_printer.specs.Items.{module_text}
 use Rattle.lower_pipeline.specs.Lowering.{IsLowering}
 use Rattle.lower_pipeline.specs.declared.whole.Lowered.{Lowered}
 use Rattle.lower_pipeline.specs.declared.whole.Lowering.{Lowering}
 use Rattle.ir_check.specs.Refused.{IsRefused}
-use Rattle.module_acceptance.specs.Acceptance.{IsAcceptance, refusal_of}
+use Rattle.module_acceptance.specs.Acceptance.{IsAcceptance, IsRefusedFor}
 use Rattle.module_acceptance.specs.declared.accepting.Acceptance.{Acceptance}
+use Rattle.module_gen.specs.Generated.{generated_module}
 use Rattle.module_rules.specs.declared.order.Refusal.{Refusal}
 use Rattle.name_rules.specs.declared.stage.Stage.{Stage}
 use Rattle.source_program.specs.Given.{Given}
@@ -180,6 +184,29 @@ lowered_answer (Lowering.Syntax items) w = syntax_fault items
 lowered_answer (Lowering.Refused m rule place) w = refused m rule place
 lowered_answer (Lowering.Done l) w = run_lowered l w
 
+-- the events and the outcome of a run of a framed module
+abbrev pub framed_run : Module → Layouts → List ℤ → EntryCall → ℕ → Answer
+framed_run code layouts answers call steps =
+    let s = framed_state_at (framed_given code layouts.coroutines answers) call.func call.args steps in
+    shown (run_verdict s.outcome) (run_text code s.world.events s.outcome)
+
+-- what is seen of a framed module after so many steps
+abbrev pub framed_call_answer : Module → Layouts → List ℤ → EntryCall → ℕ → Answer
+framed_call_answer code layouts answers call steps = seen_answer code (FramedAt code layouts call.func call.args answers steps)
+
+-- the source says whether the entry is callable; its framed form, whose functions are the source's, runs it
+abbrev pub framed_or : Lowered → RunWords → Option EntryCall → Answer
+framed_or l w None = not_callable w.entry
+framed_or l w (Some call) = framed_call_answer l.framed l.layouts w.answers call w.steps
+
+abbrev pub run_framed : Lowered → RunWords → Answer
+run_framed l w = framed_or l w (entry_call l.source w.entry w.args)
+
+abbrev pub framed_answer : Lowering → RunWords → Answer
+framed_answer (Lowering.Syntax items) w = syntax_fault items
+framed_answer (Lowering.Refused m rule place) w = refused m rule place
+framed_answer (Lowering.Done l) w = run_framed l w
+
 -- ---- run of a source
 
 abbrev pub size_of : Layout → Frame
@@ -236,27 +263,47 @@ abbrev pub check_answer : Module → Option Refusal → Answer
 check_answer m None = shown Verdict.Done (codes "ok\n")
 check_answer m (Some r) = refused m r.rule r.place
 
+-- what is made of what a source is refused for
+pub record IsMadeOfRefusal (m : Module) (make : Option Refusal → Answer) (a : Answer) : Type 0 where
+  pub refusal : Option Refusal
+  pub refused : IsRefusedFor m refusal
+  pub is : a ≡ make refusal
+
 abbrev pub IsCheckAnswer : Bool → Parsed → Answer → Type 0
 IsCheckAnswer lowered (Parsed.Syntax items) a = a ≡ syntax_fault items
 IsCheckAnswer true (Parsed.Module m) a = IsMadeOfRules Stage.Plain m (check_answer m) a
-IsCheckAnswer false (Parsed.Module m) a = IsMadeOfAcceptance m false (λ x. check_answer m (refusal_of x)) a
+IsCheckAnswer false (Parsed.Module m) a = IsMadeOfRefusal m (check_answer m) a
 
 -- ---- the commands
 
+-- with `--plain` no bytes are shared, no call is elided, and no transfer is made
+abbrev pub options_of : Bool → Options
+options_of plain = record { share = not plain; elide = not plain; transfer = not plain }
+
 -- what is made of the lowering of the bytes
-pub record IsMadeOf (bytes : List ℕ) (make : Lowering → Answer) (a : Answer) : Type 0 where
+pub record IsMadeOf (plain : Bool) (bytes : List ℕ) (make : Lowering → Answer) (a : Answer) : Type 0 where
   pub lowering : Lowering
-  pub lowered : IsLowering bytes lowering
+  pub lowered : IsLowering (options_of plain) bytes lowering
   pub is : a ≡ make lowering
 
 abbrev pub IsRunAnswer : Form → List ℕ → RunWords → Answer → Type 0
 IsRunAnswer Form.Source bytes w a = IsSourceAnswer (read_module bytes) w a
 IsRunAnswer Form.Text bytes w a = IsTextAnswer (read_module bytes) w a
-IsRunAnswer Form.Lowered bytes w a = IsMadeOf bytes (λ l. lowered_answer l w) a
+IsRunAnswer Form.Framed bytes w a = IsMadeOf w.plain bytes (λ l. framed_answer l w) a
+IsRunAnswer Form.Lowered bytes w a = IsMadeOf w.plain bytes (λ l. lowered_answer l w) a
+
+-- ---- gen
+
+-- the canonical text of the generated module
+abbrev pub gen_answer : ℕ → ℕ → ℕ → Answer
+gen_answer seed coroutines suspends = shown Verdict.Done (module_text (generated_module seed coroutines suspends))
+
+-- ---- all of them
 
 -- what the words' command answers to these bytes
 unfoldable pub IsAnswer : Words → List ℕ → Answer → Type 0
-IsAnswer (Words.Lower plain) bytes a = IsMadeOf bytes lower_answer a
+IsAnswer (Words.Lower plain) bytes a = IsMadeOf plain bytes lower_answer a
 IsAnswer (Words.Check lowered) bytes a = IsCheckAnswer lowered (read_module bytes) a
 IsAnswer (Words.Layout plain) bytes a = IsLayoutAnswer plain (read_module bytes) a
 IsAnswer (Words.Run w) bytes a = IsRunAnswer w.form bytes w a
+IsAnswer (Words.Gen seed coroutines suspends) bytes a = a ≡ gen_answer seed coroutines suspends

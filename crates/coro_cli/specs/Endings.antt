@@ -1,5 +1,5 @@
 -- How a run of the program may end.
-use Rattle.std.specs.Prelude.{◌≡◌, ◌≢◌, ◌⊎◌, ℕ, true, List, Option}
+use Rattle.std.specs.Prelude.{◌≡◌, ◌≢◌, ◌⊎◌, ℕ, Bool, true, false, List, [], Option}
 use Rattle.std.specs.List.{list_any}
 use Rattle.std.specs.Io.KnownBytes.{Appends, Consumes, IsAtEnd, Keeps}
 use Rattle.coro_base.specs.declared.status.Status.{Status}
@@ -31,11 +31,29 @@ pub record Gives (w : Words) (bytes : List ℕ) (out-old out-new err-old err-new
   pub err : Appends err-old err-new answer.err
 
 -- the input was read to its end, and the outputs got the answer to it
-pub record Answers (w : Words) (s : Sides) (status : Status) : Type 0 where
+pub record Reads (w : Words) (s : Sides) (status : Status) : Type 0 where
   pub bytes : List ℕ
   pub read : Consumes s.left s.left-new bytes
   pub at_end : IsAtEnd s.left-new
   pub gives : Gives w bytes s.out s.out-new s.err s.err-new status
+
+-- nothing was read, and the outputs got the answer
+pub record ReadsNothing (w : Words) (s : Sides) (status : Status) : Type 0 where
+  pub read : s.left-new ≡ s.left
+  pub gives : Gives w [] s.out s.out-new s.err s.err-new status
+
+-- `gen` alone reads nothing
+abbrev pub reads_input : Words → Bool
+reads_input (Words.Gen seed coroutines suspends) = false
+reads_input _ = true
+
+abbrev pub AnswersBy : Bool → Words → Sides → Status → Type 0
+AnswersBy true w s status = Reads w s status
+AnswersBy false w s status = ReadsNothing w s status
+
+-- the input was read, where the command reads it, and the outputs got the answer
+abbrev pub Answers : Words → Sides → Status → Type 0
+Answers w s status = AnswersBy (reads_input w) w s status
 
 -- a status that isn't want of memory, nor a fault of a sink
 abbrev pub IsTold : Status → Type 0

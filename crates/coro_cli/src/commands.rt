@@ -1,23 +1,23 @@
 //! What the commands answer to the bytes of their input.
 
-ghost use Rattle.std.specs.Prelude.{◌≡◌, IfOk, not, false};
+ghost use Rattle.std.specs.Prelude.{◌≡◌, IfOk, not};
 ghost use Rattle.coro_words.specs.declared.words.Form.{Form};
-ghost use Rattle.coro_cli.specs.Answers.{lower_answer, checked_run, check_answer, IsTextAnswer, IsCheckAnswer, IsLayoutAnswer, IsMadeOfAcceptance, IsMadeOfRules, IsSourceAnswer, layout_answer, run_lowered, lowered_answer, source_form_answer, IsRunAnswer, IsMadeOf, IsAnswer};
-ghost use Rattle.module_acceptance.specs.Acceptance.{refusal_of};
+ghost use Rattle.coro_cli.specs.Answers.{lower_answer, checked_run, check_answer, IsTextAnswer, IsCheckAnswer, IsLayoutAnswer, IsMadeOfAcceptance, IsMadeOfRefusal, IsMadeOfRules, IsSourceAnswer, layout_answer, run_framed, framed_answer, gen_answer, options_of, run_lowered, lowered_answer, source_form_answer, IsRunAnswer, IsMadeOf, IsAnswer};
 ghost use Rattle.ir_parser.specs.Parse.{read_module};
 
 use crate::entry::entry_call;
-use crate::runs::{not_callable, run_module, run_source};
+use crate::runs::{framed_call_answer, not_callable, run_module, run_source};
 use crate::texts::{refused, shown, syntax_fault};
 use crate::verdict::{Answer, Verdict};
-use coro_base::Items;
+use coro_base::{Items, Options};
 use coro_words::{Form, RunWords, Words};
 use coroutine_frames::layout_text;
 use ir_check::{Refusal, Stage, first_refusal};
 use ir_model::Module;
 use ir_parser::{Parsed, parse};
 use lower_pipeline::{Lowered, Lowering, lower};
-use module_acceptance::{Acceptance, accept};
+use module_acceptance::{Acceptance, accept, refused_for};
+use module_gen::generate;
 use std::alloc::{AllocError, Global};
 
 fn lower_answer(alloc: Global, lowering: Lowering) -> Result<Answer, AllocError>
@@ -90,12 +90,60 @@ fn run_text_form(alloc: Global, bytes: &[u8], words: &RunWords) -> Result<Answer
     text_answer(alloc, parsed, words)
 }
 
-#[tactic(auto, using(crate::proofs::Chosen::run_by))]
+/// With `--plain` no bytes are shared, no call is elided, and no transfer is made.
+fn options_of(plain: bool) -> Options
+    ensures { result ≡ options_of plain }
+{
+    Options {
+        share: !plain,
+        elide: !plain,
+        transfer: !plain,
+    }
+}
+
+#[tactic(auto, using(crate::proofs::Chosen::made_by))]
 fn run_lowered_form(alloc: Global, bytes: &[u8], words: &RunWords) -> Result<Answer, AllocError>
     ensures { IfOk result (λ a. IsRunAnswer Form.Lowered bytes.now words.now a) }
 {
-    let lowering = lower(alloc, bytes)?;
+    let lowering = lower(alloc, bytes, options_of(words.plain))?;
     lowered_answer(alloc, lowering, words)
+}
+
+fn run_framed(alloc: Global, lowered: Lowered, words: &RunWords) -> Result<Answer, AllocError>
+    ensures { IfOk result (λ a. a ≡ run_framed lowered words.now) }
+{
+    let entry = words.entry.as_bytes();
+    let Lowered {
+        source,
+        framed,
+        layouts,
+        ..
+    } = lowered;
+    match entry_call(alloc, &source, entry, words.args.as_slice())? {
+        None => not_callable(alloc, entry),
+        Some(call) => {
+            let answers = words.answers.as_slice();
+            framed_call_answer(alloc, framed, &layouts, answers, &call, words.steps)
+        }
+    }
+}
+
+fn framed_answer(alloc: Global, lowering: Lowering, words: &RunWords) -> Result<Answer, AllocError>
+    ensures { IfOk result (λ a. a ≡ framed_answer lowering words.now) }
+{
+    match lowering {
+        Lowering::Done(lowered) => run_framed(alloc, lowered, words),
+        Lowering::Syntax(items) => syntax_fault(alloc, items),
+        Lowering::Refused(source, rule, place) => refused(alloc, &source, rule, place),
+    }
+}
+
+#[tactic(auto, using(crate::proofs::Chosen::made_by))]
+fn run_framed_form(alloc: Global, bytes: &[u8], words: &RunWords) -> Result<Answer, AllocError>
+    ensures { IfOk result (λ a. IsRunAnswer Form.Framed bytes.now words.now a) }
+{
+    let lowering = lower(alloc, bytes, options_of(words.plain))?;
+    framed_answer(alloc, lowering, words)
 }
 
 /// Runs a source that is looked at for all rules.
@@ -143,15 +191,16 @@ fn run_in(alloc: Global, bytes: &[u8], words: &RunWords) -> Result<Answer, Alloc
     match words.form {
         Form::Source => run_source_form(alloc, bytes, words),
         Form::Text => run_text_form(alloc, bytes, words),
+        Form::Framed => run_framed_form(alloc, bytes, words),
         Form::Lowered => run_lowered_form(alloc, bytes, words),
     }
 }
 
-#[tactic(auto, using(crate::proofs::Chosen::lowered_by))]
-fn lower_bytes(alloc: Global, bytes: &[u8]) -> Result<Answer, AllocError>
-    ensures { IfOk result (λ a. IsMadeOf bytes.now lower_answer a) }
+#[tactic(auto, using(crate::proofs::Chosen::made_by))]
+fn lower_bytes(alloc: Global, bytes: &[u8], plain: bool) -> Result<Answer, AllocError>
+    ensures { IfOk result (λ a. IsMadeOf plain bytes.now lower_answer a) }
 {
-    let lowering = lower(alloc, bytes)?;
+    let lowering = lower(alloc, bytes, options_of(plain))?;
     lower_answer(alloc, lowering)
 }
 
@@ -180,22 +229,12 @@ fn check_plain(alloc: Global, source: &Module) -> Result<Answer, AllocError>
     check_answer(alloc, source, refusal)
 }
 
-fn acceptance_answer(
-    alloc: Global,
-    source: &Module,
-    acceptance: &Acceptance,
-) -> Result<Answer, AllocError>
-    ensures { IfOk result (λ a. a ≡ check_answer source.now (refusal_of acceptance.now)) }
-{
-    check_answer(alloc, source, acceptance.refusal())
-}
-
-#[tactic(auto, using(crate::proofs::Chosen::accepted_by))]
+#[tactic(auto, using(crate::proofs::Chosen::refused_by))]
 fn check_source(alloc: Global, source: &Module) -> Result<Answer, AllocError>
-    ensures { IfOk result (λ a. IsMadeOfAcceptance source.now false (λ x. check_answer source.now (refusal_of x)) a) }
+    ensures { IfOk result (λ a. IsMadeOfRefusal source.now (check_answer source.now) a) }
 {
-    let acceptance = accept(alloc, source, false)?;
-    acceptance_answer(alloc, source, &acceptance)
+    let refusal = refused_for(alloc, source)?;
+    check_answer(alloc, source, refusal)
 }
 
 fn check_bytes(alloc: Global, bytes: &[u8], lowered: bool) -> Result<Answer, AllocError>
@@ -246,15 +285,33 @@ fn layout_bytes(alloc: Global, bytes: &[u8], plain: bool) -> Result<Answer, Allo
     }
 }
 
-/// What a command answers to the bytes of its input.
+/// The canonical text of the generated module.
+fn gen_answer(
+    alloc: Global,
+    seed: u64,
+    coroutines: u64,
+    suspends: u64,
+) -> Result<Answer, AllocError>
+    ensures { IfOk result (λ a. a ≡ gen_answer seed coroutines suspends) }
+{
+    let text = generate(alloc, seed, coroutines, suspends)?;
+    Ok(shown(alloc, Verdict::Done, Items::from_vec(text)))
+}
+
+/// What a command answers to the bytes of its input, of which there are none for `gen`.
 #[tactic(auto, unfolding(crate::specs::Answers::IsAnswer))]
 pub fn answer(alloc: Global, words: &Words, bytes: &[u8]) -> Result<Answer, AllocError>
     ensures { IfOk result (λ a. IsAnswer words.now bytes.now a) }
 {
     match words {
-        Words::Lower { .. } => lower_bytes(alloc, bytes),
+        Words::Lower { plain } => lower_bytes(alloc, bytes, *plain),
         Words::Check { lowered } => check_bytes(alloc, bytes, *lowered),
         Words::Layout { plain } => layout_bytes(alloc, bytes, *plain),
         Words::Run(words) => run_in(alloc, bytes, words),
+        Words::Gen {
+            seed,
+            coroutines,
+            suspends,
+        } => gen_answer(alloc, *seed, *coroutines, *suspends),
     }
 }

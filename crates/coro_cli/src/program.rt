@@ -1,6 +1,6 @@
 //! The top call.
 
-ghost use Rattle.std.specs.Prelude.{◌≡◌, ◌≢◌, ◌≤◌, ◌⊎◌, ◌^◌, codes, map, string_bytes, List, ℕ, OnOk, OnErr};
+ghost use Rattle.std.specs.Prelude.{◌≡◌, ◌≢◌, ◌≤◌, ◌⊎◌, ◌^◌, codes, map, string_bytes, List, [], ℕ, OnOk, OnErr};
 ghost use Rattle.std.specs.Io.KnownBytes.{Appends, Keeps};
 ghost use Rattle.coro_io.specs.Faults.{Rose};
 ghost use Rattle.coro_io.specs.Parts.{HoldsMore, AppendsPrefix};
@@ -9,7 +9,7 @@ ghost use Rattle.coro_words.specs.declared.words.Reading.{Reading};
 ghost use Rattle.coro_words.specs.declared.words.Words.{Words as TheWords};
 ghost use Rattle.coro_report.specs.Report.{bad_list_text};
 ghost use Rattle.coro_cli.specs.Answers.{verdict_status};
-ghost use Rattle.coro_cli.specs.Endings.{sides, Gives, Tells, Answers, IsTold, RefusesWords};
+ghost use Rattle.coro_cli.specs.Endings.{sides, Gives, Tells, Answers, IsTold, Reads, ReadsNothing, RefusesWords, reads_input as reads_input_of};
 
 use crate::commands::answer;
 use crate::verdict::Answer;
@@ -83,6 +83,57 @@ fn drive_bytes<O: Sink, E: Sink>(
 }
 
 /// Reads the input and answers to it.
+fn drive_input<S: Source, O: Sink, E: Sink>(
+    alloc: Global,
+    words: &Words,
+    input: &mut S,
+    out: &mut O,
+    err: &mut E,
+) -> Status
+    ensures answered { IsTold result → result ≢ Status.ReadFault → result ≢ Status.TooLong
+        → Reads words.now (sides (S.left input.old) (S.left input.new) (O.held out.old) (O.held out.new) (E.held err.old) (E.held err.new)) result }
+    ensures read_fault { result ≡ Status.ReadFault → Rose (S.faults input.old) (S.faults input.new) }
+    ensures read_fault_told { result ≡ Status.ReadFault → Tells (sides (S.left input.old) (S.left input.new) (O.held out.old) (O.held out.new) (E.held err.old) (E.held err.new)) (codes "read fault\n") }
+    ensures sure { S.IsSure input.old → result ≢ Status.ReadFault }
+    ensures too_long { result ≡ Status.TooLong → HoldsMore (S.left input.old) 16777216 }
+    ensures too_long_told { result ≡ Status.TooLong → Tells (sides (S.left input.old) (S.left input.new) (O.held out.old) (O.held out.new) (E.held err.old) (E.held err.new)) (codes "input above 16777216 bytes\n") }
+    ensures memory { result ≡ Status.OutOfMemory → Tells (sides (S.left input.old) (S.left input.new) (O.held out.old) (O.held out.new) (E.held err.old) (E.held err.new)) (codes "out of memory\n") }
+    ensures write_fault { result ≡ Status.WriteFault → Rose (O.faults out.old) (O.faults out.new) ⊎ Rose (E.faults err.old) (E.faults err.new) }
+{
+    match read_all(alloc, input, LIMIT) {
+        Ok(bytes) => drive_bytes(alloc, words, &bytes, out, err),
+        Err(ReadAllError::OutOfMemory) => told(err, b"out of memory\n", Status::OutOfMemory),
+        Err(ReadAllError::ReadFault) => told(err, b"read fault\n", Status::ReadFault),
+        Err(ReadAllError::TooLong) => {
+            told(err, b"input above 16777216 bytes\n", Status::TooLong)
+        }
+    }
+}
+
+/// Answers without reading the input.
+fn drive_unread<O: Sink, E: Sink>(
+    alloc: Global,
+    words: &Words,
+    out: &mut O,
+    err: &mut E,
+) -> Status
+    ensures told { IsTold result → Gives words.now [] (O.held out.old) (O.held out.new) (E.held err.old) (E.held err.new) result }
+    ensures read { (result ≢ Status.ReadFault) × (result ≢ Status.TooLong) }
+    ensures memory_out { result ≡ Status.OutOfMemory → Keeps (O.held out.old) (O.held out.new) }
+    ensures memory_err { result ≡ Status.OutOfMemory → Appends (E.held err.old) (E.held err.new) (codes "out of memory\n") }
+    ensures write_fault { result ≡ Status.WriteFault → Rose (O.faults out.old) (O.faults out.new) ⊎ Rose (E.faults err.old) (E.faults err.new) }
+{
+    drive_bytes(alloc, words, &[], out, err)
+}
+
+/// Whether the command reads the input.
+fn reads_input(words: &Words) -> bool
+    ensures { result ≡ reads_input_of words.now }
+{
+    !matches!(words, Words::Gen { .. })
+}
+
+/// Reads the input, where the command reads it, and answers.
 fn drive_words<S: Source, O: Sink, E: Sink>(
     alloc: Global,
     words: &Words,
@@ -100,13 +151,10 @@ fn drive_words<S: Source, O: Sink, E: Sink>(
     ensures memory { result ≡ Status.OutOfMemory → Tells (sides (S.left input.old) (S.left input.new) (O.held out.old) (O.held out.new) (E.held err.old) (E.held err.new)) (codes "out of memory\n") }
     ensures write_fault { result ≡ Status.WriteFault → Rose (O.faults out.old) (O.faults out.new) ⊎ Rose (E.faults err.old) (E.faults err.new) }
 {
-    match read_all(alloc, input, LIMIT) {
-        Ok(bytes) => drive_bytes(alloc, words, &bytes, out, err),
-        Err(ReadAllError::OutOfMemory) => told(err, b"out of memory\n", Status::OutOfMemory),
-        Err(ReadAllError::ReadFault) => told(err, b"read fault\n", Status::ReadFault),
-        Err(ReadAllError::TooLong) => {
-            told(err, b"input above 16777216 bytes\n", Status::TooLong)
-        }
+    if reads_input(words) {
+        drive_input(alloc, words, input, out, err)
+    } else {
+        drive_unread(alloc, words, out, err)
     }
 }
 

@@ -23,6 +23,10 @@ steps = record (option (codes "steps")) {
   defaults = codes "1000000" ∷ [];
 }
 
+-- NAME, a number within bounds
+abbrev pub numeral : List ℕ → ℕ → ℕ → Rule
+numeral name low high = record (new_rule name) { value_names = 1; required = true; parser = Some (Unsigned low high) }
+
 -- `lower [--plain]`
 abbrev pub lower_app : App
 lower_app = with_rule (new_app (codes "lower")) (flag (codes "plain"))
@@ -47,6 +51,11 @@ with_lists a = with_rule (with_rule a (option (codes "args"))) (option (codes "a
 abbrev pub run_app : App
 run_app = with_rule (with_lists (with_entry (with_rule (new_app (codes "run")) (flag (codes "plain"))))) steps
 
+-- `gen SEED COROUTINES SUSPENDS`
+abbrev pub gen_app : App
+gen_app =
+    with_rule (with_rule (with_rule (new_app (codes "gen")) (numeral (codes "SEED") 0 1000000)) (numeral (codes "COROUTINES") 1 64)) (numeral (codes "SUSPENDS") 1 64)
+
 abbrev pub top_app : App
 top_app = on_top (λ s. record s { subcommand_required = true; no_binary_name = true }) (new_app (codes "corolower"))
 
@@ -54,9 +63,9 @@ top_app = on_top (λ s. record s { subcommand_required = true; no_binary_name = 
 abbrev pub with_lowering : App → App
 with_lowering a = with_subcommand (with_subcommand a lower_app.top) check_app.top
 
--- `layout` and `run`
+-- `layout`, `run` and `gen`
 abbrev pub with_showing : App → App
-with_showing a = with_subcommand (with_subcommand a layout_app.top) run_app.top
+with_showing a = with_subcommand (with_subcommand (with_subcommand a layout_app.top) run_app.top) gen_app.top
 
 -- the program, with its commands
 abbrev pub the_app : App

@@ -17,7 +17,10 @@ has_flag name rows = option_map_or (λ t. bytes_eq t (codes "true")) (first_of n
 abbrev pub form_named : Text → Option Form
 form_named t =
     if bytes_eq t (codes "source") then Some Form.Source
-    else (if bytes_eq t (codes "lowered") then Some Form.Lowered else (if bytes_eq t (codes "text") then Some Form.Text else None))
+    else if bytes_eq t (codes "framed") then Some Form.Framed
+    else if bytes_eq t (codes "lowered") then Some Form.Lowered
+    else if bytes_eq t (codes "text") then Some Form.Text
+    else None
 
 abbrev pub form : List Row → Option Form
 form rows = option_and_then form_named (first_of (codes "form") rows)
@@ -68,6 +71,16 @@ check_read rows = Reading.Read (Words.Check (has_flag (codes "lowered") rows))
 abbrev pub layout_read : List Row → Reading
 layout_read rows = Reading.Read (Words.Layout (has_flag (codes "plain") rows))
 
+-- the number that a word writes, where it is one
+abbrev pub number_named : Text → ℕ
+number_named t = unwrap_or (magnitude (without_leading_plus t)) 0
+
+abbrev pub number_at : Text → List Row → ℕ
+number_at name rows = option_map_or number_named (first_of name rows) 0
+
+abbrev pub gen_read : List Row → Reading
+gen_read rows = Reading.Read (Words.Gen (number_at (codes "SEED") rows) (number_at (codes "COROUTINES") rows) (number_at (codes "SUSPENDS") rows))
+
 -- a command with what was given to it
 abbrev pub command_read : Option (Text × List Row) → Reading
 command_read None = Reading.Refused
@@ -76,6 +89,7 @@ command_read (Some p) =
     else if bytes_eq p.0 (codes "check") then check_read p.1
     else if bytes_eq p.0 (codes "layout") then layout_read p.1
     else if bytes_eq p.0 (codes "run") then run_read p.1
+    else if bytes_eq p.0 (codes "gen") then gen_read p.1
     else Reading.Refused
 
 -- what clap finds at fault comes first

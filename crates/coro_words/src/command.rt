@@ -4,7 +4,7 @@ ghost use Rattle.std.specs.Prelude.{◌≡◌, IfOk, false, codes};
 ghost use Rattle.clap.specs.Words.{app_of, rule_of, with_rule, with_subcommand};
 ghost use Rattle.clap.specs.declared.builder.command.Command.TheViews.{out-Command};
 ghost use Rattle.coro_words.specs.App as spec;
-ghost use Rattle.coro_words.specs.App.{check_app, flag, layout_app, lower_app, run_app, the_app, top_app};
+ghost use Rattle.coro_words.specs.App.{check_app, flag, gen_app, layout_app, lower_app, run_app, the_app, top_app};
 
 use clap::builder::ValueParser;
 use clap::{Arg, ArgAction, Command};
@@ -46,6 +46,17 @@ fn steps<'a>(alloc: Global) -> Arg<'a>
     option(alloc, "steps", "N", "At most so many steps are made")
         .value_parser(ValueParser::unsigned(0, MAX_STEPS))
         .default_value("1000000")
+}
+
+fn numeral<'a>(alloc: Global, name: &'a str, low: u64, high: u64, help: &'a str) -> Arg<'a>
+    ensures rule { rule_of result ≡ spec.numeral name.entry.now low high }
+    ensures local { result.global ≡ false }
+{
+    Arg::new(alloc, name)
+        .value_name(name)
+        .help(help)
+        .value_parser(ValueParser::unsigned(low, high))
+        .required(true)
 }
 
 fn with_arg<'a>(command: Command<'a>, arg: Arg<'a>) -> Result<Command<'a>, AllocError>
@@ -107,7 +118,7 @@ fn with_entry<'a>(alloc: Global, command: Command<'a>) -> Result<Command<'a>, Al
     ensures app { IfOk result (λ r. app_of r ≡ spec.with_entry (app_of command.entry)) }
     ensures local { IfOk result (λ r. (out-Command r).has_globals ≡ false) }
 {
-    let form = required(alloc, "form", "FORM", "source, lowered or text");
+    let form = required(alloc, "form", "FORM", "source, framed, lowered or text");
     let entry = required(alloc, "entry", "NAME", "The function that is called");
     with_arg(with_arg(command, form)?, entry)
 }
@@ -131,6 +142,19 @@ fn run_command<'a>(alloc: Global) -> Result<Command<'a>, AllocError>
     let command = with_entry(alloc, command)?;
     let command = with_lists(alloc, command)?;
     with_arg(command, steps(alloc))
+}
+
+fn gen_command<'a>(alloc: Global) -> Result<Command<'a>, AllocError>
+    ensures app { IfOk result (λ c. app_of c ≡ gen_app) }
+    ensures local { IfOk result (λ r. (out-Command r).has_globals ≡ false) }
+{
+    let command = Command::new(alloc, "gen").about("Generates a module");
+    let seed = numeral(alloc, "SEED", 0, 1000000, "The first number");
+    let coroutines = numeral(alloc, "COROUTINES", 1, 64, "How many coroutines");
+    let suspends = numeral(alloc, "SUSPENDS", 1, 64, "How many suspends in each");
+    let command = with_arg(command, seed)?;
+    let command = with_arg(command, coroutines)?;
+    with_arg(command, suspends)
 }
 
 fn top_command<'a>(alloc: Global) -> Command<'a>
@@ -159,10 +183,13 @@ fn with_showing<'a>(alloc: Global, command: Command<'a>) -> Result<Command<'a>, 
 {
     let layout = layout_command(alloc)?;
     let run = run_command(alloc)?;
-    with_command(with_command(command, layout)?, run)
+    let generated = gen_command(alloc)?;
+    let command = with_command(command, layout)?;
+    let command = with_command(command, run)?;
+    with_command(command, generated)
 }
 
-/// The program's command line, with `lower`, `check`, `layout` and `run`.
+/// The program's command line, with `lower`, `check`, `layout`, `run` and `gen`.
 pub fn command<'a>(alloc: Global) -> Result<Command<'a>, AllocError>
     ensures app { IfOk result (λ c. app_of c ≡ the_app) }
 {

@@ -33,6 +33,8 @@ fn form_named(name: &str) -> Option<Form>
 {
     if name == "source" {
         Some(Form::Source)
+    } else if name == "framed" {
+        Some(Form::Framed)
     } else if name == "lowered" {
         Some(Form::Lowered)
     } else if name == "text" {
@@ -139,6 +141,35 @@ fn run_read(alloc: Global, matches: &ArgMatches<'_>) -> Result<Reading, AllocErr
     )
 }
 
+fn number_named(text: &str) -> u64
+    ensures { result ≡ spec.number_named text.now }
+{
+    match text.parse() {
+        Ok(number) => number,
+        Err(_) => 0,
+    }
+}
+
+/// The number of an argument.
+fn number_at(matches: &ArgMatches<'_>, name: &str) -> u64
+    ensures { result ≡ spec.number_at name.now (rows_of (found_of matches.now)) }
+{
+    match value_of(matches, name) {
+        Some(text) => number_named(text),
+        None => 0,
+    }
+}
+
+fn gen_read(matches: &ArgMatches<'_>) -> Reading
+    ensures { result ≡ spec.gen_read (rows_of (found_of matches.now)) }
+{
+    Reading::Read(Words::Gen {
+        seed: number_at(matches, "SEED"),
+        coroutines: number_at(matches, "COROUTINES"),
+        suspends: number_at(matches, "SUSPENDS"),
+    })
+}
+
 /// What a command line comes to that clap takes.
 pub fn command_read(alloc: Global, matches: &ArgMatches<'_>) -> Result<Reading, AllocError>
     ensures { IfOk result (λ r. r ≡ spec.command_read (subcommand_rows_of matches.now)) }
@@ -157,6 +188,8 @@ pub fn command_read(alloc: Global, matches: &ArgMatches<'_>) -> Result<Reading, 
         Ok(Reading::Read(Words::Layout { plain }))
     } else if name == "run" {
         run_read(alloc, given)
+    } else if name == "gen" {
+        Ok(gen_read(given))
     } else {
         Ok(Reading::Refused)
     }

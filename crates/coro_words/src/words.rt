@@ -7,6 +7,8 @@ use coro_base::{Items, Text};
 pub enum Form {
     /// The module is run as it was read, with its coroutines.
     Source,
+    /// The frames of the module's coroutines are laid out, and its functions aren't split.
+    Framed,
     /// The module is lowered first.
     Lowered,
     /// The module, which has no coroutines, is run as it was read.
@@ -50,6 +52,12 @@ pub enum Words {
     },
     /// Runs the module.
     Run(RunWords),
+    /// Generates a module by a seed, with so many coroutines of so many suspends each.
+    Gen {
+        seed: u64,
+        coroutines: u64,
+        suspends: u64,
+    },
 }
 
 /// What the words come to.

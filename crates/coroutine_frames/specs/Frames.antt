@@ -1,6 +1,7 @@
 -- The frames of coroutines.
 use Rattle.std.specs.Prelude.{◌≡◌, ◌⊎◌, ℕ, Bool, true, false, List, [], None, Option, Result, Ok, Err, IsTrue, IsFalse, get_or, map, ◌+◌, ◌∷◌, ◌++◌}
 use Rattle.coroutine_frames.specs.Held.{at_fields, both_at_fields, fields_of, held_of, position_of, slot_position}
+use Rattle.coroutine_frames.specs.declared.contents.Contents.{Contents}
 use Rattle.coroutine_frames.specs.declared.frames.CoroutineFrame.{CoroutineFrame}
 use Rattle.coroutine_frames.specs.declared.held.Holding.{Holding}
 use Rattle.coroutine_frames.specs.declared.module_frames.LayoutsError.{LayoutsError}
@@ -63,6 +64,13 @@ IfKnown P (Err LayoutError.OutOfMemory) = Unit {0}
 -- the table tells the position of the field of each value and slot
 abbrev pub ArePositions : List Holding → List (Option ℕ) → Type 0
 ArePositions held table = (v : ℕ) → get_or table v None ≡ position_of held v
+
+-- what a coroutine's frame holds: the values that cross suspends, the classes of the allocas, what is held in order of the text, and the positions of fields
+pub record AreContents (m : Module) (f : Function) (c : Contents) : Type 0 where
+  pub crossing_are : AreCrossing f c.crossing
+  pub classes_are : AreClasses f c.classes
+  pub held_are : c.held ≡ held_of m f c.classes c.crossing
+  pub positions_are : ArePositions c.held c.positions
 
 pub record IsFrameWith (m : Module) (share : Bool) (func : ℕ) (f : Function) (frame : CoroutineFrame) : Type 0 where
   pub frame_is : IsFrame m share func f frame.held (Ok frame.layout)

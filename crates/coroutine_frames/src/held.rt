@@ -36,7 +36,8 @@ fn width_size(width: IntWidth) -> u64
     }
 }
 
-fn value_size(ty: &IrType) -> u64
+/// The bytes of a value of a type: those of its width, 8 of a pointer, and 0 where values have no such type.
+pub fn value_size(ty: &IrType) -> u64
     ensures { result ≡ value_size_of ty.now }
 {
     match ty.node() {
@@ -55,7 +56,8 @@ fn answer_size(ty: &Option<IrType>) -> u64
     }
 }
 
-fn result_size(instr: &Instr) -> u64
+/// The bytes of an instruction's result.
+pub fn result_size(instr: &Instr) -> u64
     ensures { result ≡ result_size_of instr.now }
 {
     match instr {

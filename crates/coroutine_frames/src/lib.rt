@@ -2,6 +2,7 @@
 //! Transformation").
 #![tactic(auto)]
 
+mod contents;
 mod fields;
 mod frames;
 mod held;
@@ -11,7 +12,8 @@ mod positions;
 mod promise;
 mod report;
 
+pub use contents::{Contents, contents_of};
 pub use frames::{CoroutineFrame, frame_of};
-pub use held::Holding;
+pub use held::{Holding, result_size, value_size};
 pub use module_frames::{LayoutsError, layouts_of};
 pub use report::layout_text;

@@ -1,24 +1,32 @@
--- What the lowering comes to, where the first broken rule is told.
-use Rattle.std.proofs.Common.{◌≡◌, ◌∙◌, ℕ, false, List, refl, ap, subst, Option, Ok, Err}
+-- What the lowering comes to, where the acceptance or the framed form is told.
+use Rattle.std.proofs.Common.{◌≡◌, ℕ, Bool, List, refl, subst, Ok, Err}
 use Rattle.std.specs.Prelude.{Result, IfOk}
+use Rattle.coro_base.specs.declared.status.Options.{Options}
+use Rattle.early_lower.specs.Early.{early_module}
+use Rattle.frame_layout.specs.declared.layout.Layouts.{Layouts}
 use Rattle.ir_model.specs.declared.module.Module.{Module}
 use Rattle.ir_parser.specs.Parse.{read_module}
 use Rattle.ir_parser.specs.declared.text.Parsed.{Parsed}
-use Rattle.lower_pipeline.specs.Lowering.{IsLowering, IsLoweringOf, IsModuleLowering, lowered_with}
+use Rattle.lower_pipeline.specs.Lowering.{IsDone, IsLowering, IsLoweringBy, IsLoweringOf, IsModuleLowering, lowered_by}
+use Rattle.lower_pipeline.specs.declared.whole.Lowered.{Lowered}
 use Rattle.lower_pipeline.specs.declared.whole.Lowering.{Lowering}
-use Rattle.module_rules.specs.declared.order.Refusal.{Refusal}
-use Rattle.module_acceptance.specs.Acceptance.{IsAcceptance, refusal_of}
+use Rattle.module_acceptance.specs.Acceptance.{IsAcceptance}
 use Rattle.module_acceptance.specs.declared.accepting.Acceptance.{Acceptance}
+use Rattle.spill_reload.specs.Framed.{IsFramedForm}
 
-pub lowered_by : {E : Type 0} (m : Module) (a : Acceptance) (refusal : Option Refusal) (r : Result Lowering E) → IsAcceptance m false a → refusal ≡ refusal_of a → IfOk r (λ l. l ≡ lowered_with refusal m) → IfOk r (λ l. IsModuleLowering m l)
-lowered_by m a refusal (Ok l) accepted same is = record { acceptance = a; accepted = accepted; is = is ∙ ap (λ (x : Option Refusal). lowered_with x m) same }
-lowered_by m a refusal (Err e) accepted same is = is
+pub done_by : {E : Type 0} (m : Module) (layouts : Layouts) (framed : Module) (r : Result Lowered E) → IsFramedForm layouts (early_module m) framed → IfOk r (λ l. l ≡ lowered_by m layouts framed) → IfOk r (λ l. IsDone m layouts l)
+done_by m layouts framed (Ok l) is_framed is = record { framed = framed; is_framed = is_framed; is = is }
+done_by m layouts framed (Err e) is_framed is = is
 
-pub syntax_is_told : (text : List ℕ) (items : ℕ) → Parsed.Syntax items ≡ read_module text → IsLowering text (Lowering.Syntax items)
+pub lowered_as : {E : Type 0} (share : Bool) (m : Module) (a : Acceptance) (r : Result Lowering E) → IsAcceptance m share a → IfOk r (λ l. IsLoweringBy m a l) → IfOk r (λ l. IsModuleLowering share m l)
+lowered_as share m a (Ok l) accepted comes = record { acceptance = a; accepted = accepted; comes = comes }
+lowered_as share m a (Err e) accepted comes = comes
+
+pub syntax_is_told : (options : Options) (text : List ℕ) (items : ℕ) → Parsed.Syntax items ≡ read_module text → IsLowering options text (Lowering.Syntax items)
 unfolding IsLowering
-syntax_is_told text items e = subst (λ (p : Parsed). IsLoweringOf p (Lowering.Syntax items)) e refl
+syntax_is_told options text items e = subst (λ (p : Parsed). IsLoweringOf options.share p (Lowering.Syntax items)) e refl
 
-pub module_is_told : {E : Type 0} (text : List ℕ) (m : Module) (r : Result Lowering E) → Parsed.Module m ≡ read_module text → IfOk r (λ l. IsModuleLowering m l) → IfOk r (λ l. IsLowering text l)
+pub module_is_told : {E : Type 0} (options : Options) (text : List ℕ) (m : Module) (r : Result Lowering E) → Parsed.Module m ≡ read_module text → IfOk r (λ l. IsModuleLowering options.share m l) → IfOk r (λ l. IsLowering options text l)
 unfolding IsLowering
-module_is_told text m (Ok l) e is = subst (λ (p : Parsed). IsLoweringOf p l) e is
-module_is_told text m (Err x) e is = is
+module_is_told options text m (Ok l) e is = subst (λ (p : Parsed). IsLoweringOf options.share p l) e is
+module_is_told options text m (Err x) e is = is

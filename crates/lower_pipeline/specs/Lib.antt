@@ -1,3 +1,1 @@
-pub mod Homes
-pub mod Served
 pub mod Lowering

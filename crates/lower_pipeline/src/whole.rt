@@ -1,27 +1,25 @@
 //! The lowering of a text.
 
-ghost use Rattle.std.specs.Prelude.{◌≡◌, ◌++◌, IfOk, map, slice_get};
-ghost use Rattle.lower_pipeline.specs.Lowering.{name_of, frame_line, lowered_text, lowered_or, lowered_with as lowered_with_refusal, or_unserved as or_unserved_place, IsModuleLowering, IsLowering};
-ghost use Rattle.lower_pipeline.specs.Served.{unserved as unserved_place};
+ghost use Rattle.std.specs.Prelude.{◌≡◌, IfOk, map, slice_get};
+ghost use Rattle.lower_pipeline.specs.Lowering.{IsDone, IsLowering, IsLoweringBy, IsModuleLowering, frame_line, lowered_by, lowered_text, name_of};
 
-use crate::passes::{layouts_of, lowered_module};
-use crate::served::unserved;
-use coro_base::{Data, FuncId, Items, Name, Place, Rule};
+use crate::passes::{framed_module, lowered_module};
+use coro_base::{Data, FuncId, Items, Name, Options, Place, Rule};
 use frame_layout::{Layout, Layouts};
-use ir_check::Refusal;
 use ir_model::Module;
 use ir_parser::{Parsed, parse};
 use ir_printer::{FrameLine, print_frames, print_module};
-use module_acceptance::accept;
+use module_acceptance::{Acceptance, accept};
 use std::alloc::{AllocError, Global};
 
 /// What the lowering of an accepted module gives: its text (a frame line per coroutine, then the canonical text of the
-/// lowered module), the lowered module, the source, and the layouts of its frames.
+/// lowered module), the lowered module, the source, its framed form, and the layouts of its frames.
 #[derive(Drop)]
 pub struct Lowered {
     pub text: Items<u8>,
     pub module: Module,
     pub source: Module,
+    pub framed: Module,
     pub layouts: Layouts,
 }
 
@@ -64,75 +62,84 @@ fn frame_lines(
     Ok(all)
 }
 
-fn lower_served(alloc: Global, source: Module) -> Result<Lowered, AllocError>
-    ensures { IfOk result (λ l. Lowering.Done l ≡ lowered_or source None) }
+fn lowered_text(
+    alloc: Global,
+    source: &Module,
+    layouts: &Layouts,
+    lowered: &Module,
+) -> Result<Items<u8>, AllocError>
+    ensures { IfOk result (λ text. text ≡ lowered_text source.now layouts.now lowered.now) }
 {
-    let layouts = layouts_of(alloc, &source)?;
-    let module = lowered_module(alloc, &source, &layouts)?;
-    let lines = frame_lines(alloc, &source, layouts.coroutines.as_slice())?;
+    let lines = frame_lines(alloc, source, layouts.coroutines.as_slice())?;
     let mut text = print_frames(alloc, lines.as_slice())?;
-    let body = print_module(alloc, &module)?;
+    let body = print_module(alloc, lowered)?;
     text.extend_from_slice(&body)?;
+    Ok(Items::from_vec(text))
+}
+
+/// Lowers a source whose framed form is told.
+fn lower_framed(
+    alloc: Global,
+    source: Module,
+    layouts: Layouts,
+    framed: Module,
+) -> Result<Lowered, AllocError>
+    ensures { IfOk result (λ l. l ≡ lowered_by source layouts framed) }
+{
+    let module = lowered_module(alloc, &framed, &layouts)?;
+    let text = lowered_text(alloc, &source, &layouts, &module)?;
     Ok(Lowered {
-        text: Items::from_vec(text),
+        text,
         module,
         source,
+        framed,
         layouts,
     })
 }
 
-/// The rule by which a source is refused, and the place: the first broken rule, or else `X1` at the first place that isn't
-/// served so far.
-fn or_unserved(
-    alloc: Global,
-    source: &Module,
-    refusal: Option<Refusal>,
-) -> Result<Option<Refusal>, AllocError>
-    ensures { IfOk result (λ r. r ≡ or_unserved_place refusal (unserved_place source.now)) }
+/// Lowers an accepted source.
+#[tactic(auto, using(crate::proofs::Told::done_by))]
+fn lower_accepted(alloc: Global, source: Module, layouts: Layouts) -> Result<Lowered, AllocError>
+    ensures { IfOk result (λ l. IsDone source layouts l) }
 {
-    if let Some(refusal) = refusal {
-        return Ok(Some(refusal));
-    }
-    match unserved(alloc, source)? {
-        None => Ok(None),
-        Some(place) => Ok(Some(Refusal {
-            rule: Rule::X1,
-            place,
-        })),
-    }
+    let framed = framed_module(alloc, &source, &layouts)?;
+    lower_framed(alloc, source, layouts, framed)
 }
 
-/// Lowers a module whose first broken rule is told.
-fn lowered_with(
+/// What becomes of a source by its acceptance.
+fn lower_by(
     alloc: Global,
     source: Module,
-    refusal: Option<Refusal>,
+    acceptance: Acceptance,
 ) -> Result<Lowering, AllocError>
-    ensures { IfOk result (λ l. l ≡ lowered_with_refusal refusal source) }
+    ensures { IfOk result (λ l. IsLoweringBy source acceptance l) }
 {
-    match or_unserved(alloc, &source, refusal)? {
-        Some(refusal) => Ok(Lowering::Refused(source, refusal.rule, refusal.place)),
-        None => Ok(Lowering::Done(lower_served(alloc, source)?)),
+    match acceptance {
+        Acceptance::Refused(refusal) => {
+            Ok(Lowering::Refused(source, refusal.rule, refusal.place))
+        }
+        Acceptance::Accepted(layouts) => {
+            Ok(Lowering::Done(lower_accepted(alloc, source, layouts)?))
+        }
     }
 }
 
-/// Lowers a module, or tells the rule that it breaks first.
-#[tactic(auto, using(crate::proofs::Told::lowered_by))]
-pub fn lower_module(alloc: Global, source: Module) -> Result<Lowering, AllocError>
-    ensures { IfOk result (λ l. IsModuleLowering source l) }
+/// Lowers a module, in whose frames fields share bytes or don't, or tells the rule that it breaks first.
+#[tactic(auto, using(crate::proofs::Told::lowered_as))]
+pub fn lower_module(alloc: Global, source: Module, share: bool) -> Result<Lowering, AllocError>
+    ensures { IfOk result (λ l. IsModuleLowering share source l) }
 {
-    let acceptance = accept(alloc, &source, false)?;
-    let refusal = acceptance.refusal();
-    lowered_with(alloc, source, refusal)
+    let acceptance = accept(alloc, &source, share)?;
+    lower_by(alloc, source, acceptance)
 }
 
 /// Lowers a text.
 #[tactic(auto, using(crate::proofs::Told::syntax_is_told, crate::proofs::Told::module_is_told))]
-pub fn lower(alloc: Global, text: &[u8]) -> Result<Lowering, AllocError>
-    ensures { IfOk result (λ l. IsLowering text.now l) }
+pub fn lower(alloc: Global, text: &[u8], options: Options) -> Result<Lowering, AllocError>
+    ensures { IfOk result (λ l. IsLowering options text.now l) }
 {
     match parse(alloc, text)? {
         Parsed::Syntax { items } => Ok(Lowering::Syntax(items)),
-        Parsed::Module(source) => lower_module(alloc, source),
+        Parsed::Module(source) => lower_module(alloc, source, options.share),
     }
 }

@@ -1,11 +1,12 @@
 -- What comes of a module, where its first broken rule and the first frame that is too large are told.
 use Rattle.std.proofs.Common.{◌≡◌, ℕ, ◌<◌, ◌≤◌, Bool, false, Option, Ok, Err, sym, subst, ◌∙◌}
-use Rattle.std.specs.Prelude.{Result, IfOk}
+use Rattle.std.specs.Prelude.{Result, IfOk, IsTrue}
 use Rattle.coroutine_frames.specs.Frames.{AreLayouts}
+use Rattle.frame_bounds.specs.Bounds.{NoneTooLarge}
 use Rattle.frame_layout.specs.declared.layout.Layouts.{Layouts}
 use Rattle.ir_check.specs.Refused.{IsRefused}
 use Rattle.ir_model.specs.declared.module.Module.{Module}
-use Rattle.module_acceptance.specs.Acceptance.{AreFine, ComesAlone, ComesBefore, ComesOf, IsAcceptance, IsTooLarge}
+use Rattle.module_acceptance.specs.Acceptance.{AreAllFine, AreFine, ComesAlone, ComesBefore, ComesFor, ComesOf, IsAcceptance, IsRefusedFor, IsTooLarge}
 use Rattle.module_acceptance.specs.Order.{looked_at, too_large}
 use Rattle.module_acceptance.specs.declared.accepting.Acceptance.{Acceptance}
 use Rattle.module_rules.specs.declared.order.Refusal.{Refusal}
@@ -36,3 +37,18 @@ large_alone m share func told large same = subst (ComesAlone m share) (sym same)
 pub accepted_by : {E : Type 0} (m : Module) (share : Bool) (refusal : Option Refusal) (r : Result Acceptance E) → IsRefused Stage.Source m refusal → IfOk r (ComesOf m share refusal) → IfOk r (IsAcceptance m share)
 accepted_by m share refusal (Ok a) refused comes = record { refusal = refusal; refused = refused; comes = comes }
 accepted_by m share refusal (Err e) refused comes = comes
+
+-- ---- a refusal without layouts
+
+pub all_laid : (m : Module) (layouts : Layouts) → AreLayouts m false (Ok layouts) → AreAllFine m
+all_laid m layouts laid = AreAllFine.Laid layouts laid
+
+pub all_small : (m : Module) (small : Bool) → (IsTrue small → NoneTooLarge m) → IsTrue small → AreAllFine m
+all_small m small h is = AreAllFine.NoneLarge (h is)
+
+pub small_before : (m : Module) (r : Refusal) (small : Bool) → (IsTrue small → NoneTooLarge m) → IsTrue small → ComesBefore m r r
+small_before m r small h is = ComesBefore.Same (AreFine.NoneLarge (h is))
+
+pub refused_as : {E : Type 0} (m : Module) (refusal : Option Refusal) (r : Result (Option Refusal) E) → IsRefused Stage.Source m refusal → IfOk r (ComesFor m refusal) → IfOk r (IsRefusedFor m)
+refused_as m refusal (Ok told) refused comes = record { refusal = refusal; refused = refused; comes = comes }
+refused_as m refusal (Err e) refused comes = comes

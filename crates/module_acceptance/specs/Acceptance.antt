@@ -2,6 +2,7 @@
 use Rattle.std.specs.Prelude.{◌≡◌, ℕ, Bool, false, ◌<◌, ◌≤◌, Some, None, Option, Ok, Err}
 use Rattle.coroutine_frames.specs.Frames.{AreLayouts}
 use Rattle.coroutine_frames.specs.declared.module_frames.LayoutsError.{LayoutsError}
+use Rattle.frame_bounds.specs.Bounds.{NoneTooLarge}
 use Rattle.frame_layout.specs.declared.layout.Layouts.{Layouts}
 use Rattle.ir_check.specs.Refused.{IsRefused}
 use Rattle.ir_model.specs.declared.module.Module.{Module}
@@ -14,12 +15,13 @@ use Rattle.name_rules.specs.declared.stage.Stage.{Stage}
 abbrev pub IsTooLarge : Module → Bool → ℕ → Type 0
 IsTooLarge m share func = AreLayouts m share (Err (LayoutsError.TooLarge func))
 
--- Of the first functions, so many, none has too large a frame: there are none, all frames of the module have plain layouts, or
--- the first that is too large comes later.
+-- Of the first functions, so many, none has too large a frame: there are none, all frames of the module have plain layouts, the
+-- first that is too large comes later, or none of the module is.
 pub data AreFine (m : Module) (count : ℕ) : Type 0 where
   NoneThere : count ≡ 0 → AreFine m count
   All : (layouts : Layouts) → AreLayouts m false (Ok layouts) → AreFine m count
   Later : (func : ℕ) → count ≤ func → IsTooLarge m false func → AreFine m count
+  NoneLarge : NoneTooLarge m → AreFine m count
 
 -- Where another rule is broken first: K12 at a function that is looked at before, or else that refusal.
 pub data ComesBefore (m : Module) (refusal : Refusal) : Refusal → Type 0 where
@@ -47,3 +49,23 @@ pub record IsAcceptance (m : Module) (share : Bool) (a : Acceptance) : Type 0 wh
   pub refusal : Option Refusal
   pub refused : IsRefused Stage.Source m refusal
   pub comes : ComesOf m share refusal a
+
+-- ---- a refusal without layouts
+
+-- No frame of the module is too large: all have plain layouts, or none can be.
+pub data AreAllFine (m : Module) : Type 0 where
+  Laid : (layouts : Layouts) → AreLayouts m false (Ok layouts) → AreAllFine m
+  NoneLarge : NoneTooLarge m → AreAllFine m
+
+-- what a module is refused for whose first broken rule, but for K12, is told
+abbrev pub ComesFor : Module → Option Refusal → Option Refusal → Type 0
+ComesFor m (Some refusal) (Some told) = ComesBefore m refusal told
+ComesFor m (Some refusal) None = ⊥
+ComesFor m None (Some told) = ComesAlone m false told
+ComesFor m None None = AreAllFine m
+
+-- a source is refused for the first broken rule, K12 among them, or for none
+pub record IsRefusedFor (m : Module) (told : Option Refusal) : Type 0 where
+  pub refusal : Option Refusal
+  pub refused : IsRefused Stage.Source m refusal
+  pub comes : ComesFor m refusal told

@@ -1,11 +1,12 @@
 //! Looking at a module for all rules.
 
-ghost use Rattle.std.specs.Prelude.{◌≡◌, IfOk};
-ghost use Rattle.module_acceptance.specs.Acceptance.{ComesBefore, ComesOf, IsAcceptance};
+ghost use Rattle.std.specs.Prelude.{◌≡◌, IfOk, Some, None};
+ghost use Rattle.module_acceptance.specs.Acceptance.{AreAllFine, ComesBefore, ComesFor, ComesOf, IsAcceptance, IsRefusedFor};
 ghost use Rattle.module_acceptance.specs.Order.{looked_at as looked_at_before};
 
 use crate::order::{looked_at, too_large};
 use coroutine_frames::{LayoutsError, layouts_of};
+use frame_bounds::are_small;
 use frame_layout::Layouts;
 use ir_check::{Refusal, Stage, first_refusal};
 use ir_model::Module;
@@ -57,12 +58,15 @@ fn with_large(
 }
 
 /// The refusal of a module where another rule is broken than K12.
-#[tactic(auto, using(crate::proofs::Told::none_before))]
+#[tactic(auto, using(crate::proofs::Told::none_before, crate::proofs::Told::small_before))]
 fn refused_by(alloc: Global, source: &Module, refusal: Refusal) -> Result<Refusal, AllocError>
     ensures { IfOk result (ComesBefore source.now refusal) }
 {
     let count = looked_at(refusal)?;
     if count == 0 {
+        return Ok(refusal);
+    }
+    if are_small(alloc, source)? {
         return Ok(refusal);
     }
     with_large(alloc, source, refusal, count)
@@ -108,4 +112,54 @@ pub fn accept(alloc: Global, source: &Module, share: bool) -> Result<Acceptance,
 {
     let refusal = first_refusal(alloc, Stage::Source, source)?;
     with_frames(alloc, source, share, refusal)
+}
+
+/// The refusal by K12 where no other rule is broken.
+#[tactic(auto, using(crate::proofs::Told::large_alone, crate::proofs::Told::all_laid))]
+fn large_alone(alloc: Global, source: &Module) -> Result<Option<Refusal>, AllocError>
+    ensures { IfOk result (ComesFor source.now None) }
+{
+    match layouts_of(alloc, source, false) {
+        Ok(_) => Ok(None),
+        Err(LayoutsError::TooLarge(func)) => Ok(Some(too_large(func))),
+        Err(LayoutsError::OutOfMemory) => Err(AllocError),
+    }
+}
+
+/// The refusal where no other rule is broken than K12; layouts are made only where a frame may be too large.
+#[tactic(auto, using(crate::proofs::Told::all_small))]
+fn refused_alone(alloc: Global, source: &Module) -> Result<Option<Refusal>, AllocError>
+    ensures { IfOk result (ComesFor source.now None) }
+{
+    if are_small(alloc, source)? {
+        return Ok(None);
+    }
+    large_alone(alloc, source)
+}
+
+/// The refusal of a module whose first broken rule, but for K12, is told.
+fn refused_with(
+    alloc: Global,
+    source: &Module,
+    refusal: Option<Refusal>,
+) -> Result<Option<Refusal>, AllocError>
+    ensures { IfOk result (ComesFor source.now refusal) }
+{
+    match refusal {
+        Some(refusal) => {
+            let told = refused_by(alloc, source, refusal)?;
+            Ok(Some(told))
+        }
+        None => refused_alone(alloc, source),
+    }
+}
+
+/// What a source is refused for: the first broken rule in the one order of refusals with its first place, K12 among them, and
+/// none exactly where no rule is broken. It says what `accept` says without layouts, which are made only where a frame may be too large.
+#[tactic(auto, using(crate::proofs::Told::refused_as))]
+pub fn refused_for(alloc: Global, source: &Module) -> Result<Option<Refusal>, AllocError>
+    ensures { IfOk result (IsRefusedFor source.now) }
+{
+    let refusal = first_refusal(alloc, Stage::Source, source)?;
+    refused_with(alloc, source, refusal)
 }

@@ -5,4 +5,4 @@
 mod accepting;
 mod order;
 
-pub use accepting::{Acceptance, accept};
+pub use accepting::{Acceptance, accept, refused_for};

@@ -3,7 +3,9 @@
 //! A case begins with a line `> WORDS < FILE`. Lines `out TEXT` and `err TEXT` follow, of which standard output and standard
 //! error are made; a line `more` where standard output goes on behind them; and a line `status N`, which ends the case.
 //! `> again < FILE` asks that the module of the file is printed and read again as the same module, and `> lower then WORDS < FILE`
-//! gives the words what `lower` writes of the file. Empty lines and those that begin with `#` say nothing.
+//! gives the words what `lower` writes of the file (`> lower --plain then WORDS < FILE` what it writes with plain frames).
+//! `> forms WORDS < FILE` asks for the same answer of `run` with these words in all forms, with plain frames and with those that
+//! share bytes, and that what `lower` writes is accepted by `check --lowered`. Empty lines and those that begin with `#` say nothing.
 
 use crate::again::is_read_again;
 use crate::answer::{Answer, ask};
@@ -54,13 +56,21 @@ fn add(text: &mut String, line: &str) -> Result<(), AllocError> {
 
 /// What the program answers to the words and a text, or to the words behind `lower then` and what it writes of the text.
 fn answered(alloc: Global, words: &str, text: &[u8]) -> Result<Answer, AllocError> {
-    match words.strip_prefix("lower then ") {
-        None => ask(alloc, words, text),
-        Some(words) => {
-            let lowered = ask(alloc, "lower", text)?;
-            ask(alloc, words, &lowered.out)
-        }
+    if let Some(words) = words.strip_prefix("lower then ") {
+        let lowered = ask(alloc, "lower", text)?;
+        ask(alloc, words, &lowered.out)
+    } else if let Some(words) = words.strip_prefix("lower --plain then ") {
+        let lowered = ask(alloc, "lower --plain", text)?;
+        ask(alloc, words, &lowered.out)
+    } else {
+        ask(alloc, words, text)
     }
+}
+
+/// Whether what `lower` writes of a text, in these words, is accepted as a module without coroutines.
+fn is_lowered(alloc: Global, words: &str, text: &[u8]) -> Result<bool, AllocError> {
+    let given = answered(alloc, words, text)?;
+    Ok(given.code == 0 && given.out.as_slice() == b"ok\n")
 }
 
 impl Case {
@@ -87,17 +97,62 @@ impl Case {
         }
     }
 
+    /// Whether the words are answered as it is told.
+    fn is_answered(&self, alloc: Global, words: &str, text: &[u8]) -> Result<bool, AllocError> {
+        let given = answered(alloc, words, text)?;
+        Ok(given.code == self.code
+            && self.is_out(&given.out)
+            && given.err.as_slice() == self.err.as_bytes())
+    }
+
+    /// Whether `run` in the form is answered as it is told, with plain frames and with those that share bytes.
+    fn is_run(
+        &self,
+        alloc: Global,
+        form: &str,
+        words: &str,
+        text: &[u8],
+    ) -> Result<bool, AllocError> {
+        let shared = format!(in alloc; "run --form {form} {words}")?;
+        let plain = format!(in alloc; "run --plain --form {form} {words}")?;
+        Ok(self.is_answered(alloc, shared.as_str(), text)?
+            && self.is_answered(alloc, plain.as_str(), text)?)
+    }
+
+    /// Whether what `lower` writes is accepted, and run as it is told.
+    fn is_text(&self, alloc: Global, words: &str, text: &[u8]) -> Result<bool, AllocError> {
+        let shared = format!(in alloc; "lower then run --form text {words}")?;
+        let plain = format!(in alloc; "lower --plain then run --form text {words}")?;
+        Ok(self.is_answered(alloc, shared.as_str(), text)?
+            && self.is_answered(alloc, plain.as_str(), text)?
+            && is_lowered(alloc, "lower then check --lowered", text)?
+            && is_lowered(alloc, "lower --plain then check --lowered", text)?)
+    }
+
+    /// Whether `run` is answered as it is told in all forms.
+    fn is_in_all_forms(&self, alloc: Global, words: &str, text: &[u8]) -> Result<bool, AllocError> {
+        Ok(self.is_run(alloc, "source", words, text)?
+            && self.is_run(alloc, "framed", words, text)?
+            && self.is_run(alloc, "lowered", words, text)?
+            && self.is_text(alloc, words, text)?)
+    }
+
+    /// Whether the case is answered as it is told.
+    fn is_so(&self, alloc: Global, text: &[u8]) -> Result<bool, AllocError> {
+        let words = self.words.as_str();
+        if words == "again" {
+            is_read_again(alloc, text)
+        } else if let Some(words) = words.strip_prefix("forms ") {
+            self.is_in_all_forms(alloc, words, text)
+        } else {
+            self.is_answered(alloc, words, text)
+        }
+    }
+
     /// Runs the case, and writes where it answers otherwise.
     pub fn run(&self, rt: &HostRuntime) -> Result<()> {
         let text = fs::read(rt, self.file.as_str())?;
-        let is_so = if self.words.as_str() == "again" {
-            is_read_again(rt.alloc(), &text)?
-        } else {
-            let given = answered(rt.alloc(), self.words.as_str(), &text)?;
-            given.code == self.code
-                && self.is_out(&given.out)
-                && given.err.as_slice() == self.err.as_bytes()
-        };
+        let is_so = self.is_so(rt.alloc(), &text)?;
         if !is_so {
             println!(rt; "{} < {}: otherwise", self.words, self.file)?;
         }

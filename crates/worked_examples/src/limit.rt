@@ -2,7 +2,8 @@
 //!
 //! A line of the file `limits` is `COUNT~HEAD~PART~TAIL~ANSWER`: the module is the head, the part so often, in which each `#`
 //! is the number of the part in hexadecimal digits, counted from 0, and the tail. The answer is as in `refusals`; behind
-//! `layout ` it is what `layout` writes, with `;` at the end of each line.
+//! `layout ` it is what `layout` writes, and behind `forms ` what `run --entry main` writes in each form, with `;` at the end of each
+//! line.
 
 use crate::answer::ask;
 use crate::refusal::is_told;
@@ -56,9 +57,30 @@ impl Limit<'_> {
     }
 }
 
-/// Whether `layout` writes these lines.
-fn is_shown(rt: &HostRuntime, text: &[u8], lines: &str) -> Result<bool> {
-    let given = ask(rt.alloc(), "layout", text)?;
+/// How the answer of a line is asked for.
+enum Asked {
+    /// As what `check` answers.
+    Check,
+    /// As what `layout` writes.
+    Layout,
+    /// As what `run` writes in each form.
+    Forms,
+}
+
+/// How the answer of a line is asked for, and what follows that in the line.
+fn asked(line: &str) -> (Asked, &str) {
+    if let Some(rest) = line.strip_prefix("layout ") {
+        (Asked::Layout, rest)
+    } else if let Some(rest) = line.strip_prefix("forms ") {
+        (Asked::Forms, rest)
+    } else {
+        (Asked::Check, line)
+    }
+}
+
+/// Whether the words write these lines of the text.
+fn is_shown(rt: &HostRuntime, words: &str, text: &[u8], lines: &str) -> Result<bool> {
+    let given = ask(rt.alloc(), words, text)?;
     let mut wanted = String::new(rt.alloc());
     for line in lines.split(';') {
         if !line.is_empty() {
@@ -69,20 +91,25 @@ fn is_shown(rt: &HostRuntime, text: &[u8], lines: &str) -> Result<bool> {
     Ok(given.out.as_slice() == wanted.as_bytes() && given.err.is_empty() && given.code == 0)
 }
 
+/// Whether `run` writes these lines of the text in each form.
+fn is_run(rt: &HostRuntime, text: &[u8], lines: &str) -> Result<bool> {
+    Ok(is_shown(rt, "run --form source --entry main", text, lines)?
+        && is_shown(rt, "run --form framed --entry main", text, lines)?
+        && is_shown(rt, "run --form lowered --entry main", text, lines)?
+        && is_shown(rt, "run --plain --form lowered --entry main", text, lines)?)
+}
+
 /// Checks the module of a line, and writes where it is answered otherwise. Whether the line has a module.
 pub fn run(rt: &HostRuntime, line: &str) -> Result<bool> {
-    let (shown, line) = match line.strip_prefix("layout ") {
-        Some(rest) => (true, rest),
-        None => (false, line),
-    };
+    let (asked, line) = asked(line);
     let Some(limit) = limit_of(line) else {
         return Ok(false);
     };
     let text = limit.text(rt.alloc())?;
-    let is_so = if shown {
-        is_shown(rt, text.as_bytes(), limit.told)?
-    } else {
-        is_told(rt, "check", text.as_bytes(), limit.told)?
+    let is_so = match asked {
+        Asked::Check => is_told(rt, "check", text.as_bytes(), limit.told)?,
+        Asked::Layout => is_shown(rt, "layout", text.as_bytes(), limit.told)?,
+        Asked::Forms => is_run(rt, text.as_bytes(), limit.told)?,
     };
     if !is_so {
         println!(rt; "{line}: otherwise")?;

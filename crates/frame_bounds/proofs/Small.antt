@@ -1,0 +1,33 @@
+-- Frames that are bounded aren't too large.
+use Rattle.std.proofs.Common.{◌≡◌, ℕ, zero, suc, ◌+◌, ◌^◌, ◌<◌, ◌≤◌, Bool, true, false, List, [], ◌∷◌, Some, Err, refl, subst, ap, ◌∙◌, sym, arith}
+use Rattle.std.specs.Prelude.{IsTrue, slice_get}
+use Rattle.coroutine_frames.specs.Frames.{AreLayouts, IsLayout, IsTooLarge, BehindFrame, BehindOther, Here}
+use Rattle.coroutine_frames.specs.Held.{crossing_values, fields_of, frame_slots, held_by, held_of}
+use Rattle.coroutine_frames.specs.declared.module_frames.LayoutsError.{LayoutsError}
+use Rattle.field_placing.specs.Ends.{end_of}
+use Rattle.frame_bounds.proofs.Ending.{all_weights, plain_ends, total, weights_total}
+use Rattle.frame_bounds.proofs.Holding.{fields_in}
+use Rattle.frame_bounds.specs.Bounds.{AreSmall, NoneTooLarge, frame_bound}
+use Rattle.frame_layout.specs.Layouts.{promise_of, rooms_of}
+use Rattle.frame_layout.specs.declared.laying.LayoutError.{LayoutError}
+use Rattle.ir_model.specs.declared.module.Function.{Function}
+use Rattle.ir_model.specs.declared.module.Module.{Module}
+use Rattle.ir_paths.specs.Slots.{has_name}
+
+not_large : (m : Module) (func : ℕ) (f : Function) → frame_bound m f ≤ 2 ^ 24 → IsLayout m false func f (Err LayoutError.FrameTooLarge) → ⊥
+not_large m func f small large =
+    let fields = fields_of f large.held in
+    let ends = plain_ends (rooms_of fields) (promise_of fields) large.frame.laid.plain large.frame.laid.plain_placed in
+    let is_total = weights_total (rooms_of fields) in
+    let told = large.frame.laid.told in
+    let same : total (rooms_of fields) ≡ total (rooms_of (fields_of f (held_of m f large.frame.classes large.frame.crossing))) = ap (λ h. total (rooms_of (fields_of f h))) large.frame.held_are in
+    let within = fields_in m f (has_name (crossing_values large.frame.crossing)) (has_name (frame_slots f large.frame.classes)) in
+    absurd (omega (arith, ends, is_total, told, same, within, small))
+
+none_large : (m : Module) (n k : ℕ) (fs : List Function) → AreSmall m fs → IsTooLarge m false n k fs → ⊥
+none_large m n k (f ∷ fs) small (Here f fs is large) = not_large m n f (small 0 f refl is) large
+none_large m n k (f ∷ fs) small (BehindOther k f fs is more) = none_large m n (k + 1) fs (λ i g e. small (suc i) g e) more
+none_large m n k (f ∷ fs) small (BehindFrame k f fs layout is laid more) = none_large m n (k + 1) fs (λ i g e. small (suc i) g e) more
+
+pub none_too_large : (m : Module) (fs : List Function) → fs ≡ m.functions → AreSmall m fs → NoneTooLarge m
+none_too_large m fs same small func large = none_large m func 0 m.functions (subst (λ (l : List Function). AreSmall m l) same small) large
