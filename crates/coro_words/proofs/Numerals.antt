@@ -37,7 +37,7 @@ read_magnitude ds (Err e) h is = magnitude_none ds _ refl (λ all some small. is
 pub parsed_magnitude : {E : Type 0} (ds text : List ℕ) (r : Result ℕ E) → text ≡ ds → list_all is_digit ds ≡ true → ParsesUnsigned 64 10 text r → result_ok r ≡ magnitude ds
 parsed_magnitude ds text r same h is = read_magnitude ds r h (parse_digits own 64 ds r (rw same at is) h)
 
--- a number of steps, in the words of std's `parse`
-pub parsed_steps : {E : Type 0} (ds : List ℕ) (r : Result ℕ E) → OkIff r (IsNumeral 10 ds × (digits_value 10 ds < 2 ^ 64)) (digits_value 10 ds) → result_ok r ≡ magnitude ds
-parsed_steps ds (Ok x) is = ap (λ (n : ℕ). Some n) is.1 ∙ magnitude_some ds (own.from ds is.0.0.1) is.0.0.0 is.0.1
-parsed_steps ds (Err e) is = magnitude_none ds _ refl (λ all some small. is ((some, own.to ds all), small))
+-- a number, in the words of std's `parse`
+pub parsed_number : {E : Type 0} (ds : List ℕ) (r : Result ℕ E) → OkIff r (IsNumeral 10 ds × (digits_value 10 ds < 2 ^ 64)) (digits_value 10 ds) → result_ok r ≡ magnitude ds
+parsed_number ds (Ok x) is = ap (λ (n : ℕ). Some n) is.1 ∙ magnitude_some ds (own.from ds is.0.0.1) is.0.0.0 is.0.1
+parsed_number ds (Err e) is = magnitude_none ds _ refl (λ all some small. is ((some, own.to ds all), small))

@@ -29,12 +29,16 @@ form rows = option_and_then form_named (first_of (codes "form") rows)
 abbrev pub list_at : Text → List Row → Option (List ℤ)
 list_at name rows = option_map_or list (first_of name rows) (Some [])
 
--- a number of steps, where the word is one
-abbrev pub steps_named : Text → ℕ
-steps_named t = unwrap_or (magnitude (without_leading_plus t)) 1000000
+-- the number that a word writes, or another where it is none
+abbrev pub number_or : ℕ → Text → ℕ
+number_or other t = unwrap_or (magnitude (without_leading_plus t)) other
+
+-- the number of an argument, or another where there is none
+abbrev pub number_at : Text → ℕ → List Row → ℕ
+number_at name other rows = option_map_or (number_or other) (first_of name rows) other
 
 abbrev pub steps : List Row → ℕ
-steps rows = option_map_or steps_named (first_of (codes "steps") rows) 1000000
+steps rows = number_at (codes "steps") 1000000 rows
 
 -- the word of an option
 abbrev pub word_at : Text → List Row → Text
@@ -71,15 +75,9 @@ check_read rows = Reading.Read (Words.Check (has_flag (codes "lowered") rows))
 abbrev pub layout_read : List Row → Reading
 layout_read rows = Reading.Read (Words.Layout (has_flag (codes "plain") rows))
 
--- the number that a word writes, where it is one
-abbrev pub number_named : Text → ℕ
-number_named t = unwrap_or (magnitude (without_leading_plus t)) 0
-
-abbrev pub number_at : Text → List Row → ℕ
-number_at name rows = option_map_or number_named (first_of name rows) 0
-
 abbrev pub gen_read : List Row → Reading
-gen_read rows = Reading.Read (Words.Gen (number_at (codes "SEED") rows) (number_at (codes "COROUTINES") rows) (number_at (codes "SUSPENDS") rows))
+gen_read rows =
+    Reading.Read (Words.Gen (number_at (codes "SEED") 0 rows) (number_at (codes "COROUTINES") 0 rows) (number_at (codes "SUSPENDS") 0 rows))
 
 -- a command with what was given to it
 abbrev pub command_read : Option (Text × List Row) → Reading

@@ -53,22 +53,30 @@ fn form(matches: &ArgMatches<'_>) -> Option<Form>
     }
 }
 
-fn steps_named(text: &str) -> u64
-    ensures { result ≡ spec.steps_named text.now }
+/// The number that a word writes, or another where it is none.
+fn number_or(other: u64, text: &str) -> u64
+    ensures { result ≡ spec.number_or other text.now }
 {
     match text.parse() {
-        Ok(steps) => steps,
-        Err(_) => DEFAULT_STEPS,
+        Ok(number) => number,
+        Err(_) => other,
+    }
+}
+
+/// The number of an argument, or another where there is none.
+fn number_at(matches: &ArgMatches<'_>, name: &str, other: u64) -> u64
+    ensures { result ≡ spec.number_at name.now other (rows_of (found_of matches.now)) }
+{
+    match value_of(matches, name) {
+        Some(text) => number_or(other, text),
+        None => other,
     }
 }
 
 fn steps(matches: &ArgMatches<'_>) -> u64
     ensures { result ≡ spec.steps (rows_of (found_of matches.now)) }
 {
-    match value_of(matches, "steps") {
-        Some(text) => steps_named(text),
-        None => DEFAULT_STEPS,
-    }
+    number_at(matches, "steps", DEFAULT_STEPS)
 }
 
 /// The list of an option, where its word is one.
@@ -141,32 +149,13 @@ fn run_read(alloc: Global, matches: &ArgMatches<'_>) -> Result<Reading, AllocErr
     )
 }
 
-fn number_named(text: &str) -> u64
-    ensures { result ≡ spec.number_named text.now }
-{
-    match text.parse() {
-        Ok(number) => number,
-        Err(_) => 0,
-    }
-}
-
-/// The number of an argument.
-fn number_at(matches: &ArgMatches<'_>, name: &str) -> u64
-    ensures { result ≡ spec.number_at name.now (rows_of (found_of matches.now)) }
-{
-    match value_of(matches, name) {
-        Some(text) => number_named(text),
-        None => 0,
-    }
-}
-
 fn gen_read(matches: &ArgMatches<'_>) -> Reading
     ensures { result ≡ spec.gen_read (rows_of (found_of matches.now)) }
 {
     Reading::Read(Words::Gen {
-        seed: number_at(matches, "SEED"),
-        coroutines: number_at(matches, "COROUTINES"),
-        suspends: number_at(matches, "SUSPENDS"),
+        seed: number_at(matches, "SEED", 0),
+        coroutines: number_at(matches, "COROUTINES", 0),
+        suspends: number_at(matches, "SUSPENDS", 0),
     })
 }
 
