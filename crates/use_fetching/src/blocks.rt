@@ -9,8 +9,17 @@ use crate::instrs::{push_all_fetched, push_term};
 use crate::names::with_numbered_names;
 use crate::phis::fetched_phis;
 use coro_base::{Data, Items, ValueId};
-use ir_model::{Block, Function};
+use ir_model::{Block, Function, Instr};
 use std::alloc::{AllocError, Global};
+
+fn push_copies(alloc: Global, all: &mut Items<Instr>, instrs: &[Instr]) -> Result<(), AllocError>
+    ensures { OnOk result (all.new ≡ all.old ++ instrs.now) }
+{
+    for instr in instrs {
+        all.push(instr.copied(alloc)?)?;
+    }
+    Ok(())
+}
 
 /// A block of the result; the next new names are those of phis' operands, and those of the others.
 fn fetched_block(
@@ -28,7 +37,7 @@ fn fetched_block(
     let phis = fetched_phis(alloc, fetches, phi_next, block.phis.as_slice())?;
     let mut instrs = Items::new(alloc);
     *next = push_all_fetched(alloc, &mut instrs, fetches, *next, block.instrs.as_slice())?;
-    ends.push_to(alloc, &mut instrs, block.label)?;
+    push_copies(alloc, &mut instrs, ends.at(block.label))?;
     let term = push_term(alloc, &mut instrs, fetches, next, &block.term)?;
     Ok(Block {
         label: block.label,

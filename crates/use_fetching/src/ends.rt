@@ -27,21 +27,14 @@ impl Ends {
         Ok(Ends { lists })
     }
 
-    /// Adds what is fetched at the end of a block to its instructions.
-    pub fn push_to(
-        &self,
-        alloc: Global,
-        all: &mut Items<Instr>,
-        label: ValueId,
-    ) -> Result<(), AllocError>
-        ensures { OnOk result (all.new ≡ all.old ++ end_at self.now.lists.items label) }
+    /// What is fetched at the end of a block.
+    pub fn at(&self, label: ValueId) -> &[Instr]
+        ensures { result.now ≡ end_at self.now.lists.items label }
     {
-        if let Some(list) = self.lists.get(label) {
-            for instr in list.as_slice() {
-                all.push(instr.copied(alloc)?)?;
-            }
+        match self.lists.get(label) {
+            None => &[],
+            Some(list) => list.as_slice(),
         }
-        Ok(())
     }
 
     fn add(

@@ -7,6 +7,7 @@ use coro_base::{Data, Items, Name};
 use ir_model::numbered_name;
 use std::alloc::{AllocError, Global};
 
+#[tactic(auto, using(crate::proofs::Numbered::numbered_names_step))]
 fn numbered_names(alloc: Global, word: &[u8], count: usize) -> Result<Items<Name>, AllocError>
     ensures { IfOk result (λ x. x ≡ numbered_names word.now count) }
 {
