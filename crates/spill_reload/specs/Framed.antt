@@ -1,11 +1,11 @@
 -- The framed form of a module.
 use Rattle.std.specs.Prelude.{◌≡◌, ℕ, Bool, true, false, List, [], length, replicate, slice_get, Some, None, Option, IsTrue, IsFalse, unwrap_or, ◌+◌, ◌∷◌, ◌++◌, if◌then◌else◌, ◌==◌}
-use Rattle.begin_copies.specs.Copies.{with_begin_copies}
+use Rattle.begin_copies.specs.BeginCopies.{with_begin_copies}
 use Rattle.block_paths.specs.Reach.{AreReached}
 use Rattle.coroutine_frames.specs.Frames.{AreContents}
 use Rattle.coroutine_frames.specs.declared.contents.Contents.{Contents}
-use Rattle.edge_blocks.specs.Edges.{with_edge_blocks}
-use Rattle.frame_addresses.specs.Addresses.{with_frame_addresses}
+use Rattle.edge_blocks.specs.EdgeBlocks.{with_edge_blocks}
+use Rattle.frame_addresses.specs.Placing.{with_frame_addresses}
 use Rattle.frame_layout.specs.Frames.{index_alone}
 use Rattle.frame_layout.specs.declared.layout.Layout.{Layout}
 use Rattle.frame_layout.specs.declared.layout.Layouts.{Layouts}
@@ -18,7 +18,8 @@ use Rattle.ir_model.specs.declared.operand.Callee.{Callee}
 use Rattle.ir_model.specs.declared.operand.Intrinsic.{Intrinsic}
 use Rattle.slot_lifetime.specs.declared.class.SlotClass.{SlotClass}
 use Rattle.spill_reload.specs.Tables.{class_flags, label_flags, sizes_by_name, with_field_offsets, with_slot_offsets}
-use Rattle.value_cells.specs.Cells.{kept_values, with_cells}
+use Rattle.value_cells.specs.Cells.{with_cells}
+use Rattle.value_cells.specs.Kept.{keeping_of}
 
 -- ---- the block of begin
 
@@ -57,11 +58,18 @@ abbrev pub copied : Function → Contents → Function → List ℕ → Function
 copied f c g before =
     with_begin_copies g (class_flags f c.classes SlotClass.Frame) (label_flags g (begin_block g ∷ before)) (sizes_by_name f c.held)
 
+-- the offsets of slots and of the fields of these values, of which the first stands behind so many names
+abbrev pub offsets_with : Layout → Contents → ℕ → List ℕ → ℕ → List (Option ℕ)
+offsets_with l c first values names =
+    with_field_offsets l c.positions first (length values) 0 values (with_slot_offsets l 0 c.held (replicate names None))
+
+abbrev pub kept_of : ℕ → Contents → List ℕ
+kept_of first c = (keeping_of first c.crossing).values
+
 -- for each name of an alloca that lies in the frame its offset
 abbrev pub offsets_of : Layout → Function → Contents → ℕ → List (Option ℕ)
 offsets_of l f c names =
-    with_field_offsets l c.positions (length (with_edge_blocks f).names) 0 (kept_values c.crossing)
-    (with_slot_offsets l 0 c.held (replicate names None))
+    let first = length (with_edge_blocks f).names in offsets_with l c first (kept_of first c) names
 
 abbrev pub begin_of : Function → ℕ
 begin_of f = unwrap_or (first_result Intrinsic.CoroBegin f) 0

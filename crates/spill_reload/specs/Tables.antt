@@ -7,7 +7,7 @@ use Rattle.ir_model.specs.declared.module.Block.{Block}
 use Rattle.ir_model.specs.declared.module.Function.{Function}
 use Rattle.ir_paths.specs.Slots.{allocas_of}
 use Rattle.slot_lifetime.specs.declared.class.SlotClass.{SlotClass}
-use Rattle.value_cells.specs.Cells.{field_name}
+use Rattle.value_cells.specs.Links.{field_name}
 
 -- ---- classes
 
@@ -81,8 +81,8 @@ abbrev pub with_field_offset : Layout → ℕ → Option ℕ → List (Option �
 with_field_offset l name None table = table
 with_field_offset l name (Some position) table = slice_set table name (Some (offset_at l position))
 
--- the values that are kept, from the k-th on: its field, a slot of its own, lies at the offset of the value's field
-abbrev pub with_field_offsets : Layout → List (Option ℕ) → ℕ → ℕ → List ℕ → List (Option ℕ) → List (Option ℕ)
-with_field_offsets l positions base k [] table = table
-with_field_offsets l positions base k (v ∷ vs) table =
-    with_field_offsets l positions base (k + 1) vs (with_field_offset l (field_name base k) (get_or positions v None) table)
+-- the values that are kept, from the k-th on: the field of each, a slot of its own, lies at the offset of its place in the layout
+abbrev pub with_field_offsets : Layout → List (Option ℕ) → ℕ → ℕ → ℕ → List ℕ → List (Option ℕ) → List (Option ℕ)
+with_field_offsets l positions first count k [] table = table
+with_field_offsets l positions first count k (v ∷ vs) table =
+    with_field_offsets l positions first count (k + 1) vs (with_field_offset l (field_name first count k) (get_or positions v None) table)

@@ -1,7 +1,7 @@
 //! The framed form of a coroutine.
 
 ghost use Rattle.std.specs.Prelude.{◌≡◌, ◌∷◌, IfOk, length};
-ghost use Rattle.edge_blocks.specs.Edges.{with_edge_blocks as with_edge_blocks_of};
+ghost use Rattle.edge_blocks.specs.EdgeBlocks.{with_edge_blocks as with_edge_blocks_of};
 ghost use Rattle.coroutine_frames.specs.Frames.{AreContents};
 ghost use Rattle.spill_reload.specs.Framed.{IsFramedCoroutine, begin_block as begin_block_of, begin_of, celled, copied, placed};
 ghost use Rattle.spill_reload.specs.Tables.{label_flags as label_flags_of};

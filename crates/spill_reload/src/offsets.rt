@@ -1,10 +1,8 @@
 //! The offsets of what lies in the frame, by name.
 
-ghost use Rattle.std.specs.Prelude.{◌≡◌, ◌+◌, IfOk, OnOk, get_or, length, replicate, None};
-ghost use Rattle.edge_blocks.specs.Edges.{with_edge_blocks};
-ghost use Rattle.spill_reload.specs.Framed.{offsets_of};
+ghost use Rattle.std.specs.Prelude.{◌≡◌, IfOk, OnOk, get_or, length, None};
+ghost use Rattle.spill_reload.specs.Framed.{kept_of, offsets_with};
 ghost use Rattle.spill_reload.specs.Tables.{is_slot_kind, offset_at, with_field_offset, with_field_offsets, with_slot_offset, with_slot_offsets};
-ghost use Rattle.value_cells.specs.Cells.{field_name as field_name_of, kept_values as kept_values_of};
 
 use coro_base::{Items, ValueId};
 use coroutine_frames::{Contents, Holding};
@@ -72,36 +70,49 @@ fn set_field_offset(
 fn set_field_offsets(
     layout: &Layout,
     positions: &[Option<usize>],
-    base: ValueId,
+    first: ValueId,
     kept: &[ValueId],
     table: &mut Items<Option<u64>>,
 ) -> Result<(), AllocError>
-    ensures { OnOk result (table.new ≡ with_field_offsets layout.now positions.now base 0 kept.now table.old) }
+    ensures { OnOk result (table.new ≡ with_field_offsets layout.now positions.now first (length kept.now) 0 kept.now table.old) }
 {
     let mut k = 0;
     for value in kept {
-        let name = field_name(base, k)?;
+        let name = field_name(first, kept.len(), k)?;
         set_field_offset(layout, name, position_of(positions, *value), table);
         k = next(k)?;
     }
     Ok(())
 }
 
-/// For each of so many names its offset, where it is an alloca that lies in the frame; the fields of the values that are kept
-/// stand from a name on.
+fn offsets_with(
+    alloc: Global,
+    layout: &Layout,
+    contents: &Contents,
+    first: ValueId,
+    values: &[ValueId],
+    names: usize,
+) -> Result<Items<Option<u64>>, AllocError>
+    ensures { IfOk result (λ x. x ≡ offsets_with layout.now contents.now first values.now names) }
+{
+    let mut table = Items::from_vec(Vec::from_elem(alloc, None, names)?);
+    set_slot_offsets(layout, contents.held.as_slice(), &mut table)?;
+    let positions = contents.positions.as_slice();
+    set_field_offsets(layout, positions, first, values, &mut table)?;
+    Ok(table)
+}
+
+/// For each of so many names its offset, where it is an alloca that lies in the frame; the cells and fields of the values that
+/// are kept stand from a name on.
 pub fn offsets_of(
     alloc: Global,
     layout: &Layout,
     contents: &Contents,
-    base: ValueId,
+    first: ValueId,
     names: usize,
 ) -> Result<Items<Option<u64>>, AllocError>
-    ensures { IfOk result (λ x. x ≡ with_field_offsets layout.now contents.now.positions base 0 (kept_values_of contents.now.crossing) (with_slot_offsets layout.now 0 contents.now.held (replicate names None))) }
+    ensures { IfOk result (λ x. x ≡ offsets_with layout.now contents.now first (kept_of first contents.now) names) }
 {
-    let kept = kept_values(alloc, contents.crossing.as_slice())?;
-    let mut table = Items::from_vec(Vec::from_elem(alloc, None, names)?);
-    set_slot_offsets(layout, contents.held.as_slice(), &mut table)?;
-    let positions = contents.positions.as_slice();
-    set_field_offsets(layout, positions, base, kept.as_slice(), &mut table)?;
-    Ok(table)
+    let values = kept_values(alloc, first, contents.crossing.as_slice())?;
+    offsets_with(alloc, layout, contents, first, values.as_slice(), names)
 }
