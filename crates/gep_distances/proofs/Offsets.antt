@@ -71,6 +71,12 @@ offset_here m ts k t end left align start all lt is z ea es inv =
     ∙ sym (ap (λ n. cut_offset m end (to_tys (drop k ts)) n) z ∙ ap (λ l. cut_offset m end (to_tys l) 0) (drop-cons ts k t lt) ∙ ap (λ u. cut_up end (align_of m u)) (sym is))
     ∙ inv
 
+pub end_next : (m : Module) (t : Ty) (end align size start next : ℕ) → align ≡ align_of m t → size ≡ capped (size_of m t) → start ≡ cut_up end align → next ≡ capped (start + size) → next ≡ next_end m end t
+end_next m t end align size start next ea ez es en =
+    en
+    ∙ ap (λ (s : ℕ). capped (s + size)) (es ∙ ap (cut_up end) ea)
+    ∙ ap (λ (s : ℕ). capped (cut_up end (align_of m t) + s)) ez
+
 pub offset_next : (m : Module) (ts : List Ty) (k : ℕ) (t : Ty) (end left next all : ℕ) → k < length ts → t ≡ get_or ts k t → (left ≡ 0 → ⊥) → next ≡ next_end m end t → cut_offset m end (to_tys (drop k ts)) left ≡ all → cut_offset m next (to_tys (drop (k + 1) ts)) (left - 1) ≡ all
 offset_next m ts k t end left next all lt is z en inv =
     ap (λ s. cut_offset m s (to_tys (drop (k + 1) ts)) (left - 1)) (en ∙ ap (next_end m end) is)

@@ -1,10 +1,10 @@
 -- What names of types stand for, and the parts to which indices lead.
-use Rattle.std.proofs.Common.{◌≡◌, ◌<◌, ◌≤◌, ℕ, zero, suc, Bool, true, false, List, [], ◌∷◌, length, drop, get_or, drop-cons, add-one, ◌+◌, ◌++◌, refl, ap, sym, ◌∙◌, arith, Option, Some, None}
+use Rattle.std.proofs.Common.{◌≡◌, ◌≤◌, ℕ, zero, suc, Bool, true, false, List, [], ◌∷◌, length, refl, ap, sym, ◌∙◌, arith, Option, Some, None}
 use Rattle.std.specs.Prelude.{option_map, slice_get, if◌then◌else◌}
 use Rattle.coro_base.specs.declared.name.Name.{Name}
 use Rattle.ir_model.specs.Layout.{field_type, type_named, type_or, unnamed}
 use Rattle.ir_model.specs.Names.{first_where, same_name}
-use Rattle.ir_model.specs.Ty.{Ty, Tys, named, ptr, to_tys}
+use Rattle.ir_model.specs.Ty.{Ty, named, ptr, to_tys}
 use Rattle.ir_model.specs.declared.module.Module.{Module}
 use Rattle.ir_model.specs.declared.module.TypeItem.{TypeItem}
 

@@ -1,5 +1,5 @@
 -- What the indices of a getelementptr add to its base.
-use Rattle.std.specs.Prelude.{ℕ, List, [], ℤ, pos, ◌∷◌}
+use Rattle.std.specs.Prelude.{ℕ, List, [], pos, ◌∷◌}
 use Rattle.gep_distances.specs.declared.way.Way.{Way}
 use Rattle.ir_model.specs.Layout.{field_offset, field_type, size_of, unnamed}
 use Rattle.ir_model.specs.Ty.{Ty, array, structure}

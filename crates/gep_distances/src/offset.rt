@@ -36,13 +36,7 @@ pub fn field_number(operand: &Operand) -> u128
     ensures { result ≡ field_number operand.now }
 {
     match operand {
-        Operand::Number(number) => {
-            if *number >= 0 {
-                *number as u128
-            } else {
-                0
-            }
-        }
+        Operand::Number(number) => { if *number >= 0 { *number as u128 } else { 0 } }
         _ => 0,
     }
 }

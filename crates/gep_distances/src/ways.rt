@@ -17,10 +17,14 @@ impl<'a> Types<'a> {
         ensures { IfOk result (λ w. w ≡ way_into self.now.sizes.now.names.now.source.now ty.now index.now) }
     {
         match ty.node() {
-            Node::Array(_, element) => Ok(Way::Elements(index.copied(alloc)?, self.size_of(element))),
-            Node::Struct(fields) => Ok(Way::Bytes(
-                self.field_offset(fields, field_number(&index.value)),
+            Node::Array(_, element) => Ok(Way::Elements(
+                index.copied(alloc)?,
+                self.size_of(element),
             )),
+            Node::Struct(fields) => Ok(Way::Bytes(self.field_offset(
+                fields,
+                field_number(&index.value),
+            ))),
             _ => Ok(Way::Bytes(0)),
         }
     }
