@@ -1,4 +1,4 @@
--- The pass that writes the saves of suspends out and turns the uses of `coro.frame` into uses of begin's value.
+-- The pass that writes the saves of suspends out and turns the uses of `coro.frame` into uses of begin's value, which has a name then.
 use Rattle.std.specs.Prelude.{ℕ, zero, suc, Bool, true, false, List, [], length, map, replicate, slice_set, codes, Some, None, Option, ◌+◌, ◌-◌, ◌∷◌, ◌++◌, if◌then◌else◌}
 use Rattle.coro_base.specs.declared.name.Name.{Name}
 use Rattle.ir_model.specs.Ty.{token, ptr}
@@ -12,6 +12,7 @@ use Rattle.ir_model.specs.declared.operand.Arg.{Arg}
 use Rattle.ir_model.specs.declared.operand.Callee.{Callee}
 use Rattle.ir_model.specs.declared.operand.Intrinsic.{Intrinsic}
 use Rattle.ir_model.specs.declared.operand.Operand.{Operand}
+use Rattle.early_lower.specs.BeginName.{with_begin_name}
 use Rattle.early_lower.specs.Renaming.{renamed_instr, renamed_phi, renamed_term}
 use Rattle.early_lower.specs.declared.renaming.Renaming.{Renaming}
 
@@ -122,8 +123,12 @@ early_coroutine f r =
       names = f.names ++ save_names (after_blocks r n f.blocks - n);
     }
 
+-- begin's value has a name
+abbrev pub early_named : Function → Function
+early_named f = early_coroutine f (renaming_of f)
+
 abbrev pub early_function : Function → Function
-early_function f = if f.coroutine then early_coroutine f (renaming_of f) else f
+early_function f = if f.coroutine then early_named (with_begin_name f) else f
 
 abbrev pub early_module : Module → Module
 early_module m = record { types = m.types; globals = m.globals; declarations = m.declarations; functions = map early_function m.functions }

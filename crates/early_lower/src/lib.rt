@@ -1,6 +1,7 @@
 //! The first pass of lowering: saves are written out, and the uses of `coro.frame` become uses of begin's value.
 #![tactic(auto)]
 
+mod begin_name;
 mod frames;
 mod pass;
 mod renaming;

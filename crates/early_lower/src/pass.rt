@@ -1,13 +1,14 @@
 //! The pass over functions and the module.
 
 ghost use Rattle.std.specs.Prelude.{◌≡◌, ◌++◌, ◌∷◌, IfOk, map, length};
-ghost use Rattle.early_lower.specs.Early.{after_blocks, after_instrs, early_block, early_blocks, early_coroutine, early_function, early_module};
+ghost use Rattle.early_lower.specs.Early.{after_blocks, after_instrs, early_block, early_blocks, early_coroutine, early_named, early_function, early_module};
 
+use crate::begin_name::begin_named;
 use crate::frames::renaming_of;
 use crate::renaming::Renaming;
 use crate::saves::{early_instrs, with_save_names};
 use coro_base::{Data, Items, ValueId};
-use ir_model::{Block, Function, Module};
+use ir_model::{Block, Function, Intrinsic, Module};
 use std::alloc::{AllocError, Global};
 
 /// A block of the result, and the name of the next save.
@@ -69,14 +70,23 @@ fn early_coroutine(
     })
 }
 
+/// A coroutine whose begin has a name.
+fn early_named(alloc: Global, function: &Function) -> Result<Function, AllocError>
+    ensures { IfOk result (λ x. x ≡ early_named function.now) }
+{
+    let renaming = renaming_of(alloc, function)?;
+    early_coroutine(alloc, function, &renaming)
+}
+
 fn early_function(alloc: Global, function: &Function) -> Result<Function, AllocError>
     ensures { IfOk result (λ x. x ≡ early_function function.now) }
 {
-    if function.coroutine {
-        let renaming = renaming_of(alloc, function)?;
-        early_coroutine(alloc, function, &renaming)
-    } else {
-        function.copied(alloc)
+    if !function.coroutine {
+        return function.copied(alloc);
+    }
+    match function.first_result(Intrinsic::CoroBegin) {
+        Some(_) => early_named(alloc, function),
+        None => early_named(alloc, &begin_named(alloc, function)?),
     }
 }
 
@@ -91,7 +101,8 @@ fn early_functions(alloc: Global, functions: &[Function]) -> Result<Items<Functi
 }
 
 /// The module with the saves of its suspends written out and the uses of `coro.frame` turned into uses of begin's value
-/// ("Coroutines in LLVM", the pass CoroEarly). Functions that aren't coroutines, types, globals and declarations stay.
+/// ("Coroutines in LLVM", the pass CoroEarly); a begin whose value has no name gets one. Functions that aren't coroutines, types,
+/// globals and declarations stay.
 pub fn early(alloc: Global, source: &Module) -> Result<Module, AllocError>
     ensures { IfOk result (λ x. x ≡ early_module source.now) }
 {

@@ -21,10 +21,10 @@ fn value_bound(size: u64) -> Option<u64>
     field_bound(size, size)
 }
 
-fn result_bound(result: Option<ValueId>, size: u64) -> Option<u64>
-    ensures { IfSome result (λ n. n ≡ result_bound result size) }
+fn result_bound(name: Option<ValueId>, size: u64) -> Option<u64>
+    ensures { IfSome result (λ n. n ≡ result_bound name size) }
 {
-    match result {
+    match name {
         None => Some(0),
         Some(_) => value_bound(size),
     }

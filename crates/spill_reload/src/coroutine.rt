@@ -15,10 +15,10 @@ use coroutine_frames::{Contents, contents_of};
 use edge_blocks::with_edge_blocks;
 use frame_addresses::with_frame_addresses;
 use frame_layout::Layout;
-use ir_model::{Function, Intrinsic, Module};
+use gep_distances::Types;
+use ir_model::{Function, Intrinsic};
 use slot_lifetime::SlotClass;
 use std::alloc::{AllocError, Global};
-use type_sizes::Sizes;
 use value_cells::with_cells;
 
 fn begin_of(function: &Function) -> ValueId
@@ -33,17 +33,17 @@ fn begin_of(function: &Function) -> ValueId
 /// Blocks on edges, and the values that cross suspends in cells and fields.
 fn celled(
     alloc: Global,
-    source: &Module,
+    types: &Types<'_>,
     function: &Function,
     edged: &Function,
     contents: &Contents,
 ) -> Result<Function, AllocError>
     requires { edged.now ≡ with_edge_blocks_of function.now }
-    ensures { IfOk result (λ g. g ≡ celled source.now function.now contents.now) }
+    ensures { IfOk result (λ g. g ≡ celled types.now.sizes.now.names.now.source.now function.now contents.now) }
 {
     let local = class_flags(alloc, function, contents.classes.as_slice(), SlotClass::Local)?;
     let crossing = contents.crossing.as_slice();
-    with_cells(alloc, source, edged, crossing, local.as_slice())
+    with_cells(alloc, types, edged, crossing, local.as_slice())
 }
 
 /// The blocks before begin, with begin's own in front.
@@ -107,17 +107,17 @@ fn placed(
 #[tactic(auto, using(crate::proofs::Told::framed_by))]
 fn framed_with(
     alloc: Global,
-    source: &Module,
+    types: &Types<'_>,
     layout: &Layout,
     function: &Function,
     contents: &Contents,
 ) -> Result<Function, AllocError>
-    requires { AreContents source.now function.now contents.now }
-    ensures { IfOk result (λ g. IsFramedCoroutine source.now layout.now function.now g) }
+    requires { AreContents types.now.sizes.now.names.now.source.now function.now contents.now }
+    ensures { IfOk result (λ g. IsFramedCoroutine types.now.sizes.now.names.now.source.now layout.now function.now g) }
 {
     let edged = with_edge_blocks(alloc, function)?;
     let base = edged.names.len();
-    let celled = celled(alloc, source, function, &edged, contents)?;
+    let celled = celled(alloc, types, function, &edged, contents)?;
     let begin = begin_block(&celled)?;
     let before = blocks_before(alloc, &celled, begin)?;
     let copied = copied(alloc, function, contents, &celled, begin, before.as_slice())?;
@@ -127,14 +127,12 @@ fn framed_with(
 /// The framed form of a coroutine.
 pub fn framed_coroutine(
     alloc: Global,
-    sizes: &Sizes<'_>,
-    source: &Module,
+    types: &Types<'_>,
     layout: &Layout,
     function: &Function,
 ) -> Result<Function, AllocError>
-    requires { sizes.now.names.now.source.now ≡ source.now }
-    ensures { IfOk result (λ g. IsFramedCoroutine source.now layout.now function.now g) }
+    ensures { IfOk result (λ g. IsFramedCoroutine types.now.sizes.now.names.now.source.now layout.now function.now g) }
 {
-    let contents = contents_of(alloc, sizes, function)?;
-    framed_with(alloc, source, layout, function, &contents)
+    let contents = contents_of(alloc, types.sizes, function)?;
+    framed_with(alloc, types, layout, function, &contents)
 }

@@ -6,6 +6,7 @@ ghost use Rattle.spill_reload.specs.Framed.{AllFramed, IsFramedCoroutine, IsFram
 use crate::coroutine::framed_coroutine;
 use coro_base::{Data, Items};
 use frame_layout::{Layout, Layouts, index_alone};
+use gep_distances::Types;
 use function_parts::next;
 use ir_model::{Function, Module};
 use module_names::Names;
@@ -15,20 +16,18 @@ use type_sizes::Sizes;
 /// The framed form of a coroutine by the layout of a number.
 fn framed_at(
     alloc: Global,
-    sizes: &Sizes<'_>,
-    source: &Module,
+    types: &Types<'_>,
     layouts: &[Layout],
     taken: usize,
     function: &Function,
 ) -> Result<Function, AllocError>
-    requires { sizes.now.names.now.source.now ≡ source.now }
-    ensures { IfOk result (λ g. IsFramedCoroutine source.now (layout_at layouts.now taken) function.now g) }
+    ensures { IfOk result (λ g. IsFramedCoroutine types.now.sizes.now.names.now.source.now (layout_at layouts.now taken) function.now g) }
 {
     match layouts.get(taken) {
-        Some(layout) => framed_coroutine(alloc, sizes, source, layout, function),
+        Some(layout) => framed_coroutine(alloc, types, layout, function),
         None => {
             let layout = index_alone(alloc, 0, 0)?;
-            framed_coroutine(alloc, sizes, source, &layout, function)
+            framed_coroutine(alloc, types, &layout, function)
         }
     }
 }
@@ -37,38 +36,36 @@ fn framed_at(
 #[tactic(auto, using(crate::proofs::Told::pushed_as_it_is, crate::proofs::Told::pushed_framed))]
 fn push_framed(
     alloc: Global,
-    sizes: &Sizes<'_>,
-    source: &Module,
+    types: &Types<'_>,
     layouts: &[Layout],
     taken: usize,
     function: &Function,
     all: &mut Items<Function>,
 ) -> Result<usize, AllocError>
-    requires { sizes.now.names.now.source.now ≡ source.now }
-    ensures { IfOk result (λ after. IsPushed source.now layouts.now taken after function.now all.old all.new) }
+    ensures { IfOk result (λ after. IsPushed types.now.sizes.now.names.now.source.now layouts.now taken after function.now all.old all.new) }
 {
     if !function.coroutine {
         all.push(function.copied(alloc)?)?;
         return Ok(taken);
     }
-    let framed = framed_at(alloc, sizes, source, layouts, taken, function)?;
+    let framed = framed_at(alloc, types, layouts, taken, function)?;
     all.push(framed)?;
     next(taken)
 }
 
 fn framed_functions(
     alloc: Global,
-    sizes: &Sizes<'_>,
-    source: &Module,
+    types: &Types<'_>,
+    functions: &[Function],
     layouts: &[Layout],
 ) -> Result<Items<Function>, AllocError>
-    requires { sizes.now.names.now.source.now ≡ source.now }
-    ensures { IfOk result (λ all. AllFramed source.now layouts.now all) }
+    requires { functions.now ≡ types.now.sizes.now.names.now.source.now.functions }
+    ensures { IfOk result (λ all. AllFramed types.now.sizes.now.names.now.source.now layouts.now all) }
 {
     let mut all = Items::new(alloc);
     let mut taken = 0;
-    for function in source.functions.as_slice() {
-        taken = push_framed(alloc, sizes, source, layouts, taken, function, &mut all)?;
+    for function in functions {
+        taken = push_framed(alloc, types, layouts, taken, function, &mut all)?;
     }
     Ok(all)
 }
@@ -80,7 +77,9 @@ pub fn frame_up(alloc: Global, source: &Module, layouts: &Layouts) -> Result<Mod
 {
     let names = Names::new(alloc, source)?;
     let sizes = Sizes::new(alloc, &names)?;
-    let functions = framed_functions(alloc, &sizes, source, layouts.coroutines.as_slice())?;
+    let types = Types::new(alloc, &sizes)?;
+    let layouts = layouts.coroutines.as_slice();
+    let functions = framed_functions(alloc, &types, source.functions.as_slice(), layouts)?;
     Ok(Module {
         types: source.types.copied(alloc)?,
         globals: source.globals.copied(alloc)?,
