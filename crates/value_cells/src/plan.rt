@@ -5,7 +5,7 @@ ghost use Rattle.ir_model.specs.Ty.{ptr};
 ghost use Rattle.intrinsic_lowering.specs.Shapes.{suspends_of as all_suspends, saves_of as all_saves};
 ghost use Rattle.value_cells.specs.Kept.{keeping_of as keeping_by};
 ghost use Rattle.value_cells.specs.Links.{bases_of as all_bases, slots_of as all_slots, marks_of as all_marks};
-ghost use Rattle.value_cells.specs.Plan.{type_at, kept_value, kept_from, with_returns, returns_of, plan_of, plan_by, kept_of};
+ghost use Rattle.value_cells.specs.Plan.{type_at, kept_value, kept_from, with_returns, returns_of, plan_of, plan_by};
 
 use crate::climbing::{bases_of, marks_of, slots_of};
 use crate::keeping::{Keeping, keeping_of, rows_of};
