@@ -1,5 +1,5 @@
 -- What a command answers to the bytes of its input.
-use Rattle.std.specs.Prelude.{◌≡◌, ℕ, Bool, true, false, not, List, [], length, map, codes, ℤ, Some, None, Option, is_some, slice_get, ◌&&◌, ◌+◌, ◌∷◌, if◌then◌else◌, ◌==◌}
+use Rattle.std.specs.Prelude.{◌≡◌, ℕ, Bool, true, false, not, List, [], length, map, max, min, codes, ℤ, Some, None, Option, is_some, slice_get, ◌&&◌, ◌+◌, ◌∷◌, if◌then◌else◌, ◌==◌}
 use Rattle.agreement.specs.Machines.{Seen}
 use Rattle.coro_base.specs.declared.name.Name.{Name}
 use Rattle.coro_base.specs.declared.outcome.Outcome.{Outcome}
@@ -294,9 +294,14 @@ IsRunAnswer Form.Lowered bytes w a = IsMadeOf w.plain bytes (λ l. lowered_answe
 
 -- ---- gen
 
+-- a number within bounds; those that the words give are taken only where they lie within them
+abbrev pub within : ℕ → ℕ → ℕ → ℕ
+within low high n = min (max n low) high
+
 -- the canonical text of the generated module
 abbrev pub gen_answer : ℕ → ℕ → ℕ → Answer
-gen_answer seed coroutines suspends = shown Verdict.Done (module_text (generated_module seed coroutines suspends))
+gen_answer seed coroutines suspends =
+    shown Verdict.Done (module_text (generated_module (within 0 1000000 seed) (within 1 64 coroutines) (within 1 64 suspends)))
 
 -- ---- all of them
 

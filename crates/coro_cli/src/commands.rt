@@ -1,8 +1,8 @@
 //! What the commands answer to the bytes of their input.
 
-ghost use Rattle.std.specs.Prelude.{◌≡◌, IfOk, not};
+ghost use Rattle.std.specs.Prelude.{◌≡◌, ◌≤◌, IfOk, not};
 ghost use Rattle.coro_words.specs.declared.words.Form.{Form};
-ghost use Rattle.coro_cli.specs.Answers.{lower_answer, checked_run, check_answer, IsTextAnswer, IsCheckAnswer, IsLayoutAnswer, IsMadeOfAcceptance, IsMadeOfRefusal, IsMadeOfRules, IsSourceAnswer, layout_answer, run_framed, framed_answer, gen_answer, options_of, run_lowered, lowered_answer, source_form_answer, IsRunAnswer, IsMadeOf, IsAnswer};
+ghost use Rattle.coro_cli.specs.Answers.{lower_answer, checked_run, check_answer, IsTextAnswer, IsCheckAnswer, IsLayoutAnswer, IsMadeOfAcceptance, IsMadeOfRefusal, IsMadeOfRules, IsSourceAnswer, layout_answer, run_framed, framed_answer, gen_answer, options_of, within, run_lowered, lowered_answer, source_form_answer, IsRunAnswer, IsMadeOf, IsAnswer};
 ghost use Rattle.ir_parser.specs.Parse.{read_module};
 
 use crate::entry::entry_call;
@@ -285,6 +285,15 @@ fn layout_bytes(alloc: Global, bytes: &[u8], plain: bool) -> Result<Answer, Allo
     }
 }
 
+/// The number within bounds.
+fn within(low: u64, high: u64, number: u64) -> u64
+    requires { low ≤ high }
+    ensures value { result ≡ within low high number }
+    ensures inside { (low ≤ result) × (result ≤ high) }
+{
+    number.max(low).min(high)
+}
+
 /// The canonical text of the generated module.
 fn gen_answer(
     alloc: Global,
@@ -294,6 +303,9 @@ fn gen_answer(
 ) -> Result<Answer, AllocError>
     ensures { IfOk result (λ a. a ≡ gen_answer seed coroutines suspends) }
 {
+    let seed = within(0, 1000000, seed);
+    let coroutines = within(1, 64, coroutines);
+    let suspends = within(1, 64, suspends);
     let text = generate(alloc, seed, coroutines, suspends)?;
     Ok(shown(alloc, Verdict::Done, Items::from_vec(text)))
 }
