@@ -1,2 +1,12 @@
 //! Frame slots that are used before begin have a temporary, which is copied at begin.
 #![tactic(auto)]
+
+mod blocks;
+mod copying;
+mod pass;
+mod slot;
+mod slots;
+mod uses;
+mod written;
+
+pub use pass::with_begin_copies;
