@@ -1,5 +1,5 @@
 -- The values that are kept, their types, and those that cross each suspend.
-use Rattle.std.specs.Prelude.{ℕ, Bool, true, false, List, [], length, replicate, slice_get, slice_set, Some, None, Option, unwrap_or, ◌+◌, ◌∷◌, ◌++◌, if◌then◌else◌}
+use Rattle.std.specs.Prelude.{ℕ, Bool, true, false, List, [], length, replicate, slice_get, slice_set, Some, None, Option, ◌∷◌, ◌++◌, if◌then◌else◌}
 use Rattle.function_parts.specs.Contents.{result_of}
 use Rattle.ir_model.specs.Ty.{Ty, int, ptr}
 use Rattle.ir_model.specs.declared.instr.Instr.{Instr}

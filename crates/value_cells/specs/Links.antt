@@ -48,7 +48,7 @@ further t (Some u) = or_else (entry t u) (Some u)
 abbrev pub jumped : List (Option ℕ) → List (Option ℕ)
 jumped t = map (further t) t
 
-abbrev pub roots_after : ℕ → List (Option ℕ) → List (Option ℕ)
+unfoldable pub roots_after : ℕ → List (Option ℕ) → List (Option ℕ)
 roots_after zero t = t
 roots_after (suc k) t = roots_after k (jumped t)
 

@@ -2,7 +2,6 @@
 use Rattle.std.specs.Prelude.{ℕ, false, List, [], slice_get, Some, None, Option, ◌+◌, ◌∷◌, ◌++◌}
 use Rattle.ir_model.specs.Ty.{Ty, int, ptr}
 use Rattle.ir_model.specs.declared.instr.Instr.{Instr}
-use Rattle.ir_model.specs.declared.operand.Arg.{Arg}
 use Rattle.ir_model.specs.declared.operand.Operand.{Operand}
 use Rattle.use_fetching.specs.Fetching.{value_bytes}
 use Rattle.value_cells.specs.declared.plan.KeptValue.{KeptValue}

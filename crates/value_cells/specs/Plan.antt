@@ -2,7 +2,7 @@
 use Rattle.std.specs.Prelude.{ℕ, Bool, List, [], length, replicate, slice_get, slice_set, Some, None, Option, ◌+◌, ◌∷◌}
 use Rattle.intrinsic_lowering.specs.Shapes.{saves_of, suspends_of}
 use Rattle.intrinsic_lowering.specs.declared.shape.SuspendPoint.{SuspendPoint}
-use Rattle.ir_model.specs.Ty.{Ty, int, ptr}
+use Rattle.ir_model.specs.Ty.{Ty, int}
 use Rattle.ir_model.specs.declared.module.Function.{Function}
 use Rattle.value_cells.specs.Kept.{answer_type, entry, keeping_of, rows_of, value_types}
 use Rattle.value_cells.specs.Links.{bases_of, cell_name, cells_from, field_name, links_from, marks_of, slots_of}

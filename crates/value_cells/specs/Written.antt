@@ -1,5 +1,5 @@
 -- What stands around the instructions and at the fronts of the blocks; n is the next new name.
-use Rattle.std.specs.Prelude.{ℕ, zero, suc, List, [], length, slice_get, Some, None, Option, ◌+◌, ◌∷◌, ◌++◌}
+use Rattle.std.specs.Prelude.{ℕ, zero, suc, List, [], length, slice_get, Some, None, Option, ◌∷◌, ◌++◌}
 use Rattle.function_parts.specs.Contents.{result_of}
 use Rattle.gep_distances.specs.Sums.{distance_instrs, distance_next}
 use Rattle.gep_distances.specs.Ways.{ways_of}

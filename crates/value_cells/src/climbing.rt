@@ -42,10 +42,7 @@ fn set_bases_by(bases: &mut Items<Option<ValueId>>, blocks: &[Block])
 }
 
 /// For each name the base of the `getelementptr` that makes it.
-pub fn bases_of(
-    alloc: Global,
-    function: &Function,
-) -> Result<Items<Option<ValueId>>, AllocError>
+pub fn bases_of(alloc: Global, function: &Function) -> Result<Items<Option<ValueId>>, AllocError>
     ensures { IfOk result (λ x. x ≡ bases_of function.now) }
 {
     let mut bases = no_entries(alloc, function.names.len())?;

@@ -37,10 +37,7 @@ fn keep(keeping: &mut Keeping, id: ValueId) -> Result<(), AllocError>
     Ok(())
 }
 
-fn keep_all(
-    keeping: &mut Keeping,
-    crossing: &[(ValueId, SuspendId)],
-) -> Result<(), AllocError>
+fn keep_all(keeping: &mut Keeping, crossing: &[(ValueId, SuspendId)]) -> Result<(), AllocError>
     ensures { OnOk result (keeping.new ≡ with_values keeping.old crossing.now) }
 {
     for pair in crossing {

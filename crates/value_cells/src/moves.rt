@@ -33,12 +33,7 @@ fn value_bytes(ty: &IrType) -> u64
     }
 }
 
-fn load_from(
-    alloc: Global,
-    id: ValueId,
-    ty: &IrType,
-    from: ValueId,
-) -> Result<Instr, AllocError>
+fn load_from(alloc: Global, id: ValueId, ty: &IrType, from: ValueId) -> Result<Instr, AllocError>
     ensures { IfOk result (λ i. i ≡ load_from id ty.now from) }
 {
     Ok(Instr::Load {
@@ -50,12 +45,7 @@ fn load_from(
 }
 
 /// A store of a value into a cell or a field.
-pub fn store_to(
-    alloc: Global,
-    ty: &IrType,
-    id: ValueId,
-    to: ValueId,
-) -> Result<Instr, AllocError>
+pub fn store_to(alloc: Global, ty: &IrType, id: ValueId, to: ValueId) -> Result<Instr, AllocError>
     ensures { IfOk result (λ i. i ≡ store_to ty.now id to) }
 {
     Ok(Instr::Store {

@@ -57,11 +57,8 @@ fn named_function(alloc: Global, function: &Function, plan: &Plan) -> Result<Fun
 }
 
 /// The function with each use of a value that is kept loaded from its cell.
-fn fetched_function(
-    alloc: Global,
-    function: &Function,
-    plan: &Plan,
-) -> Result<Function, AllocError>
+#[tactic(auto, unfolding(crate::specs::Cells::fetched_function))]
+fn fetched_function(alloc: Global, function: &Function, plan: &Plan) -> Result<Function, AllocError>
     ensures { IfOk result (λ f. f ≡ fetched_function plan.now function.now) }
 {
     let named = named_function(alloc, function, plan)?;

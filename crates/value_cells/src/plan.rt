@@ -159,8 +159,13 @@ fn plan_by(
     let bases = bases_of(alloc, function)?;
     let slots = slots_of(alloc, local, &bases)?;
     let marks = marks_of(alloc, &bases, &slots, values)?;
-    let (cells, links) =
-        distance_cells(alloc, first, values.len(), &keeping.places, marks.as_slice())?;
+    let (cells, links) = distance_cells(
+        alloc,
+        first,
+        values.len(),
+        &keeping.places,
+        marks.as_slice(),
+    )?;
     Ok(Plan {
         first,
         kept: kept_of(alloc, first, &types, &cells, &slots, values)?,
@@ -185,5 +190,12 @@ pub fn plan_of(
 {
     let keeping = keeping_of(alloc, function.names.len(), crossing)?;
     let suspends = suspends_of(alloc, function)?;
-    plan_by(alloc, function, crossing, local, keeping, suspends.as_slice())
+    plan_by(
+        alloc,
+        function,
+        crossing,
+        local,
+        keeping,
+        suspends.as_slice(),
+    )
 }

@@ -145,7 +145,17 @@ pub fn value_types(
     ensures { IfOk result (λ x. x ≡ value_types function.now keeping.now) }
 {
     let mut types = pointers(alloc, keeping.values.len())?;
-    set_param_types(alloc, &mut types, &keeping.places, function.params.as_slice())?;
-    set_block_types(alloc, &mut types, &keeping.places, function.blocks.as_slice())?;
+    set_param_types(
+        alloc,
+        &mut types,
+        &keeping.places,
+        function.params.as_slice(),
+    )?;
+    set_block_types(
+        alloc,
+        &mut types,
+        &keeping.places,
+        function.blocks.as_slice(),
+    )?;
     Ok(types)
 }

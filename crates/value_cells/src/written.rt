@@ -303,11 +303,7 @@ fn link_allocas(
     Ok(all)
 }
 
-fn push_link_allocas(
-    alloc: Global,
-    all: &mut Items<Instr>,
-    plan: &Plan,
-) -> Result<(), AllocError>
+fn push_link_allocas(alloc: Global, all: &mut Items<Instr>, plan: &Plan) -> Result<(), AllocError>
     ensures { OnOk result (all.new ≡ all.old ++ link_allocas plan.now.first (length plan.now.kept) plan.now.links) }
 {
     let more = link_allocas(alloc, plan.first, plan.kept.len(), plan.links)?;
@@ -332,11 +328,7 @@ fn push_stored_params(
 }
 
 /// The allocas of cells and fields, and the parameters' stores.
-pub fn entry_front(
-    alloc: Global,
-    plan: &Plan,
-    params: &[Param],
-) -> Result<Items<Instr>, AllocError>
+pub fn entry_front(alloc: Global, plan: &Plan, params: &[Param]) -> Result<Items<Instr>, AllocError>
     ensures { IfOk result (λ x. x ≡ entry_front plan.now params.now) }
 {
     let mut all = Items::new(alloc);
