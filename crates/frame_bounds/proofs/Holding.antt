@@ -1,7 +1,7 @@
 -- What a frame holds takes no more than the bound.
 use Rattle.std.proofs.Common.{◌≡◌, ℕ, zero, suc, ◌+◌, ◌≤◌, Bool, true, false, List, [], ◌∷◌, ◌++◌, map, max, None, Some, Option, refl, ap, ◌∙◌, arith}
 use Rattle.std.specs.Prelude.{if◌then◌else◌}
-use Rattle.coroutine_frames.specs.Held.{field_of, fields_of, held_block, held_blocks, held_by, held_instr, held_instrs, held_params, held_phis, if_result, if_value, index_field, result_size, slot_held, suspend_count, value_held, value_size}
+use Rattle.coroutine_frames.specs.Held.{field_of, fields_of, held_blocks, held_by, held_instr, held_instrs, held_params, held_phis, if_result, if_value, index_field, result_size, slot_held, suspend_count, value_held, value_size}
 use Rattle.coroutine_frames.specs.declared.held.Holding.{Holding}
 use Rattle.field_placing.specs.declared.room.Room.{Room}
 use Rattle.frame_bounds.proofs.Ending.{total}

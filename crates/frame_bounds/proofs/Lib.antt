@@ -1,4 +1,4 @@
 pub mod Sums
 pub mod Ending
 pub mod Holding
-pub mod Small
+pub mod Bounded

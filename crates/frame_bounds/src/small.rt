@@ -24,7 +24,7 @@ fn is_small(sizes: &Sizes<'_>, function: &Function) -> bool
     }
 }
 
-fn all_small(sizes: &Sizes<'_>, functions: &[Function]) -> bool
+fn each_is_small(sizes: &Sizes<'_>, functions: &[Function]) -> bool
     ensures { IsTrue result → AreSmall sizes.now.names.now.source.now functions.now }
 {
     for function in functions {
@@ -35,9 +35,17 @@ fn all_small(sizes: &Sizes<'_>, functions: &[Function]) -> bool
     true
 }
 
+/// Whether each coroutine's frame is bounded, where these are the functions of the module.
+#[tactic(auto, using(crate::proofs::Bounded::none_too_large))]
+fn all_small(sizes: &Sizes<'_>, functions: &[Function]) -> bool
+    requires { functions.now ≡ sizes.now.names.now.source.now.functions }
+    ensures { IsTrue result → NoneTooLarge sizes.now.names.now.source.now }
+{
+    each_is_small(sizes, functions)
+}
+
 /// Whether what stands in each coroutine bounds its frame, so that none can be too large. Where it doesn't, a frame may still not
 /// be.
-#[tactic(auto, using(crate::proofs::Small::none_too_large))]
 pub fn are_small(alloc: Global, source: &Module) -> Result<bool, AllocError>
     ensures { IfOk result (λ small. IsTrue small → NoneTooLarge source.now) }
 {

@@ -25,9 +25,9 @@ not_large m func f small large =
     absurd (omega (arith, ends, is_total, told, same, within, small))
 
 none_large : (m : Module) (n k : ℕ) (fs : List Function) → AreSmall m fs → IsTooLarge m false n k fs → ⊥
-none_large m n k (f ∷ fs) small (Here f fs is large) = not_large m n f (small 0 f refl is) large
-none_large m n k (f ∷ fs) small (BehindOther k f fs is more) = none_large m n (k + 1) fs (λ i g e. small (suc i) g e) more
-none_large m n k (f ∷ fs) small (BehindFrame k f fs layout is laid more) = none_large m n (k + 1) fs (λ i g e. small (suc i) g e) more
+none_large m n k fs small (Here f rest is large) = not_large m n f (small 0 f refl is) large
+none_large m n k fs small (BehindOther at f rest is more) = none_large m n (k + 1) rest (λ i g e. small (suc i) g e) more
+none_large m n k fs small (BehindFrame at f rest layout is laid more) = none_large m n (k + 1) rest (λ i g e. small (suc i) g e) more
 
-pub none_too_large : (m : Module) (fs : List Function) → fs ≡ m.functions → AreSmall m fs → NoneTooLarge m
-none_too_large m fs same small func large = none_large m func 0 m.functions (subst (λ (l : List Function). AreSmall m l) same small) large
+pub none_too_large : (m : Module) (fs : List Function) (b : Bool) → fs ≡ m.functions → (IsTrue b → AreSmall m fs) → IsTrue b → NoneTooLarge m
+none_too_large m fs b same small is func large = none_large m func 0 m.functions (subst (λ (l : List Function). AreSmall m l) same (small is)) large
