@@ -119,11 +119,12 @@ pub fn accept(alloc: Global, source: &Module, share: bool) -> Result<Acceptance,
 fn large_alone(alloc: Global, source: &Module) -> Result<Option<Refusal>, AllocError>
     ensures { IfOk result (ComesFor source.now None) }
 {
-    match layouts_of(alloc, source, false) {
-        Ok(_) => Ok(None),
-        Err(LayoutsError::TooLarge(func)) => Ok(Some(too_large(func))),
-        Err(LayoutsError::OutOfMemory) => Err(AllocError),
-    }
+    let func = match layouts_of(alloc, source, false) {
+        Ok(_) => return Ok(None),
+        Err(LayoutsError::OutOfMemory) => return Err(AllocError),
+        Err(LayoutsError::TooLarge(func)) => func,
+    };
+    Ok(Some(too_large(func)))
 }
 
 /// The refusal where no other rule is broken than K12; layouts are made only where a frame may be too large.
