@@ -25,6 +25,7 @@ handle k = k + 1
 abbrev pub start_call : ℕ → ℕ → Instr
 start_call seed k = call (Some (handle k)) (Some ptr) (Callee.Named (coroutine_name k)) (number_arg 32 (seed + k) ∷ [])
 
+-- call void @llvm.coro.resume(ptr %hk), or destroy
 abbrev pub handle_call : Intrinsic → ℕ → Instr
 handle_call i k = intrinsic_call None None i (pointer_arg (Operand.Local (handle k)) ∷ [])
 

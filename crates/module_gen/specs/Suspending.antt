@@ -101,6 +101,7 @@ entry_blocks c = if is_even c then asking_entry c ∷ dyn_block c ∷ start_bloc
 abbrev pub no_flags : Flags
 no_flags = record { nuw = false; nsw = false; exact = false; disjoint = false }
 
+-- call void @llvm.lifetime.start.p0(i64 24, ptr %sj), or end
 abbrev pub marker : Intrinsic → ℕ → Instr
 marker i j = intrinsic_call None None i (number_arg 64 24 ∷ pointer_arg (Operand.Local (slot j)) ∷ [])
 
@@ -108,10 +109,11 @@ marker i j = intrinsic_call None None i (number_arg 64 24 ∷ pointer_arg (Opera
 abbrev pub shown : Coroutine → ℕ → Arg
 shown c j = record { ty = int 32; value = Operand.Local (if j == 0 then parameter else summed_value c j) }
 
+-- %xj = add i32 %yj, k+1
 abbrev pub sum : Coroutine → ℕ → Instr
 sum c j = Instr.Binary (summed_value c j) BinOp.Add no_flags (int 32) (Operand.Local (loaded_value c j)) (Operand.Number (pos (c.number + 1)))
 
--- what a block but the first begins with: the number is loaded from the slot before, and k + 1 is added
+-- what a block but the first begins with: the number is loaded from the slot before, whose life ends, and k + 1 is added
 abbrev pub going_on : Coroutine → ℕ → List Instr
 going_on c j =
     Instr.Load (loaded_value c j) (int 32) (Operand.Local (slot (j - 1))) 8
@@ -119,6 +121,7 @@ going_on c j =
     ∷ sum c j
     ∷ []
 
+-- call void @print(i32 X)
 abbrev pub print_call : Arg → Instr
 print_call x = call None None (Callee.Named (Name.Text (codes "print"))) (x ∷ [])
 
@@ -126,11 +129,13 @@ print_call x = call None None (Callee.Named (Name.Text (codes "print"))) (x ∷ 
 abbrev pub is_final : Coroutine → ℕ → Operand
 is_final c j = if j + 1 == c.suspends then Operand.True else Operand.False
 
+-- %qj = call i8 @llvm.coro.suspend(token none, i1 F)
 abbrev pub suspend_call : Coroutine → ℕ → Instr
 suspend_call c j =
     intrinsic_call (Some (suspend_value c j)) (Some (int 8)) Intrinsic.CoroSuspend
     (token_arg Operand.None ∷ flag_arg (is_final c j) ∷ [])
 
+-- what every block with a suspend ends with: the number is shown and kept in the slot
 abbrev pub keeping : Coroutine → ℕ → List Instr
 keeping c j =
     print_call (shown c j)
@@ -139,6 +144,7 @@ keeping c j =
     ∷ suspend_call c j
     ∷ []
 
+-- switch i8 %qj, label %end [ i8 0, label %b{j+1} i8 1, label %dj ]
 abbrev pub suspend_switch : Coroutine → ℕ → Terminator
 suspend_switch c j =
     Terminator.Switch (record { ty = int 8; value = Operand.Local (suspend_value c j) }) (end_label c)
@@ -147,9 +153,11 @@ suspend_switch c j =
 abbrev pub beginning : Coroutine → ℕ → List Instr
 beginning c j = if j == 0 then [] else going_on c j
 
+-- bj
 abbrev pub suspend_block : Coroutine → ℕ → Block
 suspend_block c j = block_of (suspend_label c j) (beginning c j ++ keeping c j) (suspend_switch c j)
 
+-- dj, where the slot ends, and then clean
 abbrev pub destroy_block : Coroutine → ℕ → Block
 destroy_block c j = block_of (destroy_label c j) (marker Intrinsic.LifetimeEnd j ∷ []) (Terminator.Jump (clean_label c))
 
