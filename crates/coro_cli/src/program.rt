@@ -111,12 +111,7 @@ fn drive_input<S: Source, O: Sink, E: Sink>(
 }
 
 /// Answers without reading the input.
-fn drive_unread<O: Sink, E: Sink>(
-    alloc: Global,
-    words: &Words,
-    out: &mut O,
-    err: &mut E,
-) -> Status
+fn drive_unread<O: Sink, E: Sink>(alloc: Global, words: &Words, out: &mut O, err: &mut E) -> Status
     ensures told { IsTold result → Gives words.now [] (O.held out.old) (O.held out.new) (E.held err.old) (E.held err.new) result }
     ensures read { (result ≢ Status.ReadFault) × (result ≢ Status.TooLong) }
     ensures memory_out { result ≡ Status.OutOfMemory → Keeps (O.held out.old) (O.held out.new) }

@@ -107,11 +107,7 @@ fn lower_accepted(alloc: Global, source: Module, layouts: Layouts) -> Result<Low
 }
 
 /// What becomes of a source by its acceptance.
-fn lower_by(
-    alloc: Global,
-    source: Module,
-    acceptance: Acceptance,
-) -> Result<Lowering, AllocError>
+fn lower_by(alloc: Global, source: Module, acceptance: Acceptance) -> Result<Lowering, AllocError>
     ensures { IfOk result (λ l. IsLoweringBy source acceptance l) }
 {
     match acceptance {

@@ -41,7 +41,12 @@ fn celled(
     requires { edged.now ≡ with_edge_blocks_of function.now }
     ensures { IfOk result (λ g. g ≡ celled types.now.sizes.now.names.now.source.now function.now contents.now) }
 {
-    let local = class_flags(alloc, function, contents.classes.as_slice(), SlotClass::Local)?;
+    let local = class_flags(
+        alloc,
+        function,
+        contents.classes.as_slice(),
+        SlotClass::Local,
+    )?;
     let crossing = contents.crossing.as_slice();
     with_cells(alloc, types, edged, crossing, local.as_slice())
 }
@@ -73,7 +78,12 @@ fn copied(
     requires { begin ≡ begin_block_of celled.now }
     ensures { IfOk result (λ g. g ≡ copied function.now contents.now celled.now before.now) }
 {
-    let slots = class_flags(alloc, function, contents.classes.as_slice(), SlotClass::Frame)?;
+    let slots = class_flags(
+        alloc,
+        function,
+        contents.classes.as_slice(),
+        SlotClass::Frame,
+    )?;
     let early = early_labels(alloc, celled, begin, before)?;
     let sizes = sizes_by_name(alloc, function, contents.held.as_slice())?;
     with_begin_copies(
@@ -98,7 +108,12 @@ fn placed(
     ensures { IfOk result (λ g. g ≡ placed layout.now function.now contents.now copied.now) }
 {
     let offsets = offsets_of(alloc, layout, contents, base, copied.names.len())?;
-    let marked = class_flags(alloc, function, contents.classes.as_slice(), SlotClass::Ramp)?;
+    let marked = class_flags(
+        alloc,
+        function,
+        contents.classes.as_slice(),
+        SlotClass::Ramp,
+    )?;
     let begin = begin_of(function);
     with_frame_addresses(alloc, copied, begin, offsets.as_slice(), marked.as_slice())
 }

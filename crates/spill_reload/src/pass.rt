@@ -6,8 +6,8 @@ ghost use Rattle.spill_reload.specs.Framed.{AllFramed, IsFramedCoroutine, IsFram
 use crate::coroutine::framed_coroutine;
 use coro_base::{Data, Items};
 use frame_layout::{Layout, Layouts, index_alone};
-use gep_distances::Types;
 use function_parts::next;
+use gep_distances::Types;
 use ir_model::{Function, Module};
 use module_names::Names;
 use std::alloc::{AllocError, Global};

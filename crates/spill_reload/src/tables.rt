@@ -31,7 +31,13 @@ fn is_of(class: SlotClass, found: Option<&SlotClass>) -> bool
     }
 }
 
-fn set_slot(class: SlotClass, classes: &[SlotClass], k: usize, slot: ValueId, flags: &mut Items<bool>)
+fn set_slot(
+    class: SlotClass,
+    classes: &[SlotClass],
+    k: usize,
+    slot: ValueId,
+    flags: &mut Items<bool>,
+)
     ensures { flags.new ≡ with_slot class (slice_get classes.now k) slot flags.old }
 {
     if is_of(class, classes.get(k)) {

@@ -100,9 +100,11 @@ impl Case {
     /// Whether the words are answered as it is told.
     fn is_answered(&self, alloc: Global, words: &str, text: &[u8]) -> Result<bool, AllocError> {
         let given = answered(alloc, words, text)?;
-        Ok(given.code == self.code
-            && self.is_out(&given.out)
-            && given.err.as_slice() == self.err.as_bytes())
+        Ok(
+            given.code == self.code
+                && self.is_out(&given.out)
+                && given.err.as_slice() == self.err.as_bytes(),
+        )
     }
 
     /// Whether `run` in the form is answered as it is told, with plain frames and with those that share bytes.
@@ -115,26 +117,32 @@ impl Case {
     ) -> Result<bool, AllocError> {
         let shared = format!(in alloc; "run --form {form} {words}")?;
         let plain = format!(in alloc; "run --plain --form {form} {words}")?;
-        Ok(self.is_answered(alloc, shared.as_str(), text)?
-            && self.is_answered(alloc, plain.as_str(), text)?)
+        Ok(
+            self.is_answered(alloc, shared.as_str(), text)?
+                && self.is_answered(alloc, plain.as_str(), text)?,
+        )
     }
 
     /// Whether what `lower` writes is accepted, and run as it is told.
     fn is_text(&self, alloc: Global, words: &str, text: &[u8]) -> Result<bool, AllocError> {
         let shared = format!(in alloc; "lower then run --form text {words}")?;
         let plain = format!(in alloc; "lower --plain then run --form text {words}")?;
-        Ok(self.is_answered(alloc, shared.as_str(), text)?
-            && self.is_answered(alloc, plain.as_str(), text)?
-            && is_lowered(alloc, "lower then check --lowered", text)?
-            && is_lowered(alloc, "lower --plain then check --lowered", text)?)
+        Ok(
+            self.is_answered(alloc, shared.as_str(), text)?
+                && self.is_answered(alloc, plain.as_str(), text)?
+                && is_lowered(alloc, "lower then check --lowered", text)?
+                && is_lowered(alloc, "lower --plain then check --lowered", text)?,
+        )
     }
 
     /// Whether `run` is answered as it is told in all forms.
     fn is_in_all_forms(&self, alloc: Global, words: &str, text: &[u8]) -> Result<bool, AllocError> {
-        Ok(self.is_run(alloc, "source", words, text)?
-            && self.is_run(alloc, "framed", words, text)?
-            && self.is_run(alloc, "lowered", words, text)?
-            && self.is_text(alloc, words, text)?)
+        Ok(
+            self.is_run(alloc, "source", words, text)?
+                && self.is_run(alloc, "framed", words, text)?
+                && self.is_run(alloc, "lowered", words, text)?
+                && self.is_text(alloc, words, text)?,
+        )
     }
 
     /// Whether the case is answered as it is told.

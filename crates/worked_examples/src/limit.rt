@@ -93,10 +93,12 @@ fn is_shown(rt: &HostRuntime, words: &str, text: &[u8], lines: &str) -> Result<b
 
 /// Whether `run` writes these lines of the text in each form.
 fn is_run(rt: &HostRuntime, text: &[u8], lines: &str) -> Result<bool> {
-    Ok(is_shown(rt, "run --form source --entry main", text, lines)?
-        && is_shown(rt, "run --form framed --entry main", text, lines)?
-        && is_shown(rt, "run --form lowered --entry main", text, lines)?
-        && is_shown(rt, "run --plain --form lowered --entry main", text, lines)?)
+    Ok(
+        is_shown(rt, "run --form source --entry main", text, lines)?
+            && is_shown(rt, "run --form framed --entry main", text, lines)?
+            && is_shown(rt, "run --form lowered --entry main", text, lines)?
+            && is_shown(rt, "run --plain --form lowered --entry main", text, lines)?,
+    )
 }
 
 /// Checks the module of a line, and writes where it is answered otherwise. Whether the line has a module.
