@@ -1,5 +1,5 @@
 -- A begun instance with the slots that it gets.
-use Rattle.std.proofs.Common.{◌≡◌, ℕ, List, [], ◌∷◌, ◌++◌, length, refl, ap, sym, ◌∙◌, Option, Some}
+use Rattle.std.proofs.Common.{◌≡◌, ℕ, List, [], ◌∷◌, ◌++◌, length, ap, sym, ◌∙◌, Some}
 use Rattle.std.specs.Prelude.{filter, not, slice_set}
 use Rattle.std.proofs.lemmas.List.{append-nil}
 use Rattle.block_memory.specs.declared.block.MemoryBlock.{MemoryBlock}

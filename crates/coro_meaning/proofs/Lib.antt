@@ -3,9 +3,11 @@ pub mod Acting
 pub mod Iterating
 pub mod Settings
 pub mod Walks
+pub mod Indexes
 pub mod Freeing
 pub mod Beginning
 pub mod Slots
+pub mod OwnSlots
 pub mod Leaving
 pub mod Promises
 pub mod Sleeping

@@ -1,6 +1,6 @@
 -- From a promise back to its frame.
-use Rattle.std.proofs.Common.{◌≡◌, ℕ, Bool, true, false, List, refl, ap, sym, ◌∙◌, Option, Some, None, Ok, Err}
-use Rattle.std.specs.Prelude.{Result, find, if◌then◌else◌, ◌==◌}
+use Rattle.std.proofs.Common.{◌≡◌, ℕ, true, false, ap, sym, ◌∙◌, Option, Some, None, Ok, Err}
+use Rattle.std.specs.Prelude.{Result, find, if◌then◌else◌}
 use Rattle.std.proofs.lemmas.Bool.{eq-eqb}
 use Rattle.block_memory.specs.declared.pointer.Offset.{Offset}
 use Rattle.block_memory.specs.declared.pointer.Pointer.{Pointer}

@@ -1,5 +1,5 @@
 -- Elements of lists that are set.
-use Rattle.std.proofs.Common.{◌≡◌, ℕ, zero, suc, ◌+◌, ◌<◌, List, [], ◌∷◌, ◌++◌, length, refl, ap, sym, ◌∙◌, Option, Some, None}
+use Rattle.std.proofs.Common.{◌≡◌, ℕ, zero, suc, List, [], ◌∷◌, ◌++◌, length, refl, ap, sym, Some}
 use Rattle.std.specs.Prelude.{slice_get, slice_set}
 
 -- an element set to what it was

@@ -64,15 +64,6 @@ owner-ramp g s alloca i x e got among =
       there = tt;
     }
 
-pub own-placed : (g : Given) (s : State) (w : Work) (a : Action) (x slot : Slot) (next : ℕ) (slots : List Slot) → a ≡ NewSlot w x → x ≡ record { alloca = slot.alloca; block = length s.world.memory } → slot.block ≡ length s.world.memory → slots ≡ slot ∷ s.top.slots → next ≡ s.top.at + 1 → IsOwner g s slot.alloca Owner.Own → act g (continue g) s a ≡ Ok (record s { world = w.world; top = record s.top { at = next; values = w.values; slots = slots } })
-own-placed g s w a x slot next slots is xs bs ps ns owner =
-    let same : x ≡ slot = xs ∙ ap (λ n. record { alloca = slot.alloca; block = n }) (sym bs) in
-    ap (act g (continue g) s) is
-    ∙ ap (λ (y : Slot). Ok (new_slot g (settled s w) y)) same
-    ∙ ap Ok (owner.placed w slot.block)
-    ∙ ap (λ (l : List Slot). Ok (record s { world = w.world; top = record s.top { at = s.top.at + 1; values = w.values; slots = l } })) (sym ps)
-    ∙ ap (λ k. Ok (record s { world = w.world; top = record s.top { at = k; values = w.values; slots = slots } })) (sym ns)
-
 late-is : (late : Bool) (t : State) (i : ℕ) (x : Instance) (slot : Slot) → (if late then with_memory (with_instance t i (record x { slots = slot ∷ x.slots })) (killed t.world.memory slot.block) else with_instance t i (record x { slots = slot ∷ x.slots })) ≡ record t { world = record t.world { memory = if late then killed t.world.memory slot.block else t.world.memory }; instances = slice_set t.instances i (record x { slots = slot ∷ x.slots }) }
 late-is true t i x slot = refl
 late-is false t i x slot = refl

@@ -17,7 +17,6 @@ use Rattle.coro_meaning.specs.declared.state.Saved.{Saved}
 use Rattle.coro_meaning.specs.declared.state.State.{State}
 use Rattle.coro_meaning.specs.declared.state.Status.{Status}
 use Rattle.ir_model.specs.Names.{function_at, position_of}
-use Rattle.ir_model.specs.declared.instr.Instr.{Instr}
 use Rattle.ir_model.specs.declared.module.Frame.{Frame}
 use Rattle.ir_model.specs.declared.module.Function.{Function}
 use Rattle.ir_model.specs.declared.module.Module.{Module}
@@ -27,7 +26,7 @@ use Rattle.ir_model.specs.declared.operand.Operand.{Operand}
 use Rattle.ir_paths.specs.Facts.{all_facts}
 use Rattle.ir_paths.specs.Paths.{entry_point, same_point}
 use Rattle.ir_paths.specs.Slots.{promise_of}
-use Rattle.ir_paths.specs.Windows.{call_operand, destroy_label, instr_at, is_call_of, leaves, operand_at, points_where, resume_label, suspend_of}
+use Rattle.ir_paths.specs.Windows.{destroy_label, leaves, operand_at, resume_label, suspend_of}
 use Rattle.ir_paths.specs.declared.point.Point.{Point}
 use Rattle.ir_paths.specs.declared.point.Window.{Window}
 use Rattle.ordinary_step.specs.Results.{and_then, found, ok_if}

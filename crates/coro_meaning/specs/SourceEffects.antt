@@ -1,10 +1,11 @@
 -- What the code of a source step does by the effect of an instruction.
 use Rattle.std.specs.Prelude.{ℕ, Bool, true, false, List, [], Some, None, Ok, Err, Option, Result, slice_get, ◌≡◌, ◌∷◌, if◌then◌else◌}
 use Rattle.block_memory.specs.Memory.{killed}
+use Rattle.block_memory.specs.declared.block.Kind.{Kind}
 use Rattle.block_memory.specs.declared.pointer.Value.{Value}
 use Rattle.coro_base.specs.declared.cause.Cause.{Cause}
-use Rattle.coro_meaning.specs.Source.{continue, coro, deallocate, enter, go_to, let_go, new_slot, return}
-use Rattle.coro_meaning.specs.State.{instance_at, next, settled, with_instance, with_memory, with_slots}
+use Rattle.coro_meaning.specs.Source.{begin_at, continue, coro, deallocate, enter, go_to, let_go, new_slot, return}
+use Rattle.coro_meaning.specs.State.{gives, instance_at, next, settled, with_instance, with_memory, with_slots}
 use Rattle.source_program.specs.Given.{Given}
 use Rattle.coro_meaning.specs.declared.effects.Stop.{Stop}
 use Rattle.source_program.specs.declared.program.SourceProgram.{SourceProgram}
@@ -17,7 +18,7 @@ use Rattle.coro_meaning.specs.declared.state.State.{State}
 use Rattle.coro_meaning.specs.declared.state.Status.{Status}
 use Rattle.ir_model.specs.declared.operand.Arg.{Arg}
 use Rattle.ordinary_step.specs.Results.{and_then}
-use Rattle.ordinary_step.specs.Step.{Action, Coro, Deallocate, Done, Enter, GoTo, NewSlot, Return, Stuck, Work, deallocated}
+use Rattle.ordinary_step.specs.Step.{Action, Coro, NewSlot, Stuck, Work, deallocated}
 use Rattle.ordinary_step.specs.Values.{Env, arg_values}
 use Rattle.ordinary_step.specs.declared.effect.Effect.{Effect}
 use Rattle.ordinary_step.specs.declared.world.Slot.{Slot}
@@ -69,6 +70,16 @@ woken y values =
       instance = Some y.instance;
       has_left = false;
     }
+
+-- begin at a block of a kind, which gives its address
+abbrev pub begin_in : Given → State → Option ℕ → Value → Kind → Result State Cause
+begin_in g s result mem kind = and_then (begin_at g s mem kind) (λ s. Ok (gives s result mem))
+
+-- a new slot of the topmost activation's own
+abbrev pub own_slot : State → Action → Result State Cause
+own_slot s (NewSlot w slot) = Ok (with_slots (settled s w) (slot ∷ s.top.slots))
+own_slot s (Stuck cause) = Err cause
+own_slot s _ = Err Cause.Unreachable
 
 -- what comes of the deallocation of an address by an instance that lets it go
 abbrev pub let_go_at : State → ℕ → Instance → Value → Result State Cause

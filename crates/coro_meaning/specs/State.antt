@@ -1,5 +1,5 @@
 -- Reading and changing the state of a run.
-use Rattle.std.specs.Prelude.{ℕ, suc, Bool, true, false, List, [], ℤ, slice_get, slice_set, Some, None, Ok, Err, Option, Result, unwrap_or, option_map, option_and_then, ◌+◌, ◌&&◌, ◌∷◌, if◌then◌else◌, ◌==◌}
+use Rattle.std.specs.Prelude.{ℕ, Bool, true, false, List, slice_get, slice_set, None, Ok, Err, Option, Result, option_map, option_and_then, ◌+◌, ◌&&◌, ◌==◌}
 use Rattle.block_memory.specs.Pointers.{offset_of}
 use Rattle.block_memory.specs.declared.block.MemoryBlock.{MemoryBlock}
 use Rattle.block_memory.specs.declared.pointer.Pointer.{Pointer}
@@ -7,13 +7,13 @@ use Rattle.block_memory.specs.declared.pointer.Value.{Value}
 use Rattle.coro_base.specs.declared.cause.Cause.{Cause}
 use Rattle.coro_base.specs.declared.outcome.Outcome.{Outcome}
 use Rattle.coro_base.specs.declared.outcome.Place.{Place}
+pub use Rattle.coro_meaning.specs.Indexes.{last_from, or_else}
 use Rattle.coro_meaning.specs.declared.state.Instance.{Instance}
 use Rattle.coro_meaning.specs.declared.state.State.{State}
 use Rattle.coro_meaning.specs.declared.state.Status.{Status}
 use Rattle.ir_model.specs.Names.{function_at}
 use Rattle.ir_model.specs.declared.module.Frame.{Frame}
 use Rattle.ir_model.specs.declared.module.Function.{Function}
-use Rattle.ir_model.specs.declared.module.Module.{Module}
 use Rattle.ir_paths.specs.declared.point.Facts.{Facts}
 use Rattle.ir_paths.specs.declared.point.Point.{Point}
 use Rattle.ordinary_step.specs.Step.{Work, place_at, set_result}
@@ -99,15 +99,6 @@ numbered instances i = option_map (λ x. (i, x)) (slice_get instances i)
 -- the instance of the topmost activation
 abbrev pub own_instance : State → Option (ℕ × Instance)
 own_instance s = option_and_then (numbered s.instances) s.top.instance
-
-abbrev pub or_else : Option ℕ → Option ℕ → Option ℕ
-or_else (Some a) b = Some a
-or_else None b = b
-
--- the last instance that passes a test, numbered from a number on
-abbrev pub last_from : (Instance → Bool) → ℕ → List Instance → Option ℕ
-last_from test i [] = None
-last_from test i (x ∷ instances) = or_else (last_from test (suc i) instances) (if test x then Some i else None)
 
 abbrev pub last_where : (Instance → Bool) → List Instance → Option (ℕ × Instance)
 last_where test instances = option_and_then (numbered instances) (last_from test 0 instances)

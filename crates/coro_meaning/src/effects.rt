@@ -3,7 +3,7 @@
 ghost use Rattle.std.specs.Prelude.{◌≡◌, ◌+◌, IfErr, OnOk, OnErr, Ok, Err, IsFalse};
 ghost use Rattle.ordinary_step.specs.Effects.{is_new_slot};
 ghost use Rattle.ordinary_step.specs.Values.{arg_values};
-ghost use Rattle.coro_meaning.specs.Source.{coro as coro_by, continue};
+ghost use Rattle.coro_meaning.specs.Source.{coro as coro_by};
 ghost use Rattle.coro_meaning.specs.SourceEffects.{source_effect, given_of, IsStop, is_done};
 
 use crate::blocks::go_to;
@@ -11,7 +11,7 @@ use crate::calls::{enter, leave};
 use crate::ending::{end, frame_address, free, free_at};
 use crate::frames::{begin, give, number, save, suspend};
 use crate::promise::promise;
-use crate::resuming::{destroy, done, resume};
+use crate::resuming::{ByValues, GoesOn, destroy, done, resume};
 use crate::state::State;
 use block_memory::Value;
 use coro_base::{Cause, ValueId};
@@ -28,8 +28,9 @@ pub enum Stop {
 }
 
 /// A coro intrinsic ("Coroutines in LLVM", "Intrinsics").
-fn coro(
+pub fn coro<G: GoesOn>(
     alloc: Global,
+    by: &G,
     given: &SourceProgram,
     state: &mut State,
     next: usize,
@@ -38,8 +39,8 @@ fn coro(
     result_name: Option<ValueId>,
 ) -> Result<(), Stop>
     requires { next ≡ state.old.top.at + 1 }
-    ensures done { OnOk result (coro_by (given_of given.now) (continue (given_of given.now)) state.old intrinsic args.now (arg_values given.now.program.«module» state.old.top.values args.now) result_name ≡ Ok state.new) }
-    ensures refused { IfErr result (λ stop. IsStop stop (coro_by (given_of given.now) (continue (given_of given.now)) state.old intrinsic args.now (arg_values given.now.program.«module» state.old.top.values args.now) result_name)) }
+    ensures done { OnOk result (coro_by (given_of given.now) (G.goes by.now (given_of given.now)) state.old intrinsic args.now (arg_values given.now.program.«module» state.old.top.values args.now) result_name ≡ Ok state.new) }
+    ensures refused { IfErr result (λ stop. IsStop stop (coro_by (given_of given.now) (G.goes by.now (given_of given.now)) state.old intrinsic args.now (arg_values given.now.program.«module» state.old.top.values args.now) result_name)) }
     ensures kept { OnErr result (state.new ≡ state.old) }
 {
     let frame = given.frame(state.top.func);
@@ -105,11 +106,11 @@ fn coro(
         }
         Intrinsic::CoroResume => {
             let p = given.program.nth_value(&state.top.values, args, 0);
-            resume(alloc, given, state, next, p)
+            resume(alloc, by, given, state, next, p)
         }
         Intrinsic::CoroDestroy => {
             let p = given.program.nth_value(&state.top.values, args, 0);
-            destroy(alloc, given, state, next, p)
+            destroy(alloc, by, given, state, next, p)
         }
         Intrinsic::CoroDone => {
             let p = given.program.nth_value(&state.top.values, args, 0);
@@ -168,7 +169,18 @@ pub fn act(
             Ok(()) => Ok(()),
             Err(_) => Err(Stop::NoMemory),
         },
-        Effect::Coro(intrinsic) => coro(alloc, given, state, next, intrinsic, args, result_name),
+        Effect::Coro(intrinsic) => {
+            coro(
+                alloc,
+                &ByValues,
+                given,
+                state,
+                next,
+                intrinsic,
+                args,
+                result_name,
+            )
+        }
         Effect::Deallocate(p) => match free_at(state, next, p) {
             Ok(()) => Ok(()),
             Err(cause) => Err(Stop::Undefined(cause)),

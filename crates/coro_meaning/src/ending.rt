@@ -8,7 +8,7 @@ ghost use Rattle.block_memory.specs.declared.pointer.Pointer.{Pointer as ThePoin
 ghost use Rattle.block_memory.specs.declared.pointer.Value.{Value as TheValue};
 ghost use Rattle.ordinary_step.specs.Step.{without_slots};
 ghost use Rattle.coro_meaning.specs.State.{own_instance, gives};
-ghost use Rattle.coro_meaning.specs.Source.{deallocate as deallocate_at, end_of, finish as finish_own, frame_address as frame_address_of_own, may_be_freed as may_be_freed_now, release as release_own};
+ghost use Rattle.coro_meaning.specs.Source.{after_end as after_end_by, deallocate as deallocate_at, end_of, finish as finish_own, frame_address as frame_address_of_own, may_be_freed as may_be_freed_now, release as release_own};
 ghost use Rattle.coro_meaning.specs.SourceEffects.{let_go_at, deallocated_other};
 ghost use Rattle.coro_meaning.specs.declared.state.Instance.{Instance as TheInstance};
 
@@ -46,12 +46,11 @@ pub fn frame_address(state: &State) -> Value
     }
 }
 
-/// `llvm.coro.free`.
-pub fn free(state: &mut State, next: usize, result_name: Option<ValueId>)
+/// `llvm.coro.free`, which gives an address.
+pub fn release_with(state: &mut State, next: usize, result_name: Option<ValueId>, address: Value)
     requires { next ≡ state.old.top.at + 1 }
-    ensures { state.new ≡ gives (release_own state.old) result_name (frame_address_of_own (own_instance state.old)) }
+    ensures { state.new ≡ gives (release_own state.old) result_name address }
 {
-    let address = frame_address(state);
     if let Some(i) = state.top.instance {
         if let Some(_) = state.instances.get(i) {
             state.instances.release(i);
@@ -60,8 +59,17 @@ pub fn free(state: &mut State, next: usize, result_name: Option<ValueId>)
     give(state, next, result_name, address);
 }
 
+/// `llvm.coro.free`.
+pub fn free(state: &mut State, next: usize, result_name: Option<ValueId>)
+    requires { next ≡ state.old.top.at + 1 }
+    ensures { state.new ≡ gives (release_own state.old) result_name (frame_address_of_own (own_instance state.old)) }
+{
+    let address = frame_address(state);
+    release_with(state, next, result_name, address);
+}
+
 /// The instance of the topmost activation is Finished, and its slots die.
-fn finish(state: &mut State)
+pub fn finish(state: &mut State)
     ensures { state.new ≡ finish_own state.old }
 {
     if let Some(i) = state.top.instance {
@@ -69,6 +77,17 @@ fn finish(state: &mut State)
             kill_all(&mut state.world.memory, &instance.slots);
             state.instances.finish(i);
         }
+    }
+}
+
+/// Behind the end a resumed activation returns, and any other goes on.
+pub fn after_end(state: &mut State, next: usize, result_name: Option<ValueId>)
+    requires { next ≡ state.old.top.at + 1 }
+    ensures { after_end_by state.old result_name state.old.top.mode ≡ Ok state.new }
+{
+    match state.top.mode {
+        Mode::Resumed => come_back(state),
+        _ => give(state, next, result_name, truth(false)),
     }
 }
 
@@ -80,10 +99,7 @@ pub fn end(state: &mut State, next: usize, result_name: Option<ValueId>)
     if !state.top.has_left {
         finish(state);
     }
-    match state.top.mode {
-        Mode::Resumed => come_back(state),
-        _ => give(state, next, result_name, truth(false)),
-    }
+    after_end(state, next, result_name);
 }
 
 /// Whether one of the slots is a block.

@@ -9,7 +9,7 @@ ghost use Rattle.ordinary_step.specs.Values.{integer};
 ghost use Rattle.coro_meaning.specs.State.{gives, with_memory};
 ghost use Rattle.source_program.specs.Given.{facts_at};
 ghost use Rattle.coro_meaning.specs.Source.{begin as begin_with, begun, is_among, save as save_here, save_for as save_for_suspend, suspend as suspend_with};
-ghost use Rattle.coro_meaning.specs.SourceEffects.{given_of, IsStop};
+ghost use Rattle.coro_meaning.specs.SourceEffects.{given_of, IsStop, begin_in as begin_in_kind};
 
 use crate::blocks::point_of;
 use crate::effects::Stop;
@@ -96,6 +96,34 @@ fn begin_at(
     Ok(())
 }
 
+/// `llvm.coro.begin` at the start of a block of a kind, which becomes owned.
+pub fn begin_in(
+    alloc: Global,
+    given: &SourceProgram,
+    state: &mut State,
+    next: usize,
+    result_name: Option<ValueId>,
+    mem: Value,
+    kind: Kind,
+) -> Result<(), Stop>
+    requires { next ≡ state.old.top.at + 1 }
+    ensures done { OnOk result (begin_in_kind (given_of given.now) state.old result_name mem kind ≡ Ok state.new) }
+    ensures refused { IfErr result (λ stop. IsStop stop (begin_in_kind (given_of given.now) state.old result_name mem kind)) }
+    ensures kept { OnErr result (state.new ≡ state.old) }
+{
+    let Value::Ptr(Pointer::At(block, offset)) = mem else {
+        return Err(Stop::Undefined(Cause::Begin));
+    };
+    let size = given.frame(state.top.func).size;
+    if !state.world.memory.may_own(block, offset, size, kind) {
+        return Err(Stop::Undefined(Cause::Begin));
+    }
+    match begin_at(alloc, given, state, next, result_name, mem, block, size) {
+        Ok(()) => Ok(()),
+        Err(_) => Err(Stop::NoMemory),
+    }
+}
+
 /// `llvm.coro.begin`.
 pub fn begin(
     alloc: Global,
@@ -113,24 +141,11 @@ pub fn begin(
     if state.top.instance.is_some() {
         return Err(Stop::Undefined(Cause::Begin));
     }
-    let Value::Ptr(Pointer::At(block, offset)) = mem else {
-        return Err(Stop::Undefined(Cause::Begin));
-    };
-    let size = given.frame(state.top.func).size;
-    if !state
-        .world
-        .memory
-        .may_own(block, offset, size, Kind::Allocator)
-    {
-        return Err(Stop::Undefined(Cause::Begin));
-    }
-    match begin_at(alloc, given, state, next, result_name, mem, block, size) {
-        Ok(()) => Ok(()),
-        Err(_) => Err(Stop::NoMemory),
-    }
+    begin_in(alloc, given, state, next, result_name, mem, Kind::Allocator)
 }
 
-fn copied_values(
+/// Values with the same data.
+pub fn copied_values(
     alloc: Global,
     values: &[Option<Value>],
 ) -> Result<Items<Option<Value>>, AllocError>

@@ -1,7 +1,8 @@
 //! The coroutines that were started.
 
-ghost use Rattle.std.specs.Prelude.{◌≡◌, ℕ, List, [], ◌∷◌, ◌++◌, length, slice_get, slice_set, MatchOption, None, Some, OnOk, OnErr, IfSome, true, option_and_then, if◌then◌else◌};
+ghost use Rattle.std.specs.Prelude.{◌≡◌, ◌<◌, ℕ, List, [], ◌∷◌, ◌++◌, length, slice_get, slice_set, MatchOption, None, Some, OnOk, OnErr, IfSome, true, option_and_then, if◌then◌else◌};
 ghost use Rattle.coro_meaning.specs.State.{instance_at, numbered, last_from, began_at};
+ghost use Rattle.coro_meaning.specs.Indexes.{last_of, number_at};
 ghost use Rattle.coro_meaning.specs.Source.{new_instance};
 ghost use Rattle.coro_meaning.specs.declared.state.Instance.{Instance as TheInstance};
 ghost use Rattle.coro_meaning.specs.declared.state.Status.{Status as TheStatus};
@@ -17,31 +18,59 @@ use ordinary_step::{Slot, Stack};
 use std::alloc::{AllocError, AllocFailed, Global};
 use std::mem;
 
-/// Whether an instance began at an offset of a block.
-fn has_begun_at(instance: &Instance, block: BlockId, offset: u64) -> bool
-    ensures { result ≡ began_at block offset instance.now }
+/// The number at a position of a table, if there is one.
+fn number_in(table: &[Option<usize>], at: usize) -> Option<usize>
+    ensures { result ≡ number_at table.now at }
 {
-    instance.block == block && instance.start == offset
-}
-
-/// A number where a test holds, else what was found before.
-fn later(found: Option<usize>, number: usize, holds: bool) -> Option<usize>
-    ensures { result ≡ (if holds then Some number else found) }
-{
-    if holds { Some(number) } else { found }
-}
-
-/// The number of the last instance that began at an offset of a block.
-fn last_begun(instances: &[Instance], block: BlockId, offset: u64) -> Option<usize>
-    ensures number { result ≡ last_from (began_at block offset) 0 instances.now }
-    ensures there { IfSome result (λ i. (x : TheInstance) → slice_get instances.now i ≡ Some x → began_at block offset x ≡ true) }
-{
-    let mut found = None;
-    for i in 0..instances.len() {
-        let holds = has_begun_at(&instances[i], block, offset);
-        found = later(found, i, holds);
+    match table.get(at) {
+        None => None,
+        Some(number) => *number,
     }
-    found
+}
+
+/// Makes a table long enough for a position, with nothing at those that are new.
+fn reach(table: &mut Vec<Option<usize>>, at: usize) -> Result<(), AllocError>
+    ensures same { (i : ℕ) → number_at table.new.items i ≡ number_at table.old.items i }
+    ensures reached { OnOk result (at < length table.new.items) }
+{
+    while table.len() <= at {
+        table.push(None)?;
+    }
+    Ok(())
+}
+
+fn set_status(instance: &mut Instance, status: Status)
+    ensures { instance.new ≡ record instance.old { status = status } }
+{
+    instance.status = status;
+}
+
+/// An instance is Suspended at a point, with the values that are kept there.
+fn sleep(instance: &mut Instance, suspend: Point, values: Items<Option<Value>>, saved: Saved)
+    ensures { instance.new ≡ record instance.old { status = TheStatus.Suspended suspend values; last_save = Some saved } }
+{
+    instance.status = Status::Suspended(suspend, values);
+    instance.last_save = Some(saved);
+}
+
+/// Takes the kept values out of a Suspended instance, which is Running then.
+fn wake(alloc: Global, instance: &mut Instance) -> Items<Option<Value>>
+    ensures taken { (suspend : ThePoint) (values : Env) → instance.old.status ≡ TheStatus.Suspended suspend values → result ≡ values }
+    ensures left { instance.new ≡ record instance.old { status = TheStatus.Running } }
+{
+    match mem::replace(&mut instance.status, Status::Running) {
+        Status::Suspended(_, values) => values,
+        _ => Items::new(alloc),
+    }
+}
+
+/// Takes the newest of an instance's slots away.
+fn drop_slot(instance: &mut Instance)
+    ensures dropped { (slot : TheSlot) (slots : List TheSlot) → instance.old.slots ≡ slot ∷ slots → instance.new ≡ record instance.old { slots = slots } }
+    ensures block { instance.new.block ≡ instance.old.block }
+    ensures start { instance.new.start ≡ instance.old.start }
+{
+    let _ = instance.slots.pop();
 }
 
 impl Instances {
@@ -51,6 +80,8 @@ impl Instances {
     {
         Instances {
             list: Vec::new(alloc),
+            last: Vec::new(alloc),
+            earlier: Vec::new(alloc),
         }
     }
 
@@ -80,7 +111,32 @@ impl Instances {
         ensures number { result ≡ last_from (began_at block offset) 0 self.now }
         ensures there { IfSome result (λ i. (x : TheInstance) → slice_get self.now i ≡ Some x → began_at block offset x ≡ true) }
     {
-        last_begun(self.list.as_slice(), block, offset)
+        if offset == 0 {
+            number_in(self.last.as_slice(), block)
+        } else {
+            None
+        }
+    }
+
+    /// All frames start at 0 of their blocks.
+    pub fn start_at_zero(&self)
+        ensures { (i : ℕ) (x : TheInstance) → slice_get self.now i ≡ Some x → x.start ≡ 0 }
+    {
+        let _ = &self.list;
+    }
+
+    /// The number of the last instance that began in a block.
+    pub fn last_in(&self, block: BlockId) -> Option<usize>
+        ensures { result ≡ last_of block (length self.now) self.now }
+    {
+        number_in(self.last.as_slice(), block)
+    }
+
+    /// The number of the instance that began before one in the same block.
+    pub fn before(&self, i: usize) -> Option<usize>
+        ensures { (x : TheInstance) → slice_get self.now i ≡ Some x → result ≡ last_of x.block i self.now }
+    {
+        number_in(self.earlier.as_slice(), i)
     }
 
     /// The number of the instance whose frame address a value is.
@@ -103,7 +159,10 @@ impl Instances {
         ensures ok { OnOk result (self.new ≡ self.old ++ (record (new_instance coroutine block 0) { slots = slots }) ∷ []) }
         ensures err { OnErr result (self.new ≡ self.old) }
     {
-        self.list.push(Instance {
+        let i = self.list.len();
+        reach(&mut self.last, block)?;
+        self.earlier.push(number_in(self.last.as_slice(), block))?;
+        let begun = self.list.push(Instance {
             coroutine,
             block,
             start: 0,
@@ -112,8 +171,17 @@ impl Instances {
             last_save: None,
             released: false,
             freed: false,
-        })?;
-        Ok(())
+        });
+        match begun {
+            Ok(()) => {
+                self.last[block] = Some(i);
+                Ok(())
+            }
+            Err(_) => {
+                let _ = self.earlier.pop();
+                Err(AllocError)
+            }
+        }
     }
 
     /// An instance is Running, and what was kept in it is let go.
@@ -121,7 +189,7 @@ impl Instances {
         ensures { (x : TheInstance) → slice_get self.old i ≡ Some x → self.new ≡ slice_set self.old i (record x { status = TheStatus.Running }) }
     {
         if i < self.list.len() {
-            self.list[i].status = Status::Running;
+            set_status(&mut self.list[i], Status::Running);
         }
     }
 
@@ -130,7 +198,7 @@ impl Instances {
         ensures { (x : TheInstance) → slice_get self.old i ≡ Some x → self.new ≡ slice_set self.old i (record x { status = TheStatus.Finished }) }
     {
         if i < self.list.len() {
-            self.list[i].status = Status::Finished;
+            set_status(&mut self.list[i], Status::Finished);
         }
     }
 
@@ -139,9 +207,7 @@ impl Instances {
         ensures { (x : TheInstance) → slice_get self.old i ≡ Some x → self.new ≡ slice_set self.old i (record x { status = TheStatus.Suspended suspend values; last_save = Some saved }) }
     {
         if i < self.list.len() {
-            let x = &mut self.list[i];
-            x.status = Status::Suspended(suspend, values);
-            x.last_save = Some(saved);
+            sleep(&mut self.list[i], suspend, values, saved);
         }
     }
 
@@ -150,7 +216,7 @@ impl Instances {
         ensures { (x : TheInstance) → slice_get self.old i ≡ Some x → self.new ≡ slice_set self.old i (record x { status = TheStatus.Suspended suspend values }) }
     {
         if i < self.list.len() {
-            self.list[i].status = Status::Suspended(suspend, values);
+            set_status(&mut self.list[i], Status::Suspended(suspend, values));
         }
     }
 
@@ -160,10 +226,7 @@ impl Instances {
         ensures left { (x : TheInstance) → slice_get self.old i ≡ Some x → self.new ≡ slice_set self.old i (record x { status = TheStatus.Running }) }
     {
         if i < self.list.len() {
-            match mem::replace(&mut self.list[i].status, Status::Running) {
-                Status::Suspended(_, values) => values,
-                _ => Items::new(alloc),
-            }
+            wake(alloc, &mut self.list[i])
         } else {
             Items::new(alloc)
         }
@@ -203,7 +266,7 @@ impl Instances {
         ensures { (x : TheInstance) (slot : TheSlot) (slots : List TheSlot) → slice_get self.old i ≡ Some x → x.slots ≡ slot ∷ slots → self.new ≡ slice_set self.old i (record x { slots = slots }) }
     {
         if i < self.list.len() {
-            let _ = self.list[i].slots.pop();
+            drop_slot(&mut self.list[i]);
         }
     }
 }

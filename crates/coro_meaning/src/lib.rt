@@ -3,19 +3,20 @@
 #![tactic(auto)]
 
 mod blocks;
-mod calls;
-mod effects;
-mod ending;
-mod frames;
+pub mod calls;
+pub mod effects;
+pub mod ending;
+pub mod frames;
 mod instances;
 mod machine;
-mod progress;
-mod promise;
-mod resuming;
-mod starting;
+pub mod progress;
+pub mod promise;
+pub mod resuming;
+pub mod starting;
 mod state;
-mod stepping;
+pub mod stepping;
 
+pub use effects::Stop;
 pub use machine::SourceMachine;
 pub use progress::Progress;
 pub use state::{Activation, Instance, Instances, Mode, Saved, State, Status};

@@ -34,7 +34,8 @@ pub fn outcome_progress(outcome: Outcome) -> Progress
     }
 }
 
-fn is_over(outcome: Outcome) -> bool
+/// Whether a run of an outcome is over.
+pub fn is_over(outcome: Outcome) -> bool
     ensures { result ≡ is_over_outcome outcome }
 {
     match outcome {

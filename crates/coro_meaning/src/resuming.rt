@@ -5,8 +5,9 @@ ghost use Rattle.ordinary_step.specs.Values.{Env};
 ghost use Rattle.coro_meaning.specs.declared.state.Activation.{Activation as TheActivation};
 ghost use Rattle.coro_meaning.specs.declared.state.Instance.{Instance as TheInstance};
 ghost use Rattle.coro_meaning.specs.declared.state.Status.{Status as TheStatus};
-ghost use Rattle.coro_meaning.specs.Source.{sleeper_at, continue, resume as resume_by, destroy as destroy_by, done_at};
+ghost use Rattle.coro_meaning.specs.Source.{sleeper_at, Continues, continue, resume as resume_by, destroy as destroy_by, done_at};
 ghost use Rattle.coro_meaning.specs.SourceEffects.{given_of, IsStop, IsSleeping, woken as woken_with};
+ghost use Rattle.source_program.specs.Given.{Given};
 
 use crate::blocks::enter_block;
 use crate::calls::push;
@@ -50,15 +51,15 @@ fn sleeping_at(state: &State, p: Value) -> Result<Sleeping, Cause>
     }
 }
 
-/// An activation of a suspended instance, without values yet.
-fn woken(alloc: Global, sleeping: Sleeping) -> Activation
-    ensures { result ≡ woken_with sleeping [] }
+/// An activation of a suspended instance, with values.
+pub fn woken(alloc: Global, sleeping: Sleeping, values: Items<Option<Value>>) -> Activation
+    ensures { result ≡ woken_with sleeping values }
 {
     Activation {
         func: sleeping.coroutine,
         block: sleeping.suspend.block,
         at: sleeping.suspend.at,
-        values: Items::new(alloc),
+        values,
         slots: Stack::new(alloc),
         result: None,
         mode: Mode::Resumed,
@@ -81,8 +82,8 @@ fn fall_asleep(alloc: Global, state: &mut State, sleeping: Sleeping, at: usize)
     }
 }
 
-/// Goes on behind a suspend, at a label.
-fn go_on(
+/// Goes on with the kept values.
+fn go_on_with_values(
     alloc: Global,
     given: &SourceProgram,
     state: &mut State,
@@ -95,7 +96,7 @@ fn go_on(
     ensures kept { (x : TheInstance) (values : Env) → slice_get state.old.instances sleeping.instance ≡ Some x → x.status ≡ TheStatus.Suspended sleeping.suspend values → OnErr result (state.new ≡ state.old) }
 {
     let at = state.top.at;
-    push(state, next, woken(alloc, sleeping))?;
+    push(state, next, woken(alloc, sleeping, Items::new(alloc)))?;
     state.top.values = state.instances.wake(alloc, sleeping.instance);
     match enter_block(alloc, given, state, label) {
         Ok(()) => Ok(()),
@@ -106,17 +107,57 @@ fn go_on(
     }
 }
 
+/// How a run goes on at a label behind the suspend of an instance. Where there is no memory for it, nothing changes.
+pub trait GoesOn {
+    ghost goes: { Self → Given → Continues };
+
+    /// Goes on at a label.
+    fn go_on(
+        &self,
+        alloc: Global,
+        given: &SourceProgram,
+        state: &mut State,
+        next: usize,
+        sleeping: Sleeping,
+        label: ValueId,
+    ) -> Result<(), AllocError>
+        requires { next ≡ state.old.top.at + 1 }
+        ensures done { (x : TheInstance) (values : Env) → slice_get state.old.instances sleeping.instance ≡ Some x → x.coroutine ≡ sleeping.coroutine → x.status ≡ TheStatus.Suspended sleeping.suspend values → OnOk result (state.new ≡ goes self.now (given_of given.now) state.old sleeping.instance x sleeping.suspend values label) }
+        ensures kept { (x : TheInstance) (values : Env) → slice_get state.old.instances sleeping.instance ≡ Some x → x.status ≡ TheStatus.Suspended sleeping.suspend values → OnErr result (state.new ≡ state.old) };
+}
+
+/// A source goes on with the kept values.
+#[derive(Clone, Copy, Debug, Drop)]
+pub struct ByValues;
+
+impl GoesOn for ByValues {
+    ghost goes = { λ _ g. continue g };
+
+    fn go_on(
+        &self,
+        alloc: Global,
+        given: &SourceProgram,
+        state: &mut State,
+        next: usize,
+        sleeping: Sleeping,
+        label: ValueId,
+    ) -> Result<(), AllocError> {
+        go_on_with_values(alloc, given, state, next, sleeping, label)
+    }
+}
+
 /// `llvm.coro.resume`.
-pub fn resume(
+pub fn resume<G: GoesOn>(
     alloc: Global,
+    by: &G,
     given: &SourceProgram,
     state: &mut State,
     next: usize,
     p: Value,
 ) -> Result<(), Stop>
     requires { next ≡ state.old.top.at + 1 }
-    ensures done { OnOk result (resume_by (given_of given.now) (continue (given_of given.now)) state.old p ≡ Ok state.new) }
-    ensures refused { IfErr result (λ stop. IsStop stop (resume_by (given_of given.now) (continue (given_of given.now)) state.old p)) }
+    ensures done { OnOk result (resume_by (given_of given.now) (G.goes by.now (given_of given.now)) state.old p ≡ Ok state.new) }
+    ensures refused { IfErr result (λ stop. IsStop stop (resume_by (given_of given.now) (G.goes by.now (given_of given.now)) state.old p)) }
     ensures kept { OnErr result (state.new ≡ state.old) }
 {
     let sleeping = match sleeping_at(state, p) {
@@ -127,23 +168,24 @@ pub fn resume(
         return Err(Stop::Undefined(Cause::State));
     }
     let label = given.resume_label(sleeping.coroutine, sleeping.suspend);
-    match go_on(alloc, given, state, next, sleeping, label) {
+    match by.go_on(alloc, given, state, next, sleeping, label) {
         Ok(()) => Ok(()),
         Err(_) => Err(Stop::NoMemory),
     }
 }
 
 /// `llvm.coro.destroy`.
-pub fn destroy(
+pub fn destroy<G: GoesOn>(
     alloc: Global,
+    by: &G,
     given: &SourceProgram,
     state: &mut State,
     next: usize,
     p: Value,
 ) -> Result<(), Stop>
     requires { next ≡ state.old.top.at + 1 }
-    ensures done { OnOk result (destroy_by (given_of given.now) (continue (given_of given.now)) state.old p ≡ Ok state.new) }
-    ensures refused { IfErr result (λ stop. IsStop stop (destroy_by (given_of given.now) (continue (given_of given.now)) state.old p)) }
+    ensures done { OnOk result (destroy_by (given_of given.now) (G.goes by.now (given_of given.now)) state.old p ≡ Ok state.new) }
+    ensures refused { IfErr result (λ stop. IsStop stop (destroy_by (given_of given.now) (G.goes by.now (given_of given.now)) state.old p)) }
     ensures kept { OnErr result (state.new ≡ state.old) }
 {
     let sleeping = match sleeping_at(state, p) {
@@ -151,7 +193,7 @@ pub fn destroy(
         Err(cause) => return Err(Stop::Undefined(cause)),
     };
     let label = given.destroy_label(sleeping.coroutine, sleeping.suspend);
-    match go_on(alloc, given, state, next, sleeping, label) {
+    match by.go_on(alloc, given, state, next, sleeping, label) {
         Ok(()) => Ok(()),
         Err(_) => Err(Stop::NoMemory),
     }

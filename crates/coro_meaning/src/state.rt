@@ -49,19 +49,25 @@ pub struct Instance {
     pub freed: bool,
 }
 
-/// The started coroutines, in the order of their begins.
+/// The started coroutines, in the order of their begins. Tables have for each block the last of them that began in it, and
+/// for each of them the one that began before it in the same block.
 #[derive(Drop)]
 pub struct Instances {
     pub(crate) list: Vec<Instance>,
+    pub(crate) last: Vec<Option<usize>>,
+    pub(crate) earlier: Vec<Option<usize>>,
 }
 
 impl Model for Instances {
     ghost use Rattle.std.specs.Prelude.{List};
+    ghost use Rattle.coro_meaning.specs.Indexes.{AreIndexed};
     ghost use Rattle.coro_meaning.specs.declared.state.Instance.{Instance as TheInstance};
 
     ghost Value = { List TheInstance };
 
     ghost view = { λ x. x.list.items };
+
+    ghost invariant = { λ x. AreIndexed x.list.items x.last.items x.earlier.items };
 }
 
 /// A function in execution, at an instruction of a block. The value that it returns goes to `result` of the activation

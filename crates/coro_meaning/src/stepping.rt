@@ -1,15 +1,15 @@
 //! One step of a source run.
 
 ghost use Rattle.std.specs.Prelude.{◌≡◌, ◌+◌, IfErr, OnOk, OnErr, Ok, IsTrue, not, length, if◌then◌else◌};
-ghost use Rattle.block_memory.specs.Memory.{killed};
+ghost use Rattle.block_memory.specs.Memory.{Rights, killed};
 ghost use Rattle.coro_base.specs.declared.outcome.Outcome.{Outcome as TheOutcome};
 ghost use Rattle.ir_model.specs.declared.instr.Instr.{Instr as TheInstr};
 ghost use Rattle.ordinary_step.specs.Step.{instr_action, action_of, fetch};
-ghost use Rattle.ordinary_step.specs.Effects.{is_alloca};
+ghost use Rattle.ordinary_step.specs.Effects.{context, is_alloca};
 ghost use Rattle.coro_meaning.specs.declared.stepping.Owner.{Owner as TheOwner};
 ghost use Rattle.coro_meaning.specs.State.{function_of, work_of};
 ghost use Rattle.coro_meaning.specs.Source.{act as act_by, context_of, continue, step};
-ghost use Rattle.coro_meaning.specs.SourceEffects.{IsOwner, IsStop, given_of};
+ghost use Rattle.coro_meaning.specs.SourceEffects.{IsOwner, IsStop, given_of, own_slot};
 
 use crate::effects::{Stop, act};
 use crate::promise::is_over;
@@ -48,7 +48,7 @@ fn owner_of(given: &SourceProgram, state: &State, alloca: ValueId) -> Owner
 }
 
 /// An alloca of the topmost activation's own, whose slot is put down first.
-fn alloca_own(
+pub fn alloca_own(
     alloc: Global,
     given: &SourceProgram,
     state: &mut State,
@@ -59,9 +59,8 @@ fn alloca_own(
 ) -> Result<(), Stop>
     requires behind { next ≡ state.old.top.at + 1 }
     requires fresh { slot.block ≡ length state.old.world.memory }
-    requires owner { IsOwner (given_of given.now) state.old slot.alloca TheOwner.Own }
-    ensures done { OnOk result (act_by (given_of given.now) (continue (given_of given.now)) state.old (instr_action (context_of (given_of given.now) state.old) (work_of state.old) (TheInstr.Alloca slot.alloca ty.now align)) ≡ Ok state.new) }
-    ensures refused { IfErr result (λ stop. IsStop stop (act_by (given_of given.now) (continue (given_of given.now)) state.old (instr_action (context_of (given_of given.now) state.old) (work_of state.old) (TheInstr.Alloca slot.alloca ty.now align)))) }
+    ensures done { (rights : Rights) → OnOk result (own_slot state.old (instr_action (context given.now.program.«module» given.now.program.answers rights (function_of (given_of given.now) state.old)) (work_of state.old) (TheInstr.Alloca slot.alloca ty.now align)) ≡ Ok state.new) }
+    ensures refused { (rights : Rights) → IfErr result (λ stop. IsStop stop (own_slot state.old (instr_action (context given.now.program.«module» given.now.program.answers rights (function_of (given_of given.now) state.old)) (work_of state.old) (TheInstr.Alloca slot.alloca ty.now align)))) }
     ensures kept { OnErr result (state.new ≡ state.old) }
 {
     let Ok(()) = state.top.slots.push(slot) else {

@@ -4,3 +4,4 @@ pub mod Operands
 pub mod MarkTables
 pub mod FramePositions
 pub mod Looked
+pub mod Tokens

@@ -88,7 +88,7 @@ point-first test block at [] rest k e = absurd cc
 point-first test block at (i ∷ is) rest k e =
     point-by (test i) block at (points_from test block (suc at) is) rest (first_where test is) k e (λ j f. point-first test block (suc at) is rest j f)
 
-blocks-at : (test : Instr → Bool) (blocks : List Block) (block : ℕ) (b : Block) → block < length blocks → b ≡ get_or blocks block b → points_in test block (drop block blocks) ≡ points_from test block 0 b.instrs ++ points_in test (block + 1) (drop (block + 1) blocks)
+pub blocks-at : (test : Instr → Bool) (blocks : List Block) (block : ℕ) (b : Block) → block < length blocks → b ≡ get_or blocks block b → points_in test block (drop block blocks) ≡ points_from test block 0 b.instrs ++ points_in test (block + 1) (drop (block + 1) blocks)
 blocks-at test blocks block b lt e =
     let one : suc block ≡ block + 1 = omega arith in
     ap (points_in test block) (drop-next blocks block b lt e)

@@ -1,3 +1,4 @@
 pub mod Given
 pub mod Lookups
+pub mod Suspends
 pub mod Tables

@@ -7,6 +7,7 @@ use Rattle.ir_paths.specs.Slots.{promise_of}
 use Rattle.ir_paths.specs.declared.point.Facts.{Facts}
 use Rattle.ir_paths.specs.declared.point.Window.{Window}
 use Rattle.source_program.specs.Given.{has_final}
+use Rattle.source_program.specs.Suspends.{HasSuspends}
 use Rattle.source_program.specs.Given.{facts_at, frame_of}
 use Rattle.source_program.specs.declared.table.SourceTable.{SourceTable}
 
@@ -19,6 +20,7 @@ pub record IsSourceTableOf (f : Function) (ws : List Window) (slots : List ℕ) 
   pub promise : table.promise ≡ promise_of f
   pub has_final : table.has_final ≡ has_final f
   pub ramp_slots : HasMarks table.ramp_slots (λ n. list_any (λ a. n == a) slots)
+  pub suspends : HasSuspends f table.suspends
   pub windows : HasMarks table.windows (λ n. list_any (λ w. list_any (λ p. n == p.block) w.inside) ws)
 
 -- the tables of all functions, in their order

@@ -4,8 +4,9 @@
 mod points;
 mod program;
 mod shape;
+mod suspends;
 mod table;
 
 pub use points::{is_none_at, is_true_at, leaves, same_point};
 pub use program::SourceProgram;
-pub use shape::{args_of, result_of};
+pub use shape::{Sought, args_of, first_point, result_at, result_of};

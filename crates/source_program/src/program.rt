@@ -1,20 +1,20 @@
 //! A module as a source machine runs it.
 
-ghost use Rattle.std.specs.Prelude.{◌≡◌, ◌==◌, IfOk, filter, false, []};
+ghost use Rattle.std.specs.Prelude.{◌≡◌, ◌==◌, IfOk, filter, false, [], Some, slice_get};
 ghost use Rattle.ir_paths.specs.declared.point.Point.{Point as ThePoint};
 ghost use Rattle.std.specs.List.{list_any};
 ghost use Rattle.ir_model.specs.Names.{function_at};
 ghost use Rattle.ir_paths.specs.Slots.{promise_of as promise_of_function};
-ghost use Rattle.ir_paths.specs.Windows.{leaves, suspend_of as suspend_of_save, resume_label as resume_label_of, destroy_label as destroy_label_of};
+ghost use Rattle.ir_paths.specs.Windows.{leaves, is_suspend_of, points_where, suspend_of as suspend_of_save, resume_label as resume_label_of, destroy_label as destroy_label_of};
 ghost use Rattle.source_program.specs.Given.{facts_at, frame_of};
 ghost use Rattle.source_program.specs.Tables.{AreFramesOf, HaveSourceTables, frame_or as frame_or_none};
 ghost use Rattle.source_program.specs.Given.{has_final as has_final_of, is_final as is_final_point};
 
 use crate::points::{destroy_label, is_final, resume_label};
-use crate::shape::{has_final, promise_of, suspend_of};
+use crate::shape::{has_final, promise_of, result_at, suspend_with};
 use crate::table::{SourceTable, all_tables, frames_by_function};
 use coro_base::{BlockId, FuncId, Items, ValueId};
-use ir_model::{Frame, Module};
+use ir_model::{Frame, Function, Module};
 use ir_paths::{Facts, Point};
 use ordinary_step::Program;
 use std::alloc::{AllocError, Global};
@@ -204,13 +204,30 @@ impl SourceProgram {
         }
     }
 
+    /// The first suspend of the function at a position that takes a token.
+    fn suspend_with(&self, func: FuncId, function: &Function, token: ValueId) -> Option<Point>
+        requires { slice_get self.now.program.module.functions func ≡ Some function.now }
+        ensures { result ≡ slice_get (points_where (is_suspend_of (Some token)) function.now) 0 }
+    {
+        match self.tables.get(func) {
+            None => suspend_with(function, token),
+            Some(table) => match table.suspends.get(token) {
+                None => suspend_with(function, token),
+                Some(found) => *found,
+            },
+        }
+    }
+
     /// The suspend that takes the token of a save.
     pub fn suspend_of(&self, func: FuncId, save: Point) -> Option<Point>
         ensures { result ≡ suspend_of_save (function_at self.now.program.module func) save }
     {
         match self.program.module.functions.get(func) {
             None => None,
-            Some(function) => suspend_of(function, save),
+            Some(function) => match result_at(function, save) {
+                None => None,
+                Some(token) => self.suspend_with(func, function, token),
+            },
         }
     }
 

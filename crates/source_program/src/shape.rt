@@ -7,7 +7,7 @@ ghost use Rattle.ir_model.specs.Names.{first_where, is_local as is_local_operand
 ghost use Rattle.ir_model.specs.declared.instr.Instr.{Instr as TheInstr};
 ghost use Rattle.ir_paths.specs.declared.point.Point.{Point as ThePoint};
 ghost use Rattle.ir_paths.specs.Slots.{promise_of as promise_of_function, local_of as local_of_operand};
-ghost use Rattle.ir_paths.specs.Windows.{instr_at as instr_at_point, points_where, is_call_of as is_call_of_intrinsic, is_suspend_of as is_suspend_of_token, suspend_of as suspend_of_save, call_operand, call_result as call_result_of, operand_at};
+ghost use Rattle.ir_paths.specs.Windows.{instr_at as instr_at_point, points_where, is_call_of as is_call_of_intrinsic, is_suspend_of as is_suspend_of_token, call_operand, call_result as call_result_of, operand_at};
 ghost use Rattle.source_program.specs.Lookups.{args_of as args_of_call, sought, is_final_suspend as is_final_suspend_call, is_local_at};
 ghost use Rattle.source_program.specs.Given.{has_final as has_final_of};
 
@@ -109,7 +109,8 @@ fn local_of(operand: &Operand) -> Option<ValueId>
     }
 }
 
-fn local_at(args: &[Arg], i: usize) -> Option<ValueId>
+/// The name that the operand at a position of a call is.
+pub fn local_at(args: &[Arg], i: usize) -> Option<ValueId>
     ensures { result ≡ local_of_operand (operand_at args.now i) }
 {
     match operand_of(args, i) {
@@ -130,7 +131,7 @@ pub fn promise_of(function: &Function) -> Option<ValueId>
 }
 
 /// The result of the call at a point.
-fn result_at(function: &Function, p: Point) -> Option<ValueId>
+pub fn result_at(function: &Function, p: Point) -> Option<ValueId>
     ensures { result ≡ option_and_then (λ i. call_result_of i) (instr_at_point function.now p) }
 {
     match instr_at(function, p) {
@@ -159,14 +160,11 @@ pub fn result_of(instr: &Instr) -> Option<ValueId>
     }
 }
 
-/// The suspend that takes the token of a save.
-pub fn suspend_of(function: &Function, save: Point) -> Option<Point>
-    ensures { result ≡ suspend_of_save function.now save }
+/// The first suspend that takes a token.
+pub fn suspend_with(function: &Function, token: ValueId) -> Option<Point>
+    ensures { result ≡ slice_get (points_where (is_suspend_of_token (Some token)) function.now) 0 }
 {
-    match result_at(function, save) {
-        Some(token) => first_point(Sought::SuspendOf(token), function),
-        None => None,
-    }
+    first_point(Sought::SuspendOf(token), function)
 }
 
 fn has_final_in(instrs: &[Instr]) -> bool

@@ -7,17 +7,19 @@ ghost use Rattle.source_program.specs.Tables.{AreFramesOf, HaveSourceTables, IsS
 ghost use Rattle.source_program.specs.Given.{facts_at};
 
 use crate::shape::{has_final, promise_of};
+use crate::suspends::suspends_by_token;
 use coro_base::{Items, ValueId};
 use ir_model::{Frame, Function};
 use ir_paths::{Facts, Point, Window};
 use std::alloc::{AllocError, Global};
 
-/// Of a function the alloca of its promise, whether it has a final suspend, and marks of its ramp slots by their names and
-/// of the blocks in which a point of a window stands.
+/// Of a function the alloca of its promise, whether it has a final suspend, its suspends by the names of the tokens that they
+/// take, and marks of its ramp slots by their names and of the blocks in which a point of a window stands.
 #[derive(Drop)]
 pub struct SourceTable {
     pub promise: Option<ValueId>,
     pub has_final: bool,
+    pub suspends: Items<Option<Point>>,
     pub ramp_slots: Items<bool>,
     pub windows: Items<bool>,
 }
@@ -75,6 +77,7 @@ fn table_with(
     Ok(SourceTable {
         promise: promise_of(function),
         has_final: has_final(function),
+        suspends: suspends_by_token(alloc, function)?,
         ramp_slots: names,
         windows: blocks,
     })

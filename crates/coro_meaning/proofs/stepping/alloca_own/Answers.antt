@@ -1,26 +1,22 @@
 use Rattle.std.proofs.Common.{◌≡◌, ◌∙◌, ap, subst, Option, Some}
 use Rattle.std.specs.Prelude.{IfSome, length}
-use Rattle.block_memory.specs.Memory.{owner_rights}
 use Rattle.ordinary_step.specs.Effects.{slot_action, work}
 use Rattle.ordinary_step.specs.declared.world.Slot.{Slot}
-use Rattle.coro_meaning.specs.Source.{act, continue}
-use Rattle.coro_meaning.specs.SourceEffects.{given_of}
-use Rattle.coro_meaning.proofs.Slots.{own-placed}
+use Rattle.coro_meaning.specs.SourceEffects.{own_slot}
+use Rattle.coro_meaning.proofs.OwnSlots.{own-put}
 use Rattle.coro_meaning.proofs.stepping.alloca_own.Goals as goal
 
 pub returns-in-Some-clause-done : goal.returns-in-Some-clause-done
-returns-in-Some-clause-done c =
-    let g = given_of c.args.given.now in
+returns-in-Some-clause-done c = λ rights.
     let s = c.args.state.now in
     let w = work c.make_slot-made.new.world c.make_slot-made.new.values in
     let P : Option Slot → Type 0 = λ o. IfSome o (λ x. x ≡ record { alloca = c.args.slot.alloca; block = length s.world.memory }) in
-    own-placed g s w _ c.in-Some.field-0 c.args.slot c.args.next c.push.new.self
-    (c.in-Ok-made.ensures.done owner_rights ∙ ap (λ o. slot_action o w) c.in-Some.is)
+    own-put s w _ c.in-Some.field-0 c.args.slot c.args.next c.push.new.self
+    (c.in-Ok-made.ensures.done rights ∙ ap (λ o. slot_action o w) c.in-Some.is)
     (subst P c.in-Some.is c.in-Ok-made.ensures.slot)
-    c.requires.fresh c.in-Ok.ensures.ok c.requires.behind c.requires.owner
+    c.requires.fresh c.in-Ok.ensures.ok c.requires.behind
 
 pub returns-in-None-clause-refused : goal.returns-in-None-clause-refused
-returns-in-None-clause-refused c =
-    let g = given_of c.args.given.now in
+returns-in-None-clause-refused c = λ rights.
     let w = work c.make_slot-made.new.world c.make_slot-made.new.values in
-    ap (act g (continue g) c.args.state.now) (c.in-Ok-made.ensures.done owner_rights ∙ ap (λ o. slot_action o w) c.in-None.is)
+    ap (own_slot c.args.state.now) (c.in-Ok-made.ensures.done rights ∙ ap (λ o. slot_action o w) c.in-None.is)

@@ -5,7 +5,7 @@ use Rattle.coro_meaning.specs.declared.state.Instance.{Instance}
 use Rattle.coro_meaning.specs.declared.state.State.{State}
 use Rattle.coro_meaning.specs.declared.state.Status.{Status}
 use Rattle.coro_meaning.proofs.Sleeping.{asleep-again}
-use Rattle.coro_meaning.proofs.resuming.go_on.Goals as goal
+use Rattle.coro_meaning.proofs.resuming.go_on_with_values.Goals as goal
 
 pub returns-in-Err-clause-kept : goal.returns-in-Err-clause-kept
 returns-in-Err-clause-kept c = λ x values got status.
