@@ -4,14 +4,12 @@ use Rattle.std.specs.Prelude.{map, codes, slice_get, Some, None, Option, Result,
 use Rattle.agreement.specs.Machines.{Seen, SeenEvent}
 use Rattle.coro_base.specs.declared.outcome.Event.{Event}
 use Rattle.coro_base.specs.declared.outcome.Outcome.{Outcome}
-use Rattle.coro_cli.specs.Answers.{framed_call_answer, framed_run, plain_run, run_answer, run_verdict, seen_answer, shown, source_answer, source_run}
+use Rattle.coro_cli.specs.Answers.{plain_run, run_answer, run_verdict, seen_answer, shown, source_answer, source_run}
 use Rattle.coro_cli.specs.declared.verdict.Answer.{Answer}
 use Rattle.coro_cli.specs.declared.verdict.EntryCall.{EntryCall}
 use Rattle.coro_meaning.specs.Source.{state_at}
 use Rattle.coro_names.specs.Spelling.{spelling}
 use Rattle.coro_report.specs.Report.{declared_text, event_text, events_text, outcome_text, run_text, seen_event_text, seen_events_text, seen_text, words_text}
-use Rattle.frame_layout.specs.declared.layout.Layouts.{Layouts}
-use Rattle.framed_meaning.specs.Framed.{framed_given, framed_state_at}
 use Rattle.ir_model.specs.declared.module.Declaration.{Declaration}
 use Rattle.ir_model.specs.declared.module.Frame.{Frame}
 use Rattle.ir_model.specs.declared.module.Function.{Function}
@@ -55,12 +53,3 @@ source_is m sizes answers facts call steps have =
 pub source_by : {E : Type 0} (m : Module) (sizes : List Frame) (answers : List ℤ) (facts : List Facts) (call : EntryCall) (steps : ℕ) (functions : List Function) (r : Result Answer E) → functions ≡ m.functions → HaveFacts functions facts → IfOk r (λ a. a ≡ source_run (record { code = m; sizes = sizes; answers = answers; facts = facts }) call steps) → IfOk r (λ a. a ≡ source_answer m sizes answers call steps)
 source_by m sizes answers facts call steps functions (Ok a) same have is = is ∙ source_is m sizes answers facts call steps (subst (λ (fs : List Function). HaveFacts fs facts) same have)
 source_by m sizes answers facts call steps functions (Err e) same have is = is
-
-framed_is : (code : Module) (layouts : Layouts) (answers : List ℤ) (call : EntryCall) (steps : ℕ) → framed_run code layouts answers call steps ≡ framed_call_answer code layouts answers call steps
-framed_is code layouts answers call steps =
-    let s = framed_state_at (framed_given code layouts.coroutines answers) call.func call.args steps in
-    as_seen code s.world.events s.world.allocs s.outcome
-
-pub framed_by : {E : Type 0} (code : Module) (layouts : Layouts) (answers : List ℤ) (call : EntryCall) (steps : ℕ) (r : Result Answer E) → IfOk r (λ a. a ≡ framed_run code layouts answers call steps) → IfOk r (λ a. a ≡ framed_call_answer code layouts answers call steps)
-framed_by code layouts answers call steps (Ok a) is = is ∙ framed_is code layouts answers call steps
-framed_by code layouts answers call steps (Err e) is = is

@@ -18,7 +18,6 @@ use Rattle.coro_words.specs.declared.words.Form.{Form}
 use Rattle.coro_words.specs.declared.words.RunWords.{RunWords}
 use Rattle.coro_words.specs.declared.words.Words.{Words}
 use Rattle.coroutine_frames.specs.Report.{layout_text}
-use Rattle.framed_meaning.specs.Framed.{FramedAt, framed_given, framed_state_at}
 use Rattle.frame_layout.specs.declared.layout.Layout.{Layout}
 use Rattle.frame_layout.specs.declared.layout.Layouts.{Layouts}
 use Rattle.ir_ints.specs.Numbers.{word_of}
@@ -184,29 +183,6 @@ lowered_answer (Lowering.Syntax items) w = syntax_fault items
 lowered_answer (Lowering.Refused m rule place) w = refused m rule place
 lowered_answer (Lowering.Done l) w = run_lowered l w
 
--- the events and the outcome of a run of a framed module
-abbrev pub framed_run : Module → Layouts → List ℤ → EntryCall → ℕ → Answer
-framed_run code layouts answers call steps =
-    let s = framed_state_at (framed_given code layouts.coroutines answers) call.func call.args steps in
-    shown (run_verdict s.outcome) (run_text code s.world.events s.outcome)
-
--- what is seen of a framed module after so many steps
-abbrev pub framed_call_answer : Module → Layouts → List ℤ → EntryCall → ℕ → Answer
-framed_call_answer code layouts answers call steps = seen_answer code (FramedAt code layouts call.func call.args answers steps)
-
--- the source says whether the entry is callable; its framed form, whose functions are the source's, runs it
-abbrev pub framed_or : Lowered → RunWords → Option EntryCall → Answer
-framed_or l w None = not_callable w.entry
-framed_or l w (Some call) = framed_call_answer l.framed l.layouts w.answers call w.steps
-
-abbrev pub run_framed : Lowered → RunWords → Answer
-run_framed l w = framed_or l w (entry_call l.source w.entry w.args)
-
-abbrev pub framed_answer : Lowering → RunWords → Answer
-framed_answer (Lowering.Syntax items) w = syntax_fault items
-framed_answer (Lowering.Refused m rule place) w = refused m rule place
-framed_answer (Lowering.Done l) w = run_framed l w
-
 -- ---- run of a source
 
 abbrev pub size_of : Layout → Frame
@@ -289,7 +265,6 @@ pub record IsMadeOf (plain : Bool) (bytes : List ℕ) (make : Lowering → Answe
 abbrev pub IsRunAnswer : Form → List ℕ → RunWords → Answer → Type 0
 IsRunAnswer Form.Source bytes w a = IsSourceAnswer (read_module bytes) w a
 IsRunAnswer Form.Text bytes w a = IsTextAnswer (read_module bytes) w a
-IsRunAnswer Form.Framed bytes w a = IsMadeOf w.plain bytes (λ l. framed_answer l w) a
 IsRunAnswer Form.Lowered bytes w a = IsMadeOf w.plain bytes (λ l. lowered_answer l w) a
 
 -- ---- gen

@@ -1,7 +1,7 @@
 //! Runs of modules.
 
 ghost use Rattle.std.specs.Prelude.{◌≡◌, IfOk, map};
-ghost use Rattle.coro_cli.specs.Answers.{run_verdict, plain_run, run_answer, not_callable, run_module, size_of, sizes_of, framed_call_answer, framed_run, source_run, source_answer, source_or, entry_call};
+ghost use Rattle.coro_cli.specs.Answers.{run_verdict, plain_run, run_answer, not_callable, run_module, size_of, sizes_of, source_run, source_answer, source_or, entry_call};
 
 use crate::entry::entry_call;
 use crate::texts::{shown, told};
@@ -11,7 +11,6 @@ use coro_meaning::SourceMachine;
 use coro_report::{not_callable_text, run_text};
 use coro_words::RunWords;
 use frame_layout::{Layout, Layouts};
-use framed_meaning::FramedMachine;
 use ir_model::{Frame, Module};
 use ir_paths::Facts;
 use path_facts::all_facts;
@@ -148,36 +147,4 @@ pub fn run_source(
             )
         }
     }
-}
-
-fn framed_run(
-    alloc: Global,
-    code: Module,
-    layouts: &Layouts,
-    answers: &[i128],
-    call: &EntryCall,
-    steps: u64,
-) -> Result<Answer, AllocError>
-    ensures { IfOk result (λ a. a ≡ framed_run code layouts.now answers.now call.now steps) }
-{
-    let args = call.args.as_slice();
-    let mut machine = FramedMachine::start(alloc, code, layouts, call.func, args, answers)?;
-    let outcome = machine.run(steps)?;
-    let text = run_text(alloc, machine.code(), machine.events(), outcome)?;
-    Ok(shown(alloc, run_verdict(outcome), Items::from_vec(text)))
-}
-
-/// What is seen of a run of a framed module.
-#[tactic(auto, using(crate::proofs::Seen::framed_by))]
-pub fn framed_call_answer(
-    alloc: Global,
-    code: Module,
-    layouts: &Layouts,
-    answers: &[i128],
-    call: &EntryCall,
-    steps: u64,
-) -> Result<Answer, AllocError>
-    ensures { IfOk result (λ a. a ≡ framed_call_answer code layouts.now answers.now call.now steps) }
-{
-    framed_run(alloc, code, layouts, answers, call, steps)
 }

@@ -95,7 +95,6 @@ fn is_shown(rt: &HostRuntime, words: &str, text: &[u8], lines: &str) -> Result<b
 fn is_run(rt: &HostRuntime, text: &[u8], lines: &str) -> Result<bool> {
     Ok(
         is_shown(rt, "run --form source --entry main", text, lines)?
-            && is_shown(rt, "run --form framed --entry main", text, lines)?
             && is_shown(rt, "run --form lowered --entry main", text, lines)?
             && is_shown(rt, "run --plain --form lowered --entry main", text, lines)?,
     )
