@@ -253,8 +253,11 @@ coroutine_names c =
 
 -- ---- the function
 
+abbrev pub blocks_of_suspend : Coroutine → ℕ → List Block
+blocks_of_suspend c j = suspend_block c j ∷ destroy_block c j ∷ []
+
 abbrev pub suspend_blocks : Coroutine → List Block
-suspend_blocks c = each (λ j. suspend_block c j ∷ destroy_block c j ∷ []) c.suspends
+suspend_blocks c = each (blocks_of_suspend c) c.suspends
 
 abbrev pub coroutine_blocks : Coroutine → List Block
 coroutine_blocks c = entry_blocks c ++ suspend_blocks c ++ never_block c ∷ clean_block c ∷ end_block c ∷ []

@@ -1,7 +1,7 @@
 //! The function of a generated coroutine.
 
 ghost use Rattle.std.specs.Prelude.{◌≡◌, ◌++◌, IfOk, OnOk};
-ghost use Rattle.module_gen.specs.Suspending.{coroutine_blocks, coroutine_function, coroutine_name, suspend_blocks};
+ghost use Rattle.module_gen.specs.Suspending.{blocks_of_suspend, coroutine_blocks, coroutine_function, coroutine_name, suspend_blocks};
 
 use crate::coroutine::Coroutine;
 use crate::ending::{clean_block, end_block, never_block};
@@ -13,7 +13,19 @@ use coro_base::{Items, Name};
 use ir_model::{Block, Function, IntWidth, IrType, Param, numbered_name};
 use std::alloc::{AllocError, Global};
 
-#[tactic(auto, using(crate::proofs::Each::each_step))]
+fn push_blocks_of_suspend(
+    alloc: Global,
+    all: &mut Items<Block>,
+    coroutine: Coroutine,
+    j: u8,
+) -> Result<(), AllocError>
+    ensures { OnOk result (all.new ≡ all.old ++ blocks_of_suspend coroutine j) }
+{
+    all.push(suspend_block(alloc, coroutine, j)?)?;
+    all.push(destroy_block(alloc, coroutine, j)?)?;
+    Ok(())
+}
+
 fn push_suspend_blocks(
     alloc: Global,
     all: &mut Items<Block>,
@@ -22,8 +34,7 @@ fn push_suspend_blocks(
     ensures { OnOk result (all.new ≡ all.old ++ suspend_blocks coroutine) }
 {
     for j in 0..coroutine.suspends {
-        all.push(suspend_block(alloc, coroutine, j)?)?;
-        all.push(destroy_block(alloc, coroutine, j)?)?;
+        push_blocks_of_suspend(alloc, all, coroutine, j)?;
     }
     Ok(())
 }
