@@ -1,25 +1,56 @@
 -- Framed forms of coroutines, and functions one by one.
-use Rattle.std.proofs.Common.{◌≡◌, ℕ, suc, ◌+◌, ◌<◌, ◌≤◌, Bool, true, false, List, [], ◌∷◌, ◌++◌, length, take, get_or, Some, None, Option, Result, Ok, Err, refl, sym, subst, ap, ◌∙◌, arith}
-use Rattle.std.specs.Prelude.{IfOk, IsTrue, IsFalse, slice_get}
+use Rattle.std.proofs.Common.{◌≡◌, ℕ, ◌+◌, ◌<◌, ◌≤◌, Bool, List, [], ◌∷◌, ◌++◌, length, take, get_or, Option, Result, Ok, Err, refl, sym, subst, ap, ◌∙◌}
+use Rattle.std.specs.Prelude.{IfOk, IsTrue, IsFalse}
 use Rattle.std.proofs.lemmas.List.{take_all, take_more}
-use Rattle.std.proofs.lemmas.Option.{same_Some, slice_get-get_or}
+use Rattle.begin_copies.specs.BeginCopies.{with_begin_copies}
 use Rattle.coroutine_frames.specs.Frames.{AreContents}
 use Rattle.coroutine_frames.specs.declared.contents.Contents.{Contents}
+use Rattle.edge_blocks.specs.EdgeBlocks.{with_edge_blocks}
+use Rattle.frame_addresses.specs.Placing.{with_frame_addresses}
 use Rattle.frame_layout.specs.declared.layout.Layout.{Layout}
 use Rattle.ir_model.specs.declared.module.Function.{Function}
 use Rattle.ir_model.specs.declared.module.Module.{Module}
-use Rattle.spill_reload.specs.Framed.{AllFramed, AreBefore, AreFramed, Coroutine, IsFramedCoroutine, IsPushed, NoneYet, Other, celled, copied, layout_at, placed}
+use Rattle.slot_lifetime.specs.declared.class.SlotClass.{SlotClass}
+use Rattle.spill_reload.specs.Framed.{AllFramed, AreBefore, AreFramed, Coroutine, IsFramedCoroutine, IsPushed, NoneYet, Other, begin_block, begin_of, celled, copied, kept_of, layout_at, offsets_of, offsets_with, placed}
+use Rattle.spill_reload.specs.Tables.{class_flags, label_flags, sizes_by_name}
+use Rattle.value_cells.specs.Cells.{with_cells}
 
-pub framed_by : {E : Type 0} (m : Module) (l : Layout) (f : Function) (c : Contents) (cells copies : Function) (before : List ℕ) (r : Result Function E) → AreContents m f c → cells ≡ celled m f c → AreBefore cells before →
-    copies ≡ copied f c cells before → IfOk r (λ g. g ≡ placed l f c copies) → IfOk r (λ g. IsFramedCoroutine m l f g)
-framed_by m l f c cells copies before (Ok g) contents cells_are before_are copies_are is = record {
+pub celled_by : {E : Type 0} (m : Module) (f : Function) (c : Contents) (edged : Function) (crossing : List (ℕ × ℕ)) (local : List Bool) (r : Result Function E) → edged ≡ with_edge_blocks f → crossing ≡ c.crossing →
+    local ≡ class_flags f c.classes SlotClass.Local → IfOk r (λ g. g ≡ with_cells m edged crossing local) → IfOk r (λ g. g ≡ celled m f c)
+unfolding celled
+celled_by m f c edged crossing local (Ok g) edged_is crossing_is local_is is =
+    is ∙ ap (λ (x : Function). with_cells m x crossing local) edged_is ∙ ap (λ (x : List (ℕ × ℕ)). with_cells m (with_edge_blocks f) x local) crossing_is ∙ ap (λ (x : List Bool). with_cells m (with_edge_blocks f) c.crossing x) local_is
+celled_by m f c edged crossing local (Err e) edged_is crossing_is local_is is = is
+
+pub copied_by : {E : Type 0} (f : Function) (c : Contents) (g : Function) (before : List ℕ) (begin : ℕ) (slots early : List Bool) (sizes : List ℕ) (r : Result Function E) → begin ≡ begin_block g → slots ≡ class_flags f c.classes SlotClass.Frame →
+    early ≡ label_flags g (begin ∷ before) → sizes ≡ sizes_by_name f c.held → IfOk r (λ x. x ≡ with_begin_copies g slots early sizes) → IfOk r (λ x. x ≡ copied f c g before)
+unfolding copied
+copied_by f c g before begin slots early sizes (Ok x) begin_is slots_are early_are sizes_are is =
+    is ∙ ap (λ (l : List Bool). with_begin_copies g l early sizes) slots_are
+    ∙ ap (λ (l : List Bool). with_begin_copies g (class_flags f c.classes SlotClass.Frame) l sizes) (early_are ∙ ap (λ (n : ℕ). label_flags g (n ∷ before)) begin_is)
+    ∙ ap (λ (l : List ℕ). with_begin_copies g (class_flags f c.classes SlotClass.Frame) (label_flags g (begin_block g ∷ before)) l) sizes_are
+copied_by f c g before begin slots early sizes (Err e) begin_is slots_are early_are sizes_are is = is
+
+pub placed_by : {E : Type 0} (l : Layout) (f : Function) (c : Contents) (g : Function) (base names begin : ℕ) (offsets : List (Option ℕ)) (marked : List Bool) (r : Result Function E) → base ≡ length (with_edge_blocks f).names → names ≡ length g.names →
+    begin ≡ begin_of f → offsets ≡ offsets_with l c base (kept_of base c) names → marked ≡ class_flags f c.classes SlotClass.Ramp → IfOk r (λ x. x ≡ with_frame_addresses g begin offsets marked) → IfOk r (λ x. x ≡ placed l f c g)
+unfolding placed
+placed_by l f c g base names begin offsets marked (Ok x) base_is names_are begin_is offsets_are marked_are is =
+    is ∙ ap (λ (n : ℕ). with_frame_addresses g n offsets marked) begin_is
+    ∙ ap (λ (t : List (Option ℕ)). with_frame_addresses g (begin_of f) t marked)
+    (offsets_are ∙ ap (λ (n : ℕ). offsets_with l c n (kept_of n c) names) base_is ∙ ap (λ (n : ℕ). offsets_of l f c n) names_are)
+    ∙ ap (λ (t : List Bool). with_frame_addresses g (begin_of f) (offsets_of l f c (length g.names)) t) marked_are
+placed_by l f c g base names begin offsets marked (Err e) base_is names_are begin_is offsets_are marked_are is = is
+
+pub framed_by : {E : Type 0} (m : Module) (l : Layout) (f : Function) (c : Contents) (cells copies : Function) (before given : List ℕ) (r : Result Function E) → AreContents m f c → cells ≡ celled m f c → AreBefore cells before → given ≡ before →
+    copies ≡ copied f c cells given → IfOk r (λ g. g ≡ placed l f c copies) → IfOk r (λ g. IsFramedCoroutine m l f g)
+framed_by m l f c cells copies before given (Ok g) contents cells_are before_are same copies_are is = record {
   contents = c;
   contents_are = contents;
   before = before;
   before_are = subst (λ (x : Function). AreBefore x before) cells_are before_are;
-  is = is ∙ ap (placed l f c) (copies_are ∙ ap (λ (x : Function). copied f c x before) cells_are);
+  is = is ∙ ap (placed l f c) (copies_are ∙ ap (λ (x : List ℕ). copied f c cells x) same ∙ ap (λ (x : Function). copied f c x before) cells_are);
 }
-framed_by m l f c cells copies before (Err e) contents cells_are before_are copies_are is = is
+framed_by m l f c cells copies before given (Err e) contents cells_are before_are same copies_are is = is
 
 -- ---- functions one by one
 

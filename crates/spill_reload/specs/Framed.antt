@@ -1,5 +1,5 @@
 -- The framed form of a module.
-use Rattle.std.specs.Prelude.{◌≡◌, ℕ, Bool, true, false, List, [], length, replicate, slice_get, Some, None, Option, IsTrue, IsFalse, unwrap_or, ◌+◌, ◌∷◌, ◌++◌, if◌then◌else◌, ◌==◌}
+use Rattle.std.specs.Prelude.{◌≡◌, ℕ, Bool, true, false, List, [], length, replicate, slice_get, None, Option, IsTrue, IsFalse, unwrap_or, ◌+◌, ◌∷◌, ◌++◌, if◌then◌else◌, ◌==◌}
 use Rattle.begin_copies.specs.BeginCopies.{with_begin_copies}
 use Rattle.block_paths.specs.Reach.{AreReached}
 use Rattle.coroutine_frames.specs.Frames.{AreContents}
@@ -50,11 +50,11 @@ AreBefore f blocks = AreReached f (starts_before (begin_block f)) (begin_block f
 -- ---- a coroutine
 
 -- blocks on edges, and the values that cross suspends in cells and fields
-abbrev pub celled : Module → Function → Contents → Function
+unfoldable pub celled : Module → Function → Contents → Function
 celled m f c = with_cells m (with_edge_blocks f) c.crossing (class_flags f c.classes SlotClass.Local)
 
 -- slots that are used before begin are copied there; before are the blocks before begin but for begin's own
-abbrev pub copied : Function → Contents → Function → List ℕ → Function
+unfoldable pub copied : Function → Contents → Function → List ℕ → Function
 copied f c g before =
     with_begin_copies g (class_flags f c.classes SlotClass.Frame) (label_flags g (begin_block g ∷ before)) (sizes_by_name f c.held)
 
@@ -75,7 +75,7 @@ abbrev pub begin_of : Function → ℕ
 begin_of f = unwrap_or (first_result Intrinsic.CoroBegin f) 0
 
 -- slots become bytes of the frame
-abbrev pub placed : Layout → Function → Contents → Function → Function
+unfoldable pub placed : Layout → Function → Contents → Function → Function
 placed l f c g = with_frame_addresses g (begin_of f) (offsets_of l f c (length g.names)) (class_flags f c.classes SlotClass.Ramp)
 
 -- g is the framed form of the coroutine

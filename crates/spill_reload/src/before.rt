@@ -53,7 +53,7 @@ pub fn begin_block(function: &Function) -> Result<BlockId, AllocError>
 }
 
 /// The blocks, but for begin's own, whose front a path from the entry reaches without passing begin.
-#[tactic(auto, using(crate::proofs::Before::none_before, crate::proofs::Before::all_before))]
+#[tactic(auto, using(crate::proofs::Reaching::none_before, crate::proofs::Reaching::all_before))]
 pub fn blocks_before(
     alloc: Global,
     function: &Function,

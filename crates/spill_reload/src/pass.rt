@@ -44,13 +44,13 @@ fn push_framed(
 ) -> Result<usize, AllocError>
     ensures { IfOk result (λ after. IsPushed types.now.sizes.now.names.now.source.now layouts.now taken after function.now all.old all.new) }
 {
-    if !function.coroutine {
-        all.push(function.copied(alloc)?)?;
-        return Ok(taken);
+    if function.coroutine {
+        let framed = framed_at(alloc, types, layouts, taken, function)?;
+        all.push(framed)?;
+        return next(taken);
     }
-    let framed = framed_at(alloc, types, layouts, taken, function)?;
-    all.push(framed)?;
-    next(taken)
+    all.push(function.copied(alloc)?)?;
+    Ok(taken)
 }
 
 fn framed_functions(

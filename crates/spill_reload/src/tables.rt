@@ -1,6 +1,6 @@
 //! Tables by name: slots of a class, labels, and sizes.
 
-ghost use Rattle.std.specs.Prelude.{◌≡◌, ◌+◌, IfOk, OnOk, replicate, slice_get};
+ghost use Rattle.std.specs.Prelude.{◌≡◌, IfOk, OnOk, false, replicate, slice_get};
 ghost use Rattle.ir_paths.specs.Slots.{allocas_of as allocas_of_function};
 ghost use Rattle.spill_reload.specs.Tables.{class_flags, is_of, is_same_class, label_flags, sizes_by_name, with_label, with_labels, with_sizes, with_slot, with_slots};
 
@@ -8,7 +8,7 @@ use coro_base::{BlockId, Items, ValueId};
 use coro_shape::allocas_of;
 use coroutine_frames::Holding;
 use function_parts::next;
-use ir_model::{Block, Function};
+use ir_model::Function;
 use slot_lifetime::SlotClass;
 use std::alloc::{AllocError, Global};
 
@@ -22,10 +22,11 @@ fn is_same_class(a: SlotClass, b: SlotClass) -> bool
     }
 }
 
-fn is_of(class: SlotClass, found: Option<&SlotClass>) -> bool
-    ensures { result ≡ is_of class found }
+/// Whether the class at a position is this one.
+fn is_at(class: SlotClass, classes: &[SlotClass], k: usize) -> bool
+    ensures { result ≡ is_of class (slice_get classes.now k) }
 {
-    match found {
+    match classes.get(k) {
         None => false,
         Some(found) => is_same_class(class, *found),
     }
@@ -40,7 +41,7 @@ fn set_slot(
 )
     ensures { flags.new ≡ with_slot class (slice_get classes.now k) slot flags.old }
 {
-    if is_of(class, classes.get(k)) {
+    if is_at(class, classes, k) {
         flags.set(slot, true);
     }
 }
@@ -82,11 +83,12 @@ pub fn class_flags(
     Ok(flags)
 }
 
-fn set_label(block: Option<&Block>, flags: &mut Items<bool>)
-    ensures { flags.new ≡ with_label block flags.old }
+fn set_label(function: &Function, block: BlockId, flags: &mut Items<bool>)
+    ensures { flags.new ≡ with_label (slice_get function.now.blocks block) flags.old }
 {
-    if let Some(block) = block {
-        flags.set(block.label, true);
+    match function.blocks.get(block) {
+        None => (),
+        Some(block) => flags.set(block.label, true),
     }
 }
 
@@ -94,7 +96,7 @@ fn set_labels(function: &Function, blocks: &[BlockId], flags: &mut Items<bool>)
     ensures { flags.new ≡ with_labels function.now blocks.now flags.old }
 {
     for block in blocks {
-        set_label(function.blocks.get(*block), flags);
+        set_label(function, *block, flags);
     }
 }
 

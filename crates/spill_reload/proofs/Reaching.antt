@@ -1,13 +1,13 @@
 -- The blocks before begin.
-use Rattle.std.proofs.Common.{◌≡◌, ◌≢◌, ℕ, zero, suc, ◌+◌, ◌<◌, Bool, true, false, List, [], ◌∷◌, length, refl, sym, subst, ◌∙◌, arith}
+use Rattle.std.proofs.Common.{◌≡◌, ℕ, Bool, true, false, List, [], ◌∷◌, refl, sym, subst, arith}
 use Rattle.std.specs.Prelude.{◌==◌, if◌then◌else◌}
 use Rattle.block_paths.specs.Reach.{AreReached, Edge, IsReached, Start}
 use Rattle.ir_model.specs.declared.module.Function.{Function}
 use Rattle.spill_reload.specs.Framed.{AreBefore, begin_block, starts_before}
 
 none_reached : (f : Function) (avoided : List ℕ) (b : ℕ) → IsReached f [] avoided b → ⊥
-none_reached f avoided b (Start b h) = h
-none_reached f avoided b (Edge from b r listed apart) = none_reached f avoided from r
+none_reached f avoided b (Start at h) = h
+none_reached f avoided b (Edge from to r listed apart) = none_reached f avoided from r
 
 empty : (f : Function) (avoided : List ℕ) → AreReached f [] avoided []
 empty f avoided = record {
@@ -17,18 +17,23 @@ empty f avoided = record {
   is_told = λ b lt reached. absurd (none_reached f avoided b reached);
 }
 
--- begin stands in the entry block, so no other block is before it
-pub none_before : (f : Function) (begin : ℕ) (blocks : List ℕ) → begin ≡ begin_block f → begin ≡ 0 → blocks ≡ [] → AreBefore f blocks
-none_before f begin blocks is first none =
-    subst (λ (l : List ℕ). AreBefore f l) (sym none)
-    (subst (λ (n : ℕ). AreReached f (starts_before n) (n ∷ []) []) (sym first ∙ is) (empty f (0 ∷ [])))
+starts_none : (t : Bool) → t ≡ true → if◌then◌else◌ {A = List ℕ} t [] (0 ∷ []) ≡ []
+starts_none true e = refl
+starts_none false e = absurd (cc)
 
-starts_by : (t : Bool) → t ≡ false → (if t then [] else 0 ∷ []) ≡ 0 ∷ []
-starts_by true e = absurd (cc)
-starts_by false e = refl
+starts_some : (t : Bool) → t ≡ false → if◌then◌else◌ {A = List ℕ} t [] (0 ∷ []) ≡ 0 ∷ []
+starts_some true e = absurd (cc)
+starts_some false e = refl
+
+-- begin stands in the entry block, so no other block is before it
+pub none_before : (f : Function) (begin : ℕ) (blocks : List ℕ) → begin ≡ begin_block f → (begin == 0) ≡ true → blocks ≡ [] → AreBefore f blocks
+none_before f begin blocks is first none =
+    subst (λ (n : ℕ). AreReached f (starts_before n) (n ∷ []) blocks) is
+    (subst (λ (l : List ℕ). AreReached f l (begin ∷ []) blocks) (sym (starts_none (begin == 0) first))
+    (subst (λ (l : List ℕ). AreReached f [] (begin ∷ []) l) (sym none) (empty f (begin ∷ []))))
 
 -- begin stands elsewhere, so paths start at the entry
 pub all_before : (f : Function) (begin : ℕ) (blocks : List ℕ) → begin ≡ begin_block f → (begin == 0) ≡ false → AreReached f (0 ∷ []) (begin ∷ []) blocks → AreBefore f blocks
 all_before f begin blocks is later reached =
     subst (λ (n : ℕ). AreReached f (starts_before n) (n ∷ []) blocks) is
-    (subst (λ (l : List ℕ). AreReached f l (begin ∷ []) blocks) (sym (starts_by (begin == 0) later)) reached)
+    (subst (λ (l : List ℕ). AreReached f l (begin ∷ []) blocks) (sym (starts_some (begin == 0) later)) reached)
