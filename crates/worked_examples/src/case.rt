@@ -70,7 +70,7 @@ fn answered(alloc: Global, words: &str, text: &[u8]) -> Result<Answer, AllocErro
 /// Whether what `lower` writes of a text, in these words, is accepted as a module without coroutines.
 fn is_lowered(alloc: Global, words: &str, text: &[u8]) -> Result<bool, AllocError> {
     let given = answered(alloc, words, text)?;
-    Ok(given.code == 0 && given.out.as_slice() == b"ok\n")
+    Ok(given.code == 0 && given.out.as_slice() == b"ok\n".as_slice())
 }
 
 impl Case {
