@@ -58,6 +58,7 @@ impl Limit<'_> {
 }
 
 /// How the answer of a line is asked for.
+#[derive(Clone, Copy)]
 enum Asked {
     /// As what `check` answers.
     Check,
