@@ -69,7 +69,7 @@ enum Asked {
 }
 
 /// How the answer of a line is asked for, and what follows that in the line.
-fn asked(line: &str) -> (Asked, &str) {
+fn asking(line: &str) -> (Asked, &str) {
     if let Some(rest) = line.strip_prefix("layout ") {
         (Asked::Layout, rest)
     } else if let Some(rest) = line.strip_prefix("forms ") {
@@ -103,7 +103,7 @@ fn is_run(rt: &HostRuntime, text: &[u8], lines: &str) -> Result<bool> {
 
 /// Checks the module of a line, and writes where it is answered otherwise. Whether the line has a module.
 pub fn run(rt: &HostRuntime, line: &str) -> Result<bool> {
-    let (asked, line) = asked(line);
+    let (asked, line) = asking(line);
     let Some(limit) = limit_of(line) else {
         return Ok(false);
     };
