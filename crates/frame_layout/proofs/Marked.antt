@@ -121,50 +121,50 @@ first_at t (f ∷ fs) (suc k) lt = first_at t fs k (omega arith)
 
 -- ---- the marks of a field
 
-six : (ms m1 m2 m3 m4 m5 : List Bool) (k : ℕ) (a b c d e : Bool) → get_or m1 k false ≡ (get_or ms k false || a) → get_or m2 k false ≡ (get_or m1 k false || b) → get_or m3 k false ≡ (get_or m2 k false || c) →
-    get_or m4 k false ≡ (get_or m3 k false || d) → get_or m5 k false ≡ (get_or m4 k false || e) → get_or m5 k false ≡ (((((get_or ms k false || a) || b) || c) || d) || e)
-six ms m1 m2 m3 m4 m5 k a b c d e p q r s t =
+six : (ms ns os ps qs rs : List Bool) (k : ℕ) (a b c d e : Bool) → get_or ns k false ≡ (get_or ms k false || a) → get_or os k false ≡ (get_or ns k false || b) → get_or ps k false ≡ (get_or os k false || c) →
+    get_or qs k false ≡ (get_or ps k false || d) → get_or rs k false ≡ (get_or qs k false || e) → get_or rs k false ≡ (((((get_or ms k false || a) || b) || c) || d) || e)
+six ms ns os ps qs rs k a b c d e p q r s t =
     t ∙ ap (λ (x : Bool). x || e) (s ∙ ap (λ (x : Bool). x || d) (r ∙ ap (λ (x : Bool). x || c) (q ∙ ap (λ (x : Bool). x || b) p)))
 
-five : (a b c d e a2 b2 c2 d2 e2 m m2 : Bool) → m ≡ m2 → a ≡ a2 → b ≡ b2 → c ≡ c2 → d ≡ d2 → e ≡ e2 → (((((m || a) || b) || c) || d) || e) ≡ (((((m2 || a2) || b2) || c2) || d2) || e2)
-five a b c d e a2 b2 c2 d2 e2 m m2 p q r s t u = cc
+five : (a b c d e v w x y z m n : Bool) → m ≡ n → a ≡ v → b ≡ w → c ≡ x → d ≡ y → e ≡ z → (((((m || a) || b) || c) || d) || e) ≡ (((((n || v) || w) || x) || y) || z)
+five a b c d e v w x y z m n p q r s t u = cc
 
 count_starts : (t : Bool) (fields : List Field) → length (map (λ f. t || is_apart f.kind) fields) ≡ length fields
 count_starts t [] = refl
 count_starts t (f ∷ fs) = ap suc (count_starts t fs)
 
 abbrev two_steps : List Bool → List (List ℕ) → List (List ℕ) → List ℕ → List Bool
-two_steps ms c a r = with_rows (with_rows ms c r) a r
+two_steps ms c a crossed = with_rows (with_rows ms c crossed) a crossed
 
 abbrev three_steps : List Bool → List (List ℕ) → List (List ℕ) → List ℕ → List ℕ → List Bool
-three_steps ms c a r r2 = with_rows (two_steps ms c a r) c r2
+three_steps ms c a crossed alive = with_rows (two_steps ms c a crossed) c alive
 
 abbrev four_steps : List Bool → List (List ℕ) → List (List ℕ) → List ℕ → List ℕ → List ℕ → List Bool
-four_steps ms c a r r2 r3 = with_marks (three_steps ms c a r r2) r3
+four_steps ms c a crossed alive later = with_marks (three_steps ms c a crossed alive) later
 
-two_count : (ms : List Bool) (c a : List (List ℕ)) (r : List ℕ) → length (two_steps ms c a r) ≡ length ms
-two_count ms c a r = rows_count (with_rows ms c r) a r ∙ rows_count ms c r
+two_count : (ms : List Bool) (c a : List (List ℕ)) (crossed : List ℕ) → length (two_steps ms c a crossed) ≡ length ms
+two_count ms c a crossed = rows_count (with_rows ms c crossed) a crossed ∙ rows_count ms c crossed
 
-three_count : (ms : List Bool) (c a : List (List ℕ)) (r r2 : List ℕ) → length (three_steps ms c a r r2) ≡ length ms
-three_count ms c a r r2 = rows_count (two_steps ms c a r) c r2 ∙ two_count ms c a r
+three_count : (ms : List Bool) (c a : List (List ℕ)) (crossed alive : List ℕ) → length (three_steps ms c a crossed alive) ≡ length ms
+three_count ms c a crossed alive = rows_count (two_steps ms c a crossed) c alive ∙ two_count ms c a crossed
 
-four_count : (ms : List Bool) (c a : List (List ℕ)) (r r2 r3 : List ℕ) → length (four_steps ms c a r r2 r3) ≡ length ms
-four_count ms c a r r2 r3 = marks_count (three_steps ms c a r r2) r3 ∙ three_count ms c a r r2
+four_count : (ms : List Bool) (c a : List (List ℕ)) (crossed alive later : List ℕ) → length (four_steps ms c a crossed alive later) ≡ length ms
+four_count ms c a crossed alive later = marks_count (three_steps ms c a crossed alive) later ∙ three_count ms c a crossed alive
 
-all_steps : (ms : List Bool) (c a : List (List ℕ)) (r r2 r3 r4 : List ℕ) (k : ℕ) → k < length ms →
-    get_or (with_marks (four_steps ms c a r r2 r3) r4) k false
-    ≡ (((((get_or ms k false || list_any (λ s. has k (get_or c s [])) r) || list_any (λ s. has k (get_or a s [])) r) || list_any (λ s. has k (get_or c s [])) r2) || has k r3) || has k r4)
-all_steps ms c a r r2 r3 r4 k lt =
-    let n1 = rows_count ms c r in
-    let n2 = two_count ms c a r in
-    let n3 = three_count ms c a r r2 in
-    let n4 = four_count ms c a r r2 r3 in
-    six ms (with_rows ms c r) (two_steps ms c a r) (three_steps ms c a r r2) (four_steps ms c a r r2 r3) (with_marks (four_steps ms c a r r2 r3) r4) k _ _ _ _ _
-    (at_rows ms c r k lt)
-    (at_rows (with_rows ms c r) a r k (omega (arith, lt, n1)))
-    (at_rows (two_steps ms c a r) c r2 k (omega (arith, lt, n2)))
-    (at_marks (three_steps ms c a r r2) r3 k (omega (arith, lt, n3)))
-    (at_marks (four_steps ms c a r r2 r3) r4 k (omega (arith, lt, n4)))
+all_steps : (ms : List Bool) (c a : List (List ℕ)) (crossed alive later earlier : List ℕ) (k : ℕ) → k < length ms →
+    get_or (with_marks (four_steps ms c a crossed alive later) earlier) k false
+    ≡ (((((get_or ms k false || list_any (λ s. has k (get_or c s [])) crossed) || list_any (λ s. has k (get_or a s [])) crossed) || list_any (λ s. has k (get_or c s [])) alive) || has k later) || has k earlier)
+all_steps ms c a crossed alive later earlier k lt =
+    let one_kept = rows_count ms c crossed in
+    let two_kept = two_count ms c a crossed in
+    let three_kept = three_count ms c a crossed alive in
+    let four_kept = four_count ms c a crossed alive later in
+    six ms (with_rows ms c crossed) (two_steps ms c a crossed) (three_steps ms c a crossed alive) (four_steps ms c a crossed alive later) (with_marks (four_steps ms c a crossed alive later) earlier) k _ _ _ _ _
+    (at_rows ms c crossed k lt)
+    (at_rows (with_rows ms c crossed) a crossed k (omega (arith, lt, one_kept)))
+    (at_rows (two_steps ms c a crossed) c alive k (omega (arith, lt, two_kept)))
+    (at_marks (three_steps ms c a crossed alive) later k (omega (arith, lt, three_kept)))
+    (at_marks (four_steps ms c a crossed alive later) earlier k (omega (arith, lt, four_kept)))
 
 pub marks_tell : (fields : List Field) (crossing alive slots : List (ℕ × ℕ)) (t : Tables) (j k : ℕ) → AreTables crossing alive slots t → k < length fields →
     get_or (marks_by fields t j) k false ≡ conflict fields crossing alive slots j k
