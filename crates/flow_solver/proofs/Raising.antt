@@ -7,8 +7,22 @@ use Rattle.std.proofs.lemmas.List.Sums.{sum_by-set}
 use Rattle.flow_solver.specs.Domain.{Domain, IsLattice}
 use Rattle.flow_solver.specs.Paths.{IsListed, IsGathered}
 use Rattle.flow_solver.specs.Paths.IsGathered.{Together}
-use Rattle.flow_solver.specs.Steps.{IsKept, IsRisen, IsUnderway, left_of}
+use Rattle.flow_solver.specs.Steps.{IsKept, IsPut, IsRisen, IsUnderway, left_of}
 use Rattle.flow_solver.proofs.Lists.{set_cases, same_place, listed_front, listed_last, listed_cases}
+
+-- ---- a node is put into the list
+
+put_stays : (k node : ℕ) (todo todo2 : List ℕ) → IsPut node todo todo2 → IsListed k todo → IsListed k todo2
+put_stays k node todo todo2 put h = ⊎_elim (λ e. subst (IsListed k) (sym e) (inr h)) (λ e. subst (IsListed k) (sym e) (listed_front k todo (node ∷ []) h)) put
+
+put_lists : (node : ℕ) (todo todo2 : List ℕ) → IsPut node todo todo2 → IsListed node todo2
+put_lists node todo todo2 put = ⊎_elim (λ e. subst (IsListed node) (sym e) (inl refl)) (λ e. subst (IsListed node) (sym e) (listed_last node todo)) put
+
+put_cases : (k node : ℕ) (todo todo2 : List ℕ) → IsPut node todo todo2 → IsListed k todo2 → IsListed k todo ⊎ (k ≡ node)
+put_cases k node todo todo2 put h = ⊎_elim (λ e. ⊎_elim (λ is. inr is) (λ more. inl more) (subst (IsListed k) e h)) (λ e. listed_cases k node todo (subst (IsListed k) e h)) put
+
+put_longer : (node : ℕ) (todo todo2 : List ℕ) → IsPut node todo todo2 → length todo2 ≡ length todo + 1
+put_longer node todo todo2 put = ⊎_elim (λ e. let a = ap length e in omega (arith, a)) (λ e. ap length e ∙ length-append todo (node ∷ [])) put
 
 -- ---- the node's fact has risen
 
@@ -20,11 +34,11 @@ risen_cases {d} {node} {fact} {facts} r k x e = set_cases facts node k (d.joined
 
 pub stays : {Fact : Type 0} {d : Domain Fact} {node : ℕ} {fact : Fact} {facts facts2 : List Fact} {waiting waiting2 : List Bool} {todo todo2 : List ℕ} →
     (r : IsRisen d node fact facts facts2 waiting waiting2 todo todo2) (k : ℕ) → IsListed k todo → IsListed k todo2
-stays {node} {todo} r k h = ⊎_elim (λ p. subst (IsListed k) (sym p.2) h) (λ p. subst (IsListed k) (sym p.1) (listed_front k todo (node ∷ []) h)) r.put
+stays {node} {todo} {todo2} r k h = ⊎_elim (λ p. subst (IsListed k) (sym p.2) h) (λ p. put_stays k node todo todo2 p.1 h) r.put
 
 pub waits : {Fact : Type 0} {d : Domain Fact} {node : ℕ} {fact : Fact} {facts facts2 : List Fact} {waiting waiting2 : List Bool} {todo todo2 : List ℕ} →
     (r : IsRisen d node fact facts facts2 waiting waiting2 todo todo2) → ((k : ℕ) → slice_get waiting k ≡ Some true → IsListed k todo) → IsListed node todo2
-waits {node} {todo} r listed = ⊎_elim (λ p. subst (IsListed node) (sym p.2) (listed node p.0)) (λ p. subst (IsListed node) (sym p.1) (listed_last node todo)) r.put
+waits {node} {todo} {todo2} r listed = ⊎_elim (λ p. subst (IsListed node) (sym p.2) (listed node p.0)) (λ p. put_lists node todo todo2 p.1) r.put
 
 risen_keeps : {Fact : Type 0} {d : Domain Fact} {node nodes : ℕ} {fact : Fact} {edges : List (ℕ × ℕ)} {starts yet : List (ℕ × Fact)} {rest : List ℕ} {facts facts2 : List Fact} {waiting waiting2 : List Bool} {todo todo2 : List ℕ} →
     (law : IsLattice d) (r : IsRisen d node fact facts facts2 waiting waiting2 todo todo2) (u : IsUnderway d nodes edges starts yet rest facts waiting todo) →
@@ -35,7 +49,7 @@ risen_keeps {Fact} {d} {node} {nodes} {fact} {edges} {starts} {yet} {rest} {fact
   are_facts = λ k x e. ⊎_elim (λ p. subst d.IsFact (sym p.1) (law.joined_is_fact old fact old_is is)) (λ p. u.are_facts k x p.0) (risen_cases r k x e);
   gathered = λ k x e. ⊎_elim (λ p. gathered_here k x p.0 p.1) (λ p. u.gathered k x p.0) (risen_cases r k x e);
   listed = λ k e. ⊎_elim (λ p. stays r k (u.listed k (sym (ap (λ w. slice_get w k) p.1) ∙ e))) (λ p. listed_put k (sym (ap (λ w. slice_get w k) p.0) ∙ e)) r.put;
-  inside = λ k h. ⊎_elim (λ p. u.inside k (subst (IsListed k) p.2 h)) (λ p. inside_put k (subst (IsListed k) p.1 h)) r.put;
+  inside = λ k h. ⊎_elim (λ p. u.inside k (subst (IsListed k) p.2 h)) (λ p. inside_put k (put_cases k node todo todo2 p.1 h)) r.put;
   begun = λ s x h e. ⊎_elim (λ p. begun_here s x h p.0 p.1) (λ p. u.begun s x h p.0) (risen_cases r s.0 x e);
   closed = λ e from to x y at ex ey. ⊎_elim (λ p. inl (subst (λ k. IsListed k todo2) (sym p.0) (waits r u.listed))) (λ p. closed_from e from to x y at p.0 ey) (risen_cases r from x ex);
 }
@@ -61,8 +75,8 @@ risen_keeps {Fact} {d} {node} {nodes} {fact} {edges} {starts} {yet} {rest} {fact
     listed_put : (k : ℕ) → slice_get (slice_set waiting node true) k ≡ Some true → IsListed k todo2
     listed_put k e = ⊎_elim (λ p. subst (λ j. IsListed j todo2) (sym p.0) (waits r u.listed)) (λ p. stays r k (u.listed k p.0)) (set_cases waiting node k true true e)
 
-    inside_put : (k : ℕ) → IsListed k (todo ++ node ∷ []) → k < nodes
-    inside_put k h = ⊎_elim (λ p. u.inside k p) (λ e. let lt = node_lt in let len = u.facts_length in omega (arith, lt, len, e)) (listed_cases k node todo h)
+    inside_put : (k : ℕ) → IsListed k todo ⊎ (k ≡ node) → k < nodes
+    inside_put k h = ⊎_elim (λ p. u.inside k p) (λ e. let lt = node_lt in let len = u.facts_length in omega (arith, lt, len, e)) h
 
     begun_here : (s : ℕ × Fact) (x : Fact) → IsListed s starts → s.0 ≡ node → x ≡ d.joined r.old fact → IsListed s yet ⊎ d.Below s.1 x
     begun_here s x h es ex = ⊎_elim (λ p. inl p) (λ p. inr (subst (d.Below s.1) (sym ex) (law.transitive s.1 r.old (d.joined r.old fact) p joined_above))) (u.begun s r.old h (ap (slice_get facts) es ∙ r.was))
@@ -131,7 +145,7 @@ raise_lessens {Fact} {d} {node} {nodes} {fact} {edges} {starts} {yet} {rest} {fa
     kept k = let a = ap (sum_by (λ x. d.height - d.rank x)) k.facts_kept in let b = ap length k.todo_kept in omega (arith, a, b)
 
     longer : IsRisen d node fact facts facts2 waiting waiting2 todo todo2 → length todo2 ≤ length todo + 1
-    longer n = ⊎_elim (λ p. let a = ap length p.2 in omega (arith, a)) (λ p. let a = ap length p.1 in let b = length-append todo (node ∷ []) in omega (arith, a, b)) n.put
+    longer n = ⊎_elim (λ p. let a = ap length p.2 in omega (arith, a)) (λ p. let a = put_longer node todo todo2 p.1 in omega (arith, a)) n.put
 
     risen : IsRisen d node fact facts facts2 waiting waiting2 todo todo2 → left_of d facts2 todo2 ≤ left_of d facts todo
     risen n =

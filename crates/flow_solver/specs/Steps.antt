@@ -15,13 +15,21 @@ pub record IsKept {Fact : Type 0} (d : Domain Fact) (node : ℕ) (fact : Fact) (
   pub waiting_kept : waiting2 ≡ waiting
   pub todo_kept : todo2 ≡ todo
 
+-- the node is first in the list or last
+abbrev pub IsPut : ℕ → List ℕ → List ℕ → Type 0
+IsPut node todo todo2 = (todo2 ≡ node ∷ todo) ⊎ (todo2 ≡ todo ++ node ∷ [])
+
+-- the node waited before, or is put into the list
+abbrev pub IsWaiting : ℕ → List Bool → List Bool → List ℕ → List ℕ → Type 0
+IsWaiting node waiting waiting2 todo todo2 = ((slice_get waiting node ≡ Some true) × (waiting2 ≡ waiting) × (todo2 ≡ todo)) ⊎ ((waiting2 ≡ slice_set waiting node true) × IsPut node todo todo2)
+
 -- the node's fact has risen, and the node waits for a visit
 pub record IsRisen {Fact : Type 0} (d : Domain Fact) (node : ℕ) (fact : Fact) (facts facts2 : List Fact) (waiting waiting2 : List Bool) (todo todo2 : List ℕ) : Type 0 where
   pub old : Fact
   pub was : slice_get facts node ≡ Some old
   pub new : d.Below (d.joined old fact) old → ⊥
   pub facts_set : facts2 ≡ slice_set facts node (d.joined old fact)
-  pub put : ((slice_get waiting node ≡ Some true) × (waiting2 ≡ waiting) × (todo2 ≡ todo)) ⊎ ((waiting2 ≡ slice_set waiting node true) × (todo2 ≡ todo ++ node ∷ []))
+  pub put : IsWaiting node waiting waiting2 todo todo2
 
 abbrev pub IsRaised : {Fact : Type 0} → Domain Fact → ℕ → Fact → List Fact → List Fact → List Bool → List Bool → List ℕ → List ℕ → Type 0
 IsRaised d node fact facts facts2 waiting waiting2 todo todo2 =

@@ -1,7 +1,7 @@
 //! Where a solver stands.
 
 ghost use Rattle.std.specs.Prelude.{◌≡◌, ◌<◌, OnOk, IfOk, length, replicate, false, [], Some, slice_get};
-ghost use Rattle.flow_solver.specs.Steps.{AreFacts, IsRaised};
+ghost use Rattle.flow_solver.specs.Steps.{AreFacts, IsPut, IsRaised, IsWaiting};
 
 use crate::flow::Flow;
 use coro_base::Items;
@@ -44,6 +44,43 @@ pub fn fact_at<T>(state: &State<T>, node: usize) -> &T
     &state.facts.as_slice()[node]
 }
 
+fn is_before(todo: &VecDeque<usize>, node: usize) -> bool {
+    match todo.front() {
+        None => false,
+        Some(first) => node < *first,
+    }
+}
+
+/// Lists a node that is to be visited: in front where it is lower than the first one listed, else behind. So where edges mostly
+/// lead to higher nodes, facts that start at many nodes meet before they go on together.
+fn put(todo: &mut VecDeque<usize>, node: usize) -> Result<(), AllocError>
+    ensures { OnOk result (IsPut node todo.old.items todo.new.items) }
+{
+    if is_before(todo, node) {
+        todo.push_front(node)?;
+    } else {
+        todo.push_back(node)?;
+    }
+    Ok(())
+}
+
+/// Lists a node, unless it is listed.
+fn wait(
+    waiting: &mut Items<bool>,
+    todo: &mut VecDeque<usize>,
+    node: usize,
+) -> Result<(), AllocError>
+    requires { node < length waiting.old }
+    ensures { OnOk result (IsWaiting node waiting.old waiting.new todo.old.items todo.new.items) }
+{
+    if waiting.as_slice()[node] {
+        return Ok(());
+    }
+    put(todo, node)?;
+    waiting.set(node, true);
+    Ok(())
+}
+
 /// Joins a fact to that of a node. Where that says more than before, the node is to be visited.
 pub fn raise<F: Flow>(
     alloc: Global,
@@ -63,10 +100,7 @@ pub fn raise<F: Flow>(
     if flow.same(&joined, old) {
         return Ok(());
     }
-    if !state.waiting.as_slice()[node] {
-        state.todo.push_back(node)?;
-        state.waiting.set(node, true);
-    }
+    wait(&mut state.waiting, &mut state.todo, node)?;
     state.facts.set(node, joined);
     Ok(())
 }
