@@ -42,6 +42,20 @@ pub fn outgoing(
     Ok(rows)
 }
 
+/// Whether at least half of the edges lead to higher nodes.
+pub fn mostly_rise(edges: &[(usize, usize)]) -> bool {
+    let mut rising: usize = 0;
+    let mut others: usize = 0;
+    for (from, to) in edges {
+        if *from < *to {
+            rising = rising.saturating_add(1);
+        } else {
+            others = others.saturating_add(1);
+        }
+    }
+    others <= rising
+}
+
 /// The node that an edge leads to.
 pub fn target(edges: &[(usize, usize)], edge: usize) -> usize
     requires { edge < length edges.now }

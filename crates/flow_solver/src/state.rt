@@ -15,10 +15,17 @@ pub struct State<T> {
     /// For each node whether it is in the list of those to be visited.
     pub waiting: Items<bool>,
     pub todo: VecDeque<usize>,
+    /// Whether lower nodes are to be visited first, else higher ones.
+    pub rises: bool,
 }
 
 /// Bottom at each node, and none to be visited.
-pub fn blank<F: Flow>(alloc: Global, flow: &F, nodes: usize) -> Result<State<F::Fact>, AllocError>
+pub fn blank<F: Flow>(
+    alloc: Global,
+    flow: &F,
+    nodes: usize,
+    rises: bool,
+) -> Result<State<F::Fact>, AllocError>
     ensures facts { IfOk result (λ s. s.facts ≡ replicate nodes (F.domain flow.now).bottom) }
     ensures waiting { IfOk result (λ s. s.waiting ≡ replicate nodes false) }
     ensures todo { IfOk result (λ s. s.todo.items ≡ []) }
@@ -33,6 +40,7 @@ pub fn blank<F: Flow>(alloc: Global, flow: &F, nodes: usize) -> Result<State<F::
         facts,
         waiting,
         todo: VecDeque::new(alloc),
+        rises,
     })
 }
 
@@ -44,19 +52,20 @@ pub fn fact_at<T>(state: &State<T>, node: usize) -> &T
     &state.facts.as_slice()[node]
 }
 
-fn is_before(todo: &VecDeque<usize>, node: usize) -> bool {
+/// Whether a node is to be visited before the first one listed.
+fn is_before(todo: &VecDeque<usize>, rises: bool, node: usize) -> bool {
     match todo.front() {
         None => false,
-        Some(first) => node < *first,
+        Some(first) => { if rises { node < *first } else { *first < node } }
     }
 }
 
-/// Lists a node that is to be visited: in front where it is lower than the first one listed, else behind. So where edges mostly
-/// lead to higher nodes, facts that start at many nodes meet before they go on together.
-fn put(todo: &mut VecDeque<usize>, node: usize) -> Result<(), AllocError>
+/// Lists a node that is to be visited: in front where its turn is before that of the first one listed, else behind. So facts
+/// that start at many nodes meet before they go on together.
+fn put(todo: &mut VecDeque<usize>, rises: bool, node: usize) -> Result<(), AllocError>
     ensures { OnOk result (IsPut node todo.old.items todo.new.items) }
 {
-    if is_before(todo, node) {
+    if is_before(todo, rises, node) {
         todo.push_front(node)?;
     } else {
         todo.push_back(node)?;
@@ -68,6 +77,7 @@ fn put(todo: &mut VecDeque<usize>, node: usize) -> Result<(), AllocError>
 fn wait(
     waiting: &mut Items<bool>,
     todo: &mut VecDeque<usize>,
+    rises: bool,
     node: usize,
 ) -> Result<(), AllocError>
     requires { node < length waiting.old }
@@ -76,7 +86,7 @@ fn wait(
     if waiting.as_slice()[node] {
         return Ok(());
     }
-    put(todo, node)?;
+    put(todo, rises, node)?;
     waiting.set(node, true);
     Ok(())
 }
@@ -100,7 +110,8 @@ pub fn raise<F: Flow>(
     if flow.same(&joined, old) {
         return Ok(());
     }
-    wait(&mut state.waiting, &mut state.todo, node)?;
+    let rises = state.rises;
+    wait(&mut state.waiting, &mut state.todo, rises, node)?;
     state.facts.set(node, joined);
     Ok(())
 }

@@ -7,7 +7,7 @@ ghost use Rattle.flow_solver.specs.Steps.{IsUnderway, left_of};
 
 use crate::flow::Flow;
 use crate::graph::Graph;
-use crate::rows::{outgoing, row_of, target};
+use crate::rows::{mostly_rise, outgoing, row_of, target};
 use crate::state::{State, blank, fact_at, raise};
 use coro_base::Short;
 use std::alloc::{AllocError, Global};
@@ -24,7 +24,8 @@ fn begin<F: Flow>(
     requires starts { AreStarts (F.domain flow.now) graph.now.nodes starts.now }
     ensures { IfOk result (λ s. IsUnderway (F.domain flow.now) graph.now.nodes graph.now.edges starts.now [] [] s.facts s.waiting s.todo.items) }
 {
-    let mut state = blank(alloc, flow, graph.nodes)?;
+    let rises = mostly_rise(graph.edges.as_slice());
+    let mut state = blank(alloc, flow, graph.nodes, rises)?;
     for (node, fact) in starts {
         raise(alloc, flow, &mut state, *node, fact)?;
     }
@@ -82,7 +83,8 @@ fn settle<F: Flow>(
 }
 
 /// At each node the least upper bound of the facts that all paths from the starts carry there, and bottom where none leads.
-/// It follows the edges of a node once for each time that the node's fact rose.
+/// It follows the edges of a node at most once for each time that the node's fact rose, and where most edges lead to higher
+/// nodes those of lower nodes first, else those of higher ones.
 pub fn solve<F: Flow>(
     alloc: Global,
     flow: &F,
