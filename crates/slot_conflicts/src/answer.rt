@@ -4,6 +4,7 @@ ghost use Rattle.std.specs.Prelude.{◌≡◌, ◌<◌, ◌≤◌, ◌+◌, ◌*
 ghost use Rattle.slot_conflicts.specs.Conflicts.{AliveAt, AreAliveAt, AreConflicts, ConflictAt};
 ghost use Rattle.slot_conflicts.specs.Known.{AreMetFor, IsFrameAt, IsKnown, are_apart as are_apart_by, have_met_at, is_loose_at, loose_at as loose_of_chunk};
 ghost use Rattle.slot_conflicts.specs.Pairs.{AreUpTo};
+ghost use Rattle.slot_lifetime.specs.Classes.{AreClasses};
 
 use crate::bits::{chunk_end, chunks_of, has_bit, word_at};
 use crate::facts::{Chunk, Known, is_frame, known_of};
@@ -12,7 +13,7 @@ use crate::pairs::push_if;
 use crate::suspended::{push_chunk as push_alive, suspended_of};
 use coro_base::Items;
 use ir_model::Function;
-use slot_lifetime::classes;
+use slot_lifetime::{SlotClass, classes};
 use slot_uses::slots_of;
 use std::alloc::{AllocError, Global};
 
@@ -137,13 +138,16 @@ fn push_chunk(
     Ok(())
 }
 
-/// The pairs of frame slots that may not share bytes, by their positions among the function's allocas, the lower one first, in
-/// order: two share none unless both have lifetime markers, neither is used before begin, and at no point outside the end
-/// block and all blocks that it reaches both may be alive (LLVM Language Reference, "llvm.lifetime.start").
-pub fn conflicts(alloc: Global, function: &Function) -> Result<Items<(usize, usize)>, AllocError>
+/// What `conflicts` gives, by the classes of the slots.
+pub fn conflicts_by(
+    alloc: Global,
+    function: &Function,
+    classes: Items<SlotClass>,
+) -> Result<Items<(usize, usize)>, AllocError>
+    requires { AreClasses function.now classes }
     ensures { IfOk result (AreConflicts function.now) }
 {
-    let known = known_of(alloc, function)?;
+    let known = known_of(alloc, function, classes)?;
     let mut pairs = Items::new(alloc);
     for chunk in 0..chunks_of(known.count) {
         push_chunk(alloc, function, &known, chunk, &mut pairs)?;
@@ -151,16 +155,28 @@ pub fn conflicts(alloc: Global, function: &Function) -> Result<Items<(usize, usi
     Ok(pairs)
 }
 
+/// The pairs of frame slots that may not share bytes, by their positions among the function's allocas, the lower one first, in
+/// order: two share none unless both have lifetime markers, neither is used before begin, and at no point outside the end
+/// block and all blocks that it reaches both may be alive (LLVM Language Reference, "llvm.lifetime.start").
+pub fn conflicts(alloc: Global, function: &Function) -> Result<Items<(usize, usize)>, AllocError>
+    ensures { IfOk result (AreConflicts function.now) }
+{
+    let found = classes(alloc, function)?;
+    conflicts_by(alloc, function, found)
+}
+
 // ---- slots alive at suspends
 
-/// The frame slots that may be alive at suspends, each with these: a slot by its position among the function's allocas, a
-/// suspend by its number in order of the text, in order. A slot may be alive at a point where a path leads there from begin,
-/// for a slot without lifetime markers, or from a start of it without an end of it between.
-pub fn alive_at(alloc: Global, function: &Function) -> Result<Items<(usize, usize)>, AllocError>
+/// What `alive_at` gives, by the classes of the slots.
+pub fn alive_by(
+    alloc: Global,
+    function: &Function,
+    classes: &Items<SlotClass>,
+) -> Result<Items<(usize, usize)>, AllocError>
+    requires { AreClasses function.now classes.now }
     ensures { IfOk result (AreAliveAt function.now) }
 {
     let slots = slots_of(alloc, function)?;
-    let classes = classes(alloc, function)?;
     let known = suspended_of(alloc, function)?;
     let mut pairs = Items::new(alloc);
     for chunk in 0..chunks_of(slots.len()) {
@@ -168,11 +184,21 @@ pub fn alive_at(alloc: Global, function: &Function) -> Result<Items<(usize, usiz
             alloc,
             function,
             &known,
-            &classes,
+            classes,
             slots.as_slice(),
             chunk,
             &mut pairs,
         )?;
     }
     Ok(pairs)
+}
+
+/// The frame slots that may be alive at suspends, each with these: a slot by its position among the function's allocas, a
+/// suspend by its number in order of the text, in order. A slot may be alive at a point where a path leads there from begin,
+/// for a slot without lifetime markers, or from a start of it without an end of it between.
+pub fn alive_at(alloc: Global, function: &Function) -> Result<Items<(usize, usize)>, AllocError>
+    ensures { IfOk result (AreAliveAt function.now) }
+{
+    let found = classes(alloc, function)?;
+    alive_by(alloc, function, &found)
 }

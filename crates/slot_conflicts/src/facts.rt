@@ -20,7 +20,7 @@ use flow_solver::Graph;
 use ir_model::Function;
 use ir_paths::Point;
 use point_graph::PointGraph;
-use slot_lifetime::{SlotClass, classes};
+use slot_lifetime::SlotClass;
 use slot_uses::{PhiUse, chunk_of, phi_uses, slots_of};
 use std::alloc::{AllocError, Global};
 use window_rules::PointSet;
@@ -125,8 +125,13 @@ fn all_chunks(
     Ok(chunks)
 }
 
-/// What is found once of the slots of a function.
-pub fn known_of(alloc: Global, function: &Function) -> Result<Known, AllocError>
+/// What is found once of the slots of a function, by their classes.
+pub fn known_of(
+    alloc: Global,
+    function: &Function,
+    classes: Items<SlotClass>,
+) -> Result<Known, AllocError>
+    requires { AreClasses function.now classes }
     ensures { IfOk result (IsKnown function.now) }
 {
     let mut graph = PointGraph::new(alloc, function)?;
@@ -142,7 +147,7 @@ pub fn known_of(alloc: Global, function: &Function) -> Result<Known, AllocError>
     )?;
     Ok(Known {
         count: slots.len(),
-        classes: classes(alloc, function)?,
+        classes,
         chunks,
     })
 }

@@ -12,4 +12,4 @@ mod pairs;
 mod started;
 mod suspended;
 
-pub use answer::{alive_at, conflicts};
+pub use answer::{alive_at, alive_by, conflicts, conflicts_by};

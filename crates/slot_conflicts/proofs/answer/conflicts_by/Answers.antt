@@ -4,7 +4,7 @@ use Rattle.std.proofs.lemmas.Option.{slice_get_within}
 use Rattle.ir_paths.specs.Slots.{allocas_of}
 use Rattle.slot_conflicts.proofs.Order.{all_pairs, rows_so_far}
 use Rattle.slot_conflicts.specs.Conflicts.{ConflictAt}
-use Rattle.slot_conflicts.proofs.answer.conflicts.Goals as goal
+use Rattle.slot_conflicts.proofs.answer.conflicts_by.Goals as goal
 
 pub push_chunk-requires-clause-pairs : goal.push_chunk-requires-clause-pairs
 push_chunk-requires-clause-pairs c =
