@@ -2,6 +2,7 @@
 
 ghost use Rattle.std.specs.Prelude.{◌≡◌, IfOk, map, slice_get};
 ghost use Rattle.lower_pipeline.specs.Lowering.{IsDone, IsLowering, IsLoweringBy, IsModuleLowering, frame_line, lowered_by, lowered_text, name_of};
+ghost use Rattle.lower_pipeline.specs.NoCoroutine.{HasNoCoroutine};
 
 use crate::passes::{framed_module, lowered_module};
 use coro_base::{Data, FuncId, Items, Name, Options, Place, Rule};
@@ -121,18 +122,20 @@ fn lower_by(alloc: Global, source: Module, acceptance: Acceptance) -> Result<Low
 }
 
 /// Lowers a module, in whose frames fields share bytes or don't, or tells the rule that it breaks first.
-#[tactic(auto, using(crate::proofs::Told::lowered_as))]
+#[tactic(auto, using(crate::proofs::Told::lowered_as, crate::proofs::NoCoroutine::module_lowering_has_none))]
 pub fn lower_module(alloc: Global, source: Module, share: bool) -> Result<Lowering, AllocError>
-    ensures { IfOk result (λ l. IsModuleLowering share source l) }
+    ensures lowered { IfOk result (λ l. IsModuleLowering share source l) }
+    ensures plain { IfOk result (λ l. HasNoCoroutine l) }
 {
     let acceptance = accept(alloc, &source, share)?;
     lower_by(alloc, source, acceptance)
 }
 
-/// Lowers a text.
-#[tactic(auto, using(crate::proofs::Told::syntax_is_told, crate::proofs::Told::module_is_told))]
+/// Lowers a text. What is lowered has no coroutine left, and neither calls nor declares a coro intrinsic.
+#[tactic(auto, using(crate::proofs::Told::syntax_is_told, crate::proofs::Told::module_is_told, crate::proofs::NoCoroutine::lowering_has_none))]
 pub fn lower(alloc: Global, text: &[u8], options: Options) -> Result<Lowering, AllocError>
-    ensures { IfOk result (λ l. IsLowering options text.now l) }
+    ensures lowered { IfOk result (λ l. IsLowering options text.now l) }
+    ensures plain { IfOk result (λ l. HasNoCoroutine l) }
 {
     match parse(alloc, text)? {
         Parsed::Syntax { items } => Ok(Lowering::Syntax(items)),
