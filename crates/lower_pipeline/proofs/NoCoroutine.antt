@@ -171,9 +171,9 @@ pieced_fine s p i term Cut.Returns h = record { whole = ended p p.label p.phis p
 pieced_fine s p i term (Cut.Transfers j) h =
     record {
       whole =
-        all_joined is_fine_block p.whole (piece p p.instrs (Terminator.Jump (pass_label s j)) ∷ pass_block (pass_label s j) (lowered s p.next i) ∷ []) h.whole
-        (both (list_all is_id_or_free p.instrs) (list_all is_id_or_free (lowered s p.next i) && true) h.instrs
-        (both (list_all is_id_or_free (lowered s p.next i)) true (lowered_fine s p.next i) refl));
+          all_joined is_fine_block p.whole (piece p p.instrs (Terminator.Jump (pass_label s j)) ∷ pass_block (pass_label s j) (lowered s p.next i) ∷ []) h.whole
+          (both (list_all is_id_or_free p.instrs) (list_all is_id_or_free (lowered s p.next i) && true) h.instrs
+          (both (list_all is_id_or_free (lowered s p.next i)) true (lowered_fine s p.next i) refl));
       instrs = refl;
     }
 
