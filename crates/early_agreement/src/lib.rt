@@ -5,17 +5,18 @@ ghost use Rattle.std.specs.Prelude.{◌≡◌, ℕ, ℤ, List};
 ghost use Rattle.agreement.specs.Agreements.{AgreesWithin};
 ghost use Rattle.coro_base.specs.declared.outcome.Word.{Word};
 ghost use Rattle.coro_meaning.specs.Source.{SourceAt};
-ghost use Rattle.early_agreement.specs.Passes.{named_module, renamed_module, written_module};
+ghost use Rattle.early_agreement.specs.Passes.{named_module, renamed_module};
 ghost use Rattle.early_agreement.specs.Regular.{AllKeepRules};
 ghost use Rattle.early_lower.specs.Early.{early_module};
 ghost use Rattle.ir_model.specs.declared.module.Frame.{Frame};
 ghost use Rattle.ir_model.specs.declared.module.Module.{Module};
+ghost use Rattle.save_agreement.specs.SavesWritten.{saves_written};
 
 /// The first pass is three in a row: begin's value gets a name, uses of `coro.frame` become uses of it, and saves are
 /// written out.
 #[tactic(auto, using(crate::proofs::Composition::early_in_turn))]
 pub fn early_is_three_passes()
-    ensures { (m : Module) → early_module m ≡ written_module (renamed_module (named_module m)) }
+    ensures { (m : Module) → early_module m ≡ saves_written (renamed_module (named_module m)) }
 {}
 
 /// Where the uses of values of `coro.frame` become uses of begin's value, each run agrees within 1 with the run of the module.
