@@ -3,6 +3,7 @@
 ghost use Rattle.std.specs.Prelude.{◌≡◌, IfOk};
 ghost use Rattle.coroutine_frames.specs.Frames.{ArePairs, ArePositions, IfKnown, IsFrameOf, IsLaid};
 ghost use Rattle.ir_paths.specs.Slots.{allocas_of as allocas_of_function};
+ghost use Rattle.slot_lifetime.specs.Classes.{AreClasses};
 
 use crate::fields::fields_of;
 use crate::held::{Holding, held_of};
@@ -11,8 +12,8 @@ use coro_base::{FuncId, Items, SuspendId, ValueId};
 use coro_shape::allocas_of;
 use frame_layout::{Field, Layout, LayoutError, field_conflicts, lay_out, lay_out_plain};
 use ir_model::Function;
-use slot_conflicts::{alive_at, conflicts};
-use slot_lifetime::classes;
+use slot_conflicts::{alive_by, conflicts_by};
+use slot_lifetime::{SlotClass, classes};
 use std::alloc::{AllocError, Global};
 use suspend_crossing::crossing;
 use type_sizes::Sizes;
@@ -31,15 +32,17 @@ fn pairs_of(
     alloc: Global,
     function: &Function,
     allocas: &[ValueId],
+    classes: Items<SlotClass>,
     fields: &[Field],
     positions: &[Option<usize>],
     crossing: &[(ValueId, SuspendId)],
 ) -> Result<Items<(usize, usize)>, AllocError>
+    requires { AreClasses function.now classes }
     ensures { IfOk result (λ pairs. ArePairs function.now allocas.now fields.now positions.now crossing.now pairs) }
 {
     let slots = slot_positions(alloc, positions, allocas)?;
-    let alive = alive_at(alloc, function)?;
-    let together = conflicts(alloc, function)?;
+    let alive = alive_by(alloc, function, &classes)?;
+    let together = conflicts_by(alloc, function, classes)?;
     let crossing = at_fields(alloc, positions, crossing)?;
     let alive = at_fields(alloc, &slots, alive.as_slice())?;
     let together = both_at_fields(alloc, &slots, together.as_slice())?;
@@ -53,17 +56,21 @@ fn laid(
     function: &Function,
     share: bool,
     allocas: &[ValueId],
+    classes: Items<SlotClass>,
     held: &[Holding],
     positions: &[Option<usize>],
     crossing: &[(ValueId, SuspendId)],
 ) -> Result<Layout, LayoutError>
     requires allocas { allocas.now ≡ allocas_of_function function.now }
+    requires classes { AreClasses function.now classes }
     requires positions { ArePositions held.now positions.now }
     ensures { IfKnown (IsLaid share function.now func held.now crossing.now) result }
 {
     let fields = fields_of(alloc, function, held)?;
     if share {
-        let pairs = pairs_of(alloc, function, allocas, &fields, positions, crossing)?;
+        let pairs = pairs_of(
+            alloc, function, allocas, classes, &fields, positions, crossing,
+        )?;
         lay_out(alloc, func, &fields, pairs.as_slice())
     } else {
         lay_out_plain(alloc, func, &fields)
@@ -101,6 +108,7 @@ pub fn frame_of(
         function,
         share,
         allocas.as_slice(),
+        classes,
         held.as_slice(),
         positions.as_slice(),
         crossing.as_slice(),
