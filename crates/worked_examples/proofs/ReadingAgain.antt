@@ -1,5 +1,5 @@
 -- A text that stands for a module is read again.
-use Rattle.std.proofs.Common.{◌≡◌, ℕ, Bool, true, false, List, sym, subst, ◌∙◌}
+use Rattle.std.proofs.Common.{◌≡◌, ℕ, Bool, true, false, List}
 use Rattle.std.specs.Prelude.{IsTrue, ◌↔◌, Result, Ok, Err, IfOk}
 use Rattle.std.proofs.lemmas.Bool.{false≢true}
 use Rattle.ir_grammar.specs.Text.{StandsFor}
@@ -9,10 +9,6 @@ use Rattle.ir_parser.specs.declared.text.Parsed.{Parsed}
 use Rattle.printed_grammar.specs.ReadBack.{IsReadBack}
 use Rattle.worked_examples.specs.ReadAgain.{IsPrintedAgain, IsReadAgain, StandsForOne}
 
-true_by : (b : Bool) → IsTrue b → b ≡ true
-true_by true h = cc
-true_by false h = absurd h
-
 same_module : (m n : Module) → Parsed.Module n ≡ Parsed.Module m → m ≡ n
 same_module m n e = cc
 
@@ -21,8 +17,7 @@ no_module items m e = absurd (cc)
 
 -- what is printed is read as a module
 pub same_again : (m n : Module) (printed : List ℕ) (b : Bool) → IsReadBack printed m → ((k : Module) → StandsFor printed k → Parsed.Module n ≡ Parsed.Module k) → (IsTrue b ↔ (m ≡ n)) → IsPrintedAgain m b
-same_again m n printed b back told same text bytes stands =
-    true_by b (same.1 (same_module m n (told m (back.stands text bytes stands))))
+same_again m n printed b back told same text bytes stands = same.1 (same_module m n (told m (back.stands text bytes stands)))
 
 -- what is printed is not read
 pub none_again : (m : Module) (items : ℕ) (printed : List ℕ) → IsReadBack printed m → ((k : Module) → StandsFor printed k → Parsed.Syntax items ≡ Parsed.Module k) → IsPrintedAgain m false
