@@ -34,7 +34,7 @@ use Rattle.ir_model.specs.declared.operand.Intrinsic.{Intrinsic}
 use Rattle.ir_model.specs.declared.operand.Operand.{Operand}
 use Rattle.ir_parser.specs.Parse.{read_module}
 use Rattle.ir_parser.specs.declared.text.Parsed.{Parsed}
-use Rattle.lower_pipeline.specs.Lowering.{IsDone, IsLowering, IsLoweringBy, IsLoweringOf, IsModuleLowering, lowered_module}
+use Rattle.lower_pipeline.specs.Lowering.{IsDone, IsLowering, IsLoweringBy, IsLoweringOf, lowered_module}
 use Rattle.lower_pipeline.specs.NoCoroutine.{HasNoCoroutine, has_no_coroutine}
 use Rattle.lower_pipeline.specs.declared.whole.Lowered.{Lowered}
 use Rattle.lower_pipeline.specs.declared.whole.Lowering.{Lowering}
@@ -316,8 +316,8 @@ text_has_none share (Parsed.Module m) l h = by_has_none m h.acceptance l h.comes
 pub lowering_has_none : {E : Type 0} (options : Options) (text : List ℕ) (r : Result Lowering E) → IfOk r (λ l. IsLowering options text l) → IfOk r (λ l. HasNoCoroutine l)
 unfolding IsLowering
 lowering_has_none options text (Ok l) h = text_has_none options.share (read_module text) l h
-lowering_has_none options text (Err x) h = tt
+lowering_has_none options text (Err x) h = h
 
-pub module_lowering_has_none : {E : Type 0} (share : Bool) (m : Module) (r : Result Lowering E) → IfOk r (λ l. IsModuleLowering share m l) → IfOk r (λ l. HasNoCoroutine l)
-module_lowering_has_none share m (Ok l) h = by_has_none m h.acceptance l h.comes
-module_lowering_has_none share m (Err x) h = tt
+pub lowering_by_has_none : {E : Type 0} {m : Module} {a : Acceptance} (r : Result Lowering E) → IfOk r (λ l. IsLoweringBy m a l) → IfOk r (λ l. HasNoCoroutine l)
+lowering_by_has_none {E} {m} {a} (Ok l) h = by_has_none m a l h
+lowering_by_has_none (Err x) h = h

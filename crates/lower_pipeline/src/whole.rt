@@ -122,7 +122,7 @@ fn lower_by(alloc: Global, source: Module, acceptance: Acceptance) -> Result<Low
 }
 
 /// Lowers a module, in whose frames fields share bytes or don't, or tells the rule that it breaks first.
-#[tactic(auto, using(crate::proofs::Told::lowered_as, crate::proofs::NoCoroutine::module_lowering_has_none))]
+#[tactic(auto, using(crate::proofs::Told::lowered_as, crate::proofs::NoCoroutine::lowering_by_has_none))]
 pub fn lower_module(alloc: Global, source: Module, share: bool) -> Result<Lowering, AllocError>
     ensures lowered { IfOk result (λ l. IsModuleLowering share source l) }
     ensures plain { IfOk result (λ l. HasNoCoroutine l) }
