@@ -13,8 +13,8 @@ use Rattle.coro_split.specs.declared.origin.Origin.{Origin}
 use Rattle.coro_split.specs.declared.piecing.Piecing.{Piecing}
 use Rattle.frame_layout.specs.declared.layout.Layout.{Layout}
 use Rattle.frame_layout.specs.declared.layout.Layouts.{Layouts}
-use Rattle.intrinsic_lowering.specs.Cuts.{cut_at, goes_on}
-use Rattle.intrinsic_lowering.specs.Lowered.{address, done_test, lowered, lowered_call, number_of_save, operand_at, save_or_none, set_address, set_number, set_truth}
+use Rattle.intrinsic_lowering.specs.Cuts.{cut_at}
+use Rattle.intrinsic_lowering.specs.Lowered.{address, done_test, lowered, number_of_save, save_or_none, set_address, set_number, set_truth}
 use Rattle.intrinsic_lowering.specs.Shapes.{first_name, index_bytes, index_name, pass_label, shape_of, slot_name}
 use Rattle.intrinsic_lowering.specs.declared.cuts.Cut.{Cut}
 use Rattle.intrinsic_lowering.specs.declared.shape.Part.{Part}
@@ -318,6 +318,6 @@ unfolding IsLowering
 lowering_has_none options text (Ok l) h = text_has_none options.share (read_module text) l h
 lowering_has_none options text (Err x) h = h
 
-pub lowering_by_has_none : {E : Type 0} {m : Module} {a : Acceptance} (r : Result Lowering E) → IfOk r (λ l. IsLoweringBy m a l) → IfOk r (λ l. HasNoCoroutine l)
-lowering_by_has_none {E} {m} {a} (Ok l) h = by_has_none m a l h
-lowering_by_has_none (Err x) h = h
+pub lowering_by_has_none : {E : Type 0} (m : Module) (a : Acceptance) (r : Result Lowering E) → IfOk r (λ l. IsLoweringBy m a l) → IfOk r (λ l. HasNoCoroutine l)
+lowering_by_has_none m a (Ok l) h = by_has_none m a l h
+lowering_by_has_none m a (Err x) h = h
