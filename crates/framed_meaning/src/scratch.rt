@@ -1,0 +1,5 @@
+//! Scratch.
+ghost use Rattle.std.specs.Prelude.{◌≡◌, ℕ};
+pub fn scratch()
+    ensures { (n : ℕ) → n ≡ n }
+{}
