@@ -1,10 +1,11 @@
 -- Bytes that may be touched, and their judges.
 use Rattle.std.proofs.Common.{◌≡◌, ℕ, zero, suc, ◌+◌, ◌-◌, ◌<◌, Bool, true, false, ◌&&◌, List, refl, ap, sym, ◌∙◌, arith, Option, Some, None}
-use Rattle.std.specs.Prelude.{option_map}
+use Rattle.std.specs.Prelude.{option_and_then, option_map, slice_get}
 use Rattle.block_memory.specs.Memory.{meets}
 use Rattle.block_memory.specs.declared.block.MemoryBlock.{MemoryBlock}
+use Rattle.coro_meaning.specs.State.{last_from, numbered}
 use Rattle.coro_meaning.specs.declared.state.Instance.{Instance}
-use Rattle.framed_meaning.specs.Framed.{FramedGiven, is_open, is_open_byte, judge_of, meets_in}
+use Rattle.framed_meaning.specs.Framed.{FramedGiven, covers, is_open, is_open_byte, judge_of, meets_in}
 use Rattle.framed_meaning.specs.FramedEffects.{opens}
 
 open-one : (g : FramedGiven) (xs : List Instance) (b k n : ℕ) → 0 < n → is_open g xs b k n ≡ (is_open_byte g k (judge_of g xs b k) && is_open g xs b (k + 1) (n - 1))
@@ -39,3 +40,14 @@ meets-none g b offset align (Some (i, x)) e = absurd cc
 pub meets-some : (g : FramedGiven) (b : MemoryBlock) (offset align : ℕ) (x : Instance) (o : Option (ℕ × Instance)) → Some x ≡ instance_of o → meets_in g b offset align (Some (0, x)) ≡ meets_in g b offset align o
 meets-some g b offset align x None e = absurd cc
 meets-some g b offset align x (Some (i, y)) e = let s : x ≡ y = cc in ap (λ (z : Instance). meets_in g b offset align (Some (0, z))) s
+
+by-number : (o : Option Instance) (i : ℕ) → o ≡ instance_of (option_map (λ x. (i, x)) o)
+by-number None i = refl
+by-number (Some x) i = refl
+
+numbered-is : (xs : List Instance) (o : Option ℕ) → option_and_then (slice_get xs) o ≡ instance_of (option_and_then (numbered xs) o)
+numbered-is xs None = refl
+numbered-is xs (Some i) = by-number (slice_get xs i) i
+
+pub judged : (g : FramedGiven) (xs : List Instance) (b k : ℕ) (o : Option ℕ) (r : Option Instance) → o ≡ last_from (covers g b k) 0 xs → r ≡ option_and_then (slice_get xs) o → r ≡ instance_of (judge_of g xs b k)
+judged g xs b k o r e h = h ∙ numbered-is xs o ∙ ap (λ (p : Option ℕ). instance_of (option_and_then (numbered xs) p)) e

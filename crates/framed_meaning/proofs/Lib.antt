@@ -10,3 +10,5 @@ pub mod Entering
 pub mod GivenCalls
 pub mod Reentering
 pub mod BeginGiven
+pub mod Finishing
+pub mod Promising
