@@ -119,7 +119,9 @@ fn framed_form_answer(
     match lowering {
         Lowering::Done(lowered) => {
             let Lowered {
-                framed, layouts, ..
+                framed,
+                layouts,
+                ..
             } = lowered;
             run_framed(alloc, framed, &layouts, words)
         }

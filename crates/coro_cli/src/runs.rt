@@ -164,8 +164,9 @@ fn framed_run(
     ensures { IfOk result (λ a. a ≡ framed_run (given_with framed layouts.now.coroutines answers.now facts) call.now steps) }
 {
     let args = call.args.as_slice();
-    let mut machine =
-        FramedMachine::start(alloc, framed, layouts, facts, call.func, args, answers)?;
+    let mut machine = FramedMachine::start(
+        alloc, framed, layouts, facts, call.func, args, answers,
+    )?;
     let outcome = machine.run(steps)?;
     let text = run_text(alloc, machine.code(), machine.events(), outcome)?;
     Ok(shown(alloc, run_verdict(outcome), Items::from_vec(text)))

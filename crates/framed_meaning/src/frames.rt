@@ -3,6 +3,8 @@
 ghost use Rattle.std.specs.Prelude.{◌≡◌, ◌+◌, ◌==◌, ◌&&◌, IfErr, OnOk, OnErr, Ok, if◌then◌else◌};
 ghost use Rattle.block_memory.specs.Memory.{disown, same_kind};
 ghost use Rattle.block_memory.specs.declared.block.Kind.{Kind as TheKind};
+ghost use Rattle.block_memory.specs.declared.pointer.Pointer.{Pointer as ThePointer};
+ghost use Rattle.block_memory.specs.declared.pointer.Value.{Value as TheValue};
 ghost use Rattle.coro_meaning.specs.Source.{end_of, release};
 ghost use Rattle.coro_meaning.specs.SourceEffects.{IsStop};
 ghost use Rattle.coro_meaning.specs.State.{gives, own_instance};
@@ -11,7 +13,7 @@ ghost use Rattle.framed_meaning.specs.FramedEffects.{framed_of};
 
 use crate::judging::{Wanted, last_wanted};
 use crate::program::FramedProgram;
-use block_memory::{BlockId, Kind, Memory, Pointer, Value};
+use block_memory::{BlockId, Kind, Memory, Offset, Pointer, Value};
 use coro_base::{Cause, ValueId};
 use coro_meaning::ending::{after_end, finish, release_with};
 use coro_meaning::frames::{begin, begin_in};
@@ -57,14 +59,24 @@ fn is_stack_block(memory: &Memory, block: BlockId) -> bool
     }
 }
 
+/// Whether the instances that began at an offset of a block are Finished.
+fn are_finished_from(program: &FramedProgram, state: &State, block: BlockId, offset: Offset) -> bool
+    ensures { result ≡ are_finished_at_value state.now.instances (TheValue.Ptr (ThePointer.At block offset)) }
+{
+    let wanted = Wanted::Unfinished(offset.bits);
+    match last_wanted(program, &state.instances, block, wanted) {
+        None => true,
+        Some(_) => false,
+    }
+}
+
 /// Whether the instances that began at an address are Finished.
 fn are_finished_at(program: &FramedProgram, state: &State, frame: Value) -> bool
     ensures { result ≡ are_finished_at_value state.now.instances frame }
 {
     match frame {
         Value::Ptr(Pointer::At(block, offset)) => {
-            let wanted = Wanted::Unfinished(offset.bits);
-            last_wanted(program, &state.instances, block, wanted).is_none()
+            are_finished_from(program, state, block, offset)
         }
         _ => true,
     }

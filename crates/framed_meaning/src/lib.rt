@@ -14,7 +14,6 @@ mod promise;
 mod ramps;
 mod reentry;
 mod rights;
-mod scratch;
 mod stepping;
 
 pub use machine::FramedMachine;

@@ -50,11 +50,15 @@ fn alloca_before(
     ensures refused { (rights : Rights) → IfErr result (λ stop. IsStop stop (framed_act (framed_of program.now) state.old (alloca_at (framed_of program.now) rights state.old slot.alloca ty.now align))) }
     ensures kept { OnErr result (state.new ≡ state.old) }
 {
-    alloca_own(alloc, &program.given, state, next, slot, ty, align)?;
-    state.top.mode = Mode::Entering { from, label };
-    state.top.block = point.block;
-    state.top.at = point.at;
-    Ok(())
+    match alloca_own(alloc, &program.given, state, next, slot, ty, align) {
+        Ok(()) => {
+            state.top.mode = Mode::Entering { from, label };
+            state.top.block = point.block;
+            state.top.at = point.at;
+            Ok(())
+        }
+        Err(stop) => Err(stop),
+    }
 }
 
 /// The last alloca of a resumed activation, which then enters a label from the block of its suspend. The values with which
@@ -87,12 +91,16 @@ fn alloca_last(
     let Ok(block) = enter_label(alloc, ordinary, func, from, &mut values, label) else {
         return Err(Stop::NoMemory);
     };
-    alloca_own(alloc, &program.given, state, next, slot, ty, align)?;
-    state.top.values = values;
-    state.top.mode = Mode::Resumed;
-    state.top.block = block;
-    state.top.at = 0;
-    Ok(())
+    match alloca_own(alloc, &program.given, state, next, slot, ty, align) {
+        Ok(()) => {
+            state.top.values = values;
+            state.top.mode = Mode::Resumed;
+            state.top.block = block;
+            state.top.at = 0;
+            Ok(())
+        }
+        Err(stop) => Err(stop),
+    }
 }
 
 /// An alloca of a resumed activation that is still entering a label.
@@ -294,6 +302,7 @@ fn instruction(
         _ => other_instruction(alloc, program, state, next, instr),
     }
 }
+
 /// Does what stands at the state's place.
 fn proceed(
     alloc: Global,

@@ -23,9 +23,9 @@ loop-candidate-smaller c =
     candidate-less (fits g c.args.block c.args.wanted) c.args.block c.args.instances.now c.loop-candidate.candidate c.before-candidate.result c.in-Some.i c.in-Some-get.instance.now c.loop-candidate.invariant c.in-Some.is c.in-Some-get.ensures (c.before-candidate.ensures c.in-Some-get.instance.now c.in-Some-get.ensures)
 
 pub returns-in_default-get : goal.returns-in_default-get
-returns-in_default-get c = absurd (candidate-there (fits (framed_of c.args.program.now) c.args.block c.args.wanted) c.args.block c.args.instances.now c.loop-candidate.candidate c.in-Some.i c.loop-candidate.invariant c.in-Some.is c.in-None.ensures)
+returns-in_default-get c = absurd (candidate-there (fits (framed_of c.args.program.now) c.args.block c.args.wanted) c.args.block c.args.instances.now c.loop-candidate.candidate c.in-Some.i c.loop-candidate.invariant c.in-Some.is (c.in_default-get.ensures {u = tt}))
 
 pub returns : goal.returns
 returns c =
     let g = framed_of c.args.program.now in
-    candidate-none (fits g c.args.block c.args.wanted) c.args.block c.args.instances.now c.loop-candidate.candidate (of-block g c.args.block c.args.wanted) c.loop-candidate.invariant c.in-None.is
+    candidate-none (fits g c.args.block c.args.wanted) c.args.block c.args.instances.now c.loop-candidate.candidate (of-block g c.args.block c.args.wanted) c.loop-candidate.invariant c.in_default.is
