@@ -1,3 +1,0 @@
-pub mod Having
-pub mod SameFacts
-pub mod Steps
