@@ -1,5 +1,5 @@
 -- The meaning of a framed module: the source meaning, except for what stands here.
-use Rattle.std.specs.Prelude.{ℕ, zero, suc, Bool, true, false, not, List, [], map, length, replicate, ℤ, is_none, nat_lt, nat_le, slice_get, Some, None, Ok, Err, find, Option, Result, unwrap_or, option_map, option_and_then, ◌+◌, ◌-◌, ◌%◌, ◌&&◌, ◌||◌, ◌∷◌, if◌then◌else◌, ◌==◌}
+use Rattle.std.specs.Prelude.{ℕ, zero, suc, Bool, true, false, not, List, [], map, drop, length, replicate, ℤ, is_none, nat_lt, nat_le, slice_get, Some, None, Ok, Err, find, Option, Result, unwrap_or, option_map, option_and_then, ◌+◌, ◌-◌, ◌%◌, ◌&&◌, ◌||◌, ◌∷◌, if◌then◌else◌, ◌==◌}
 use Rattle.block_memory.specs.Memory.{Rights, disown, meets, same_kind}
 use Rattle.block_memory.specs.declared.block.Kind.{Kind}
 use Rattle.block_memory.specs.declared.block.MemoryBlock.{MemoryBlock}
@@ -23,6 +23,7 @@ use Rattle.frame_layout.specs.declared.layout.Layouts.{Layouts}
 use Rattle.frame_layout.specs.declared.layout.PlacedField.{PlacedField}
 use Rattle.ir_model.specs.Names.{first_where, function_at, noalloc_of, same_name}
 use Rattle.ir_model.specs.declared.instr.Instr.{Instr}
+use Rattle.ir_model.specs.declared.module.Block.{Block}
 use Rattle.ir_model.specs.declared.module.Frame.{Frame}
 use Rattle.ir_model.specs.declared.module.Function.{Function}
 use Rattle.ir_model.specs.declared.module.Module.{Module}
@@ -34,10 +35,11 @@ use Rattle.ir_paths.specs.Slots.{allocas_of}
 use Rattle.ir_paths.specs.Windows.{call_result, instr_at, is_call_of, operand_at, points_where, windows_of}
 use Rattle.ir_paths.specs.declared.point.Facts.{Facts}
 use Rattle.ir_paths.specs.declared.point.Point.{Point}
+use Rattle.ordinary_step.specs.Effects.{is_alloca}
 use Rattle.ordinary_step.specs.Results.{and_then, found, ok_if}
 use Rattle.ordinary_step.specs.Runs.{Seen, iterate, seen_of}
 use Rattle.ordinary_step.specs.Step.{Action, AtInstr, Context, Coro, Fetched, NewSlot, action_of, fetch}
-use Rattle.ordinary_step.specs.Values.{Env, arg_values, nth, pointer_to, truth_value, with_result}
+use Rattle.ordinary_step.specs.Values.{Env, arg_values, nth, truth_value, with_result}
 use Rattle.ordinary_step.specs.declared.world.Slot.{Slot}
 use Rattle.std.specs.List.{list_all, list_any}
 use Rattle.std.specs.Option.{option_map_or}
@@ -109,13 +111,18 @@ begin_name f = option_and_then call_result (option_and_then (instr_at f) (slice_
 abbrev pub reentry_values : Function → Value → Env
 reentry_values f frame = with_result (replicate (length f.names) None) (begin_name f) frame
 
-abbrev pub is_alloca : Instr → Bool
-is_alloca (Instr.Alloca name ty align) = true
-is_alloca _ = false
+-- the first alloca among instructions, the first of which stands at a position
+abbrev pub alloca_in : ℕ → List Instr → Option ℕ
+alloca_in at [] = None
+alloca_in at (i ∷ instrs) = if is_alloca i then Some at else alloca_in (suc at) instrs
+
+abbrev pub alloca_of : Option Block → ℕ → Option ℕ
+alloca_of None at = None
+alloca_of (Some b) at = alloca_in at (drop at b.instrs)
 
 -- the first alloca of the entry block from a position on
 abbrev pub alloca_from : Function → ℕ → Option Point
-alloca_from f at = find (λ p. nat_le at p.at) (points_where is_alloca f)
+alloca_from f at = option_map (λ k. record { block = 0; at = k }) (alloca_of (slice_get f.blocks 0) at)
 
 abbrev pub with_mode : State → Mode → State
 with_mode s mode = record s { top = record s.top { mode = mode } }
@@ -204,7 +211,7 @@ has_size memory b size = option_map_or (λ x. x.size == size) (slice_get memory 
 -- such a ramp's begin takes the last argument: offset 0 of a live stack block of the frame's size, which the instance then owns
 abbrev pub begin_given_at : FramedGiven → State → Value → Result State Cause
 begin_given_at g s (Value.Ptr (Pointer.At b o)) =
-    and_then (ok_if ((o.bits == 0) && has_size s.world.memory b (own_frame g.given s).size) Cause.Begin s) (λ s. begin_at g.given s (pointer_to b) Kind.Stack)
+    and_then (ok_if ((o.bits == 0) && has_size s.world.memory b (own_frame g.given s).size) Cause.Begin s) (λ s. begin_at g.given s (Value.Ptr (Pointer.At b o)) Kind.Stack)
 begin_given_at g s _ = Err Cause.Begin
 
 -- earlier instances that began at an address are Finished

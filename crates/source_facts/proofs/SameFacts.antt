@@ -59,7 +59,7 @@ first-same x y xs ys e = cc
 rest-same : (x y : Point × Point) (xs ys : List (Point × Point)) → x ∷ xs ≡ y ∷ ys → xs ≡ ys
 rest-same x y xs ys e = cc
 
-windows-same : (f : Function) (xs ys : List Window) → saves_in xs ≡ saves_in ys → AllByRecursion (IsWindow f) xs → AllByRecursion (IsWindow f) ys → SameWindows xs ys
+pub windows-same : (f : Function) (xs ys : List Window) → saves_in xs ≡ saves_in ys → AllByRecursion (IsWindow f) xs → AllByRecursion (IsWindow f) ys → SameWindows xs ys
 windows-same f [] [] e ha hb = tt
 windows-same f [] (b ∷ ys) e ha hb = absurd (cc)
 windows-same f (a ∷ xs) [] e ha hb = absurd (cc)
@@ -74,15 +74,15 @@ facts-same f a b ha hb =
       ramp_slots = λ v. same_test (has_name a.ramp_slots v) (has_name b.ramp_slots v) (λ h. (hb.ramp_slots v).1 ((ha.ramp_slots v).0 h)) (λ h. (ha.ramp_slots v).1 ((hb.ramp_slots v).0 h));
     }
 
-no-facts : SameFacts (record { windows = []; ramp_slots = [] }) (record { windows = []; ramp_slots = [] })
+pub no-facts : SameFacts (record { windows = []; ramp_slots = [] }) (record { windows = []; ramp_slots = [] })
 no-facts = record { windows = tt; ramp_slots = λ v. refl }
 
-get_map : {A B : Type 0} (f : A → B) (xs : List A) (i : ℕ) (x : A) → slice_get xs i ≡ Some x → slice_get (map f xs) i ≡ Some (f x)
+pub get_map : {A B : Type 0} (f : A → B) (xs : List A) (i : ℕ) (x : A) → slice_get xs i ≡ Some x → slice_get (map f xs) i ≡ Some (f x)
 get_map f [] i x e = absurd (cc)
 get_map f (y ∷ xs) zero x e = let same : y ≡ x = cc in ap (λ z. Some (f z)) same
 get_map f (y ∷ xs) (suc i) x e = get_map f xs i x e
 
-some-at : {A : Type 0} (xs : List A) (i : ℕ) → i < length xs → (x : A) × (slice_get xs i ≡ Some x)
+pub some-at : {A : Type 0} (xs : List A) (i : ℕ) → i < length xs → (x : A) × (slice_get xs i ≡ Some x)
 some-at [] i lt = absurd (omega arith)
 some-at (x ∷ xs) zero lt = (x, refl)
 some-at (x ∷ xs) (suc i) lt = some-at xs i (omega arith)

@@ -80,7 +80,7 @@ module _ (m : Module) (sizes : List Frame) (answers : List ℤ) (f1 f2 : List Fa
       ok_if (all-same (length s.below) x (a ∷ xs) (b ∷ ys) h j) Cause.State
       (enter_block (given_facts m sizes answers f1) (with_left (with_status s i x Status.Running) false) label))
 
-  go_to-same : (s : State) (label : ℕ) → go_to (given_facts m sizes answers f1) s label ≡ go_to (given_facts m sizes answers f2) s label
+  pub go_to-same : (s : State) (label : ℕ) → go_to (given_facts m sizes answers f1) s label ≡ go_to (given_facts m sizes answers f2) s label
   go_to-same s label =
       branch-same s label (left_windows (given_facts m sizes answers f1) s label) (left_windows (given_facts m sizes answers f2) s label)
       (filter-same (leaves (point_of s) (entry_point (function_of (given_facts m sizes answers f1) s) label)) (facts_at f1 s.top.func).windows (facts_at f2 s.top.func).windows
@@ -99,13 +99,13 @@ module _ (m : Module) (sizes : List Frame) (answers : List ℤ) (f1 f2 : List Fa
       new-slots-same (facts_at f1 s.top.func).ramp_slots (facts_at f2 s.top.func).ramp_slots (Some (i, x))
       (record s { instances = s.instances ++ x ∷ []; top = record s.top { instance = Some i; slots = [] } }) s.top.slots (same s.top.func).ramp_slots
 
-  begin_at-same : (s : State) (mem : Value) (kind : Kind) → begin_at (given_facts m sizes answers f1) s mem kind ≡ begin_at (given_facts m sizes answers f2) s mem kind
+  pub begin_at-same : (s : State) (mem : Value) (kind : Kind) → begin_at (given_facts m sizes answers f1) s mem kind ≡ begin_at (given_facts m sizes answers f2) s mem kind
   begin_at-same s mem kind = λ j.
       and_then (own s.world.memory mem (own_frame (given_facts m sizes answers f1) s).size kind) (λ memory.
       and_then (found Cause.Begin (block_of mem)) (λ b.
       Ok (begun-same (with_memory s memory) b 0 j)))
 
-  begin-same : (s : State) (result : Option ℕ) (mem : Value) → begin (given_facts m sizes answers f1) s result mem ≡ begin (given_facts m sizes answers f2) s result mem
+  pub begin-same : (s : State) (result : Option ℕ) (mem : Value) → begin (given_facts m sizes answers f1) s result mem ≡ begin (given_facts m sizes answers f2) s result mem
   begin-same s result mem = λ j.
       and_then (ok_if (is_none s.top.instance) Cause.Begin s) (λ (t : State).
       and_then (begin_at-same t mem Kind.Allocator j) (λ (u : State). Ok (gives u result mem)))

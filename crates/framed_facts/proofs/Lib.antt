@@ -1,0 +1,3 @@
+pub mod Having
+pub mod SameFacts
+pub mod Steps

@@ -1,0 +1,13 @@
+pub mod LayoutPlaces
+pub mod GivenRamps
+pub mod Chains
+pub mod Bytes
+pub mod Wanting
+pub mod Endings
+pub mod Acting
+pub mod Allocas
+pub mod Entering
+pub mod GivenCalls
+pub mod Reentering
+pub mod BeginGiven
+pub mod Fetching
