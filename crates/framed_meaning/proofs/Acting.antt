@@ -1,25 +1,19 @@
 -- What an action of a framed run does is what its effect does, on the work that it leaves.
-use Rattle.std.proofs.Common.{◌≡◌, ℕ, Bool, true, false, List, refl, ap, sym, subst, ◌∙◌, Ok, Err, Option, Some, None}
-use Rattle.std.specs.Prelude.{Result, OnOk, IfErr, IsFalse, unwrap_or}
+use Rattle.std.proofs.Common.{◌≡◌, ℕ, false, List, refl, ap, sym, subst, ◌∙◌, Ok, Err, Option}
+use Rattle.std.specs.Prelude.{Result, OnOk, IfErr}
 use Rattle.std.proofs.lemmas.Bool.{false≢true}
-use Rattle.block_memory.specs.declared.pointer.Value.{Value}
-use Rattle.coro_base.specs.declared.cause.Cause.{Cause}
-use Rattle.coro_base.specs.declared.name.Name.{Name}
 use Rattle.coro_meaning.proofs.Acting.{is-stop}
 use Rattle.coro_meaning.specs.SourceEffects.{IsStop, OfCall, with_work}
 use Rattle.coro_meaning.specs.State.{work_of}
 use Rattle.coro_meaning.specs.declared.effects.Stop.{Stop}
 use Rattle.coro_meaning.specs.declared.state.State.{State}
-use Rattle.framed_meaning.specs.Framed.{FramedGiven, enter_given, framed_act, framed_context, framed_coro, framed_next, given_call, given_ramp}
-use Rattle.framed_meaning.specs.FramedEffects.{framed_effect, ramp_of}
-use Rattle.ir_model.specs.declared.instr.Instr.{Instr}
+use Rattle.framed_meaning.specs.Framed.{FramedGiven, framed_act, framed_coro, framed_next}
+use Rattle.framed_meaning.specs.FramedEffects.{framed_effect}
 use Rattle.ir_model.specs.declared.operand.Arg.{Arg}
-use Rattle.ir_model.specs.declared.operand.Callee.{Callee}
 use Rattle.ordinary_step.specs.Effects.{IsEffect, effect_of, is_new_slot, work_after}
-use Rattle.ordinary_step.specs.Step.{Action, AtInstr, Coro, Deallocate, Done, Enter, Fetched, GoTo, NewSlot, Return, Stuck, Work, action_of}
+use Rattle.ordinary_step.specs.Step.{Action, Coro, Deallocate, Done, Enter, Fetched, GoTo, NewSlot, Return, Stuck, Work}
 use Rattle.ordinary_step.specs.Values.{arg_values}
 use Rattle.ordinary_step.specs.declared.effect.Effect.{Effect}
-use Rattle.ordinary_step.specs.declared.world.Slot.{Slot}
 
 act-effect : (g : FramedGiven) (s : State) (args : List Arg) (res : Option ℕ) (a : Action) → OfCall args res a → is_new_slot (effect_of a) ≡ false → framed_act g s a ≡ framed_effect g (with_work s (work_after (work_of s) a)) args res (effect_of a)
 act-effect g s args res (Done w) h n = refl

@@ -1,5 +1,5 @@
 -- The allocas of a block.
-use Rattle.std.proofs.Common.{◌≡◌, ℕ, zero, suc, ◌+◌, ◌<◌, ◌≤◌, true, false, List, [], ◌∷◌, drop, length, get_or, refl, ap, sym, ◌∙◌, arith, Option, Some, None}
+use Rattle.std.proofs.Common.{◌≡◌, ℕ, zero, suc, ◌+◌, ◌<◌, ◌≤◌, true, false, List, [], ◌∷◌, drop, length, get_or, refl, ap, sym, ◌∙◌, arith, Some, None}
 use Rattle.ir_model.specs.declared.instr.Instr.{Instr}
 use Rattle.framed_meaning.specs.Framed.{alloca_in}
 use Rattle.ordinary_step.proofs.Lists.{drop-next, if-false, if-true}

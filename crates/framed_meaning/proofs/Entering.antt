@@ -1,5 +1,5 @@
 -- Allocas of an activation, and what comes behind those of one that is entering a label.
-use Rattle.std.proofs.Common.{◌≡◌, ℕ, ◌+◌, Bool, true, false, List, ◌∷◌, length, refl, ap, sym, ◌∙◌, Ok, Err, Option, Some, None}
+use Rattle.std.proofs.Common.{◌≡◌, ℕ, ◌+◌, Bool, true, false, ◌∷◌, length, refl, ap, sym, ◌∙◌, Ok, Err, Option, Some, None}
 use Rattle.std.specs.Prelude.{Result, OnOk, IfErr, slice_get, if◌then◌else◌}
 use Rattle.block_memory.specs.Memory.{Rights, end, fresh}
 use Rattle.coro_base.specs.declared.cause.Cause.{Cause}

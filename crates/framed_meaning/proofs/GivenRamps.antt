@@ -1,7 +1,7 @@
 -- The ramps that are given the address of their frame.
-use Rattle.std.proofs.Common.{◌≡◌, ℕ, zero, suc, ◌+◌, ◌<◌, Bool, true, false, ◌&&◌, List, [], ◌∷◌, ◌++◌, length, get_or, take, refl, ap, sym, ◌∙◌, arith, Option, Some, None}
+use Rattle.std.proofs.Common.{◌≡◌, ℕ, suc, ◌+◌, ◌<◌, Bool, true, false, ◌&&◌, List, [], ◌∷◌, ◌++◌, length, get_or, take, refl, ap, sym, ◌∙◌, arith, Option, Some, None}
 use Rattle.std.specs.Prelude.{option_and_then, option_map, slice_get, if◌then◌else◌}
-use Rattle.std.proofs.lemmas.List.{append-nil, length-take-le}
+use Rattle.std.proofs.lemmas.List.{length-take-le}
 use Rattle.coro_base.specs.declared.name.Name.{Name}
 use Rattle.framed_meaning.specs.Framed.{given_ramp}
 use Rattle.framed_meaning.specs.Tables.{ramps_from}
@@ -30,9 +30,6 @@ ramps-next fs i f all next lt e is new =
     ∙ ap (λ m. ramps_from 0 (take i fs) ++ ramps_from m (f ∷ [])) (sym n)
     ∙ sym (ramps-snoc 0 (take i fs) f)
     ∙ ap (ramps_from 0) (sym (take-next fs i f lt e))
-
-pub no-ramp : (b : Bool) (k : ℕ) (f : Function) (all : List GivenRamp) → f.coroutine ≡ b → b ≡ false → all ≡ all ++ ramps_from k (f ∷ [])
-no-ramp b k f all e n = sym (append-nil all) ∙ ap (λ c. all ++ (if c then record { name = noalloc_of f.name; func = k } ∷ [] else [])) (sym (e ∙ n))
 
 -- ---- the ramp of a name
 

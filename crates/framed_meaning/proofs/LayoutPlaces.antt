@@ -1,10 +1,9 @@
 -- The layouts of functions, by the functions' positions.
-use Rattle.std.proofs.Common.{◌≡◌, ℕ, zero, suc, ◌+◌, ◌-◌, ◌<◌, ◌≤◌, Bool, true, false, List, [], ◌∷◌, drop, length, get_or, refl, ap, sym, ◌∙◌, arith, Option, Some, None, inl, inr}
-use Rattle.std.specs.Prelude.{find, option_and_then, option_map, replicate, slice_get, slice_set, unwrap_or, if◌then◌else◌, ◌==◌}
+use Rattle.std.proofs.Common.{◌≡◌, ℕ, ◌+◌, ◌-◌, ◌<◌, ◌≤◌, Bool, true, false, List, drop, length, get_or, refl, ap, sym, ◌∙◌, arith, Option, Some, None, inl, inr}
+use Rattle.std.specs.Prelude.{find, option_and_then, replicate, slice_get, slice_set, if◌then◌else◌, ◌==◌}
 use Rattle.std.proofs.lemmas.Bool.{eq-eqb, eqb-true, false≢true}
 use Rattle.std.proofs.lemmas.Option.{slice_get-get_or}
 use Rattle.frame_layout.specs.declared.layout.Layout.{Layout}
-use Rattle.framed_meaning.specs.Framed.{layout_of, no_layout}
 use Rattle.ordinary_step.proofs.LabelPositions.{slice_get-replicate, slice_get-set}
 use Rattle.ordinary_step.proofs.Lists.{drop-end, drop-next}
 
@@ -38,6 +37,3 @@ places-step layouts at table next x lt le e is h func o get =
       | inl p ↦ split ∙ found-here (x.coroutine == func) x (option_and_then (slice_get layouts) o) rest (eq-eqb x.coroutine func (sym p.0)) (ap (option_and_then (slice_get layouts)) p.1 ∙ here)
       | inr q ↦ split ∙ found-there (x.coroutine == func) x.coroutine func x rest refl q.1 ∙ h func o q.0
     ]
-
-pub layout-is : (layouts : List Layout) (f : ℕ) (o : Option Layout) → o ≡ find (λ l. l.coroutine == f) layouts → layout_of layouts f ≡ unwrap_or o (no_layout f)
-layout-is layouts f o e = ap (λ (p : Option Layout). unwrap_or p (no_layout f)) (sym e)

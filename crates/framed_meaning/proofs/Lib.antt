@@ -1,7 +1,6 @@
 pub mod LayoutPlaces
 pub mod GivenRamps
 pub mod Chains
-pub mod Bytes
 pub mod Wanting
 pub mod Endings
 pub mod Acting
@@ -9,5 +8,4 @@ pub mod Allocas
 pub mod Entering
 pub mod GivenCalls
 pub mod Reentering
-pub mod BeginGiven
-pub mod Fetching
+pub mod AllocaSteps

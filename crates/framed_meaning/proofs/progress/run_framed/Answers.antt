@@ -1,4 +1,4 @@
-use Rattle.std.proofs.Common.{◌≡◌, ◌∙◌, ap, sym, arith}
+use Rattle.std.proofs.Common.{◌∙◌, ap, sym, arith}
 use Rattle.coro_meaning.proofs.Iterating.{iterate-next}
 use Rattle.coro_meaning.specs.declared.state.State.{State}
 use Rattle.framed_meaning.proofs.Endings.{over}

@@ -1,6 +1,6 @@
 use Rattle.framed_meaning.specs.FramedEffects.{framed_of}
 use Rattle.framed_meaning.specs.Framed.{frame_rights}
-use Rattle.framed_meaning.proofs.Fetching.{alloca-done, alloca-refused}
+use Rattle.framed_meaning.proofs.AllocaSteps.{alloca-done, alloca-refused}
 use Rattle.framed_meaning.proofs.stepping.instruction.Goals as goal
 
 pub returns-in-Alloca-clause-done : goal.returns-in-Alloca-clause-done

@@ -1,5 +1,5 @@
-use Rattle.std.proofs.Common.{◌∙◌, sym}
-use Rattle.framed_meaning.proofs.GivenCalls.{no-ramp-done, no-ramp-refused, ramp-next}
+use Rattle.std.proofs.Common.{sym}
+use Rattle.framed_meaning.proofs.GivenCalls.{no-ramp-done, no-ramp-refused}
 use Rattle.framed_meaning.proofs.stepping.other_instruction.Goals as goal
 use Rattle.framed_meaning.specs.FramedEffects.{framed_of}
 

@@ -1,4 +1,4 @@
-use Rattle.std.proofs.Common.{◌≡◌, ◌∙◌, ap}
+use Rattle.std.proofs.Common.{◌∙◌, ap}
 use Rattle.coro_meaning.proofs.Iterating.{iterate-more}
 use Rattle.coro_meaning.specs.Source.{first_state}
 use Rattle.coro_meaning.specs.declared.state.State.{State}

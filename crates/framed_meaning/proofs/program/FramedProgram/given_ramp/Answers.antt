@@ -1,4 +1,4 @@
-use Rattle.std.proofs.Common.{◌≡◌, ℕ, ◌∙◌, ap, sym, List, Option, Some, None}
+use Rattle.std.proofs.Common.{ℕ, ◌∙◌, ap, sym, Option}
 use Rattle.std.specs.Prelude.{option_and_then, option_map, slice_get}
 use Rattle.framed_meaning.proofs.GivenRamps.{ramp-found}
 use Rattle.framed_meaning.proofs.program.FramedProgram.given_ramp.Goals as goal
