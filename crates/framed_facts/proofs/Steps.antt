@@ -1,5 +1,5 @@
 -- Steps of framed runs whose facts say the same.
-use Rattle.std.proofs.Common.{◌≡◌, ℕ, ◌&&◌, List, refl, ap, Option, Ok, Some, None}
+use Rattle.std.proofs.Common.{◌≡◌, ℕ, ◌&&◌, List, refl, ap, Option, Ok}
 use Rattle.std.specs.Prelude.{ℤ, is_none, unwrap_or, map, ◌==◌}
 use Rattle.block_memory.specs.declared.block.Kind.{Kind}
 use Rattle.block_memory.specs.declared.pointer.Pointer.{Pointer}
@@ -23,7 +23,7 @@ use Rattle.ir_model.specs.declared.operand.Intrinsic.{Intrinsic}
 use Rattle.ir_paths.specs.declared.point.Facts.{Facts}
 use Rattle.ordinary_step.specs.Results.{and_then, ok_if}
 use Rattle.ordinary_step.specs.Runs.{iterate, seen_of}
-use Rattle.ordinary_step.specs.Step.{Action, Coro, Deallocate, Done, Enter, Fetched, GoTo, NewSlot, Return, Stuck, action_of, fetch}
+use Rattle.ordinary_step.specs.Step.{Action, Coro, Fetched, GoTo, action_of, fetch}
 use Rattle.ordinary_step.specs.Values.{arg_values, nth}
 use Rattle.source_facts.proofs.SameFacts.{SameFacts}
 use Rattle.source_facts.proofs.Steps.{begin-same, begin_at-same, go_to-same}
