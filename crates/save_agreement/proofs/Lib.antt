@@ -1,6 +1,11 @@
 mod Expansion
-mod Strands
+pub mod Strands
 mod Instrs
 mod Blocks
-mod Ways
+pub mod Ways
+pub mod Points
+pub mod Tokens
+pub mod Apart
+pub mod Windows
 pub mod Plain
+pub mod Probe

@@ -1,3 +1,4 @@
 pub mod Expansion
 pub mod SavesWritten
 pub mod Spots
+pub mod Tokens

@@ -1,0 +1,19 @@
+-- What writing saves out asks of the calls of a coroutine.
+use Rattle.std.specs.Prelude.{ℕ, Some, None, Option, ◌<◌}
+use Rattle.ir_model.specs.declared.instr.Instr.{Instr}
+use Rattle.ir_model.specs.declared.operand.Operand.{Operand}
+use Rattle.ir_paths.specs.Windows.{call_operand, call_result}
+
+-- a local is one of so many names
+abbrev pub IsNamed : ℕ → Operand → Type 0
+IsNamed n (Operand.Local v) = v < n
+IsNamed n _ = Unit {0}
+
+abbrev pub IsNamedResult : ℕ → Option ℕ → Type 0
+IsNamedResult n None = Unit {0}
+IsNamedResult n (Some v) = v < n
+
+-- the result and the first operand of a call are among so many names
+pub record HasNamedToken (n : ℕ) (i : Instr) : Type 0 where
+  pub result : IsNamedResult n (call_result i)
+  pub token : IsNamed n (call_operand i 0)
