@@ -7,5 +7,6 @@ pub mod Points
 pub mod Tokens
 pub mod Apart
 pub mod Windows
+pub mod Saves
 pub mod Plain
 pub mod Probe

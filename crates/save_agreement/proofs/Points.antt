@@ -16,15 +16,15 @@ Each P (x ∷ xs) = P x × Each P xs
 
 -- ---- the positions of the instructions that pass a test
 
-abbrev places : (Instr → Bool) → List Instr → List ℕ
+abbrev pub places : (Instr → Bool) → List Instr → List ℕ
 places test [] = []
 places test (i ∷ is) = if test i then 0 ∷ map suc (places test is) else map suc (places test is)
 
-map_same : {A B : Type 0} (f g : A → B) → ((x : A) → f x ≡ g x) → (xs : List A) → map f xs ≡ map g xs
+pub map_same : {A B : Type 0} (f g : A → B) → ((x : A) → f x ≡ g x) → (xs : List A) → map f xs ≡ map g xs
 map_same f g h [] = refl
 map_same f g h (x ∷ xs) = let rest = map_same f g h xs in λ i. h x i ∷ rest i
 
-map_map : {A B C : Type 0} (f : B → C) (g : A → B) (xs : List A) → map f (map g xs) ≡ map (λ x. f (g x)) xs
+pub map_map : {A B C : Type 0} (f : B → C) (g : A → B) (xs : List A) → map f (map g xs) ≡ map (λ x. f (g x)) xs
 map_map f g [] = refl
 map_map f g (x ∷ xs) = let rest = map_map f g xs in λ i. f (g x) ∷ rest i
 
@@ -41,7 +41,7 @@ points_append test block at (i ∷ is) js =
     on true e = ap (λ (ps : List Point). point block at ∷ ps) e
     on false e = e
 
-points_are : (test : Instr → Bool) (block at : ℕ) (is : List Instr) → points_from test block at is ≡ map (λ k. point block (at + k)) (places test is)
+pub points_are : (test : Instr → Bool) (block at : ℕ) (is : List Instr) → points_from test block at is ≡ map (λ k. point block (at + k)) (places test is)
 points_are test block at [] = refl
 points_are test block at (i ∷ is) = on (test i) (points_are test block (suc at) is ∙ map_same _ _ (λ k. ap (point block) (next k)) (places test is) ∙ sym (map_map (λ k. point block (at + k)) suc (places test is)))
   where

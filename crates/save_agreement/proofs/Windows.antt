@@ -213,3 +213,10 @@ module _ (f : Function) (named : HasNamedTokens f) where
           let t = or_right (same_point v (front_of f p)) (has_point (back_of f p ∷ []) v) (or_left (same_point v (back_of f p)) false (ap (λ (z : Point). same_point z (back_of f p)) s ∙ same_point-itself (back_of f p))) in
           let no = h.1 in
           cc
+
+  pub none_inside : (p : Point) (i : Instr) → here p ≡ Some i → is_bare f.coroutine i ≡ true → (v : Window) → v.save ≡ front_of f p → v.suspend ≡ back_of f p → IsWindow g v → (y : Point) → has_point v.inside y ≡ false
+  none_inside p i e b v c d hv y = on (has_point v.inside y) refl
+    where
+      on : (t : Bool) → has_point v.inside y ≡ t → has_point v.inside y ≡ false
+      on true h = absurd (none_between p y i e b (subst (λ (x : Point). IsInWindow g x (back_of f p) y) c (subst (λ (x : Point). IsInWindow g v.save x y) d ((hv.inside y).0 h))))
+      on false h = h

@@ -13,7 +13,14 @@ abbrev pub IsNamedResult : ℕ → Option ℕ → Type 0
 IsNamedResult n None = Unit {0}
 IsNamedResult n (Some v) = v < n
 
--- the result and the first operand of a call are among so many names
+-- the name of an address: of an alloca or a getelementptr
+abbrev pub address_name : Instr → Option ℕ
+address_name (Instr.Alloca name ty align) = Some name
+address_name (Instr.Gep name inbounds ty base indices) = Some name
+address_name _ = None
+
+-- the result and the first operand of a call, and the names of addresses, are among so many names
 pub record HasNamedToken (n : ℕ) (i : Instr) : Type 0 where
   pub result : IsNamedResult n (call_result i)
+  pub address : IsNamedResult n (address_name i)
   pub token : IsNamed n (call_operand i 0)
