@@ -1,12 +1,15 @@
-mod Expansion
-pub mod Strands
+pub mod Expansion
+mod Strands
 mod Instrs
 mod Blocks
-pub mod Ways
-pub mod Points
-pub mod Tokens
-pub mod Apart
-pub mod Windows
+mod Ways
+mod Points
+mod Tokens
+mod Apart
+mod Windows
 pub mod Saves
+mod Behind
+pub mod Slots
+mod Left
+pub mod Laws
 pub mod Plain
-pub mod Probe

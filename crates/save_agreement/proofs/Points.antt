@@ -8,11 +8,8 @@ use Rattle.ir_model.specs.declared.module.Block.{Block}
 use Rattle.ir_paths.specs.Windows.{points_from, points_in}
 use Rattle.ir_paths.specs.declared.point.Point.{Point}
 use Rattle.save_agreement.specs.SavesWritten.{behind_save, behind_saves, is_bare, saved_blocks, with_save, with_saves}
+pub use Rattle.save_agreement.specs.Tokens.{Each}
 use Rattle.save_agreement.specs.Spots.{instrs_in, number_of_block, own_saves, place_in}
-
-abbrev pub Each : {A : Type 0} → (A → Type 0) → List A → Type 0
-Each P [] = Unit {0}
-Each P (x ∷ xs) = P x × Each P xs
 
 -- ---- the positions of the instructions that pass a test
 

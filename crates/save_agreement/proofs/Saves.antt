@@ -18,6 +18,7 @@ use Rattle.ir_paths.specs.declared.point.Window.{Window}
 use Rattle.save_agreement.proofs.Points.{Each, map_same, places, points_are, points_moved, shift_in, shifted}
 use Rattle.save_agreement.proofs.Tokens.{bare_is}
 use Rattle.save_agreement.proofs.Windows.{HasNamedTokens, none_inside, same_inside, suspend_bare, suspend_lone}
+use Rattle.save_agreement.specs.Moved.{AreMoved, IsMoved}
 use Rattle.save_agreement.specs.SavesWritten.{is_bare, saved_function, with_save}
 use Rattle.save_agreement.specs.Spots.{back_of, front_of, instrs_in, own_saves}
 use Rattle.save_agreement.specs.Tokens.{HasNamedToken, IsNamedResult}
@@ -160,20 +161,7 @@ saves_saved f =
 
 -- ---- windows
 
--- a window is moved: what it says of a point, the other one says of its front
-pub record IsMoved (f : Function) (w v : Window) : Type 0 where
-  pub save : v.save ≡ front_of f w.save
-  pub suspend : v.suspend ≡ front_of f w.suspend
-  pub inside : (p : Point) → has_point v.inside (front_of f p) ≡ has_point w.inside p
-
--- the windows are moved, in their order, and among them are others that have no points
-abbrev pub AreMoved : Function → List Window → List Window → Type 0
-AreMoved f ws [] = ws ≡ []
-AreMoved f ws (v ∷ vs) =
-    (((p : Point) → has_point v.inside (front_of f p) ≡ false) × AreMoved f ws vs)
-    ⊎ ((w : Window) × (rest : List Window) × (ws ≡ w ∷ rest) × IsMoved f w v × AreMoved f rest vs)
-
-each_at : {A : Type 0} (P : A → Type 0) (xs : List A) (n : ℕ) (x : A) → Each P xs → slice_get xs n ≡ Some x → P x
+pub each_at : {A : Type 0} (P : A → Type 0) (xs : List A) (n : ℕ) (x : A) → Each P xs → slice_get xs n ≡ Some x → P x
 each_at P [] n x h e = absurd (cc)
 each_at P (y ∷ xs) zero x h e = let s : y ≡ x = cc in subst P s h.0
 each_at P (y ∷ xs) (suc n) x h e = each_at P xs n x h.1 e
@@ -222,7 +210,7 @@ module _ (f : Function) (named : HasNamedTokens f) where
   abbrev AreRight : Function → List Window → Type 0
   AreRight h ws = AllByRecursion (IsWindow h) ws
 
-  lone_front : (p : Point) (i : Instr) → here_in f.blocks p ≡ Some i → is_bare f.coroutine i ≡ false → front_of f p ≡ back_of f p
+  pub lone_front : (p : Point) (i : Instr) → here_in f.blocks p ≡ Some i → is_bare f.coroutine i ≡ false → front_of f p ≡ back_of f p
   lone_front p i e b =
       let own : own_saves f.coroutine (here_in f.blocks p) ≡ 0 = ap (own_saves f.coroutine) e ∙ ap (λ (t : Bool). if t then 1 else 0) b in
       ap (λ (k : ℕ). record { block = p.block; at = k }) (sym (add-zero (front_of f p).at) ∙ ap (λ (k : ℕ). (front_of f p).at + k) (sym own))

@@ -4,6 +4,7 @@ use Rattle.ir_model.specs.declared.module.Function.{Function}
 use Rattle.ir_paths.proofs.Search.{Has}
 use Rattle.ir_paths.specs.Paths.{IsPath, Leads, has_point, nexts}
 use Rattle.ir_paths.specs.declared.point.Point.{Point}
+pub use Rattle.save_agreement.specs.Avoided.{AreAvoided}
 
 -- an edge leads from x to y, and no other one from x
 pub record IsOnlyNext (g : Function) (x y : Point) : Type 0 where
@@ -21,12 +22,6 @@ pub record AreStrands (f g : Function) (front back : Point → Point) : Type 0 w
   pub forth : (p q : Point) → Has (nexts f p) q → Has (nexts g (back p)) (front q)
   pub home : (p y : Point) → Has (nexts g (back p)) y → IsFrontOfNext f front p y
   pub within : (p : Point) → (front p ≡ back p) ⊎ IsOnlyNext g (front p) (back p)
-
--- points are avoided in g where both their front and their back are
-pub record AreAvoided (front back : Point → Point) (avoided besides : List Point) : Type 0 where
-  pub fronts : (p : Point) → has_point avoided p ≡ false → has_point besides (front p) ≡ false
-  pub backs : (p : Point) → has_point avoided p ≡ false → has_point besides (back p) ≡ false
-  pub home : (p : Point) → has_point besides (front p) ≡ false → has_point besides (back p) ≡ false → has_point avoided p ≡ false
 
 leads_on : (f : Function) (avoided : List Point) (p v q : Point) → Has (nexts f p) v → has_point avoided v ≡ false → Leads f avoided v q → Leads f avoided p q
 leads_on f avoided p v q e n l = record { between = v ∷ l.between; is_path = (e, n, l.is_path) }

@@ -60,7 +60,7 @@ other_name m v lt = on (m == v) refl
     on true e = let same = eq_from m v e in absurd (omega arith)
     on false e = e
 
-smaller_name : (m v : ℕ) → m < v → (m == v) ≡ false
+pub smaller_name : (m v : ℕ) → m < v → (m == v) ≡ false
 smaller_name m v lt = on (m == v) refl
   where
     on : (b : Bool) → (m == v) ≡ b → (m == v) ≡ false
@@ -134,7 +134,7 @@ module _ (c : Bool) (least : ℕ) where
       on true = omega arith
       on false = le
 
-  behind_more : (n : ℕ) (is : List Instr) → n ≤ behind_saves c n is
+  pub behind_more : (n : ℕ) (is : List Instr) → n ≤ behind_saves c n is
   behind_more n [] = omega arith
   behind_more n (i ∷ is) =
       let again = behind_more (behind_save c n i) is in

@@ -23,15 +23,12 @@ use Rattle.save_agreement.proofs.Tokens.{own_token, written_suspend}
 use Rattle.save_agreement.proofs.Ways.{save_leads, strands, within}
 use Rattle.save_agreement.specs.SavesWritten.{is_bare, saved_function, with_saves}
 use Rattle.save_agreement.specs.Spots.{back_of, front_of, instrs_in, number_of_block, own_saves, place_in}
+pub use Rattle.save_agreement.specs.Tokens.{HasNamedTokens}
 use Rattle.save_agreement.specs.Tokens.{HasNamedToken, IsNamedResult}
 
-instr_at_is : (o : Option Block) (at : ℕ) → instr_in o at ≡ slice_get (instrs_in o) at
+pub instr_at_is : (o : Option Block) (at : ℕ) → instr_in o at ≡ slice_get (instrs_in o) at
 instr_at_is None at = refl
 instr_at_is (Some b) at = refl
-
--- the tokens of a function's calls are positions of its table of names
-abbrev pub HasNamedTokens : Function → Type 0
-HasNamedTokens f = Each (λ (b : Block). Each (HasNamedToken (length f.names)) b.instrs) f.blocks
 
 module _ (f : Function) (named : HasNamedTokens f) where
   abbrev g : Function

@@ -1,6 +1,8 @@
 -- What writing saves out asks of the calls of a coroutine.
-use Rattle.std.specs.Prelude.{ℕ, Some, None, Option, ◌<◌}
+use Rattle.std.specs.Prelude.{ℕ, List, [], length, Some, None, Option, ◌<◌, ◌∷◌}
 use Rattle.ir_model.specs.declared.instr.Instr.{Instr}
+use Rattle.ir_model.specs.declared.module.Block.{Block}
+use Rattle.ir_model.specs.declared.module.Function.{Function}
 use Rattle.ir_model.specs.declared.operand.Operand.{Operand}
 use Rattle.ir_paths.specs.Windows.{call_operand, call_result}
 
@@ -24,3 +26,12 @@ pub record HasNamedToken (n : ℕ) (i : Instr) : Type 0 where
   pub result : IsNamedResult n (call_result i)
   pub address : IsNamedResult n (address_name i)
   pub token : IsNamed n (call_operand i 0)
+
+-- P holds of each element
+abbrev pub Each : {A : Type 0} → (A → Type 0) → List A → Type 0
+Each P [] = Unit {0}
+Each P (x ∷ xs) = P x × Each P xs
+
+-- the same in all of a function, whose table has these names
+abbrev pub HasNamedTokens : Function → Type 0
+HasNamedTokens f = Each (λ (b : Block). Each (HasNamedToken (length f.names)) b.instrs) f.blocks
