@@ -202,7 +202,7 @@ module _ (f : Function) where
       on None = refl
       on (Some b) = refl
 
-  entry_saved : (a b : ℕ) → a ≡ b → entry_point (saved_function f) a ≡ front_of f (entry_point f b)
+  pub entry_saved : (a b : ℕ) → a ≡ b → entry_point (saved_function f) a ≡ front_of f (entry_point f b)
   entry_saved a b e = ap (entry_point (saved_function f)) e ∙ ap (λ (k : ℕ). record { block = k; at = 0 }) (position_saved f b)
 
   abbrev edges_in : Function → Point → List Point
@@ -250,8 +250,8 @@ module _ (f : Function) where
       path (inr l) = inr (
         front_ending b.first ∙ l.0,
         to_back b.first p b.is_not_in_end
-        (from_front f g (front_of f) (back_of f) (strands f) (end_points f) (end_points g) ends_avoided b.first (front_of f p) (back_ending b.first ∙ l.0)
-        (leads_forth f g (front_of f) (back_of f) (strands f) (end_points f) (end_points g) ends_avoided b.first p l.1)),
+            (from_front f g (front_of f) (back_of f) (strands f) (end_points f) (end_points g) ends_avoided b.first (front_of f p) (back_ending b.first ∙ l.0)
+            (leads_forth f g (front_of f) (back_of f) (strands f) (end_points f) (end_points g) ends_avoided b.first p l.1)),
       )
 
   abbrev LedTo : Point → Point → Type 0

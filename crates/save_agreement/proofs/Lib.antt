@@ -1,15 +1,17 @@
 pub mod Expansion
 mod Strands
-mod Instrs
-mod Blocks
+pub mod Instrs
+pub mod Blocks
 mod Ways
 mod Points
 mod Tokens
-mod Apart
+pub mod Apart
 mod Windows
 pub mod Saves
-mod Behind
+pub mod Behind
 pub mod Slots
 mod Left
 pub mod Laws
+pub mod Parts
+pub mod Environments
 pub mod Plain

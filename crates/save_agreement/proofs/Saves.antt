@@ -17,11 +17,11 @@ use Rattle.ir_paths.specs.declared.point.Point.{Point}
 use Rattle.ir_paths.specs.declared.point.Window.{Window}
 use Rattle.save_agreement.proofs.Points.{Each, map_same, places, points_are, points_moved, shift_in, shifted}
 use Rattle.save_agreement.proofs.Tokens.{bare_is}
-use Rattle.save_agreement.proofs.Windows.{HasNamedTokens, none_inside, same_inside, suspend_bare, suspend_lone}
+use Rattle.save_agreement.proofs.Windows.{none_inside, same_inside, suspend_bare, suspend_lone}
 use Rattle.save_agreement.specs.Moved.{AreMoved, IsMoved}
 use Rattle.save_agreement.specs.SavesWritten.{is_bare, saved_function, with_save}
 use Rattle.save_agreement.specs.Spots.{back_of, front_of, instrs_in, own_saves}
-use Rattle.save_agreement.specs.Tokens.{HasNamedToken, IsNamedResult}
+use Rattle.save_agreement.specs.Tokens.{HasNamedToken, HasNamedTokens, IsNamedResult}
 
 -- ---- a list of elements of two kinds, and those of the first kind
 

@@ -24,10 +24,10 @@ use Rattle.save_agreement.proofs.Saves.{IsPassing, each_append, each_at, each_he
 use Rattle.save_agreement.proofs.Tokens.{bare_is, behind_more, smaller_name}
 use Rattle.ir_paths.proofs.Search.{either, eq_from}
 use Rattle.save_agreement.proofs.Ways.{has_map, map_has}
-use Rattle.save_agreement.proofs.Windows.{HasNamedTokens, front_lone, instr_at_is}
+use Rattle.save_agreement.proofs.Windows.{front_lone, instr_at_is}
 use Rattle.save_agreement.specs.SavesWritten.{behind_save, behind_saves, is_bare, saved_block, saved_blocks, saved_function, with_save, with_saves}
 use Rattle.save_agreement.specs.Spots.{back_of, front_of, instrs_in, own_saves}
-use Rattle.save_agreement.specs.Tokens.{HasNamedToken}
+use Rattle.save_agreement.specs.Tokens.{HasNamedToken, HasNamedTokens}
 
 -- ---- allocas and getelementptrs
 

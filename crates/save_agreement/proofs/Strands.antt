@@ -47,7 +47,6 @@ module _ (f g : Function) (front back : Point → Point) (strands : AreStrands f
   pub leads_forth : (p q : Point) → Leads f avoided p q → Leads g besides (back p) (front q)
   leads_forth p q l = path_forth l.between p q l.is_path
 
-
   -- y is the front or the back of a point to which a path of f leads
   pub record IsLedTo (p y : Point) : Type 0 where
     pub point : Point

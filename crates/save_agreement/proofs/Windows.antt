@@ -23,7 +23,7 @@ use Rattle.save_agreement.proofs.Tokens.{own_token, written_suspend}
 use Rattle.save_agreement.proofs.Ways.{save_leads, strands, within}
 use Rattle.save_agreement.specs.SavesWritten.{is_bare, saved_function, with_saves}
 use Rattle.save_agreement.specs.Spots.{back_of, front_of, instrs_in, number_of_block, own_saves, place_in}
-pub use Rattle.save_agreement.specs.Tokens.{HasNamedTokens}
+use Rattle.save_agreement.specs.Tokens.{HasNamedTokens}
 use Rattle.save_agreement.specs.Tokens.{HasNamedToken, IsNamedResult}
 
 pub instr_at_is : (o : Option Block) (at : ℕ) → instr_in o at ≡ slice_get (instrs_in o) at
@@ -182,11 +182,11 @@ module _ (f : Function) (named : HasNamedTokens f) where
     pub same_inside : (w v : Window) → w.save ≡ k → w.suspend ≡ s → v.save ≡ front_of f k → v.suspend ≡ back_of f s → IsWindow f w → IsWindow g v → (p : Point) → has_point v.inside (front_of f p) ≡ has_point w.inside p
     same_inside w v a b c d hw hv p = same_truth (has_point v.inside (front_of f p)) (has_point w.inside p)
         (λ h. (hw.inside p).1
-            (subst (λ (x : Point). IsInWindow f x w.suspend p) (sym a) (subst (λ (x : Point). IsInWindow f k x p) (sym b)
-            (home p (subst (λ (x : Point). IsInWindow g x (back_of f s) (front_of f p)) c (subst (λ (x : Point). IsInWindow g v.save x (front_of f p)) d ((hv.inside (front_of f p)).0 h)))))))
+        (subst (λ (x : Point). IsInWindow f x w.suspend p) (sym a) (subst (λ (x : Point). IsInWindow f k x p) (sym b)
+        (home p (subst (λ (x : Point). IsInWindow g x (back_of f s) (front_of f p)) c (subst (λ (x : Point). IsInWindow g v.save x (front_of f p)) d ((hv.inside (front_of f p)).0 h)))))))
         (λ h. (hv.inside (front_of f p)).1
-            (subst (λ (x : Point). IsInWindow g x v.suspend (front_of f p)) (sym c) (subst (λ (x : Point). IsInWindow g (front_of f k) x (front_of f p)) (sym d)
-            (forth p (subst (λ (x : Point). IsInWindow f x s p) a (subst (λ (x : Point). IsInWindow f w.save x p) b ((hw.inside p).0 h)))))))
+        (subst (λ (x : Point). IsInWindow g x v.suspend (front_of f p)) (sym c) (subst (λ (x : Point). IsInWindow g (front_of f k) x (front_of f p)) (sym d)
+        (forth p (subst (λ (x : Point). IsInWindow f x s p) a (subst (λ (x : Point). IsInWindow f w.save x p) b ((hw.inside p).0 h)))))))
 
   -- ---- the window of a written save is empty
 

@@ -8,6 +8,7 @@ ghost use Rattle.ir_paths.specs.Paths.{Leads};
 ghost use Rattle.ir_paths.specs.Slots.{has_name, promise_of};
 ghost use Rattle.ir_paths.specs.Windows.{leaves, windows_of};
 ghost use Rattle.ir_paths.specs.declared.point.Point.{Point};
+ghost use Rattle.ordinary_step.specs.Step.{has_markers};
 ghost use Rattle.save_agreement.specs.Avoided.{AreAvoided};
 ghost use Rattle.save_agreement.specs.Moved.{AreAllMoved, AreMoved};
 ghost use Rattle.save_agreement.specs.SavesWritten.{saved_function};
@@ -48,4 +49,10 @@ pub fn ramp_slots_stay()
 #[tactic(auto, using(crate::proofs::Slots::same_promise))]
 pub fn promise_stays()
     ensures { (f : Function) → HasNamedTokens f → promise_of (saved_function f) ≡ promise_of f }
+{}
+
+/// Markers of slots stay.
+#[tactic(auto, using(crate::proofs::Parts::markers_saved))]
+pub fn markers_stay()
+    ensures { (f : Function) (name : ℕ) → has_markers (saved_function f) name ≡ has_markers f name }
 {}
