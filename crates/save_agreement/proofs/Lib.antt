@@ -6,7 +6,7 @@ mod Ways
 mod Points
 mod Tokens
 pub mod Apart
-mod Windows
+pub mod Windows
 pub mod Saves
 pub mod Behind
 pub mod Slots

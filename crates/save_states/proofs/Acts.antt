@@ -7,7 +7,7 @@ use Rattle.block_memory.specs.declared.pointer.Value.{Value}
 use Rattle.coro_base.specs.declared.cause.Cause.{Cause}
 use Rattle.coro_base.specs.declared.name.Name.{Name}
 use Rattle.coro_meaning.specs.Source.{called, deallocate, enter, given, if_let_go, is_over, kill_late, let_go, may_be_freed, mode_of, new_slot, with_new_slots}
-use Rattle.coro_meaning.specs.State.{gives, instance_at, is_finished, is_suspended, next, own_instance, settled, with_instance, with_memory, with_slots}
+use Rattle.coro_meaning.specs.State.{gives, instance_at, is_finished, is_suspended, next, own_instance, settled, with_instance, with_memory, with_slots, work_of}
 use Rattle.coro_meaning.specs.declared.state.Activation.{Activation}
 use Rattle.coro_meaning.specs.declared.state.Instance.{Instance}
 use Rattle.coro_meaning.specs.declared.state.Mode.{Mode}
@@ -134,3 +134,28 @@ module _ (m : Module) where
       on : (b : Bool) → (if b then let_go (saved_state m s) i (saved_instance m x) else saved_state m s) ≡ saved_state m (if b then let_go s i x else s)
       on true = let_go_saved s i x
       on false = refl
+
+  -- what a deallocation of the address in a state leaves
+  abbrev freed_in : State → Value → Result State Cause
+  freed_in t p = and_then (deallocated t.world.memory p) (λ (memory : List MemoryBlock). Ok (next (with_memory t memory)))
+
+  freed_in_saved : (t : State) (p : Value) → StandsAlone m t → freed_in (saved_state m t) p ≡ saved_result m (freed_in t p)
+  freed_in_saved t p lone = on (deallocated t.world.memory p)
+    where
+      on : (r : Result (List MemoryBlock) Cause) → and_then r (λ (memory : List MemoryBlock). Ok (next (with_memory (saved_state m t) memory))) ≡ saved_result m (and_then r (λ (memory : List MemoryBlock). Ok (next (with_memory t memory))))
+      on (Err cause) = refl
+      on (Ok memory) = ap Ok (settled_saved m (with_memory t memory) lone (work_of (with_memory t memory)))
+
+  still_alone : (s : State) → StandsAlone m s → (o : Option (ℕ × Instance)) → StandsAlone m (if_let_go s o)
+  still_alone s lone None = lone
+  still_alone s lone (Some (i, x)) = on (may_be_freed x)
+    where
+      on : (b : Bool) → StandsAlone m (if b then let_go s i x else s)
+      on true = lone
+      on false = lone
+
+  pub deallocate_saved : (s : State) (p : Value) → StandsAlone m s → deallocate (saved_state m s) p ≡ saved_result m (deallocate s p)
+  deallocate_saved s p lone =
+      ap (λ (o : Option (ℕ × Instance)). freed_in (if_let_go (saved_state m s) o) p) (found_saved m s.instances p)
+      ∙ ap (λ (t : State). freed_in t p) (if_let_go_saved s (instance_at s.instances p))
+      ∙ freed_in_saved (if_let_go s (instance_at s.instances p)) p (still_alone s lone (instance_at s.instances p))

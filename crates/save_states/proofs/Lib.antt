@@ -1,3 +1,5 @@
 pub mod States
 pub mod Actions
 pub mod Acts
+pub mod Calls
+pub mod Suspends

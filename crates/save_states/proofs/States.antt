@@ -89,7 +89,7 @@ module _ (m : Module) where
   abbrev moved_instance : Instance → Instance
   moved_instance x = saved_instance m x
 
-  abbrev with_number : Option (ℕ × Instance) → Option (ℕ × Instance)
+  abbrev pub with_number : Option (ℕ × Instance) → Option (ℕ × Instance)
   with_number o = option_map (λ (y : ℕ × Instance). (y.0, saved_instance m y.1)) o
 
   -- ---- instances

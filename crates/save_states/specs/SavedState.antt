@@ -1,5 +1,5 @@
 -- The state of a source run, and that of the module whose saves are written out.
-use Rattle.std.specs.Prelude.{ℕ, List, length, map, replicate, Some, None, Ok, Err, Option, Result, option_map, ◌≡◌, ◌<◌, slice_get, ◌++◌}
+use Rattle.std.specs.Prelude.{ℕ, List, [], length, map, replicate, Some, None, Ok, Err, Option, Result, option_map, ◌≡◌, ◌<◌, slice_get, ◌∷◌, ◌++◌}
 use Rattle.coro_base.specs.declared.cause.Cause.{Cause}
 use Rattle.coro_meaning.specs.declared.state.Activation.{Activation}
 use Rattle.coro_meaning.specs.declared.state.Instance.{Instance}
@@ -12,6 +12,7 @@ use Rattle.ir_model.specs.declared.instr.Phi.{Phi}
 use Rattle.ir_model.specs.declared.module.Block.{Block}
 use Rattle.ir_model.specs.declared.module.Function.{Function}
 use Rattle.ir_model.specs.declared.module.Module.{Module}
+use Rattle.ir_model.specs.declared.module.Param.{Param}
 use Rattle.ir_paths.specs.declared.point.Point.{Point}
 use Rattle.ordinary_step.specs.Step.{Action, Coro, Deallocate, Done, Enter, GoTo, NewSlot, Return, Stuck, Work}
 use Rattle.ordinary_step.specs.Values.{Env}
@@ -91,6 +92,15 @@ HasNamedPhis f = Each (λ (b : Block). Each (λ (p : Phi). p.result < length f.n
 -- so are those of its instructions
 abbrev pub HasNamedResults : Function → Type 0
 HasNamedResults f = Each (λ (b : Block). Each (λ (i : Instr). IsNamedResult (length f.names) (result_of i)) b.instrs) f.blocks
+
+-- and its parameters
+abbrev pub HasNamedParams : Function → Type 0
+HasNamedParams f = Each (λ (p : Param). p.name < length f.names) f.params
+
+-- the name that a return sets is one of the activation's below
+abbrev pub IsNamedBelow : Option ℕ → List Activation → Type 0
+IsNamedBelow result [] = Unit {0}
+IsNamedBelow result (a ∷ below) = IsNamedResult (length a.values) result
 
 -- the topmost activation has as many values as its function has names
 abbrev pub HasRoom : Module → State → Type 0
