@@ -109,7 +109,6 @@ module _ (m : Module) (sizes : List Frame) (answers : List ℤ) (s : State) wher
     callee = same_callee (callee_at here);
   }
 
-
 -- ---- what stands at a place before which no save is written
 
 then_lone : (c : Bool) (k n : ℕ) (is : List Instr) (o : Option Instr) → own_saves c o ≡ 0 → instr_then c k n is o ≡ o
