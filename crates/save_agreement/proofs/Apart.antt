@@ -1,5 +1,5 @@
 -- Fronts and backs of points are apart.
-use Rattle.std.proofs.Common.{◌≡◌, ℕ, zero, suc, ◌+◌, ◌<◌, ◌≤◌, Bool, true, false, List, [], ◌∷◌, length, refl, sym, ap, ◌∙◌, subst, arith}
+use Rattle.std.proofs.Common.{◌≡◌, ℕ, suc, ◌<◌, ◌≤◌, Bool, true, false, length, refl, sym, ap, ◌∙◌, subst, arith}
 use Rattle.std.specs.Prelude.{slice_get}
 use Rattle.ir_model.specs.declared.module.Function.{Function}
 use Rattle.ir_paths.proofs.Search.{same_point-itself, same_point-same}
@@ -8,7 +8,7 @@ use Rattle.ir_paths.specs.declared.point.Point.{Point}
 use Rattle.save_agreement.proofs.Expansion.{place_unique}
 use Rattle.save_agreement.proofs.Instrs.{next_place}
 use Rattle.save_agreement.specs.SavesWritten.{behind_save, with_save}
-use Rattle.save_agreement.specs.Spots.{back_of, front_of, instrs_in, number_of_block, own_saves, place_in}
+use Rattle.save_agreement.specs.Spots.{back_of, front_of, instrs_in, number_of_block, place_in}
 
 module _ (f : Function) where
   abbrev place : ℕ → ℕ → ℕ

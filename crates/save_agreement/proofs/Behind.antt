@@ -3,13 +3,13 @@ use Rattle.std.proofs.Common.{◌≡◌, ℕ, zero, suc, ◌+◌, ◌<◌, ◌�
 use Rattle.std.proofs.lemmas.Bool.{cases_lt}
 use Rattle.std.specs.List.{list_any}
 use Rattle.std.specs.Prelude.{Some, None, Option, flat_map, map, option_map, slice_get, unwrap_or, if◌then◌else◌, ◌||◌}
-use Rattle.early_lower.specs.Early.{is_unsaved, save_call, saved}
+use Rattle.early_lower.specs.Early.{save_call, saved}
 use Rattle.ir_model.specs.Names.{first_where}
 use Rattle.ir_model.specs.declared.instr.Instr.{Instr}
 use Rattle.ir_model.specs.declared.module.Block.{Block}
 use Rattle.ir_model.specs.declared.module.Function.{Function}
 use Rattle.ir_model.specs.declared.operand.Intrinsic.{Intrinsic}
-use Rattle.ir_paths.proofs.Search.{Has, either, eq_from, eq_itself, leads-more, or_left, or_right, both, same_point-itself, same_point-same}
+use Rattle.ir_paths.proofs.Search.{Has, either, leads-more, or_left, or_right, same_point-itself, same_point-same}
 use Rattle.ir_paths.specs.Paths.{Leads, block_points, entry_point, has_point, nexts, same_point}
 use Rattle.ir_paths.specs.Slots.{IsBehindSuspend, behind_suspends, end_points, points_at}
 use Rattle.ir_paths.specs.Windows.{destroy_label, end_block, is_call_of, label_at, points_where, resume_label}

@@ -1,8 +1,7 @@
 -- The blocks of a function whose saves are written out.
-use Rattle.std.proofs.Common.{◌≡◌, ℕ, zero, suc, ◌+◌, Bool, List, [], ◌∷◌, length, refl, ap, ◌∙◌}
+use Rattle.std.proofs.Common.{◌≡◌, ℕ, zero, suc, Bool, List, [], ◌∷◌, length, refl, ap, ◌∙◌}
 use Rattle.std.specs.Prelude.{Some, None, Option, option_map, slice_get, unwrap_or, if◌then◌else◌, ◌==◌}
 use Rattle.ir_model.specs.Names.{first_where, position_of}
-use Rattle.ir_model.specs.declared.instr.Instr.{Instr}
 use Rattle.ir_model.specs.declared.module.Block.{Block}
 use Rattle.ir_model.specs.declared.module.Function.{Function}
 use Rattle.save_agreement.specs.SavesWritten.{behind_saves, saved_block, saved_blocks, saved_function, with_saves}

@@ -1,8 +1,8 @@
 -- Where the elements of an expanded list are.
-use Rattle.std.proofs.Common.{◌≡◌, ℕ, zero, suc, ◌+◌, ◌<◌, ◌≤◌, List, [], ◌∷◌, ◌++◌, length, refl, sym, ap, ◌∙◌, arith, length-append, ⊎_elim}
+use Rattle.std.proofs.Common.{◌≡◌, ℕ, zero, suc, ◌+◌, ◌<◌, ◌≤◌, List, [], ◌∷◌, ◌++◌, length, refl, ap, ◌∙◌, arith, length-append, ⊎_elim}
 use Rattle.std.proofs.lemmas.Bool.{cases_lt}
 use Rattle.std.specs.Prelude.{Some, None, slice_get}
-use Rattle.save_agreement.specs.Expansion.{expanded, number_at, number_behind, place_of}
+use Rattle.save_agreement.specs.Expansion.{expanded, number_at, place_of}
 
 -- ---- lists put together
 

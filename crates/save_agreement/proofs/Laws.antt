@@ -1,5 +1,5 @@
 -- What writing saves out leaves as it is of a function's paths, windows and slots.
-use Rattle.std.proofs.Common.{◌≡◌, ◌⊎◌, inl, inr, List, sym, ◌∙◌, subst, ◌↔◌}
+use Rattle.std.proofs.Common.{◌≡◌, ◌⊎◌, inl, inr, List, sym, subst, ◌↔◌}
 use Rattle.std.specs.Prelude.{filter}
 use Rattle.ir_model.specs.declared.module.Function.{Function}
 use Rattle.ir_paths.specs.Paths.{Leads}

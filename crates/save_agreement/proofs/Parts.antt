@@ -1,5 +1,5 @@
 -- What writing saves out leaves as it is: functions by their names and types, markers, final suspends, and what stands at a place.
-use Rattle.std.proofs.Common.{◌≡◌, ℕ, zero, suc, ◌+◌, ◌<◌, ◌≤◌, ⊎_elim, Bool, true, false, List, [], ◌∷◌, length, refl, sym, ap, ◌∙◌, arith}
+use Rattle.std.proofs.Common.{◌≡◌, ℕ, suc, ◌+◌, ◌<◌, ◌≤◌, ⊎_elim, Bool, true, false, List, [], ◌∷◌, length, refl, sym, ap, ◌∙◌, arith}
 use Rattle.std.proofs.lemmas.Bool.{cases_lt}
 use Rattle.std.proofs.lemmas.Option.{slice_get-map}
 use Rattle.std.specs.List.{list_any}
@@ -16,18 +16,17 @@ use Rattle.ir_model.specs.declared.operand.Arg.{Arg}
 use Rattle.ir_paths.proofs.Search.{eq_from, eq_itself}
 use Rattle.ir_paths.specs.Windows.{call_operand, instr_at, points_where}
 use Rattle.ir_paths.specs.declared.point.Point.{Point}
-use Rattle.ordinary_step.specs.Step.{AtInstr, Fetched, fetch, fetch_in, fetch_or, fits_function, has_markers, is_marker_of}
+use Rattle.ordinary_step.specs.Step.{fetch, fetch_in, fetch_or, fits_function, has_markers, is_marker_of}
 use Rattle.source_program.specs.Given.{has_final, is_final, is_final_call, is_true}
 use Rattle.save_agreement.proofs.Apart.{same_truth}
 use Rattle.save_agreement.proofs.Behind.{any_saved, suspends_moved}
 use Rattle.save_agreement.proofs.Blocks.{get_block, instrs_saved}
-use Rattle.save_agreement.proofs.Expansion.{place_end, place_far}
 use Rattle.save_agreement.proofs.Instrs.{back_end, back_inside, back_past, get_then, instr_then, name_at}
 use Rattle.save_agreement.proofs.Points.{Each}
 use Rattle.save_agreement.proofs.Tokens.{bare_is}
 use Rattle.save_agreement.proofs.Windows.{instr_at_is}
 use Rattle.save_agreement.specs.SavesWritten.{behind_saves, is_bare, saved_block, saved_blocks, saved_function, saves_written, with_save, with_saves}
-use Rattle.save_agreement.specs.Spots.{back_of, front_of, instrs_in, number_of_block, own_saves, place_in}
+use Rattle.save_agreement.specs.Spots.{back_of, instrs_in, number_of_block, own_saves, place_in}
 
 -- ---- functions
 

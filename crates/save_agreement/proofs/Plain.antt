@@ -1,5 +1,5 @@
 -- Functions that are no coroutines.
-use Rattle.std.proofs.Common.{◌≡◌, ℕ, ◌-◌, Bool, true, false, List, [], ◌∷◌, ◌++◌, length, refl, ap, ◌∙◌, arith}
+use Rattle.std.proofs.Common.{◌≡◌, ℕ, ◌-◌, false, List, [], ◌∷◌, ◌++◌, length, refl, ap, ◌∙◌, arith}
 use Rattle.coro_base.specs.declared.name.Name.{Name}
 use Rattle.early_lower.specs.Early.{save_names}
 use Rattle.ir_model.specs.declared.instr.Instr.{Instr}

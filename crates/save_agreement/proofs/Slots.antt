@@ -1,10 +1,10 @@
 -- The ramp slots of a function whose saves are written out are those of the function.
-use Rattle.std.proofs.Common.{◌≡◌, ℕ, zero, suc, ◌+◌, ◌<◌, ◌≤◌, ◌⊎◌, inl, inr, Bool, true, false, List, [], ◌∷◌, ◌++◌, length, refl, sym, ap, ◌∙◌, subst, arith}
+use Rattle.std.proofs.Common.{◌≡◌, ℕ, zero, suc, ◌<◌, ◌≤◌, ◌⊎◌, inl, inr, Bool, true, false, List, [], ◌∷◌, ◌++◌, length, refl, sym, ap, ◌∙◌, subst, arith}
 use Rattle.std.proofs.lemmas.List.{length-map}
 use Rattle.std.proofs.lemmas.Option.{slice_get-map}
 use Rattle.std.specs.List.{list_any}
 use Rattle.std.specs.Prelude.{Some, None, Option, flat_map, map, not, option_and_then, option_map, option_to_list, slice_get, if◌then◌else◌, ◌&&◌, ◌||◌, ◌==◌}
-use Rattle.early_lower.specs.Early.{is_unsaved, save_call, saved}
+use Rattle.early_lower.specs.Early.{save_call, saved}
 use Rattle.ir_model.specs.Names.{is_local}
 use Rattle.ir_model.specs.declared.instr.Instr.{Instr}
 use Rattle.ir_model.specs.declared.module.Block.{Block}
@@ -14,19 +14,19 @@ use Rattle.ir_model.specs.declared.operand.Operand.{Operand}
 use Rattle.ir_paths.proofs.Right.{facts_of_right}
 use Rattle.ir_paths.specs.Facts.{facts_of}
 use Rattle.ir_paths.specs.Paths.{has_point}
-use Rattle.ir_paths.specs.Slots.{IsBehindSuspend, IsRampSlot, addresses_of, addresses_within, allocas_in, allocas_of, exposed_in_block, exposes, geps_from, has_name, is_escaped, is_gep, is_promise, local_of, occurs, occurs_in_phi, occurs_in_term, promise_of, touches, touching_points}
+use Rattle.ir_paths.specs.Slots.{IsBehindSuspend, IsRampSlot, addresses_of, addresses_within, allocas_in, allocas_of, exposed_in_block, exposes, geps_from, has_name, is_escaped, is_gep, local_of, occurs, occurs_in_phi, occurs_in_term, promise_of, touches, touching_points}
 use Rattle.ir_paths.specs.Windows.{call_operand, instr_at, is_call_of, points_where}
 use Rattle.ir_paths.specs.declared.point.Point.{Point}
 use Rattle.save_agreement.proofs.Apart.{same_truth}
 use Rattle.save_agreement.proofs.Behind.{any_saved, behind_forth, behind_home}
 use Rattle.save_agreement.proofs.Points.{Each, IsOfOwn, own_group, points_moved}
-use Rattle.save_agreement.proofs.Saves.{IsPassing, each_append, each_at, each_here, each_trivial, lone_front, passing_in}
+use Rattle.save_agreement.proofs.Saves.{IsPassing, each_append, each_at, each_trivial, lone_front, passing_in}
 use Rattle.save_agreement.proofs.Tokens.{bare_is, behind_more, smaller_name}
 use Rattle.ir_paths.proofs.Search.{either, eq_from}
 use Rattle.save_agreement.proofs.Ways.{has_map, map_has}
 use Rattle.save_agreement.proofs.Windows.{front_lone, instr_at_is}
 use Rattle.save_agreement.specs.SavesWritten.{behind_save, behind_saves, is_bare, saved_block, saved_blocks, saved_function, with_save, with_saves}
-use Rattle.save_agreement.specs.Spots.{back_of, front_of, instrs_in, own_saves}
+use Rattle.save_agreement.specs.Spots.{back_of, instrs_in, own_saves}
 use Rattle.save_agreement.specs.Tokens.{HasNamedToken, HasNamedTokens}
 
 -- ---- allocas and getelementptrs

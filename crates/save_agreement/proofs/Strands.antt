@@ -1,5 +1,5 @@
 -- Paths of a function, and those of one in which some points have become two, the first of which leads to the second alone.
-use Rattle.std.proofs.Common.{◌≡◌, ◌⊎◌, inl, inr, false, List, [], ◌∷◌, refl, sym, ap, subst, ⊎_elim}
+use Rattle.std.proofs.Common.{◌≡◌, ◌⊎◌, inl, inr, false, List, [], ◌∷◌, sym, subst, ⊎_elim}
 use Rattle.ir_model.specs.declared.module.Function.{Function}
 use Rattle.ir_paths.proofs.Search.{Has}
 use Rattle.ir_paths.specs.Paths.{IsPath, Leads, has_point, nexts}

@@ -1,7 +1,7 @@
 -- Which suspends take which tokens when saves are written out.
-use Rattle.std.proofs.Common.{◌≡◌, ℕ, zero, suc, ◌+◌, ◌<◌, ◌≤◌, Bool, true, false, List, [], ◌∷◌, ◌++◌, length, refl, sym, ap, ◌∙◌, subst, arith}
+use Rattle.std.proofs.Common.{◌≡◌, ℕ, zero, suc, ◌+◌, ◌<◌, ◌≤◌, Bool, true, false, List, [], ◌∷◌, ◌++◌, length, refl, sym, ap, ◌∙◌, arith}
 use Rattle.std.proofs.lemmas.Option.{slice_get-map}
-use Rattle.std.specs.Prelude.{Some, None, Option, map, option_map, slice_get, ◌&&◌, ◌==◌, if◌then◌else◌}
+use Rattle.std.specs.Prelude.{Some, None, Option, option_map, slice_get, ◌&&◌, ◌==◌, if◌then◌else◌}
 use Rattle.early_lower.specs.Early.{is_none, is_unsaved, save_call, saved}
 use Rattle.ir_model.specs.Names.{is_local}
 use Rattle.ir_model.specs.Ty.{Ty}
@@ -12,7 +12,7 @@ use Rattle.ir_model.specs.declared.operand.Callee.{Callee}
 use Rattle.ir_model.specs.declared.operand.Intrinsic.{Intrinsic}
 use Rattle.ir_model.specs.declared.operand.Operand.{Operand}
 use Rattle.ir_paths.proofs.Search.{both, eq_from, eq_itself}
-use Rattle.ir_paths.specs.Windows.{call_operand, call_result, is_call_of, is_suspend_of, points_from, points_in}
+use Rattle.ir_paths.specs.Windows.{call_operand, is_call_of, is_suspend_of, points_from, points_in}
 use Rattle.ir_paths.specs.declared.point.Point.{Point}
 use Rattle.save_agreement.proofs.Instrs.{name_at}
 use Rattle.save_agreement.proofs.Points.{Each, IsOfOwn, points_append, shift_in, shifted}

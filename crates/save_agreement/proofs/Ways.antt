@@ -1,5 +1,5 @@
 -- The paths of a function, and those of the function whose saves are written out.
-use Rattle.std.proofs.Common.{◌≡◌, ℕ, zero, suc, ◌+◌, ◌<◌, ◌≤◌, ◌⊎◌, inl, inr, ⊎_elim, Bool, true, false, List, [], ◌∷◌, length, refl, sym, ap, ◌∙◌, subst, arith, add-one, add-zero}
+use Rattle.std.proofs.Common.{◌≡◌, ℕ, ◌+◌, ◌<◌, ◌≤◌, ◌⊎◌, inl, inr, ⊎_elim, Bool, true, false, List, [], ◌∷◌, length, refl, sym, ap, ◌∙◌, arith, add-one, add-zero}
 use Rattle.std.proofs.lemmas.Bool.{cases_lt, le-ltb, lt-ltb}
 use Rattle.std.proofs.lemmas.Option.{slice_get_within}
 use Rattle.std.specs.Prelude.{Some, None, Option, map, nat_lt, option_map, slice_get, if◌then◌else◌, ◌==◌}
@@ -11,7 +11,7 @@ use Rattle.ir_paths.specs.Paths.{entry_point, has_point, nexts, nexts_in, same_p
 use Rattle.ir_paths.specs.declared.point.Point.{Point}
 use Rattle.save_agreement.proofs.Blocks.{get_block, position_saved}
 use Rattle.save_agreement.proofs.Instrs.{back_end, back_inside, back_past, get_save, next_place}
-use Rattle.save_agreement.proofs.Strands.{AreStrands, IsFrontOfNext, IsOnlyNext}
+use Rattle.save_agreement.proofs.Strands.{AreStrands, IsOnlyNext}
 use Rattle.save_agreement.specs.SavesWritten.{is_bare, saved_block, saved_function, with_saves}
 use Rattle.save_agreement.specs.Spots.{back_of, front_of, instrs_in, number_of_block, own_saves, place_in}
 

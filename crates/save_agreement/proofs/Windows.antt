@@ -1,28 +1,26 @@
 -- The windows of a function, and those of the function whose saves are written out.
-use Rattle.std.proofs.Common.{◌≡◌, ℕ, zero, suc, ◌+◌, ◌≤◌, ◌⊎◌, inl, inr, Bool, true, false, List, [], ◌∷◌, length, refl, sym, ap, ◌∙◌, subst, arith, add-zero}
+use Rattle.std.proofs.Common.{◌≡◌, ℕ, ◌+◌, ◌⊎◌, inl, inr, Bool, true, false, List, [], ◌∷◌, length, refl, sym, ap, ◌∙◌, subst, arith}
 use Rattle.std.proofs.lemmas.Option.{slice_get-map}
-use Rattle.std.specs.List.{AllByRecursion}
-use Rattle.std.specs.Prelude.{Some, None, Option, filter, filter_map, map, option_and_then, option_map, slice_get, if◌then◌else◌, ◌||◌}
-use Rattle.early_lower.specs.Early.{save_call, saved}
+use Rattle.std.specs.Prelude.{Some, None, Option, map, option_and_then, option_map, slice_get, if◌then◌else◌}
+use Rattle.early_lower.specs.Early.{save_call}
 use Rattle.ir_model.specs.declared.instr.Instr.{Instr}
 use Rattle.ir_model.specs.declared.module.Block.{Block}
 use Rattle.ir_model.specs.declared.module.Function.{Function}
-use Rattle.ir_model.specs.declared.operand.Intrinsic.{Intrinsic}
-use Rattle.ir_paths.proofs.Search.{Has, either, or_left, or_right, same_point-itself, same_point-same}
+use Rattle.ir_paths.proofs.Search.{either, or_left, or_right, same_point-itself, same_point-same}
 use Rattle.ir_paths.specs.Facts.{IsWindow}
 use Rattle.ir_paths.specs.Paths.{IsPath, Leads, has_point, same_point}
-use Rattle.ir_paths.specs.Windows.{IsInWindow, call_result, instr_at, instr_in, is_call_of, is_suspend_of, points_where, suspend_of}
+use Rattle.ir_paths.specs.Windows.{IsInWindow, call_result, instr_at, instr_in, is_suspend_of, points_where, suspend_of}
 use Rattle.ir_paths.specs.declared.point.Point.{Point}
 use Rattle.ir_paths.specs.declared.point.Window.{Window}
 use Rattle.save_agreement.proofs.Apart.{back_back, front_back, front_front, same_truth}
 use Rattle.save_agreement.proofs.Blocks.{instrs_saved}
 use Rattle.save_agreement.proofs.Instrs.{get_lone, get_save, name_at}
-use Rattle.save_agreement.proofs.Points.{Each, own_group, points_moved}
+use Rattle.save_agreement.proofs.Points.{own_group, points_moved}
 use Rattle.save_agreement.proofs.Strands.{AreAvoided, IsLedTo, IsOnlyNext, ahead_home, from_front, leads_forth, leads_home}
 use Rattle.save_agreement.proofs.Tokens.{own_token, written_suspend}
 use Rattle.save_agreement.proofs.Ways.{save_leads, strands, within}
 use Rattle.save_agreement.specs.SavesWritten.{is_bare, saved_function, with_saves}
-use Rattle.save_agreement.specs.Spots.{back_of, front_of, instrs_in, number_of_block, own_saves, place_in}
+use Rattle.save_agreement.specs.Spots.{back_of, front_of, instrs_in, number_of_block, own_saves}
 use Rattle.save_agreement.specs.Tokens.{HasNamedTokens}
 use Rattle.save_agreement.specs.Tokens.{HasNamedToken, IsNamedResult}
 

@@ -1,5 +1,5 @@
 -- Points that paths avoid, where points have become two.
-use Rattle.std.specs.Prelude.{Bool, false, List, ◌≡◌}
+use Rattle.std.specs.Prelude.{false, List, ◌≡◌}
 use Rattle.ir_paths.specs.Paths.{has_point}
 use Rattle.ir_paths.specs.declared.point.Point.{Point}
 

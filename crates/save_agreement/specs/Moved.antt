@@ -1,6 +1,5 @@
 -- The windows of a function, and those of the function whose saves are written out.
-use Rattle.std.specs.Prelude.{Bool, false, List, [], ◌≡◌, ◌⊎◌, ◌∷◌}
-use Rattle.ir_model.specs.declared.module.Block.{Block}
+use Rattle.std.specs.Prelude.{false, List, [], ◌≡◌, ◌⊎◌, ◌∷◌}
 use Rattle.ir_model.specs.declared.module.Function.{Function}
 use Rattle.ir_paths.specs.Paths.{has_point}
 use Rattle.ir_paths.specs.declared.point.Point.{Point}
