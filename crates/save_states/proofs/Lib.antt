@@ -3,4 +3,3 @@ pub mod Actions
 pub mod Acts
 pub mod Calls
 pub mod Suspends
-pub mod Resumes

@@ -3,10 +3,9 @@
 
 ghost use Rattle.std.specs.Prelude.{◌≡◌, ℕ, true, ℤ, List, length, Ok, Some, Option, slice_get};
 ghost use Rattle.block_memory.specs.declared.pointer.Value.{Value};
-ghost use Rattle.coro_meaning.specs.Source.{context_of, continue, deallocate, enter, given, go_to, new_slot, return, save, save_for};
+ghost use Rattle.coro_meaning.specs.Source.{context_of, deallocate, enter, given, go_to, new_slot, return, save, save_for};
 ghost use Rattle.coro_meaning.specs.State.{function_of, gives, next, own_instance, point_of, work_of};
 ghost use Rattle.coro_meaning.specs.declared.state.State.{State};
-ghost use Rattle.coro_meaning.specs.declared.state.Instance.{Instance};
 ghost use Rattle.ir_model.specs.Names.{function_at};
 ghost use Rattle.ir_model.specs.declared.instr.Instr.{Instr};
 ghost use Rattle.ir_model.specs.declared.module.Frame.{Frame};
@@ -15,11 +14,10 @@ ghost use Rattle.ir_paths.specs.declared.point.Point.{Point};
 ghost use Rattle.ordinary_step.specs.Results.{and_then};
 ghost use Rattle.ordinary_step.specs.Step.{action_of, fetch};
 ghost use Rattle.ordinary_step.specs.declared.world.Slot.{Slot};
-ghost use Rattle.ordinary_step.specs.Values.{Env};
 ghost use Rattle.save_agreement.specs.SavesWritten.{is_bare, saves_written};
 ghost use Rattle.save_agreement.specs.Spots.{back_of, front_of, instrs_in, own_saves};
 ghost use Rattle.save_agreement.specs.Tokens.{HasNamedTokens, IsNamedResult};
-ghost use Rattle.save_states.specs.SavedState.{HasNamedParams, HasNamedPhis, HasNamedResults, HasRoom, IsNamedBelow, IsOwnedBy, StandsAlone, saved_action, saved_instance, saved_result, saved_state, saved_values};
+ghost use Rattle.save_states.specs.SavedState.{HasNamedParams, HasNamedPhis, HasNamedResults, HasRoom, IsNamedBelow, IsOwnedBy, StandsAlone, saved_action, saved_result, saved_state};
 
 /// A branch does the same, the windows that it leaves among it.
 pub fn branches_are_kept()
@@ -64,9 +62,4 @@ pub fn written_saves_are_made()
 /// The suspend behind it then comes to where the source is behind the suspend.
 pub fn suspends_come_behind()
     ensures { (m : Module) (s : State) (result : Option ℕ) (v : Value) → own_saves (function_at m s.top.func).coroutine (slice_get (instrs_in (slice_get (function_at m s.top.func).blocks s.top.block)) s.top.at) ≡ 1 → IsNamedResult (length s.top.values) result → gives (next (saved_state m s)) result v ≡ saved_state m (gives s result v) }
-{}
-
-/// A run goes on behind a suspend in the same way.
-pub fn continues_are_kept()
-    ensures { (m : Module) (sizes : List Frame) (answers : List ℤ) (s : State) (i : ℕ) (x : Instance) (suspend : Point) (values : Env) (label : ℕ) → StandsAlone m s → HasNamedPhis (function_at m x.coroutine) → length values ≡ length (function_at m x.coroutine).names → continue (given (saves_written m) sizes answers) (saved_state m s) i (saved_instance m x) (back_of (function_at m x.coroutine) suspend) (saved_values (function_at m x.coroutine) values) label ≡ saved_state m (continue (given m sizes answers) s i x suspend values label) }
 {}
