@@ -49,7 +49,6 @@ rule_word Rule.K10 = codes "K10"
 rule_word Rule.K11 = codes "K11"
 rule_word Rule.K12 = codes "K12"
 rule_word Rule.K13 = codes "K13"
-rule_word Rule.X1 = codes "X1"
 
 abbrev pub status_code : Status → ℕ
 status_code Status.Done = 0

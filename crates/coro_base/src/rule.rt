@@ -3,7 +3,7 @@
 ghost use Rattle.std.specs.Prelude.{◌≡◌};
 ghost use Rattle.coro_base.specs.Words.{rule_word};
 
-/// A rule of the one order of refusals. `X1` is a temporary one: what it refuses is accepted but can't be lowered yet.
+/// A rule of the one order of refusals.
 #[derive(Clone, Copy, Debug, PartialEq, Eq, Drop)]
 pub enum Rule {
     L1,
@@ -32,7 +32,6 @@ pub enum Rule {
     K11,
     K12,
     K13,
-    X1,
 }
 
 impl Rule {
@@ -67,7 +66,6 @@ impl Rule {
             Rule::K11 => "K11",
             Rule::K12 => "K12",
             Rule::K13 => "K13",
-            Rule::X1 => "X1",
         }
     }
 }
