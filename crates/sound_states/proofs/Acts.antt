@@ -4,12 +4,11 @@ use Rattle.std.specs.List.{list_all}
 use Rattle.std.specs.Prelude.{negsuc, Some, None, Ok, Err, Option, Result, filter, is_none, not, option_and_then, option_map, replicate, slice_get, slice_set, unwrap_or, if◌then◌else◌, ◌&&◌}
 use Rattle.block_memory.specs.Memory.{killed, own}
 use Rattle.block_memory.specs.declared.block.Kind.{Kind}
-use Rattle.block_memory.specs.declared.block.MemoryBlock.{MemoryBlock}
 use Rattle.block_memory.specs.declared.pointer.Pointer.{Pointer}
 use Rattle.block_memory.specs.declared.pointer.Value.{Value}
 use Rattle.coro_base.specs.declared.cause.Cause.{Cause}
 use Rattle.coro_meaning.specs.Indexes.{last_from}
-use Rattle.coro_meaning.specs.Source.{Continues, Sleeper, after_end, begin, begin_at, begun, branch_leaving, called, change_own, continue, deallocate, destroy, done_at, end_of, enter, enter_block, finish, go_to, if_let_go, is_among, is_over, kill_late, let_go, may_be_freed, may_leave, mode_of, new_instance, new_slot, pop, resume, return, returned, save, save_for, sleeper_at, sleeper_of, slots_of, suspend, with_new_slots}
+use Rattle.coro_meaning.specs.Source.{Continues, Sleeper, after_end, begin, begin_at, begun, branch_leaving, change_own, continue, deallocate, destroy, done_at, end_of, enter, enter_block, finish, go_to, if_let_go, is_among, is_over, kill_late, let_go, may_be_freed, may_leave, new_instance, new_slot, pop, resume, return, returned, save, save_for, sleeper_at, sleeper_of, slots_of, suspend, with_new_slots}
 use Rattle.coro_meaning.specs.State.{began_at, gives, function_of, instance_at, next, own_facts, own_frame, own_instance, point_of, with_instance, with_left, with_memory, with_status}
 use Rattle.coro_meaning.specs.declared.state.Activation.{Activation}
 use Rattle.coro_meaning.specs.declared.state.Instance.{Instance}
@@ -36,8 +35,8 @@ use Rattle.save_agreement.proofs.Saves.{each_at, passing_in}
 use Rattle.save_agreement.proofs.Windows.{instr_at_is}
 use Rattle.save_agreement.specs.Tokens.{IsNamedResult}
 use Rattle.sound_states.proofs.Fits.{result_length}
-use Rattle.sound_states.proofs.Kept.{activation_grown, below_grown, each_more, get_last, grown_more, grown_set, instance_sound, left_sound, like_sound, memory_sound, moved_on, own_is, own_there, same_set, settled_sound, slots_sound, with_outcome, IsGrown}
-use Rattle.sound_states.specs.Sound.{AreSoundBelow, HasValues, IsModeOf, IsSound, IsSoundActivation, IsSoundStatus, IsSuspendAt, KeepsSound, coroutine_at}
+use Rattle.sound_states.proofs.Kept.{activation_grown, below_grown, each_more, get_last, grown_more, grown_set, instance_sound, left_sound, like_sound, memory_sound, moved_on, own_is, own_there, settled_sound, slots_sound, with_outcome, IsGrown}
+use Rattle.sound_states.specs.Sound.{AreSoundBelow, HasValues, IsModeOf, IsSound, IsSoundStatus, IsSuspendAt, KeepsSound}
 use Rattle.source_program.specs.Given.{Given, has_final, is_final}
 
 -- ---- lengths

@@ -1,5 +1,5 @@
 -- What an action may set, and what stands where it is taken.
-use Rattle.std.proofs.Common.{◌≡◌, ℕ, Bool, true, false, List, [], ◌∷◌, length, refl, sym, ap, ◌∙◌, subst}
+use Rattle.std.proofs.Common.{◌≡◌, ℕ, Bool, true, false, List, length, refl, ap, ◌∙◌}
 use Rattle.std.specs.Prelude.{Some, None, Ok, Err, Option, Result, slice_get, if◌then◌else◌, ◌==◌}
 use Rattle.block_memory.specs.Memory.{compare, copy, load, store}
 use Rattle.block_memory.specs.declared.pointer.Pointer.{Pointer}
@@ -19,7 +19,6 @@ use Rattle.ir_model.specs.declared.operand.Allocator.{Allocator}
 use Rattle.ir_model.specs.declared.operand.Arg.{Arg}
 use Rattle.ir_model.specs.declared.operand.Callee.{Callee}
 use Rattle.ir_model.specs.declared.operand.Intrinsic.{Intrinsic}
-use Rattle.ir_model.specs.declared.operand.Operand.{Operand}
 use Rattle.ir_paths.proofs.Search.{eq_itself}
 use Rattle.ir_paths.specs.Windows.{instr_in, is_call_of}
 use Rattle.ir_paths.specs.declared.point.Point.{Point}

@@ -1,9 +1,9 @@
 -- Changes of a state that keep it sound.
-use Rattle.std.proofs.Common.{◌≡◌, ℕ, zero, suc, ◌+◌, Bool, true, false, List, [], ◌∷◌, ◌++◌, length, refl, sym, ap, ◌∙◌, subst}
+use Rattle.std.proofs.Common.{◌≡◌, ℕ, zero, suc, ◌+◌, Bool, List, [], ◌∷◌, ◌++◌, length, refl, sym, ap, ◌∙◌, subst}
 use Rattle.std.specs.Prelude.{Some, None, Option, option_and_then, option_map, slice_get, slice_set}
 use Rattle.block_memory.specs.declared.block.MemoryBlock.{MemoryBlock}
 use Rattle.coro_base.specs.declared.outcome.Outcome.{Outcome}
-use Rattle.coro_meaning.specs.State.{numbered, own_instance, settled, with_instance, with_left, with_memory, with_slots}
+use Rattle.coro_meaning.specs.State.{numbered, settled, with_instance, with_left, with_memory, with_slots}
 use Rattle.coro_meaning.specs.declared.state.Activation.{Activation}
 use Rattle.coro_meaning.specs.declared.state.Instance.{Instance}
 use Rattle.coro_meaning.specs.declared.state.State.{State}
@@ -12,7 +12,7 @@ use Rattle.ir_model.specs.declared.module.Module.{Module}
 use Rattle.ordinary_step.specs.Step.{Work}
 use Rattle.ordinary_step.specs.Values.{Env}
 use Rattle.ordinary_step.specs.declared.world.Slot.{Slot}
-use Rattle.sound_states.specs.Sound.{AreSoundBelow, AreSoundInstances, IsInstanceOf, IsSound, IsSoundActivation, IsSoundStatus, coroutine_at}
+use Rattle.sound_states.specs.Sound.{AreSoundBelow, IsInstanceOf, IsSound, IsSoundActivation, IsSoundStatus, coroutine_at}
 
 -- ---- instances by their coroutines
 

@@ -1,13 +1,12 @@
 -- A step keeps states sound, and a run starts in a sound one.
-use Rattle.std.proofs.Common.{◌≡◌, ℕ, true, List, [], length, sym, subst}
-use Rattle.std.specs.Prelude.{ℤ, Some, None, Ok, Err, Option, Result, map, slice_get}
+use Rattle.std.proofs.Common.{◌≡◌, ℕ, true, List, length, sym, subst}
+use Rattle.std.specs.Prelude.{ℤ, Ok, Err, Option, Result, map}
 use Rattle.block_memory.specs.declared.pointer.Value.{Value}
 use Rattle.coro_base.specs.declared.cause.Cause.{Cause}
 use Rattle.coro_base.specs.declared.outcome.Outcome.{Outcome}
 use Rattle.coro_base.specs.declared.outcome.Word.{Word}
 use Rattle.coro_meaning.specs.Source.{Continues, act, advance_by, context_of, continue, coro, first_state, given, promise, step, step_by}
-use Rattle.coro_meaning.specs.State.{function_of, gives, or_undefined, point_of, settled, undefined, work_of}
-use Rattle.coro_meaning.specs.declared.state.Instance.{Instance}
+use Rattle.coro_meaning.specs.State.{function_of, gives, or_undefined, point_of, settled, work_of}
 use Rattle.coro_meaning.specs.declared.state.State.{State}
 use Rattle.ir_model.specs.Names.{function_at}
 use Rattle.ir_model.specs.declared.module.Frame.{Frame}
@@ -22,7 +21,7 @@ use Rattle.sound_states.proofs.Acts.{Good, begin_sound, continue_sound, dealloca
 use Rattle.sound_states.proofs.Fits.{Fits, calls_at, fits, result_named, suspend_there}
 use Rattle.sound_states.proofs.Kept.{settled_sound, with_outcome}
 use Rattle.sound_states.specs.Named.{AreLocalsNamed}
-use Rattle.sound_states.specs.Sound.{IsSound, IsSuspendAt, KeepsSound}
+use Rattle.sound_states.specs.Sound.{IsSound, KeepsSound}
 use Rattle.source_program.specs.Given.{Given}
 use Rattle.step_laws.specs.Changed.{result_at}
 
