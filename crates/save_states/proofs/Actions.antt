@@ -29,7 +29,9 @@ use Rattle.save_agreement.specs.SavesWritten.{is_bare, save_count, saved_block, 
 use Rattle.save_agreement.specs.Spots.{back_of, front_of, instrs_in, number_of_block, own_saves}
 use Rattle.save_agreement.specs.Tokens.{Each, IsNamedResult}
 use Rattle.save_states.proofs.States.{operand_saved}
-use Rattle.save_states.specs.SavedState.{HasNamedResults, HasRoom, StandsAlone, saved_action, saved_state, saved_work}
+use Rattle.save_states.specs.SavedState.{HasRoom, StandsAlone, saved_action, saved_state, saved_work}
+use Rattle.sound_states.proofs.Fits.{result_named}
+use Rattle.sound_states.specs.Named.{HasNamedResults}
 use Rattle.step_laws.proofs.Kept.{action_kept}
 use Rattle.step_laws.specs.Changed.{Change, IsDeclaredAlike, IsKeptAt, IsLike, IsSameOperand, callee_at, changed_action, changed_event, changed_work, changed_world, operands_at, result_at, result_of}
 use Rattle.step_laws.specs.Changed.{Each as EachOperand}
@@ -53,21 +55,6 @@ action_grown f (Deallocate p) = refl
 action_grown f (GoTo label) = refl
 action_grown f (Return v) = refl
 action_grown f (Stuck cause) = refl
-
-result_named : (f : Function) → HasNamedResults f → (block at : ℕ) → IsNamedResult (length f.names) (result_at (fetch f block at))
-result_named f h block at = on (slice_get f.blocks block) refl
-  where
-    last : (b : Block) (t : Bool) → IsNamedResult (length f.names) (result_at (fetch_or None t b.term))
-    last b true = tt
-    last b false = tt
-
-    instr : (b : Block) → Each (λ (i : Instr). IsNamedResult (length f.names) (result_of i)) b.instrs → (o : Option Instr) → slice_get b.instrs at ≡ o → IsNamedResult (length f.names) (result_at (fetch_or o (at == length b.instrs) b.term))
-    instr b own None e = last b (at == length b.instrs)
-    instr b own (Some i) e = each_at (λ (i : Instr). IsNamedResult (length f.names) (result_of i)) b.instrs at i own e
-
-    on : (o : Option Block) → slice_get f.blocks block ≡ o → IsNamedResult (length f.names) (result_at (fetch_in o at))
-    on None e = tt
-    on (Some b) e = instr b (each_at (λ (b : Block). Each (λ (i : Instr). IsNamedResult (length f.names) (result_of i)) b.instrs) f.blocks block b h e) (slice_get b.instrs at) refl
 
 module _ (m : Module) (sizes : List Frame) (answers : List ℤ) (s : State) where
   abbrev f : Function

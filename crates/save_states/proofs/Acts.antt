@@ -52,7 +52,7 @@ module _ (m : Module) (s : State) (lone : StandsAlone m s) where
 
 -- ---- slots
 
-new_slots_same : (r1 r2 : List ℕ) (o : Option (ℕ × Instance)) (s : State) (slots : List Slot) → ((v : ℕ) → has_name r1 v ≡ has_name r2 v) → with_new_slots r1 o s slots ≡ with_new_slots r2 o s slots
+pub new_slots_same : (r1 r2 : List ℕ) (o : Option (ℕ × Instance)) (s : State) (slots : List Slot) → ((v : ℕ) → has_name r1 v ≡ has_name r2 v) → with_new_slots r1 o s slots ≡ with_new_slots r2 o s slots
 new_slots_same r1 r2 None s slots h = refl
 new_slots_same r1 r2 (Some (i, x)) s slots h = λ j.
     with_slots
@@ -67,7 +67,7 @@ module _ (m : Module) where
   abbrev with_number : Option (ℕ × Instance) → Option (ℕ × Instance)
   with_number o = option_map (λ (y : ℕ × Instance). (y.0, saved_instance m y.1)) o
 
-  slots_saved : (r : List ℕ) (o : Option (ℕ × Instance)) (s : State) (slots : List Slot) → with_new_slots r (with_number o) (saved_state m s) slots ≡ saved_state m (with_new_slots r o s slots)
+  pub slots_saved : (r : List ℕ) (o : Option (ℕ × Instance)) (s : State) (slots : List Slot) → with_new_slots r (with_number o) (saved_state m s) slots ≡ saved_state m (with_new_slots r o s slots)
   slots_saved r None s slots = refl
   slots_saved r (Some (i, x)) s slots =
       ap (λ (t : State). with_slots t (filter (λ (slot : Slot). has_name r slot.alloca) slots ++ s.top.slots))
@@ -78,7 +78,7 @@ module _ (m : Module) where
   finished_saved f (Status.Suspended p values) = refl
   finished_saved f Status.Finished = refl
 
-  over_saved : (x : Instance) → is_over (saved_instance m x) ≡ is_over x
+  pub over_saved : (x : Instance) → is_over (saved_instance m x) ≡ is_over x
   over_saved x = ap (λ (b : Bool). b || x.freed) (finished_saved (function_at m x.coroutine) x.status)
 
   kill_saved : (r : List ℕ) (o : Option (ℕ × Instance)) (s : State) (slot : Slot) → kill_late r (with_number o) (saved_state m s) slot ≡ saved_state m (kill_late r o s slot)

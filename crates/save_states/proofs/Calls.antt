@@ -23,7 +23,8 @@ use Rattle.save_agreement.proofs.Parts.{function_saved}
 use Rattle.save_agreement.specs.SavesWritten.{save_count, saved_function, saves_written}
 use Rattle.save_agreement.specs.Tokens.{Each, IsNamedResult}
 use Rattle.save_states.proofs.Acts.{front_next}
-use Rattle.save_states.specs.SavedState.{HasNamedParams, IsNamedBelow, StandsAlone, saved_activation, saved_result, saved_state}
+use Rattle.save_states.specs.SavedState.{IsNamedBelow, StandsAlone, saved_activation, saved_result, saved_state}
+use Rattle.sound_states.specs.Named.{HasNamedParams}
 
 -- ---- the values at the entry
 

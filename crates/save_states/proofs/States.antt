@@ -41,7 +41,8 @@ use Rattle.save_agreement.proofs.Laws.{left_kept}
 use Rattle.save_agreement.proofs.Parts.{function_saved, named_saved}
 use Rattle.save_agreement.proofs.Saves.{each_at}
 use Rattle.save_agreement.specs.Moved.{AreAllMoved}
-use Rattle.save_states.specs.SavedState.{HasNamedPhis, HasRoom, IsOwnedBy, saved_activation, saved_instance, saved_result, saved_save, saved_state, saved_status, saved_values}
+use Rattle.save_states.specs.SavedState.{HasRoom, IsOwnedBy, saved_activation, saved_instance, saved_result, saved_save, saved_state, saved_status, saved_values}
+use Rattle.sound_states.specs.Named.{HasNamedPhis}
 use Rattle.save_agreement.specs.SavesWritten.{save_count, saved_block, saved_blocks, saved_function, saves_written}
 use Rattle.save_agreement.specs.Spots.{front_of, number_of_block}
 use Rattle.save_agreement.specs.Tokens.{Each, HasNamedTokens}
