@@ -51,7 +51,7 @@ entry_saved f args named =
     blank = ap (λ (n : ℕ). replicate n None) count ∙ sym (replicate-append-replicate (length f.names) (save_count f) None)
 
 module _ (m : Module) where
-  called_saved : (func : ℕ) (args : List Value) (result : Option ℕ) (mode : Mode) → HasNamedParams (function_at m func) → called (saves_written m) func args result mode ≡ saved_activation m (called m func args result mode)
+  pub called_saved : (func : ℕ) (args : List Value) (result : Option ℕ) (mode : Mode) → HasNamedParams (function_at m func) → called (saves_written m) func args result mode ≡ saved_activation m (called m func args result mode)
   called_saved func args result mode named =
       ap (λ (e : Env). record { func = func; block = 0; at = 0; values = e; slots = []; result = result; mode = mode; instance = None; has_left = false })
       (ap (λ (f : Function). entry_values f args) (function_saved m func) ∙ entry_saved (function_at m func) args named)
