@@ -1,14 +1,12 @@
 -- What an instruction does in a module, and in the module whose saves are written out.
-use Rattle.std.proofs.Common.{◌≡◌, ℕ, zero, suc, ◌+◌, ◌<◌, Bool, true, false, List, [], ◌∷◌, ◌++◌, length, refl, sym, ap, ◌∙◌, subst, add-zero, arith}
-use Rattle.std.specs.Prelude.{ℤ, Some, None, Option, map, option_map, replicate, slice_get, ◌==◌, if◌then◌else◌}
-use Rattle.block_memory.specs.declared.pointer.Value.{Value}
+use Rattle.std.proofs.Common.{◌≡◌, ℕ, ◌+◌, Bool, true, false, List, [], ◌∷◌, length, refl, sym, ap, ◌∙◌, subst, add-zero, arith}
+use Rattle.std.specs.Prelude.{ℤ, Some, None, Option, map, option_map, slice_get, ◌==◌, if◌then◌else◌}
 use Rattle.coro_base.specs.declared.name.Name.{Name}
 use Rattle.coro_base.specs.declared.outcome.Event.{Event}
 use Rattle.coro_meaning.specs.Source.{context_of, given}
 use Rattle.coro_meaning.specs.State.{function_of, work_of}
 use Rattle.coro_meaning.specs.declared.state.State.{State}
 use Rattle.ir_model.specs.Names.{declaration_named, function_at}
-use Rattle.ir_model.specs.Ty.{Ty}
 use Rattle.ir_model.specs.declared.instr.Instr.{Instr}
 use Rattle.ir_model.specs.declared.module.Block.{Block}
 use Rattle.ir_model.specs.declared.module.Frame.{Frame}
@@ -16,22 +14,21 @@ use Rattle.ir_model.specs.declared.module.Function.{Function}
 use Rattle.ir_model.specs.declared.module.Module.{Module}
 use Rattle.ir_model.specs.declared.operand.Operand.{Operand}
 use Rattle.ir_paths.specs.declared.point.Point.{Point}
-use Rattle.ordinary_step.specs.Step.{Action, AtInstr, Context, Coro, Deallocate, Done, Enter, Fetched, GoTo, NewSlot, Nowhere, Return, Stuck, Work, action_of, fetch, fetch_in, fetch_or, has_markers}
-use Rattle.ordinary_step.specs.Values.{Env}
-use Rattle.ordinary_step.specs.declared.world.World.{World}
+use Rattle.ordinary_step.specs.Step.{Action, Context, Coro, Deallocate, Done, Enter, Fetched, GoTo, NewSlot, Return, Stuck, Work, action_of, fetch, fetch_in, fetch_or, has_markers}
 use Rattle.save_agreement.proofs.Environments.{grown, result_grown}
 use Rattle.early_lower.specs.Early.{saved}
 use Rattle.save_agreement.proofs.Blocks.{get_block}
 use Rattle.save_agreement.proofs.Instrs.{instr_then, name_at}
 use Rattle.save_agreement.proofs.Parts.{fetch_back, fits_saved, function_saved, markers_saved, named_saved}
-use Rattle.save_agreement.proofs.Saves.{each_at}
 use Rattle.save_agreement.specs.SavesWritten.{is_bare, save_count, saved_block, saved_function, saves_written}
 use Rattle.save_agreement.specs.Spots.{back_of, front_of, instrs_in, number_of_block, own_saves}
-use Rattle.save_agreement.specs.Tokens.{Each, IsNamedResult}
+use Rattle.save_agreement.specs.Tokens.{IsNamedResult}
 use Rattle.save_states.proofs.States.{operand_saved}
-use Rattle.save_states.specs.SavedState.{HasNamedResults, HasRoom, StandsAlone, saved_action, saved_state, saved_work}
+use Rattle.save_states.specs.SavedState.{HasRoom, StandsAlone, saved_action, saved_state, saved_work}
+use Rattle.sound_states.proofs.Fits.{result_named}
+use Rattle.sound_states.specs.Named.{HasNamedResults}
 use Rattle.step_laws.proofs.Kept.{action_kept}
-use Rattle.step_laws.specs.Changed.{Change, IsDeclaredAlike, IsKeptAt, IsLike, IsSameOperand, callee_at, changed_action, changed_event, changed_work, changed_world, operands_at, result_at, result_of}
+use Rattle.step_laws.specs.Changed.{Change, IsDeclaredAlike, IsKeptAt, IsLike, IsSameOperand, callee_at, changed_action, changed_event, changed_work, operands_at, result_at}
 use Rattle.step_laws.specs.Changed.{Each as EachOperand}
 
 abbrev growing : Function → Change
@@ -53,21 +50,6 @@ action_grown f (Deallocate p) = refl
 action_grown f (GoTo label) = refl
 action_grown f (Return v) = refl
 action_grown f (Stuck cause) = refl
-
-result_named : (f : Function) → HasNamedResults f → (block at : ℕ) → IsNamedResult (length f.names) (result_at (fetch f block at))
-result_named f h block at = on (slice_get f.blocks block) refl
-  where
-    last : (b : Block) (t : Bool) → IsNamedResult (length f.names) (result_at (fetch_or None t b.term))
-    last b true = tt
-    last b false = tt
-
-    instr : (b : Block) → Each (λ (i : Instr). IsNamedResult (length f.names) (result_of i)) b.instrs → (o : Option Instr) → slice_get b.instrs at ≡ o → IsNamedResult (length f.names) (result_at (fetch_or o (at == length b.instrs) b.term))
-    instr b own None e = last b (at == length b.instrs)
-    instr b own (Some i) e = each_at (λ (i : Instr). IsNamedResult (length f.names) (result_of i)) b.instrs at i own e
-
-    on : (o : Option Block) → slice_get f.blocks block ≡ o → IsNamedResult (length f.names) (result_at (fetch_in o at))
-    on None e = tt
-    on (Some b) e = instr b (each_at (λ (b : Block). Each (λ (i : Instr). IsNamedResult (length f.names) (result_of i)) b.instrs) f.blocks block b h e) (slice_get b.instrs at) refl
 
 module _ (m : Module) (sizes : List Frame) (answers : List ℤ) (s : State) where
   abbrev f : Function

@@ -1,19 +1,15 @@
 -- What an action does to a state, and to that of the module whose saves are written out.
-use Rattle.std.proofs.Common.{◌≡◌, ℕ, zero, suc, ◌+◌, Bool, true, false, List, [], ◌∷◌, ◌++◌, length, refl, sym, ap, ◌∙◌, subst, add-one, add-zero, length-append, arith}
-use Rattle.std.specs.Prelude.{ℤ, Some, None, Ok, Err, Option, Result, filter, map, not, option_map, replicate, slice_get, ◌&&◌, ◌||◌, ◌-◌, if◌then◌else◌}
+use Rattle.std.proofs.Common.{◌≡◌, ℕ, ◌+◌, Bool, true, false, List, [], ◌∷◌, ◌++◌, length, refl, sym, ap, ◌∙◌, add-one, arith}
+use Rattle.std.specs.Prelude.{ℤ, Some, None, Ok, Err, Option, Result, filter, not, option_map, slice_get, ◌&&◌, ◌||◌, if◌then◌else◌}
 use Rattle.block_memory.specs.Memory.{disown, killed}
 use Rattle.block_memory.specs.declared.block.MemoryBlock.{MemoryBlock}
 use Rattle.block_memory.specs.declared.pointer.Value.{Value}
 use Rattle.coro_base.specs.declared.cause.Cause.{Cause}
-use Rattle.coro_base.specs.declared.name.Name.{Name}
-use Rattle.coro_meaning.specs.Source.{called, deallocate, enter, given, if_let_go, is_over, kill_late, let_go, may_be_freed, mode_of, new_slot, with_new_slots}
-use Rattle.coro_meaning.specs.State.{gives, instance_at, is_finished, is_suspended, next, own_instance, settled, with_instance, with_memory, with_slots, work_of}
-use Rattle.coro_meaning.specs.declared.state.Activation.{Activation}
+use Rattle.coro_meaning.specs.Source.{deallocate, given, if_let_go, is_over, kill_late, let_go, may_be_freed, new_slot, with_new_slots}
+use Rattle.coro_meaning.specs.State.{instance_at, is_finished, is_suspended, next, own_instance, settled, with_instance, with_memory, with_slots, work_of}
 use Rattle.coro_meaning.specs.declared.state.Instance.{Instance}
-use Rattle.coro_meaning.specs.declared.state.Mode.{Mode}
 use Rattle.coro_meaning.specs.declared.state.State.{State}
 use Rattle.coro_meaning.specs.declared.state.Status.{Status}
-use Rattle.early_lower.specs.Early.{save_names}
 use Rattle.ir_model.specs.Names.{function_at}
 use Rattle.ir_model.specs.declared.module.Frame.{Frame}
 use Rattle.ir_model.specs.declared.module.Function.{Function}
@@ -21,7 +17,6 @@ use Rattle.ir_model.specs.declared.module.Module.{Module}
 use Rattle.ir_paths.specs.Facts.{facts_of}
 use Rattle.ir_paths.specs.Slots.{has_name}
 use Rattle.ir_paths.specs.declared.point.Facts.{Facts}
-use Rattle.ir_paths.specs.declared.point.Point.{Point}
 use Rattle.ordinary_step.specs.Results.{and_then}
 use Rattle.ordinary_step.specs.Step.{Work, deallocated, without_slots}
 use Rattle.ordinary_step.specs.declared.world.Slot.{Slot}
@@ -52,7 +47,7 @@ module _ (m : Module) (s : State) (lone : StandsAlone m s) where
 
 -- ---- slots
 
-new_slots_same : (r1 r2 : List ℕ) (o : Option (ℕ × Instance)) (s : State) (slots : List Slot) → ((v : ℕ) → has_name r1 v ≡ has_name r2 v) → with_new_slots r1 o s slots ≡ with_new_slots r2 o s slots
+pub new_slots_same : (r1 r2 : List ℕ) (o : Option (ℕ × Instance)) (s : State) (slots : List Slot) → ((v : ℕ) → has_name r1 v ≡ has_name r2 v) → with_new_slots r1 o s slots ≡ with_new_slots r2 o s slots
 new_slots_same r1 r2 None s slots h = refl
 new_slots_same r1 r2 (Some (i, x)) s slots h = λ j.
     with_slots
@@ -67,7 +62,7 @@ module _ (m : Module) where
   abbrev with_number : Option (ℕ × Instance) → Option (ℕ × Instance)
   with_number o = option_map (λ (y : ℕ × Instance). (y.0, saved_instance m y.1)) o
 
-  slots_saved : (r : List ℕ) (o : Option (ℕ × Instance)) (s : State) (slots : List Slot) → with_new_slots r (with_number o) (saved_state m s) slots ≡ saved_state m (with_new_slots r o s slots)
+  pub slots_saved : (r : List ℕ) (o : Option (ℕ × Instance)) (s : State) (slots : List Slot) → with_new_slots r (with_number o) (saved_state m s) slots ≡ saved_state m (with_new_slots r o s slots)
   slots_saved r None s slots = refl
   slots_saved r (Some (i, x)) s slots =
       ap (λ (t : State). with_slots t (filter (λ (slot : Slot). has_name r slot.alloca) slots ++ s.top.slots))
@@ -78,7 +73,7 @@ module _ (m : Module) where
   finished_saved f (Status.Suspended p values) = refl
   finished_saved f Status.Finished = refl
 
-  over_saved : (x : Instance) → is_over (saved_instance m x) ≡ is_over x
+  pub over_saved : (x : Instance) → is_over (saved_instance m x) ≡ is_over x
   over_saved x = ap (λ (b : Bool). b || x.freed) (finished_saved (function_at m x.coroutine) x.status)
 
   kill_saved : (r : List ℕ) (o : Option (ℕ × Instance)) (s : State) (slot : Slot) → kill_late r (with_number o) (saved_state m s) slot ≡ saved_state m (kill_late r o s slot)

@@ -3,3 +3,6 @@ pub mod Actions
 pub mod Acts
 pub mod Calls
 pub mod Suspends
+pub mod Resumes
+pub mod Intrinsics
+pub mod Performs

@@ -1,5 +1,5 @@
 -- The state of a source run, and that of the module whose saves are written out.
-use Rattle.std.specs.Prelude.{ℕ, List, [], length, map, replicate, Some, None, Ok, Err, Option, Result, option_map, ◌≡◌, ◌<◌, slice_get, ◌∷◌, ◌++◌}
+use Rattle.std.specs.Prelude.{ℕ, List, [], length, map, replicate, Some, None, Ok, Err, Option, Result, option_map, ◌≡◌, slice_get, ◌∷◌, ◌++◌}
 use Rattle.coro_base.specs.declared.cause.Cause.{Cause}
 use Rattle.coro_meaning.specs.declared.state.Activation.{Activation}
 use Rattle.coro_meaning.specs.declared.state.Instance.{Instance}
@@ -7,19 +7,14 @@ use Rattle.coro_meaning.specs.declared.state.Saved.{Saved}
 use Rattle.coro_meaning.specs.declared.state.State.{State}
 use Rattle.coro_meaning.specs.declared.state.Status.{Status}
 use Rattle.ir_model.specs.Names.{function_at}
-use Rattle.ir_model.specs.declared.instr.Instr.{Instr}
-use Rattle.ir_model.specs.declared.instr.Phi.{Phi}
-use Rattle.ir_model.specs.declared.module.Block.{Block}
 use Rattle.ir_model.specs.declared.module.Function.{Function}
 use Rattle.ir_model.specs.declared.module.Module.{Module}
-use Rattle.ir_model.specs.declared.module.Param.{Param}
 use Rattle.ir_paths.specs.declared.point.Point.{Point}
 use Rattle.ordinary_step.specs.Step.{Action, Coro, Deallocate, Done, Enter, GoTo, NewSlot, Return, Stuck, Work}
 use Rattle.ordinary_step.specs.Values.{Env}
 use Rattle.save_agreement.specs.SavesWritten.{save_count}
 use Rattle.save_agreement.specs.Spots.{back_of, front_of, instrs_in, own_saves}
-use Rattle.save_agreement.specs.Tokens.{Each, IsNamedResult}
-use Rattle.step_laws.specs.Changed.{result_of}
+use Rattle.save_agreement.specs.Tokens.{HasNamedTokens, IsNamedResult}
 
 -- the saves that are written have names, and no values
 abbrev pub saved_values : Function → Env → Env
@@ -83,19 +78,11 @@ saved_action f (GoTo label) = GoTo label
 saved_action f (Return v) = Return v
 saved_action f (Stuck cause) = Stuck cause
 
--- ---- what is asked of a function and of a state
+-- ---- what is asked of a module and of a state
 
--- the results of a function's phis are positions of its table of names
-abbrev pub HasNamedPhis : Function → Type 0
-HasNamedPhis f = Each (λ (b : Block). Each (λ (p : Phi). p.result < length f.names) b.phis) f.blocks
-
--- so are those of its instructions
-abbrev pub HasNamedResults : Function → Type 0
-HasNamedResults f = Each (λ (b : Block). Each (λ (i : Instr). IsNamedResult (length f.names) (result_of i)) b.instrs) f.blocks
-
--- and its parameters
-abbrev pub HasNamedParams : Function → Type 0
-HasNamedParams f = Each (λ (p : Param). p.name < length f.names) f.params
+-- the names that writing saves out looks at are positions of their functions' tables
+abbrev pub AreTokensNamed : Module → Type 0
+AreTokensNamed m = (func : ℕ) → HasNamedTokens (function_at m func)
 
 -- the name that a return sets is one of the activation's below
 abbrev pub IsNamedBelow : Option ℕ → List Activation → Type 0

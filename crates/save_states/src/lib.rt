@@ -3,7 +3,7 @@
 
 ghost use Rattle.std.specs.Prelude.{◌≡◌, ℕ, true, ℤ, List, length, Ok, Some, Option, slice_get};
 ghost use Rattle.block_memory.specs.declared.pointer.Value.{Value};
-ghost use Rattle.coro_meaning.specs.Source.{context_of, deallocate, enter, given, go_to, new_slot, return, save, save_for};
+ghost use Rattle.coro_meaning.specs.Source.{act, context_of, continue, deallocate, enter, given, go_to, new_slot, return, save, save_for};
 ghost use Rattle.coro_meaning.specs.State.{function_of, gives, next, own_instance, point_of, work_of};
 ghost use Rattle.coro_meaning.specs.declared.state.State.{State};
 ghost use Rattle.ir_model.specs.Names.{function_at};
@@ -17,7 +17,9 @@ ghost use Rattle.ordinary_step.specs.declared.world.Slot.{Slot};
 ghost use Rattle.save_agreement.specs.SavesWritten.{is_bare, saves_written};
 ghost use Rattle.save_agreement.specs.Spots.{back_of, front_of, instrs_in, own_saves};
 ghost use Rattle.save_agreement.specs.Tokens.{HasNamedTokens, IsNamedResult};
-ghost use Rattle.save_states.specs.SavedState.{HasNamedParams, HasNamedPhis, HasNamedResults, HasRoom, IsNamedBelow, IsOwnedBy, StandsAlone, saved_action, saved_result, saved_state};
+ghost use Rattle.save_states.specs.SavedState.{AreTokensNamed, HasRoom, IsNamedBelow, IsOwnedBy, StandsAlone, saved_action, saved_result, saved_state};
+ghost use Rattle.sound_states.specs.Named.{AreLocalsNamed, HasNamedParams, HasNamedPhis, HasNamedResults};
+ghost use Rattle.sound_states.specs.Sound.{IsSound};
 
 /// A branch does the same, the windows that it leaves among it.
 pub fn branches_are_kept()
@@ -62,4 +64,9 @@ pub fn written_saves_are_made()
 /// The suspend behind it then comes to where the source is behind the suspend.
 pub fn suspends_come_behind()
     ensures { (m : Module) (s : State) (result : Option ℕ) (v : Value) → own_saves (function_at m s.top.func).coroutine (slice_get (instrs_in (slice_get (function_at m s.top.func).blocks s.top.block)) s.top.at) ≡ 1 → IsNamedResult (length s.top.values) result → gives (next (saved_state m s)) result v ≡ saved_state m (gives s result v) }
+{}
+
+/// What stands alone does the same to both states, the calls of coro intrinsics among it.
+pub fn lone_steps_are_kept()
+    ensures { (m : Module) (sizes : List Frame) (answers : List ℤ) (s : State) → AreLocalsNamed m → AreTokensNamed m → IsSound m s → StandsAlone m s → act (given (saves_written m) sizes answers) (continue (given (saves_written m) sizes answers)) (saved_state m s) (action_of (context_of (given (saves_written m) sizes answers) (saved_state m s)) (work_of (saved_state m s)) (fetch (function_of (given (saves_written m) sizes answers) (saved_state m s)) s.top.block (saved_state m s).top.at)) ≡ saved_result m (act (given m sizes answers) (continue (given m sizes answers)) s (action_of (context_of (given m sizes answers) s) (work_of s) (fetch (function_at m s.top.func) s.top.block s.top.at))) }
 {}
