@@ -135,10 +135,10 @@ suspend_unmade func f h s i here is n e (Some k) d = on (k == n) refl
     on true c = let t : true ≡ false = sym (h.frame_calls s i n here (d ∙ ap Some (equal_numbers k n c)) e) ∙ other_call Intrinsic.CoroSuspend Intrinsic.CoroFrame i is refl in absurd (cc)
     on false c = refl
 
-behind_suspend : (func : ℕ) (f : Function) → f.coroutine ≡ true → KeepsRules func f → (s : Point) (n : ℕ) → is_renamed (renaming_of f) n ≡ true → IsDead f n s → (o : Option Instr) → instr_at f s ≡ o → IsTrue (passes (is_call_of Intrinsic.CoroSuspend) o) → IsDeadBehind f n s
+behind_suspend : (func : ℕ) (f : Function) → f.coroutine ≡ true → KeepsRules func f → (s : Point) (n : ℕ) → is_renamed (renaming_of f) n ≡ true → IsDead f true n s → (o : Option Instr) → instr_at f s ≡ o → IsTrue (passes (is_call_of Intrinsic.CoroSuspend) o) → IsDeadBehind f n s
 behind_suspend func f coroutine h s n e dead None d is = absurd (cc)
 behind_suspend func f coroutine h s n e dead (Some i) d is =
-    dead_behind_suspend func f coroutine h.switches (renaming_of f) n s i d is (ap (passes (λ j. is_result n (result_of j))) d ∙ suspend_unmade func f h s i d is n e (result_of i) refl) dead
+    dead_behind_suspend func f coroutine h.switches (renaming_of f) n s i d is (suspend_unmade func f h s i d is n e (result_of i) refl) dead
 
 pub regular : (func : ℕ) (f : Function) → f.coroutine ≡ true → KeepsRules func f → IsRegular f (renaming_of f)
 regular func f coroutine h = record {

@@ -9,7 +9,7 @@ use Rattle.definite_use.specs.Uses.{Use, block_uses, block_values, blocks_uses, 
 use Rattle.early_agreement.proofs.Fits.{AnInstr, ATerm, Nothing, Stands, stands}
 use Rattle.early_agreement.proofs.Lists.{equal_numbers, get_within, itself, not_equal}
 use Rattle.early_agreement.proofs.Outside.{each_left, each_right}
-use Rattle.early_agreement.specs.Regular.{Ahead, AsOperand, Here, IsDead, IsTaken, IsUsed, Next, OnEdge, entry, is_result, makes, passes}
+use Rattle.early_agreement.specs.Regular.{Ahead, AsOperand, Here, IsDead, IsTaken, IsUsed, Next, OnEdge, entry, is_result, makes, operands_read, passes}
 use Rattle.flow_solver.specs.Paths.{IsListed}
 use Rattle.function_parts.specs.Contents.{ending_operands, instr_operands, result_of as part_result}
 use Rattle.function_parts.specs.Parts.{instr_place}
@@ -21,13 +21,14 @@ use Rattle.ir_model.specs.declared.instr.Terminator.{Terminator}
 use Rattle.ir_model.specs.declared.module.Block.{Block}
 use Rattle.ir_model.specs.declared.module.Function.{Function}
 use Rattle.ir_model.specs.declared.operand.Callee.{Callee}
+use Rattle.ir_model.specs.declared.operand.Intrinsic.{Intrinsic}
 use Rattle.ir_model.specs.declared.operand.Operand.{Operand}
 use Rattle.ir_paths.proofs.Search.{same_point-same}
 use Rattle.ir_paths.specs.Paths.{entry_point, has_point, nexts, nexts_in, same_point, targets}
-use Rattle.ir_paths.specs.Windows.{instr_at, instr_in}
+use Rattle.ir_paths.specs.Windows.{instr_at, instr_in, is_call_of}
 use Rattle.ir_paths.specs.declared.point.Point.{Point}
 use Rattle.ordinary_step.specs.Step.{Fetched, fetch, incoming_from, label_of, phis_of}
-use Rattle.step_laws.specs.Changed.{Each, operands_at, operands_of, operands_of_term, result_of}
+use Rattle.step_laws.specs.Changed.{Each, operands_of, operands_of_term, result_of}
 
 -- ---- two spellings of operands and results
 
@@ -345,9 +346,13 @@ module _ (func : ℕ) (f : Function) (none : IsFirstUndefined f (uses_of func f)
       use_at IsDefined v (instr_place func p.block (length b.phis + length b.instrs)) p.block (block_values b) (ending_operands b.term) (uses_in p.block b e).term (subst (λ (xs : List Operand). IsTrue (list_any (is_local v) xs)) (sym (ending_spelt b.term)) used)
       (record { reaches = h.reaches; not_before = values_unmade p b e at h; no_param = no_param })
 
-  not_here : (p : Point) (here : Fetched) → Stands f p here → ReachesPoint f v p → IsTrue (list_any (is_local v) (operands_at here)) → ⊥
+  not_here : (p : Point) (here : Fetched) → Stands f p here → ReachesPoint f v p → IsTrue (list_any (is_local v) (operands_read here)) → ⊥
   not_here p _ Nothing h used = absurd (cc)
-  not_here p _ (AnInstr i e) h used = not_in_instr p i e h used
+  not_here p _ (AnInstr i e) h used = on (is_call_of Intrinsic.CoroEnd i) used
+    where
+      on : (b : Bool) → IsTrue (list_any (is_local v) (if b then [] else operands_of i)) → ⊥
+      on true k = absurd (cc)
+      on false k = not_in_instr p i e h k
   not_here p _ (ATerm b e at gone) h used = not_in_term p b e at h used
 
   not_on_edge : (p : Point) (b : Block) (label : ℕ) → slice_get f.blocks p.block ≡ Some b → p.at ≡ length b.instrs → ReachesPoint f v p → IsTaken f v p.block label → ⊥
@@ -363,7 +368,7 @@ module _ (func : ℕ) (f : Function) (none : IsFirstUndefined f (uses_of func f)
           subst (λ (n : ℕ). IsDefined (use_of u.0 n (values_at f n) v)) there u.1
           (record { reaches = h.reaches; not_before = λ l. values_unmade p b e at h (subst (λ (o : Option Block). IsListed v (values_in o)) e l); no_param = no_param })
 
-  pub dead_at_entry : IsDead f v entry
+  pub dead_at_entry : IsDead f false v entry
   dead_at_entry last path used = on used
     where
       reached : ReachesPoint f v last
