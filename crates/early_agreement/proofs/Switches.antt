@@ -24,7 +24,7 @@ use Rattle.ir_paths.specs.declared.point.Point.{Point}
 use Rattle.step_laws.specs.Changed.{Each, result_of}
 use Rattle.window_rules.specs.Points.{phi_count, phis_in}
 
-none_part : (breaks : Place → Part → Bool) (xs : List (Place × Part)) → first_part breaks xs ≡ None → Each (λ x. breaks x.0 x.1 ≡ false) xs
+pub none_part : (breaks : Place → Part → Bool) (xs : List (Place × Part)) → first_part breaks xs ≡ None → Each (λ x. breaks x.0 x.1 ≡ false) xs
 none_part breaks [] e = tt
 none_part breaks (x ∷ xs) e = on (breaks x.0 x.1) refl (none_part breaks xs) e
   where
