@@ -1,3 +1,4 @@
 pub mod Names
 pub mod Suspending
 pub mod Simulation
+pub mod Tables

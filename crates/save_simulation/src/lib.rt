@@ -15,3 +15,13 @@ ghost use Rattle.sound_states.specs.Named.{AreLocalsNamed, AreUsesNamed};
 pub fn written_saves_keep_meaning()
     ensures { (m : Module) → AreLocalsNamed m → AreUsesNamed m → (sizes : List Frame) (entry : ℕ) (args : List Word) (answers : List ℤ) → AgreesWithin 2 (SourceAt m sizes entry args answers) (SourceAt (saves_written m) sizes entry args answers) }
 {}
+
+/// Each local that the result defines is a position of its function's table of names, where each of the module is.
+pub fn written_saves_define_named_locals()
+    ensures { (m : Module) → AreLocalsNamed m → AreLocalsNamed (saves_written m) }
+{}
+
+/// The same of the locals that it uses.
+pub fn written_saves_use_named_locals()
+    ensures { (m : Module) → AreUsesNamed m → AreUsesNamed (saves_written m) }
+{}

@@ -28,7 +28,7 @@ use Rattle.sound_states.specs.Named.{HasNamedParams}
 
 -- ---- the values at the entry
 
-names_length : (k : ℕ) → length (save_names k) ≡ k
+pub names_length : (k : ℕ) → length (save_names k) ≡ k
 names_length zero = refl
 names_length (suc k) =
     let again = names_length k in
