@@ -1,18 +1,15 @@
 -- Where each local is a position of its function's table, so are the names that writing saves out looks at.
-use Rattle.std.proofs.Common.{◌≡◌, ℕ, zero, suc, ◌<◌, List, [], ◌∷◌, length}
-use Rattle.std.specs.Prelude.{Some, None, Option}
+use Rattle.std.proofs.Common.{ℕ, List, [], ◌∷◌, length}
 use Rattle.ir_model.specs.Names.{function_at}
 use Rattle.ir_model.specs.declared.instr.Instr.{Instr}
 use Rattle.ir_model.specs.declared.module.Block.{Block}
-use Rattle.ir_model.specs.declared.module.Function.{Function}
 use Rattle.ir_model.specs.declared.module.Module.{Module}
 use Rattle.ir_model.specs.declared.operand.Arg.{Arg}
 use Rattle.ir_model.specs.declared.operand.Callee.{Callee}
-use Rattle.ir_model.specs.declared.operand.Operand.{Operand}
 use Rattle.ir_paths.specs.Windows.{call_operand, call_result, operand_at}
-use Rattle.save_agreement.specs.Tokens.{Each, HasNamedToken, HasNamedTokens, IsNamed, IsNamedResult, address_name}
+use Rattle.save_agreement.specs.Tokens.{Each, HasNamedToken, IsNamed, IsNamedResult, address_name}
 use Rattle.save_states.specs.SavedState.{AreTokensNamed}
-use Rattle.sound_states.specs.Named.{AreLocalsNamed, AreUsesNamed, HasNamedOperands, HasNamedResults}
+use Rattle.sound_states.specs.Named.{AreLocalsNamed, AreUsesNamed}
 use Rattle.step_laws.specs.Changed.{operands_of, result_of, values_of}
 use Rattle.step_laws.specs.Changed.{Each as EachOperand}
 

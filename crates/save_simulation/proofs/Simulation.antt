@@ -1,5 +1,5 @@
 -- The runs of the module whose saves are written out are those of the module.
-use Rattle.std.proofs.Common.{◌≡◌, ◌⊎◌, inl, inr, ⊎_elim, ℕ, zero, suc, ◌+◌, ◌<◌, Bool, true, false, List, [], ◌∷◌, refl, sym, ap, ◌∙◌, subst, arith}
+use Rattle.std.proofs.Common.{◌≡◌, inl, ℕ, ◌<◌, Bool, true, false, List, [], ◌∷◌, refl, sym, ap, ◌∙◌, subst, arith}
 use Rattle.std.specs.Prelude.{ℤ, negsuc, Some, None, Ok, Err, Option, Result, map, slice_get, if◌then◌else◌}
 use Rattle.agreement.proofs.Lockstep.{Advance, IsBetween, ShowsSame, Simulates, lockstep_within}
 use Rattle.agreement.specs.Agreements.{AgreesWithin}
@@ -11,15 +11,13 @@ use Rattle.coro_base.specs.declared.cause.Cause.{Cause}
 use Rattle.coro_base.specs.declared.outcome.Outcome.{Outcome}
 use Rattle.coro_base.specs.declared.outcome.Word.{Word}
 use Rattle.coro_meaning.specs.Source.{SourceAt, act, advance_by, context_of, continue, first_state, given, save_for, step}
-use Rattle.coro_meaning.specs.State.{function_of, gives, next, or_undefined, point_of, with_instance, with_left, work_of}
+use Rattle.coro_meaning.specs.State.{gives, next, or_undefined, point_of, with_instance, with_left, work_of}
 use Rattle.coro_meaning.specs.declared.state.Activation.{Activation}
-use Rattle.coro_meaning.specs.declared.state.Instance.{Instance}
 use Rattle.coro_meaning.specs.declared.state.Mode.{Mode}
 use Rattle.coro_meaning.specs.declared.state.State.{State}
 use Rattle.ir_model.specs.Names.{function_at}
 use Rattle.ir_model.specs.declared.instr.Instr.{Instr}
 use Rattle.ir_model.specs.declared.module.Frame.{Frame}
-use Rattle.ir_model.specs.declared.module.Function.{Function}
 use Rattle.ir_model.specs.declared.module.GlobalItem.{GlobalItem}
 use Rattle.ir_model.specs.declared.module.Module.{Module}
 use Rattle.ordinary_step.specs.Results.{and_then}
@@ -30,7 +28,7 @@ use Rattle.ordinary_step.specs.declared.world.World.{World}
 use Rattle.save_agreement.specs.SavesWritten.{is_bare, saves_written}
 use Rattle.save_agreement.specs.Spots.{instrs_in, own_saves}
 use Rattle.save_simulation.proofs.Names.{tokens_named}
-use Rattle.save_simulation.proofs.Suspending.{Made, Refused, Saving, comes_behind, first_step, result, saving, second_step, source_step, step_is, then_of}
+use Rattle.save_simulation.proofs.Suspending.{Made, Refused, Saving, comes_behind, first_step, result, saving, second_step, source_step}
 use Rattle.save_states.proofs.Calls.{called_saved}
 use Rattle.save_states.proofs.Performs.{step_kept}
 use Rattle.save_states.proofs.States.{operand_saved}

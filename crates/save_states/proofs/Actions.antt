@@ -1,14 +1,12 @@
 -- What an instruction does in a module, and in the module whose saves are written out.
-use Rattle.std.proofs.Common.{◌≡◌, ℕ, zero, suc, ◌+◌, ◌<◌, Bool, true, false, List, [], ◌∷◌, ◌++◌, length, refl, sym, ap, ◌∙◌, subst, add-zero, arith}
-use Rattle.std.specs.Prelude.{ℤ, Some, None, Option, map, option_map, replicate, slice_get, ◌==◌, if◌then◌else◌}
-use Rattle.block_memory.specs.declared.pointer.Value.{Value}
+use Rattle.std.proofs.Common.{◌≡◌, ℕ, ◌+◌, Bool, true, false, List, [], ◌∷◌, length, refl, sym, ap, ◌∙◌, subst, add-zero, arith}
+use Rattle.std.specs.Prelude.{ℤ, Some, None, Option, map, option_map, slice_get, ◌==◌, if◌then◌else◌}
 use Rattle.coro_base.specs.declared.name.Name.{Name}
 use Rattle.coro_base.specs.declared.outcome.Event.{Event}
 use Rattle.coro_meaning.specs.Source.{context_of, given}
 use Rattle.coro_meaning.specs.State.{function_of, work_of}
 use Rattle.coro_meaning.specs.declared.state.State.{State}
 use Rattle.ir_model.specs.Names.{declaration_named, function_at}
-use Rattle.ir_model.specs.Ty.{Ty}
 use Rattle.ir_model.specs.declared.instr.Instr.{Instr}
 use Rattle.ir_model.specs.declared.module.Block.{Block}
 use Rattle.ir_model.specs.declared.module.Frame.{Frame}
@@ -16,24 +14,21 @@ use Rattle.ir_model.specs.declared.module.Function.{Function}
 use Rattle.ir_model.specs.declared.module.Module.{Module}
 use Rattle.ir_model.specs.declared.operand.Operand.{Operand}
 use Rattle.ir_paths.specs.declared.point.Point.{Point}
-use Rattle.ordinary_step.specs.Step.{Action, AtInstr, Context, Coro, Deallocate, Done, Enter, Fetched, GoTo, NewSlot, Nowhere, Return, Stuck, Work, action_of, fetch, fetch_in, fetch_or, has_markers}
-use Rattle.ordinary_step.specs.Values.{Env}
-use Rattle.ordinary_step.specs.declared.world.World.{World}
+use Rattle.ordinary_step.specs.Step.{Action, Context, Coro, Deallocate, Done, Enter, Fetched, GoTo, NewSlot, Return, Stuck, Work, action_of, fetch, fetch_in, fetch_or, has_markers}
 use Rattle.save_agreement.proofs.Environments.{grown, result_grown}
 use Rattle.early_lower.specs.Early.{saved}
 use Rattle.save_agreement.proofs.Blocks.{get_block}
 use Rattle.save_agreement.proofs.Instrs.{instr_then, name_at}
 use Rattle.save_agreement.proofs.Parts.{fetch_back, fits_saved, function_saved, markers_saved, named_saved}
-use Rattle.save_agreement.proofs.Saves.{each_at}
 use Rattle.save_agreement.specs.SavesWritten.{is_bare, save_count, saved_block, saved_function, saves_written}
 use Rattle.save_agreement.specs.Spots.{back_of, front_of, instrs_in, number_of_block, own_saves}
-use Rattle.save_agreement.specs.Tokens.{Each, IsNamedResult}
+use Rattle.save_agreement.specs.Tokens.{IsNamedResult}
 use Rattle.save_states.proofs.States.{operand_saved}
 use Rattle.save_states.specs.SavedState.{HasRoom, StandsAlone, saved_action, saved_state, saved_work}
 use Rattle.sound_states.proofs.Fits.{result_named}
 use Rattle.sound_states.specs.Named.{HasNamedResults}
 use Rattle.step_laws.proofs.Kept.{action_kept}
-use Rattle.step_laws.specs.Changed.{Change, IsDeclaredAlike, IsKeptAt, IsLike, IsSameOperand, callee_at, changed_action, changed_event, changed_work, changed_world, operands_at, result_at, result_of}
+use Rattle.step_laws.specs.Changed.{Change, IsDeclaredAlike, IsKeptAt, IsLike, IsSameOperand, callee_at, changed_action, changed_event, changed_work, operands_at, result_at}
 use Rattle.step_laws.specs.Changed.{Each as EachOperand}
 
 abbrev growing : Function → Change

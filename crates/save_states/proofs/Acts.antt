@@ -1,19 +1,15 @@
 -- What an action does to a state, and to that of the module whose saves are written out.
-use Rattle.std.proofs.Common.{◌≡◌, ℕ, zero, suc, ◌+◌, Bool, true, false, List, [], ◌∷◌, ◌++◌, length, refl, sym, ap, ◌∙◌, subst, add-one, add-zero, length-append, arith}
-use Rattle.std.specs.Prelude.{ℤ, Some, None, Ok, Err, Option, Result, filter, map, not, option_map, replicate, slice_get, ◌&&◌, ◌||◌, ◌-◌, if◌then◌else◌}
+use Rattle.std.proofs.Common.{◌≡◌, ℕ, ◌+◌, Bool, true, false, List, [], ◌∷◌, ◌++◌, length, refl, sym, ap, ◌∙◌, add-one, arith}
+use Rattle.std.specs.Prelude.{ℤ, Some, None, Ok, Err, Option, Result, filter, not, option_map, slice_get, ◌&&◌, ◌||◌, if◌then◌else◌}
 use Rattle.block_memory.specs.Memory.{disown, killed}
 use Rattle.block_memory.specs.declared.block.MemoryBlock.{MemoryBlock}
 use Rattle.block_memory.specs.declared.pointer.Value.{Value}
 use Rattle.coro_base.specs.declared.cause.Cause.{Cause}
-use Rattle.coro_base.specs.declared.name.Name.{Name}
-use Rattle.coro_meaning.specs.Source.{called, deallocate, enter, given, if_let_go, is_over, kill_late, let_go, may_be_freed, mode_of, new_slot, with_new_slots}
-use Rattle.coro_meaning.specs.State.{gives, instance_at, is_finished, is_suspended, next, own_instance, settled, with_instance, with_memory, with_slots, work_of}
-use Rattle.coro_meaning.specs.declared.state.Activation.{Activation}
+use Rattle.coro_meaning.specs.Source.{deallocate, given, if_let_go, is_over, kill_late, let_go, may_be_freed, new_slot, with_new_slots}
+use Rattle.coro_meaning.specs.State.{instance_at, is_finished, is_suspended, next, own_instance, settled, with_instance, with_memory, with_slots, work_of}
 use Rattle.coro_meaning.specs.declared.state.Instance.{Instance}
-use Rattle.coro_meaning.specs.declared.state.Mode.{Mode}
 use Rattle.coro_meaning.specs.declared.state.State.{State}
 use Rattle.coro_meaning.specs.declared.state.Status.{Status}
-use Rattle.early_lower.specs.Early.{save_names}
 use Rattle.ir_model.specs.Names.{function_at}
 use Rattle.ir_model.specs.declared.module.Frame.{Frame}
 use Rattle.ir_model.specs.declared.module.Function.{Function}
@@ -21,7 +17,6 @@ use Rattle.ir_model.specs.declared.module.Module.{Module}
 use Rattle.ir_paths.specs.Facts.{facts_of}
 use Rattle.ir_paths.specs.Slots.{has_name}
 use Rattle.ir_paths.specs.declared.point.Facts.{Facts}
-use Rattle.ir_paths.specs.declared.point.Point.{Point}
 use Rattle.ordinary_step.specs.Results.{and_then}
 use Rattle.ordinary_step.specs.Step.{Work, deallocated, without_slots}
 use Rattle.ordinary_step.specs.declared.world.Slot.{Slot}

@@ -1,11 +1,11 @@
 -- Calls and returns, where saves are written out.
 use Rattle.std.proofs.Common.{◌≡◌, ℕ, zero, suc, ◌+◌, ◌<◌, false, List, [], ◌∷◌, ◌++◌, length, refl, sym, ap, ◌∙◌, subst, arith, length-append}
 use Rattle.std.proofs.lemmas.List.{replicate-append-replicate}
-use Rattle.std.specs.Prelude.{ℤ, Some, None, Ok, Err, Option, Result, map, replicate, slice_get, unwrap_or, if◌then◌else◌}
+use Rattle.std.specs.Prelude.{ℤ, None, Ok, Err, Option, Result, map, replicate, unwrap_or}
 use Rattle.block_memory.specs.declared.pointer.Value.{Value}
 use Rattle.coro_base.specs.declared.cause.Cause.{Cause}
 use Rattle.coro_base.specs.declared.outcome.Outcome.{Outcome}
-use Rattle.coro_meaning.specs.Source.{called, enter, given, given_back, mode_of, pop, return, returned}
+use Rattle.coro_meaning.specs.Source.{called, enter, given, mode_of, pop, return, returned}
 use Rattle.coro_meaning.specs.declared.state.Activation.{Activation}
 use Rattle.coro_meaning.specs.declared.state.Mode.{Mode}
 use Rattle.coro_meaning.specs.declared.state.State.{State}
@@ -17,11 +17,11 @@ use Rattle.ir_model.specs.declared.module.Module.{Module}
 use Rattle.ir_model.specs.declared.module.Param.{Param}
 use Rattle.ordinary_step.specs.Results.{and_then}
 use Rattle.ordinary_step.specs.Step.{entry_values, outcome_of, with_params}
-use Rattle.ordinary_step.specs.Values.{Env, with_result}
+use Rattle.ordinary_step.specs.Values.{Env}
 use Rattle.save_agreement.proofs.Environments.{grown, params_grown, result_grown}
 use Rattle.save_agreement.proofs.Parts.{function_saved}
 use Rattle.save_agreement.specs.SavesWritten.{save_count, saved_function, saves_written}
-use Rattle.save_agreement.specs.Tokens.{Each, IsNamedResult}
+use Rattle.save_agreement.specs.Tokens.{Each}
 use Rattle.save_states.proofs.Acts.{front_next}
 use Rattle.save_states.specs.SavedState.{IsNamedBelow, StandsAlone, saved_activation, saved_result, saved_state}
 use Rattle.sound_states.specs.Named.{HasNamedParams}

@@ -1,17 +1,16 @@
 -- What the calls of coro intrinsics do to a state, and to that of the module whose saves are written out.
-use Rattle.std.proofs.Common.{◌≡◌, ℕ, zero, suc, ◌+◌, Bool, true, false, List, [], ◌∷◌, ◌++◌, length, refl, sym, ap, ◌∙◌, subst, add-zero}
+use Rattle.std.proofs.Common.{◌≡◌, ℕ, ◌+◌, Bool, true, false, List, [], ◌∷◌, ◌++◌, length, refl, sym, ap, ◌∙◌, add-zero}
 use Rattle.std.proofs.lemmas.List.{length-map, map-append}
 use Rattle.std.specs.List.{find}
 use Rattle.std.specs.Option.{option_map_or}
-use Rattle.std.specs.Prelude.{ℤ, negsuc, pos, Some, None, Ok, Err, Option, Result, is_none, map, not, option_and_then, option_map, slice_get, if◌then◌else◌, ◌==◌}
+use Rattle.std.specs.Prelude.{ℤ, negsuc, Some, None, Ok, Err, Option, Result, is_none, map, not, option_and_then, option_map, slice_get, if◌then◌else◌, ◌==◌}
 use Rattle.block_memory.specs.Memory.{own}
 use Rattle.block_memory.specs.declared.block.Kind.{Kind}
 use Rattle.block_memory.specs.declared.block.MemoryBlock.{MemoryBlock}
-use Rattle.block_memory.specs.declared.pointer.Offset.{Offset}
 use Rattle.block_memory.specs.declared.pointer.Pointer.{Pointer}
 use Rattle.block_memory.specs.declared.pointer.Value.{Value}
 use Rattle.coro_base.specs.declared.cause.Cause.{Cause}
-use Rattle.coro_meaning.specs.Source.{Sleeper, after_end, begin, begin_at, begun, block_of_slot, change_own, continue, coro, destroy, done_at, end_of, finish, frame_address, frame_of_promise, given, has_promise_at, is_live_at, is_over, new_instance, promise, promise_block, promise_of_frame, release, resume, save, save_for, sleeper_at, slots_of, suspend, with_new_slots}
+use Rattle.coro_meaning.specs.Source.{Sleeper, after_end, begin, begin_at, begun, block_of_slot, change_own, continue, destroy, done_at, end_of, finish, frame_address, frame_of_promise, given, has_promise_at, is_live_at, is_over, new_instance, promise, promise_block, promise_of_frame, release, resume, save, save_for, sleeper_at, slots_of, suspend, with_new_slots}
 use Rattle.coro_meaning.specs.State.{frame_address_of, gives, instance_at, next, own_facts, own_frame, own_instance, point_of, with_instance, with_left, with_memory, work_of}
 use Rattle.coro_meaning.specs.declared.state.Instance.{Instance}
 use Rattle.coro_meaning.specs.declared.state.Mode.{Mode}
@@ -23,17 +22,15 @@ use Rattle.ir_model.specs.declared.module.Block.{Block}
 use Rattle.ir_model.specs.declared.module.Frame.{Frame}
 use Rattle.ir_model.specs.declared.module.Function.{Function}
 use Rattle.ir_model.specs.declared.module.Module.{Module}
-use Rattle.ir_model.specs.declared.operand.Arg.{Arg}
-use Rattle.ir_model.specs.declared.operand.Intrinsic.{Intrinsic}
 use Rattle.ir_model.specs.declared.operand.Operand.{Operand}
 use Rattle.ir_paths.specs.Facts.{facts_of}
-use Rattle.ir_paths.specs.Slots.{has_name, promise_of}
-use Rattle.ir_paths.specs.Windows.{call_result, destroy_label, label_at, operand_at, resume_label, suspend_of}
+use Rattle.ir_paths.specs.Slots.{promise_of}
+use Rattle.ir_paths.specs.Windows.{call_result, destroy_label, label_at, resume_label, suspend_of}
 use Rattle.ir_paths.specs.declared.point.Facts.{Facts}
 use Rattle.ir_paths.specs.declared.point.Point.{Point}
 use Rattle.ordinary_step.specs.Results.{and_then, found, ok_if}
-use Rattle.ordinary_step.specs.Step.{Work, block_of, without_slots}
-use Rattle.ordinary_step.specs.Values.{Env, integer, nth, pointer_to, truth_value, with_result}
+use Rattle.ordinary_step.specs.Step.{block_of, without_slots}
+use Rattle.ordinary_step.specs.Values.{Env, integer, pointer_to, truth_value, with_result}
 use Rattle.ordinary_step.specs.declared.world.Slot.{Slot}
 use Rattle.save_agreement.proofs.Blocks.{get_block}
 use Rattle.save_agreement.proofs.Environments.{result_grown}
@@ -41,11 +38,11 @@ use Rattle.save_agreement.proofs.Parts.{final_saved, function_saved, has_final_s
 use Rattle.save_agreement.proofs.Slots.{same_promise, same_ramp_slots}
 use Rattle.save_agreement.proofs.Windows.{suspend_lone}
 use Rattle.save_agreement.specs.SavesWritten.{is_bare, save_count, saved_block, saved_function, saves_written}
-use Rattle.save_agreement.specs.Spots.{back_of, front_of, instrs_in, number_of_block, own_saves}
+use Rattle.save_agreement.specs.Spots.{back_of, front_of, instrs_in, number_of_block}
 use Rattle.save_agreement.specs.Tokens.{HasNamedTokens, IsNamedResult}
 use Rattle.save_states.proofs.Acts.{new_slots_same, over_saved, settled_saved, slots_saved}
 use Rattle.save_states.proofs.Calls.{return_saved}
-use Rattle.save_states.proofs.Resumes.{continue_saved, saved_sleeper, sleeper_saved, sleeping}
+use Rattle.save_states.proofs.Resumes.{continue_saved, sleeper_saved, sleeping}
 use Rattle.save_states.proofs.States.{facts_are, facts_saved, found_saved, own_saved, with_instance_saved, with_number}
 use Rattle.save_states.proofs.Suspends.{save_for_saved}
 use Rattle.save_states.specs.SavedState.{AreTokensNamed, IsNamedBelow, IsOwnedBy, StandsAlone, saved_activation, saved_instance, saved_result, saved_state, saved_values}

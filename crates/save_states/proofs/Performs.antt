@@ -1,14 +1,12 @@
 -- What stands alone does the same to a state, and to that of the module whose saves are written out.
 use Rattle.std.proofs.Common.{◌≡◌, ℕ, Bool, true, false, List, [], ◌∷◌, ◌++◌, length, refl, sym, ap, ◌∙◌, subst, arith}
-use Rattle.std.specs.Prelude.{ℤ, pos, Some, None, Ok, Option, Result, replicate, slice_get, if◌then◌else◌, ◌==◌}
+use Rattle.std.specs.Prelude.{ℤ, pos, Some, None, Ok, Option, replicate, slice_get, if◌then◌else◌, ◌==◌}
 use Rattle.block_memory.specs.declared.pointer.Value.{Value}
-use Rattle.coro_base.specs.declared.cause.Cause.{Cause}
 use Rattle.coro_meaning.specs.Source.{Sleeper, act, context_of, continue, coro, given, new_slot, sleeper_at}
 use Rattle.coro_meaning.specs.State.{function_of, own_frame, own_instance, point_of, settled, work_of}
 use Rattle.coro_meaning.specs.declared.state.Activation.{Activation}
 use Rattle.coro_meaning.specs.declared.state.Instance.{Instance}
 use Rattle.coro_meaning.specs.declared.state.State.{State}
-use Rattle.coro_meaning.specs.declared.state.Status.{Status}
 use Rattle.ir_model.specs.Names.{function_at}
 use Rattle.ir_model.specs.declared.instr.Instr.{Instr}
 use Rattle.ir_model.specs.declared.module.Block.{Block}
@@ -17,25 +15,25 @@ use Rattle.ir_model.specs.declared.module.Function.{Function}
 use Rattle.ir_model.specs.declared.module.Module.{Module}
 use Rattle.ir_model.specs.declared.operand.Arg.{Arg}
 use Rattle.ir_model.specs.declared.operand.Intrinsic.{Intrinsic}
-use Rattle.ir_paths.specs.Windows.{call_result, is_call_of, operand_at}
+use Rattle.ir_paths.specs.Windows.{is_call_of, operand_at}
 use Rattle.ir_paths.specs.declared.point.Point.{Point}
 use Rattle.ordinary_step.specs.Step.{Action, Coro, Deallocate, Done, Enter, Fetched, GoTo, NewSlot, Return, Stuck, action_of, fetch, fetch_in, fetch_or}
 use Rattle.ordinary_step.specs.Values.{Env, arg_values, integer, nth, truth_value}
 use Rattle.save_agreement.proofs.Saves.{each_here}
 use Rattle.save_agreement.specs.SavesWritten.{is_bare, save_count, saves_written}
 use Rattle.save_agreement.specs.Spots.{instrs_in, own_saves}
-use Rattle.save_agreement.specs.Tokens.{HasNamedToken, HasNamedTokens, IsNamedResult}
+use Rattle.save_agreement.specs.Tokens.{HasNamedToken, IsNamedResult}
 use Rattle.save_states.proofs.Actions.{action_saved}
 use Rattle.save_states.proofs.Acts.{deallocate_saved, new_slot_saved, settled_saved}
 use Rattle.save_states.proofs.Calls.{enter_saved, return_saved}
 use Rattle.save_states.proofs.Intrinsics.{begin_saved, destroy_saved, done_saved, end_saved, frame_saved, free_saved, gives_saved, next_saved, promise_saved, resume_saved, save_saved, suspend_saved}
 use Rattle.save_states.proofs.States.{branches_same, operand_saved}
-use Rattle.save_states.specs.SavedState.{AreTokensNamed, IsNamedBelow, IsOwnedBy, StandsAlone, saved_action, saved_result, saved_state, saved_values}
+use Rattle.save_states.specs.SavedState.{AreTokensNamed, IsNamedBelow, IsOwnedBy, StandsAlone, saved_action, saved_result, saved_state}
 use Rattle.sound_states.proofs.Acts.{asleep_there}
 use Rattle.sound_states.proofs.Fits.{Fits, calls_at, fits, result_named}
 use Rattle.sound_states.proofs.Kept.{own_is, own_there}
 use Rattle.sound_states.specs.Named.{AreLocalsNamed}
-use Rattle.sound_states.specs.Sound.{AreSoundBelow, IsInstanceOf, IsSound, IsSoundStatus}
+use Rattle.sound_states.specs.Sound.{AreSoundBelow, IsSound, IsSoundStatus}
 use Rattle.source_program.specs.Given.{Given}
 use Rattle.step_laws.specs.Changed.{result_at}
 

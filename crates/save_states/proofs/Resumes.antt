@@ -1,6 +1,6 @@
 -- Resumes and destroys, where saves are written out.
-use Rattle.std.proofs.Common.{◌≡◌, ℕ, ◌+◌, Bool, true, false, List, ◌∷◌, length, refl, sym, ap, ◌∙◌}
-use Rattle.std.specs.Prelude.{ℤ, Some, None, Ok, Err, Option, Result, map, not, slice_get}
+use Rattle.std.proofs.Common.{◌≡◌, ℕ, List, ◌∷◌, length, refl, ap, ◌∙◌}
+use Rattle.std.specs.Prelude.{ℤ, Some, None, Ok, Err, Option, Result, map}
 use Rattle.block_memory.specs.declared.pointer.Value.{Value}
 use Rattle.coro_base.specs.declared.cause.Cause.{Cause}
 use Rattle.coro_meaning.specs.Source.{Sleeper, continue, enter_block, given, push, resumed, sleeper_at, sleeper_of}
@@ -10,18 +10,17 @@ use Rattle.coro_meaning.specs.declared.state.State.{State}
 use Rattle.coro_meaning.specs.declared.state.Status.{Status}
 use Rattle.ir_model.specs.Names.{function_at}
 use Rattle.ir_model.specs.declared.module.Frame.{Frame}
-use Rattle.ir_model.specs.declared.module.Function.{Function}
 use Rattle.ir_model.specs.declared.module.Module.{Module}
 use Rattle.ir_paths.specs.declared.point.Point.{Point}
-use Rattle.ordinary_step.specs.Results.{and_then, found, ok_if}
+use Rattle.ordinary_step.specs.Results.{and_then, found}
 use Rattle.ordinary_step.specs.Values.{Env}
 use Rattle.source_program.specs.Given.{Given}
 use Rattle.save_agreement.specs.SavesWritten.{saves_written}
-use Rattle.save_agreement.specs.Spots.{back_of, front_of}
+use Rattle.save_agreement.specs.Spots.{back_of}
 use Rattle.save_states.proofs.Acts.{front_next}
 use Rattle.save_states.proofs.States.{enter_saved, found_saved, with_instance_saved, with_number}
 use Rattle.sound_states.specs.Named.{HasNamedPhis}
-use Rattle.save_states.specs.SavedState.{StandsAlone, saved_activation, saved_instance, saved_result, saved_state, saved_status, saved_values}
+use Rattle.save_states.specs.SavedState.{StandsAlone, saved_activation, saved_instance, saved_state, saved_status, saved_values}
 
 module _ (m : Module) (sizes : List Frame) (answers : List ℤ) where
   abbrev g : Given

@@ -1,16 +1,15 @@
 -- A state of a source run, and that of the module whose saves are written out: instances, and the entering and leaving of blocks.
-use Rattle.std.proofs.Common.{◌≡◌, ℕ, zero, suc, ◌+◌, ◌<◌, Bool, true, false, List, [], ◌∷◌, ◌++◌, length, refl, sym, ap, ◌∙◌, subst}
+use Rattle.std.proofs.Common.{◌≡◌, ℕ, zero, suc, ◌+◌, ◌<◌, Bool, true, false, List, [], ◌∷◌, length, refl, sym, ap, ◌∙◌, subst}
 use Rattle.std.proofs.lemmas.List.{length-map}
 use Rattle.std.proofs.lemmas.Option.{slice_get-map}
 use Rattle.std.specs.List.{list_all}
-use Rattle.std.specs.Prelude.{ℤ, Some, None, Ok, Err, Option, Result, filter, map, option_and_then, option_map, slice_get, slice_set, unwrap_or, ◌&&◌, ◌==◌, if◌then◌else◌}
+use Rattle.std.specs.Prelude.{ℤ, Some, None, Ok, Option, filter, map, option_and_then, option_map, slice_get, slice_set, unwrap_or, ◌&&◌, ◌==◌, if◌then◌else◌}
 use Rattle.block_memory.specs.declared.pointer.Pointer.{Pointer}
 use Rattle.block_memory.specs.declared.pointer.Value.{Value}
 use Rattle.coro_base.specs.declared.cause.Cause.{Cause}
 use Rattle.coro_meaning.specs.Indexes.{last_from, or_else}
 use Rattle.coro_meaning.specs.Source.{branch_leaving, enter_block, given, go_to, is_save, left_windows, may_leave}
-use Rattle.coro_meaning.specs.State.{began_at, instance_at, is_suspended, numbered, own_facts, own_instance, point_of, with_instance, with_left, with_status}
-use Rattle.coro_meaning.specs.declared.state.Activation.{Activation}
+use Rattle.coro_meaning.specs.State.{began_at, instance_at, is_suspended, numbered, own_instance, point_of, with_instance, with_left, with_status}
 use Rattle.coro_meaning.specs.declared.state.Instance.{Instance}
 use Rattle.coro_meaning.specs.declared.state.Saved.{Saved}
 use Rattle.coro_meaning.specs.declared.state.State.{State}
@@ -41,9 +40,9 @@ use Rattle.save_agreement.proofs.Laws.{left_kept}
 use Rattle.save_agreement.proofs.Parts.{function_saved, named_saved}
 use Rattle.save_agreement.proofs.Saves.{each_at}
 use Rattle.save_agreement.specs.Moved.{AreAllMoved}
-use Rattle.save_states.specs.SavedState.{HasRoom, IsOwnedBy, saved_activation, saved_instance, saved_result, saved_save, saved_state, saved_status, saved_values}
+use Rattle.save_states.specs.SavedState.{HasRoom, IsOwnedBy, saved_activation, saved_instance, saved_result, saved_save, saved_state, saved_status}
 use Rattle.sound_states.specs.Named.{HasNamedPhis}
-use Rattle.save_agreement.specs.SavesWritten.{save_count, saved_block, saved_blocks, saved_function, saves_written}
+use Rattle.save_agreement.specs.SavesWritten.{save_count, saved_block, saved_function, saves_written}
 use Rattle.save_agreement.specs.Spots.{front_of, number_of_block}
 use Rattle.save_agreement.specs.Tokens.{Each, HasNamedTokens}
 

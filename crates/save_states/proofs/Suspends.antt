@@ -1,7 +1,7 @@
 -- Saves, where saves are written out.
 use Rattle.std.proofs.Common.{◌≡◌, ℕ, ◌+◌, Bool, true, false, List, length, refl, sym, ap, ◌∙◌, add-one, arith}
 use Rattle.std.proofs.lemmas.List.{length-map}
-use Rattle.std.specs.Prelude.{ℤ, Some, None, Ok, Err, Option, Result, map, not, slice_get}
+use Rattle.std.specs.Prelude.{ℤ, Some, None, Ok, Option, Result, map, not, slice_get}
 use Rattle.block_memory.specs.declared.pointer.Value.{Value}
 use Rattle.coro_base.specs.declared.cause.Cause.{Cause}
 use Rattle.coro_meaning.specs.Source.{given, save, save_for}
