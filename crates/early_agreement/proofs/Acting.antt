@@ -13,32 +13,34 @@ use Rattle.coro_meaning.specs.State.{frame_address_of, gives, instance_at, next,
 use Rattle.coro_meaning.specs.declared.state.Instance.{Instance}
 use Rattle.coro_meaning.specs.declared.state.State.{State}
 use Rattle.coro_meaning.specs.declared.state.Status.{Status}
-use Rattle.early_agreement.proofs.Actions.{IsSame, same_action, same_args}
+use Rattle.early_agreement.proofs.Actions.{IsSame, renamed_fetched, same_action, same_args}
 use Rattle.early_agreement.proofs.Modules.{action_there, map_same, operand_there}
 use Rattle.early_agreement.proofs.Parts.{destroy_same, entry_same, fetch_same, operand_at_same, resume_same}
 use Rattle.early_agreement.proofs.Sameness.{Agree, AgreeOn, by_function, enter_same, final_same, has_final_same, mild, place_same, same_all, save_same, true_same}
 use Rattle.early_agreement.proofs.Slots.{markers_same, promise_same, suspend_same}
 use Rattle.early_agreement.specs.Passes.{renamed_function, renamed_module}
-use Rattle.early_agreement.specs.Regular.{AreRegular, is_call_at}
+use Rattle.early_agreement.specs.Regular.{AreRegular, is_call_at, operands_read}
 use Rattle.early_lower.specs.Early.{renaming_of}
-use Rattle.early_lower.specs.Renaming.{renamed_arg}
+use Rattle.early_lower.specs.Renaming.{renamed_arg, renamed_instr}
 use Rattle.ir_model.specs.Names.{function_at}
+use Rattle.ir_model.specs.declared.instr.Instr.{Instr}
 use Rattle.ir_model.specs.declared.module.Frame.{Frame}
 use Rattle.ir_model.specs.declared.module.Function.{Function}
 use Rattle.ir_model.specs.declared.module.Module.{Module}
 use Rattle.ir_model.specs.declared.operand.Arg.{Arg}
+use Rattle.ir_model.specs.declared.operand.Callee.{Callee}
 use Rattle.ir_model.specs.declared.operand.Intrinsic.{Intrinsic}
 use Rattle.ir_paths.specs.Facts.{all_facts}
 use Rattle.ir_paths.specs.Paths.{entry_point}
 use Rattle.ir_paths.specs.Slots.{promise_of}
-use Rattle.ir_paths.specs.Windows.{destroy_label, leaves, operand_at, resume_label, suspend_of}
+use Rattle.ir_paths.specs.Windows.{destroy_label, is_call_of, leaves, operand_at, resume_label, suspend_of}
 use Rattle.ir_paths.specs.declared.point.Point.{Point}
 use Rattle.ir_paths.specs.declared.point.Window.{Window}
 use Rattle.ordinary_step.specs.Results.{and_then, found, ok_if}
-use Rattle.ordinary_step.specs.Step.{Action, Context, Coro, Deallocate, Done, Enter, Fetched, GoTo, NewSlot, Return, Stuck, action_of, entry_values, fetch, has_markers, place_at}
+use Rattle.ordinary_step.specs.Step.{Action, AtInstr, AtTerm, Context, Coro, Deallocate, Done, Enter, Fetched, GoTo, NewSlot, Nowhere, Return, Stuck, action_of, entry_values, fetch, has_markers, place_at}
 use Rattle.ordinary_step.specs.Values.{arg_value, arg_values, integer, nth, pointer_to, truth_value}
 use Rattle.source_program.specs.Given.{Given, facts_at, has_final, is_final, is_true}
-use Rattle.step_laws.specs.Changed.{Each, operands_at, values_of}
+use Rattle.step_laws.specs.Changed.{Each, operands_of, operands_of_term, values_of}
 
 module _ (m : Module) (ok : AreRegular m) (sizes : List Frame) (answers : List ℤ) where
   abbrev the : ℕ → Function
@@ -201,7 +203,21 @@ module _ (m : Module) (ok : AreRegular m) (sizes : List Frame) (answers : List �
   abbrev action : State → Action
   action s = action_of (context_in m (the s.top.func)) (work_of s) (here_of s)
 
-  acted_there : (s : State) → ((the s.top.func).coroutine ≡ true → Agree (renaming_of (the s.top.func)) s.top.values (operands_at (here_of s))) → IsTrusted s (action s) → act h (continue h) s (action_of (context_in (renamed_module m) (function_at (renamed_module m) s.top.func)) (work_of s) (fetch (function_at (renamed_module m) s.top.func) s.top.block s.top.at)) ≡ act g (continue g) s (action s)
+  -- what stands at a place, with its operands renamed; coro.end reads none of them
+  acted_same : (s : State) (f : Function) (here : Fetched) → Agree (renaming_of f) s.top.values (operands_read here) → act h (continue h) s (action_of (context_in m f) (work_of s) (renamed_fetched (renaming_of f) here)) ≡ act h (continue h) s (action_of (context_in m f) (work_of s) here)
+  acted_same s f Nowhere agree = refl
+  acted_same s f (AtTerm t) agree = same_action (renaming_of f) (context_in m f) (work_of s) (act h (continue h) s) (renamed_coro s f) (AtTerm t) (same_all (renaming_of f) s.top.values (operands_of_term t) agree)
+  acted_same s f (AtInstr i) agree = on (is_call_of Intrinsic.CoroEnd i) refl agree
+    where
+      at_end : (i : Instr) → is_call_of Intrinsic.CoroEnd i ≡ true → act h (continue h) s (action_of (context_in m f) (work_of s) (AtInstr (renamed_instr (renaming_of f) i))) ≡ act h (continue h) s (action_of (context_in m f) (work_of s) (AtInstr i))
+      at_end (Instr.Call result must_tail ty (Callee.Intrinsic Intrinsic.CoroEnd) args) e = refl
+      at_end _ e = absurd (cc)
+
+      on : (b : Bool) → is_call_of Intrinsic.CoroEnd i ≡ b → Agree (renaming_of f) s.top.values (if b then [] else operands_of i) → act h (continue h) s (action_of (context_in m f) (work_of s) (AtInstr (renamed_instr (renaming_of f) i))) ≡ act h (continue h) s (action_of (context_in m f) (work_of s) (AtInstr i))
+      on true e k = at_end i e
+      on false e k = same_action (renaming_of f) (context_in m f) (work_of s) (act h (continue h) s) (renamed_coro s f) (AtInstr i) (same_all (renaming_of f) s.top.values (operands_of i) k)
+
+  acted_there : (s : State) → ((the s.top.func).coroutine ≡ true → Agree (renaming_of (the s.top.func)) s.top.values (operands_read (here_of s))) → IsTrusted s (action s) → act h (continue h) s (action_of (context_in (renamed_module m) (function_at (renamed_module m) s.top.func)) (work_of s) (fetch (function_at (renamed_module m) s.top.func) s.top.block s.top.at)) ≡ act g (continue g) s (action s)
   acted_there s agree trust =
       ap (act h (continue h) s) (action_there renamed_function mild m (the s.top.func) (function_at (renamed_module m) s.top.func) answers owner_rights
       (by_function m ok sizes answers (λ f. f.coroutine) s.top.func (λ c. refl))
@@ -211,14 +227,14 @@ module _ (m : Module) (ok : AreRegular m) (sizes : List Frame) (answers : List �
       (λ c.
       let f = the s.top.func in
       ap (λ (here : Fetched). act h (continue h) s (action_of (context_in m f) (work_of s) here)) (fetch_same (renaming_of f) f s.top.block s.top.at)
-      ∙ same_action (renaming_of f) (context_in m f) (work_of s) (act h (continue h) s) (renamed_coro s f) (here_of s) (same_all (renaming_of f) s.top.values (operands_at (here_of s)) (agree c)))
+      ∙ acted_same s f (here_of s) (agree c))
       ∙ act_there s (action s) trust
 
   undefined_there : (s : State) (o : Result State Cause) → or_undefined h s o ≡ or_undefined g s o
   undefined_there s (Ok t) = refl
   undefined_there s (Err cause) = by_function m ok sizes answers (λ f. record s { outcome = Outcome.Undefined cause (place_at s.top.func f s.top.block s.top.at) }) s.top.func (λ c. ap (λ p. record s { outcome = Outcome.Undefined cause p }) (place_same (renaming_of (the s.top.func)) (the s.top.func) s.top.func s.top.block s.top.at))
 
-  pub step_there : (s : State) → s.outcome ≡ Outcome.Running → ((the s.top.func).coroutine ≡ true → Agree (renaming_of (the s.top.func)) s.top.values (operands_at (here_of s))) → IsTrusted s (action s) → step h s ≡ step g s
+  pub step_there : (s : State) → s.outcome ≡ Outcome.Running → ((the s.top.func).coroutine ≡ true → Agree (renaming_of (the s.top.func)) s.top.values (operands_read (here_of s))) → IsTrusted s (action s) → step h s ≡ step g s
   step_there s runs agree trust =
       ap (advance_by h (continue h) s) runs
       ∙ ap (or_undefined h s) (acted_there s agree trust)

@@ -14,9 +14,9 @@ use Rattle.coro_meaning.specs.declared.state.Instance.{Instance}
 use Rattle.coro_meaning.specs.declared.state.Mode.{Mode}
 use Rattle.coro_meaning.specs.declared.state.State.{State}
 use Rattle.coro_meaning.specs.declared.state.Status.{Status}
-use Rattle.early_agreement.proofs.Fits.{IsOrdinary}
-use Rattle.early_agreement.proofs.Invariant.{IsAsleep, IsGrown, IsSteady, grown_more, grown_set, next_point, origin_at, origin_of, steady_kept}
-use Rattle.early_agreement.proofs.Kept.{Good, all_kept, begin_steady, frame_steady, gives_good, next_good, on_result, on_test, phis_plain, return_good, same_here}
+use Rattle.early_agreement.proofs.Fits.{IsOrdinary, ordinary_in}
+use Rattle.early_agreement.proofs.Invariant.{IsAsleep, IsGrown, IsSteady, grown_more, grown_set, is_resumed, next_point, origin_at, origin_of, steady_kept}
+use Rattle.early_agreement.proofs.Kept.{Good, all_kept, begin_steady, frame_steady, gives_good, gives_here, next_good, on_result, on_test, phis_plain, return_good, same_here}
 use Rattle.early_agreement.proofs.Lists.{equal_numbers, get_last, get_within, set_here}
 use Rattle.early_agreement.proofs.Preserved.{AllSleep, Holds, Sleeps, all_set, below_grown, goes_on, holds_instance, holds_like, holds_memory, own_there, sleeps_grown, stands_grown}
 use Rattle.early_agreement.specs.Regular.{AreRegular, IsDeadAt, IsDeadBehind}
@@ -92,7 +92,7 @@ module _ (m : Module) (ok : AreRegular m) (sizes : List Frame) (answers : List �
   module _ (s : State) (h : Holds m ok s) (i : Instr) (here : instr_at (the s.top.func) (point_of s) ≡ Some i) where
     -- ---- resume and destroy
 
-    woken : IsOrdinary i → (y : Sleeper) → IsAsleepAt s y → (label : ℕ) → ((n : ℕ) → IsDeadBehind (the y.instance.coroutine) n y.suspend → IsDeadAt (the y.instance.coroutine) n y.suspend label) → Holds m ok (continue g s y.number y.instance y.suspend y.values label)
+    woken : IsOrdinary true i → (y : Sleeper) → IsAsleepAt s y → (label : ℕ) → ((n : ℕ) → IsDeadBehind (the y.instance.coroutine) n y.suspend → IsDeadAt (the y.instance.coroutine) n y.suspend label) → Holds m ok (continue g s y.number y.instance y.suspend y.values label)
     woken ordinary y is label at_label =
         let x = y.instance in
         let j = y.number in
@@ -108,26 +108,26 @@ module _ (m : Module) (ok : AreRegular m) (sizes : List Frame) (answers : List �
                 let q = entry_point f label in
                 let asleep : IsAsleep f r s.instances x.coroutine j y.values y.suspend = subst (λ (st : Status). Sleeps m ok s.instances j x.coroutine st) is.status (h.asleep j x is.got) c in
                 let taken = phi_values m y.values (label_of (slice_get f.blocks y.suspend.block)) (phis_of (slice_get f.blocks q.block)) in
-                steady_kept f r new x.coroutine (Some j) y.values (with_all y.values taken) q
+                steady_kept f r new true x.coroutine (Some j) y.values (with_all y.values taken) q
                 (all_kept f r y.values taken (phis_plain r m y.values (label_of (slice_get f.blocks y.suspend.block)) (phis_of (slice_get f.blocks q.block)) ((ok x.coroutine c).phis q.block)))
                 (record { room = asleep.room; begun = grown j (x.coroutine, value_in y.values r.to) asleep.begun; frames = λ n d. ⊎_elim (λ known. inl known) (λ dead. inr (at_label n dead).ahead) (asleep.frames n d) });
           };
-          below = (λ c. tt, stands_grown m ok s.instances new s.top.func s.top.instance s.top.values (next_point (point_of s)) grown (goes_on m ok s h i here ordinary s.top.values (inl refl)), below_grown m ok s.instances new s.top.result s.below grown h.below);
+          below = (λ c. tt, stands_grown m ok s.instances new (is_resumed s.top.mode) s.top.func s.top.instance s.top.values (next_point (point_of s)) grown (goes_on m ok s h i here (ordinary_in (is_resumed s.top.mode) i ordinary) s.top.values (inl refl)), below_grown m ok s.instances new s.top.result s.below grown h.below);
           asleep = all_set m ok s.instances j x run is.got refl h.asleep tt;
         }
 
-    pub resume_good : IsOrdinary i → (p : Value) → Good m ok sizes answers (resume g (continue g) s p)
+    pub resume_good : IsOrdinary true i → (p : Value) → Good m ok sizes answers (resume g (continue g) s p)
     resume_good ordinary p =
         on_result m ok sizes answers (sleeper_at s p) (λ y. let f = the y.instance.coroutine in ok_if (not (is_final f y.suspend)) Cause.State (continue g s y.number y.instance y.suspend y.values (resume_label f y.suspend)))
         (λ y e. on_test m ok sizes answers (not (is_final (the y.instance.coroutine) y.suspend)) Cause.State (continue g s y.number y.instance y.suspend y.values (resume_label (the y.instance.coroutine) y.suspend))
         (λ t. woken ordinary y (asleep_there m ok s p y e) (resume_label (the y.instance.coroutine) y.suspend) (λ n dead. dead.resumed)))
 
-    pub destroy_good : IsOrdinary i → (p : Value) → Good m ok sizes answers (destroy g (continue g) s p)
+    pub destroy_good : IsOrdinary true i → (p : Value) → Good m ok sizes answers (destroy g (continue g) s p)
     destroy_good ordinary p =
         on_result m ok sizes answers (sleeper_at s p) (λ y. Ok (continue g s y.number y.instance y.suspend y.values (destroy_label (the y.instance.coroutine) y.suspend)))
         (λ y e. woken ordinary y (asleep_there m ok s p y e) (destroy_label (the y.instance.coroutine) y.suspend) (λ n dead. dead.destroyed))
 
-    pub done_good : IsOrdinary i → (result : Option ℕ) → result ≡ result_of i → (p : Value) → Good m ok sizes answers (done_at g s result p)
+    pub done_good : IsOrdinary true i → (result : Option ℕ) → result ≡ result_of i → (p : Value) → Good m ok sizes answers (done_at g s result p)
     done_good ordinary result e p =
         on_result m ok sizes answers (sleeper_at s p) (λ y. let f = the y.instance.coroutine in ok_if (has_final f) Cause.State (gives s result (truth_value (is_final f y.suspend))))
         (λ y d. on_test m ok sizes answers (has_final (the y.instance.coroutine)) Cause.State (gives s result (truth_value (is_final (the y.instance.coroutine) y.suspend)))
@@ -135,40 +135,49 @@ module _ (m : Module) (ok : AreRegular m) (sizes : List Frame) (answers : List �
 
     -- ---- free and end
 
-    pub freed_good : IsOrdinary i → (result : Option ℕ) → result ≡ result_of i → (v : Value) (o : Option (ℕ × Instance)) → own_instance s ≡ o → Holds m ok (gives (change_own s (λ x. record x { released = true }) o) result v)
+    pub freed_good : IsOrdinary true i → (result : Option ℕ) → result ≡ result_of i → (v : Value) (o : Option (ℕ × Instance)) → own_instance s ≡ o → Holds m ok (gives (change_own s (λ x. record x { released = true }) o) result v)
     freed_good ordinary result e v None d = gives_good m ok sizes answers s h i here ordinary result e v
     freed_good ordinary result e v (Some (j, x)) d =
         let y : Instance = record x { released = true } in
         gives_good m ok sizes answers (with_instance s j y) (holds_like m ok s j x y (own_there m ok s.instances s.top.instance j x d).1 refl refl h) i here ordinary result e v
 
-    after_good : (t : State) → Holds m ok t → same_here m ok sizes answers t i → IsOrdinary i → (result : Option ℕ) → result ≡ result_of i → (mode : Mode) → Good m ok sizes answers (after_end t result mode)
-    after_good t ht there ordinary result e Mode.Resumed = return_good m ok sizes answers t ht None
-    after_good t ht there ordinary result e Mode.Plain = gives_good m ok sizes answers t ht i there ordinary result e (truth_value false)
-    after_good t ht there ordinary result e Mode.Ramp = gives_good m ok sizes answers t ht i there ordinary result e (truth_value false)
-    after_good t ht there ordinary result e (Mode.GivenRamp v) = gives_good m ok sizes answers t ht i there ordinary result e (truth_value false)
-    after_good t ht there ordinary result e (Mode.Entering from label) = gives_good m ok sizes answers t ht i there ordinary result e (truth_value false)
+    -- neither a coro.frame nor a coro.begin
+    abbrev pub IsOther : Type 0
+    IsOther = (is_call_of Intrinsic.CoroFrame i ≡ false) × (is_call_of Intrinsic.CoroBegin i ≡ false)
 
-    finish_good : IsOrdinary i → (result : Option ℕ) → result ≡ result_of i → (memory : List MemoryBlock) (o : Option (ℕ × Instance)) → own_instance s ≡ o → Good m ok sizes answers (after_end (with_memory (change_own s (λ x. record x { status = Status.Finished }) o) memory) result s.top.mode)
-    finish_good ordinary result e memory None d = after_good (with_memory s memory) (holds_memory m ok s memory h) here ordinary result e s.top.mode
-    finish_good ordinary result e memory (Some (j, x)) d =
+    -- what wasn't resumed goes on behind coro.end
+    stays_good : (t : State) → Holds m ok t → same_here m ok sizes answers t i → IsOther → (result : Option ℕ) → result ≡ result_of i → is_resumed t.top.mode ≡ false → Holds m ok (gives t result (truth_value false))
+    stays_good t ht there other result e mode =
+        gives_here m ok sizes answers t ht i there (subst (λ (b : Bool). IsOrdinary b i) (sym mode) (other.0, other.1, refl)) result e (truth_value false)
+
+    after_good : (t : State) → Holds m ok t → same_here m ok sizes answers t i → IsOther → (result : Option ℕ) → result ≡ result_of i → (mode : Mode) → t.top.mode ≡ mode → Good m ok sizes answers (after_end t result mode)
+    after_good t ht there other result e Mode.Resumed d = return_good m ok sizes answers t ht None
+    after_good t ht there other result e Mode.Plain d = stays_good t ht there other result e (ap is_resumed d)
+    after_good t ht there other result e Mode.Ramp d = stays_good t ht there other result e (ap is_resumed d)
+    after_good t ht there other result e (Mode.GivenRamp v) d = stays_good t ht there other result e (ap is_resumed d)
+    after_good t ht there other result e (Mode.Entering from label) d = stays_good t ht there other result e (ap is_resumed d)
+
+    finish_good : IsOther → (result : Option ℕ) → result ≡ result_of i → (memory : List MemoryBlock) (o : Option (ℕ × Instance)) → own_instance s ≡ o → Good m ok sizes answers (after_end (with_memory (change_own s (λ x. record x { status = Status.Finished }) o) memory) result s.top.mode)
+    finish_good other result e memory None d = after_good (with_memory s memory) (holds_memory m ok s memory h) here other result e s.top.mode refl
+    finish_good other result e memory (Some (j, x)) d =
         let y : Instance = record x { status = Status.Finished } in
-        after_good (with_memory (with_instance s j y) memory) (holds_memory m ok (with_instance s j y) memory (holds_instance m ok s j x y (own_there m ok s.instances s.top.instance j x d).1 refl tt h)) here ordinary result e s.top.mode
+        after_good (with_memory (with_instance s j y) memory) (holds_memory m ok (with_instance s j y) memory (holds_instance m ok s j x y (own_there m ok s.instances s.top.instance j x d).1 refl tt h)) here other result e s.top.mode refl
 
-    pub end_good : IsOrdinary i → (result : Option ℕ) → result ≡ result_of i → Good m ok sizes answers (end_of s finish result)
-    end_good ordinary result e = on s.top.has_left
+    pub end_good : IsOther → (result : Option ℕ) → result ≡ result_of i → Good m ok sizes answers (end_of s finish result)
+    end_good other result e = on s.top.has_left
       where
         on : (b : Bool) → Good m ok sizes answers (after_end (if b then s else finish s) result s.top.mode)
-        on true = after_good s h here ordinary result e s.top.mode
-        on false = finish_good ordinary result e (without_slots s.world.memory (slots_of (own_instance s))) (own_instance s) refl
+        on true = after_good s h here other result e s.top.mode refl
+        on false = finish_good other result e (without_slots s.world.memory (slots_of (own_instance s))) (own_instance s) refl
 
     -- ---- deallocation
 
-    gone : (t : State) → Holds m ok t → same_here m ok sizes answers t i → IsOrdinary i → (p : Value) → Good m ok sizes answers (and_then (deallocated t.world.memory p) (λ memory. Ok (next (with_memory t memory))))
+    gone : (t : State) → Holds m ok t → same_here m ok sizes answers t i → IsOrdinary true i → (p : Value) → Good m ok sizes answers (and_then (deallocated t.world.memory p) (λ memory. Ok (next (with_memory t memory))))
     gone t ht there ordinary p =
         on_result m ok sizes answers (deallocated t.world.memory p) (λ memory. Ok (next (with_memory t memory)))
         (λ memory e. next_good m ok sizes answers (with_memory t memory) (holds_memory m ok t memory ht) i there ordinary)
 
-    pub deallocate_good : IsOrdinary i → (p : Value) → Good m ok sizes answers (deallocate s p)
+    pub deallocate_good : IsOrdinary true i → (p : Value) → Good m ok sizes answers (deallocate s p)
     deallocate_good ordinary p = on (instance_at s.instances p) refl
       where
         free : (j : ℕ) (x : Instance) → slice_get s.instances j ≡ Some x → (b : Bool) → Good m ok sizes answers (let t = if b then let_go s j x else s in and_then (deallocated t.world.memory p) (λ memory. Ok (next (with_memory t memory))))
@@ -198,9 +207,9 @@ module _ (m : Module) (ok : AreRegular m) (sizes : List Frame) (answers : List �
           top = record {
             owns = (address_in b 0, there);
             steady = λ c.
-                subst (λ (u : Option ℕ). IsSteady (the s.top.func) (ren s.top.func) new s.top.func (Some n) (with_result s.top.values u (Value.Ptr (Pointer.At b o))) (next_point (point_of s))) (sym e)
-                (begin_steady (the s.top.func) (ren s.top.func) (ok s.top.func c) s.instances s.top.func (point_of s) i here new n s.top.values (Value.Ptr (Pointer.At b o)) is (there ∙ ap (λ (v : Value). Some (s.top.func, v)) address)
-                (subst (λ (u : Option ℕ). IsSteady (the s.top.func) (ren s.top.func) s.instances s.top.func u s.top.values (point_of s)) none (h.top.steady c)));
+                subst (λ (u : Option ℕ). IsSteady (the s.top.func) (ren s.top.func) new (is_resumed s.top.mode) s.top.func (Some n) (with_result s.top.values u (Value.Ptr (Pointer.At b o))) (next_point (point_of s))) (sym e)
+                (begin_steady (the s.top.func) (ren s.top.func) (ok s.top.func c) s.instances (is_resumed s.top.mode) s.top.func (point_of s) i here new n s.top.values (Value.Ptr (Pointer.At b o)) is (there ∙ ap (λ (v : Value). Some (s.top.func, v)) address)
+                (subst (λ (u : Option ℕ). IsSteady (the s.top.func) (ren s.top.func) s.instances (is_resumed s.top.mode) s.top.func u s.top.values (point_of s)) none (h.top.steady c)));
           };
           below = below_grown m ok s.instances new s.top.result s.below grown h.below;
           asleep = all_set m ok more n x y got refl (all_more s.instances x refl h.asleep) tt;
@@ -230,8 +239,8 @@ module _ (m : Module) (ok : AreRegular m) (sizes : List Frame) (answers : List �
       top = record {
         owns = h.top.owns;
         steady = λ c.
-            subst (λ (u : Option ℕ). IsSteady (the s.top.func) (ren s.top.func) s.instances s.top.func s.top.instance (with_result s.top.values u (frame_address (own_instance s))) (next_point (point_of s))) (sym e)
-            (frame_steady (the s.top.func) (ren s.top.func) (ok s.top.func c) s.instances s.top.func (point_of s) i here s.top.instance s.top.values is (h.top.steady c));
+            subst (λ (u : Option ℕ). IsSteady (the s.top.func) (ren s.top.func) s.instances (is_resumed s.top.mode) s.top.func s.top.instance (with_result s.top.values u (frame_address (own_instance s))) (next_point (point_of s))) (sym e)
+            (frame_steady (the s.top.func) (ren s.top.func) (ok s.top.func c) s.instances (is_resumed s.top.mode) s.top.func (point_of s) i here s.top.instance s.top.values is (h.top.steady c));
       };
       below = h.below;
       asleep = h.asleep;

@@ -1,7 +1,7 @@
 -- What stands at a point, and what an instruction's action may set.
 use Rattle.std.proofs.Common.{◌≡◌, ◌⊎◌, inl, inr, ℕ, Bool, true, false, List, [], ◌∷◌, length, refl, sym, ap, ◌∙◌, subst}
 use Rattle.std.specs.List.{list_any}
-use Rattle.std.specs.Prelude.{IsTrue, Some, None, Ok, Err, Option, Result, map, slice_get, if◌then◌else◌, ◌==◌, ◌||◌}
+use Rattle.std.specs.Prelude.{IsTrue, Some, None, Ok, Err, Option, Result, map, slice_get, if◌then◌else◌, ◌==◌, ◌||◌, ◌&&◌}
 use Rattle.std.proofs.lemmas.Bool.{eqb-true}
 use Rattle.block_memory.specs.Memory.{compare, copy, load, store}
 use Rattle.block_memory.specs.declared.pointer.Pointer.{Pointer}
@@ -56,25 +56,29 @@ stands f p = on (slice_get f.blocks p.block) refl
 
 -- ---- what an action sets
 
--- neither a coro.frame nor a coro.begin
-abbrev pub IsOrdinary : Instr → Type 0
-IsOrdinary i = (is_call_of Intrinsic.CoroFrame i ≡ false) × (is_call_of Intrinsic.CoroBegin i ≡ false)
+-- neither a coro.frame nor a coro.begin, nor, where the activation was resumed, a coro.end
+abbrev pub IsOrdinary : Bool → Instr → Type 0
+IsOrdinary resumed i = (is_call_of Intrinsic.CoroFrame i ≡ false) × (is_call_of Intrinsic.CoroBegin i ≡ false) × ((resumed && is_call_of Intrinsic.CoroEnd i) ≡ false)
+
+pub ordinary_in : (resumed : Bool) (i : Instr) → IsOrdinary true i → IsOrdinary resumed i
+ordinary_in true i h = h
+ordinary_in false i h = (h.0, h.1, refl)
 
 -- the values, or with a result set
 abbrev pub IsSet : Env → Option ℕ → Env → Type 0
 IsSet env o env2 = (env2 ≡ env) ⊎ ((v : Value) × (env2 ≡ with_result env o v))
 
 abbrev pub Fits : Env → Instr → Action → Type 0
-Fits env i (Done w) = IsOrdinary i × IsSet env (result_of i) w.values
-Fits env i (NewSlot w slot) = IsOrdinary i × IsSet env (result_of i) w.values
-Fits env i (Enter func args result must_tail) = IsOrdinary i × (result ≡ result_of i)
+Fits env i (Done w) = IsOrdinary true i × IsSet env (result_of i) w.values
+Fits env i (NewSlot w slot) = IsOrdinary true i × IsSet env (result_of i) w.values
+Fits env i (Enter func args result must_tail) = IsOrdinary true i × (result ≡ result_of i)
 Fits env i (Coro j args result) = (is_call_of j i ≡ true) × (result ≡ result_of i)
-Fits env i (Deallocate p) = IsOrdinary i
+Fits env i (Deallocate p) = IsOrdinary true i
 Fits env i (GoTo label) = ⊥
 Fits env i (Return v) = ⊥
 Fits env i (Stuck cause) = Unit {0}
 
-done_fits : {A : Type 0} (env : Env) (i : Instr) (f : A → Work) (r : Result A Cause) → IsOrdinary i → ((a : A) → IsSet env (result_of i) (f a).values) → Fits env i (done f r)
+done_fits : {A : Type 0} (env : Env) (i : Instr) (f : A → Work) (r : Result A Cause) → IsOrdinary true i → ((a : A) → IsSet env (result_of i) (f a).values) → Fits env i (done f r)
 done_fits env i f (Err cause) o h = tt
 done_fits env i f (Ok a) o h = (o, h a)
 
@@ -92,14 +96,14 @@ length_fits env i (Value.Ptr p) go h = tt
 
 module _ (c : Context) (w : Work) where
   compared_fits : (name : ℕ) (pred : Pred) (ty : Ty) (x y : Operand) (a b : Value) → Fits w.values (Instr.Icmp name pred ty x y) (compared c w name pred ty a b)
-  compared_fits name pred (int n) x y a b = ((refl, refl), inr (value_of (icmp pred (number_of_width n a) (number_of_width n b)), refl))
-  compared_fits name pred ptr x y a b = done_fits w.values (Instr.Icmp name pred ptr x y) (λ same. set_value w name (truth_value (by_pred pred same))) (compare c.rights w.world.memory (address a) (address b)) (refl, refl) (λ same. inr (truth_value (by_pred pred same), refl))
-  compared_fits name pred token x y a b = done_fits w.values (Instr.Icmp name pred token x y) (λ same. set_value w name (truth_value (by_pred pred same))) (compare c.rights w.world.memory (address a) (address b)) (refl, refl) (λ same. inr (truth_value (by_pred pred same), refl))
-  compared_fits name pred (array n t) x y a b = done_fits w.values (Instr.Icmp name pred (array n t) x y) (λ same. set_value w name (truth_value (by_pred pred same))) (compare c.rights w.world.memory (address a) (address b)) (refl, refl) (λ same. inr (truth_value (by_pred pred same), refl))
-  compared_fits name pred (structure ts) x y a b = done_fits w.values (Instr.Icmp name pred (structure ts) x y) (λ same. set_value w name (truth_value (by_pred pred same))) (compare c.rights w.world.memory (address a) (address b)) (refl, refl) (λ same. inr (truth_value (by_pred pred same), refl))
-  compared_fits name pred (named n) x y a b = done_fits w.values (Instr.Icmp name pred (named n) x y) (λ same. set_value w name (truth_value (by_pred pred same))) (compare c.rights w.world.memory (address a) (address b)) (refl, refl) (λ same. inr (truth_value (by_pred pred same), refl))
+  compared_fits name pred (int n) x y a b = ((refl, refl, refl), inr (value_of (icmp pred (number_of_width n a) (number_of_width n b)), refl))
+  compared_fits name pred ptr x y a b = done_fits w.values (Instr.Icmp name pred ptr x y) (λ same. set_value w name (truth_value (by_pred pred same))) (compare c.rights w.world.memory (address a) (address b)) (refl, refl, refl) (λ same. inr (truth_value (by_pred pred same), refl))
+  compared_fits name pred token x y a b = done_fits w.values (Instr.Icmp name pred token x y) (λ same. set_value w name (truth_value (by_pred pred same))) (compare c.rights w.world.memory (address a) (address b)) (refl, refl, refl) (λ same. inr (truth_value (by_pred pred same), refl))
+  compared_fits name pred (array n t) x y a b = done_fits w.values (Instr.Icmp name pred (array n t) x y) (λ same. set_value w name (truth_value (by_pred pred same))) (compare c.rights w.world.memory (address a) (address b)) (refl, refl, refl) (λ same. inr (truth_value (by_pred pred same), refl))
+  compared_fits name pred (structure ts) x y a b = done_fits w.values (Instr.Icmp name pred (structure ts) x y) (λ same. set_value w name (truth_value (by_pred pred same))) (compare c.rights w.world.memory (address a) (address b)) (refl, refl, refl) (λ same. inr (truth_value (by_pred pred same), refl))
+  compared_fits name pred (named n) x y a b = done_fits w.values (Instr.Icmp name pred (named n) x y) (λ same. set_value w name (truth_value (by_pred pred same))) (compare c.rights w.world.memory (address a) (address b)) (refl, refl, refl) (λ same. inr (truth_value (by_pred pred same), refl))
 
-  module _ (i : Instr) (ordinary : IsOrdinary i) where
+  module _ (i : Instr) (ordinary : IsOrdinary true i) where
     observed_fits : (d : ℕ) (ty : Option Ty) (args : Option (List Word)) → Fits w.values i (observed c w d ty (result_of i) args)
     observed_fits d ty None = tt
     observed_fits d None (Some args) = (ordinary, inr (Value.Poison, refl))
@@ -132,29 +136,29 @@ module _ (c : Context) (w : Work) where
     copied_fits vs = length_fits w.values i (nth vs 2) (λ n. done (set_memory w) (copy c.rights w.world.memory (address (nth vs 0)) (address (nth vs 1)) n)) (λ n. done_fits w.values i (set_memory w) (copy c.rights w.world.memory (address (nth vs 0)) (address (nth vs 1)) n) ordinary (λ memory. inl refl))
 
   intrinsic_fits : (j : Intrinsic) (result : Option ℕ) (must_tail : Bool) (ty : Option Ty) (args : List Arg) (vs : List Value) → Fits w.values (Instr.Call result must_tail ty (Callee.Intrinsic j) args) (intrinsic_call c w j result args vs)
-  intrinsic_fits Intrinsic.LifetimeStart result must_tail ty args vs = ((refl, refl), inl refl)
-  intrinsic_fits Intrinsic.LifetimeEnd result must_tail ty args vs = ((refl, refl), inl refl)
-  intrinsic_fits Intrinsic.MemcpyI64 result must_tail ty args vs = copied_fits (Instr.Call result must_tail ty (Callee.Intrinsic Intrinsic.MemcpyI64) args) (refl, refl) vs
-  intrinsic_fits Intrinsic.MemcpyI32 result must_tail ty args vs = copied_fits (Instr.Call result must_tail ty (Callee.Intrinsic Intrinsic.MemcpyI32) args) (refl, refl) vs
+  intrinsic_fits Intrinsic.LifetimeStart result must_tail ty args vs = ((refl, refl, refl), inl refl)
+  intrinsic_fits Intrinsic.LifetimeEnd result must_tail ty args vs = ((refl, refl, refl), inl refl)
+  intrinsic_fits Intrinsic.MemcpyI64 result must_tail ty args vs = copied_fits (Instr.Call result must_tail ty (Callee.Intrinsic Intrinsic.MemcpyI64) args) (refl, refl, refl) vs
+  intrinsic_fits Intrinsic.MemcpyI32 result must_tail ty args vs = copied_fits (Instr.Call result must_tail ty (Callee.Intrinsic Intrinsic.MemcpyI32) args) (refl, refl, refl) vs
   intrinsic_fits j result must_tail ty args vs = (itself (intrinsic_number j), refl)
 
   pub fits : (i : Instr) → Fits w.values i (instr_action c w i)
-  fits (Instr.Binary name op flags ty a b) = done_fits w.values (Instr.Binary name op flags ty a b) (λ n. set_value w name (value_of n)) (binary op flags (number_at ty (value_at c w ty a)) (number_at ty (value_at c w ty b))) (refl, refl) (λ n. inr (value_of n, refl))
+  fits (Instr.Binary name op flags ty a b) = done_fits w.values (Instr.Binary name op flags ty a b) (λ n. set_value w name (value_of n)) (binary op flags (number_at ty (value_at c w ty a)) (number_at ty (value_at c w ty b))) (refl, refl, refl) (λ n. inr (value_of n, refl))
   fits (Instr.Icmp name pred ty a b) = compared_fits name pred ty a b (value_at c w ty a) (value_at c w ty b)
-  fits (Instr.Select name x a b) = ((refl, refl), inr (chosen (value_at c w (int 1) x) (arg_value c.code w.values a) (arg_value c.code w.values b), refl))
-  fits (Instr.Cast name op nneg arg to) = ((refl, refl), inr (cast_to op nneg (number_at arg.ty (arg_value c.code w.values arg)) to, refl))
-  fits (Instr.Alloca name ty align) = aligned_fits w.values (Instr.Alloca name ty align) align (alloca c w name (size_of c.code ty) align) ((refl, refl), inr (pointer_to (length w.world.memory), refl))
+  fits (Instr.Select name x a b) = ((refl, refl, refl), inr (chosen (value_at c w (int 1) x) (arg_value c.code w.values a) (arg_value c.code w.values b), refl))
+  fits (Instr.Cast name op nneg arg to) = ((refl, refl, refl), inr (cast_to op nneg (number_at arg.ty (arg_value c.code w.values arg)) to, refl))
+  fits (Instr.Alloca name ty align) = aligned_fits w.values (Instr.Alloca name ty align) align (alloca c w name (size_of c.code ty) align) ((refl, refl, refl), inr (pointer_to (length w.world.memory), refl))
   fits (Instr.Load name ty p align) =
       aligned_fits w.values (Instr.Load name ty p align) align (done (set_value w name) (load c.rights w.world.memory (address (value_at c w ptr p)) (access_of ty) align))
-      (done_fits w.values (Instr.Load name ty p align) (set_value w name) (load c.rights w.world.memory (address (value_at c w ptr p)) (access_of ty) align) (refl, refl) (λ v. inr (v, refl)))
+      (done_fits w.values (Instr.Load name ty p align) (set_value w name) (load c.rights w.world.memory (address (value_at c w ptr p)) (access_of ty) align) (refl, refl, refl) (λ v. inr (v, refl)))
   fits (Instr.Store arg p align) =
       let r = store c.rights w.world.memory (address (value_at c w ptr p)) (stored (access_of arg.ty) (arg_value c.code w.values arg)) (access_of arg.ty) align in
-      aligned_fits w.values (Instr.Store arg p align) align (done (set_memory w) r) (done_fits w.values (Instr.Store arg p align) (set_memory w) r (refl, refl) (λ memory. inl refl))
-  fits (Instr.Gep name inbounds ty base indices) = ((refl, refl), inr (element w.world.memory inbounds (value_at c w ptr base) (distance c.code ty (indices_of c.code w.values indices)), refl))
-  fits (Instr.Call result must_tail ty (Callee.Named n) args) = named_fits (Instr.Call result must_tail ty (Callee.Named n) args) (refl, refl) (function_named c.code n) (declaration_named c.code n) ty must_tail (arg_values c.code w.values args)
-  fits (Instr.Call result must_tail ty (Callee.Allocator a) args) = allocator_fits (Instr.Call result must_tail ty (Callee.Allocator a) args) (refl, refl) a (arg_values c.code w.values args)
+      aligned_fits w.values (Instr.Store arg p align) align (done (set_memory w) r) (done_fits w.values (Instr.Store arg p align) (set_memory w) r (refl, refl, refl) (λ memory. inl refl))
+  fits (Instr.Gep name inbounds ty base indices) = ((refl, refl, refl), inr (element w.world.memory inbounds (value_at c w ptr base) (distance c.code ty (indices_of c.code w.values indices)), refl))
+  fits (Instr.Call result must_tail ty (Callee.Named n) args) = named_fits (Instr.Call result must_tail ty (Callee.Named n) args) (refl, refl, refl) (function_named c.code n) (declaration_named c.code n) ty must_tail (arg_values c.code w.values args)
+  fits (Instr.Call result must_tail ty (Callee.Allocator a) args) = allocator_fits (Instr.Call result must_tail ty (Callee.Allocator a) args) (refl, refl, refl) a (arg_values c.code w.values args)
   fits (Instr.Call result must_tail ty (Callee.Intrinsic j) args) = intrinsic_fits j result must_tail ty args (arg_values c.code w.values args)
-  fits (Instr.Call result must_tail ty (Callee.Local name) args) = indirect_fits (Instr.Call result must_tail ty (Callee.Local name) args) (refl, refl) (value_in w.values name) ty must_tail args (arg_values c.code w.values args)
+  fits (Instr.Call result must_tail ty (Callee.Local name) args) = indirect_fits (Instr.Call result must_tail ty (Callee.Local name) args) (refl, refl, refl) (value_in w.values name) ty must_tail args (arg_values c.code w.values args)
 
   -- ---- terminators
 

@@ -1,12 +1,13 @@
 -- What holds of the values of coro.frame in each state of a run.
 use Rattle.std.proofs.Common.{◌≡◌, ◌⊎◌, inl, inr, ⊎_elim, ℕ, ◌+◌, Bool, true, false, List, [], ◌∷◌, ◌++◌, length, refl, sym, ap, ◌∙◌, subst}
 use Rattle.std.proofs.lemmas.Bool.{lt-ltb}
-use Rattle.std.specs.Prelude.{IsTrue, Some, None, Option, option_map, map, nat_lt, slice_get, slice_set, ◌==◌, ◌||◌, if◌then◌else◌}
+use Rattle.std.specs.Prelude.{IsTrue, Some, None, Option, option_map, map, nat_lt, slice_get, slice_set, ◌==◌, ◌||◌, ◌&&◌, if◌then◌else◌}
 use Rattle.block_memory.specs.declared.pointer.Value.{Value}
 use Rattle.coro_meaning.specs.State.{frame_address_of}
 use Rattle.coro_meaning.specs.declared.state.Instance.{Instance}
+use Rattle.coro_meaning.specs.declared.state.Mode.{Mode}
 use Rattle.early_agreement.proofs.Lists.{equal_numbers, get_before, get_within, not_equal, set_here, set_length, set_other}
-use Rattle.early_agreement.specs.Regular.{Next, HasNoFrame, IsDead, IsDeadBehind, IsPlain, is_call_at, is_result, makes}
+use Rattle.early_agreement.specs.Regular.{Ahead, Here, Next, HasNoFrame, IsDead, IsDeadBehind, IsPlain, is_call_at, is_result, makes, passes, stops}
 use Rattle.early_lower.specs.Renaming.{is_renamed}
 use Rattle.early_lower.specs.declared.renaming.Renaming.{Renaming}
 use Rattle.ir_model.specs.declared.instr.Instr.{Instr}
@@ -15,9 +16,10 @@ use Rattle.ir_model.specs.declared.module.Function.{Function}
 use Rattle.ir_model.specs.declared.operand.Intrinsic.{Intrinsic}
 use Rattle.ir_paths.proofs.Search.{same_point-itself}
 use Rattle.ir_paths.specs.Paths.{entry_point, has_point, nexts, nexts_in, targets}
-use Rattle.ir_paths.specs.Windows.{instr_at, instr_in}
+use Rattle.ir_paths.specs.Windows.{instr_at, instr_in, is_call_of}
 use Rattle.ir_paths.specs.declared.point.Point.{Point}
 use Rattle.ordinary_step.specs.Values.{Env, value_in, value_or_poison, with_result, with_value}
+use Rattle.step_laws.specs.Changed.{result_of}
 
 -- ---- instances, by their coroutines and frame addresses
 
@@ -50,6 +52,14 @@ grown_more a x i o h = on (slice_get a i) refl
 
 -- ---- an activation at a point
 
+-- the activation was resumed, and returns at coro.end
+abbrev pub is_resumed : Mode → Bool
+is_resumed Mode.Resumed = true
+is_resumed Mode.Plain = false
+is_resumed Mode.Ramp = false
+is_resumed (Mode.GivenRamp v) = false
+is_resumed (Mode.Entering from label) = false
+
 module _ (f : Function) (r : Renaming) where
   -- before begin no path leads to a coro.frame; then begin's value is the instance's frame address
   abbrev pub HasBegun : List Instance → ℕ → Option ℕ → Env → Point → Type 0
@@ -60,10 +70,10 @@ module _ (f : Function) (r : Renaming) where
   IsKnown None env n = ⊥
   IsKnown (Some i) env n = value_in env r.to ≡ value_in env n
 
-  pub record IsSteady (instances : List Instance) (func : ℕ) (o : Option ℕ) (env : Env) (p : Point) : Type 0 where
+  pub record IsSteady (instances : List Instance) (resumed : Bool) (func : ℕ) (o : Option ℕ) (env : Env) (p : Point) : Type 0 where
     pub room : length env ≡ length f.names
     pub begun : HasBegun instances func o env p
-    pub frames : (n : ℕ) → is_renamed r n ≡ true → IsKnown o env n ⊎ IsDead f n p
+    pub frames : (n : ℕ) → is_renamed r n ≡ true → IsKnown o env n ⊎ IsDead f resumed n p
 
   -- what an instance keeps behind its suspend
   pub record IsAsleep (instances : List Instance) (func i : ℕ) (env : Env) (s : Point) : Type 0 where
@@ -75,24 +85,55 @@ module _ (f : Function) (r : Renaming) where
   begun_grown a b func None env p grown h = h
   begun_grown a b func (Some i) env p grown h = grown i (func, value_in env r.to) h
 
-  pub steady_grown : (a b : List Instance) (func : ℕ) (o : Option ℕ) (env : Env) (p : Point) → IsGrown a b → IsSteady a func o env p → IsSteady b func o env p
-  steady_grown a b func o env p grown h = record { room = h.room; begun = begun_grown a b func o env p grown h.begun; frames = h.frames }
+  pub steady_grown : (a b : List Instance) (resumed : Bool) (func : ℕ) (o : Option ℕ) (env : Env) (p : Point) → IsGrown a b → IsSteady a resumed func o env p → IsSteady b resumed func o env p
+  steady_grown a b resumed func o env p grown h = record { room = h.room; begun = begun_grown a b func o env p grown h.begun; frames = h.frames }
 
   -- ---- along an edge
 
-  pub dead_next : (n : ℕ) (p q : Point) → makes f n p ≡ false → IsTrue (has_point (nexts f p) q) → IsDead f n p → IsDead f n q
-  dead_next n p q e h dead last path used = dead last (Next p q e h path) used
+  neither : (a b : Bool) → a ≡ false → b ≡ false → (a || b) ≡ false
+  neither true b e d = e
+  neither false b e d = d
+
+  none_both : (a b : Bool) → b ≡ false → (a && b) ≡ false
+  none_both true b e = e
+  none_both false b e = refl
+
+  -- no path of the value ends at the point
+  pub unstopped : (resumed : Bool) (n : ℕ) (p : Point) → (resumed && is_call_at f Intrinsic.CoroEnd p) ≡ false → makes f n p ≡ false → stops f resumed n p ≡ false
+  unstopped resumed n p e d = neither (resumed && is_call_at f Intrinsic.CoroEnd p) (makes f n p) e d
+
+  pub unstopped_at : (resumed : Bool) (n : ℕ) (p : Point) (o : Option Instr) → instr_at f p ≡ o → passes (is_call_of Intrinsic.CoroEnd) o ≡ false → passes (λ i. is_result n (result_of i)) o ≡ false → stops f resumed n p ≡ false
+  unstopped_at resumed n p o here e d =
+      unstopped resumed n p
+      (none_both resumed (is_call_at f Intrinsic.CoroEnd p) (ap (passes (is_call_of Intrinsic.CoroEnd)) here ∙ e))
+      (ap (passes (λ i. is_result n (result_of i))) here ∙ d)
+
+  pub dead_next : (resumed : Bool) (n : ℕ) (p q : Point) → stops f resumed n p ≡ false → IsTrue (has_point (nexts f p) q) → IsDead f resumed n p → IsDead f resumed n q
+  dead_next resumed n p q e h dead last path used = dead last (Next p q e h path) used
+
+  -- what stops the paths of an activation that wasn't resumed stops those of one that was
+  stops_too : (a b : Bool) → (a || b) ≡ false → b ≡ false
+  stops_too true b e = absurd (cc)
+  stops_too false b e = e
+
+  ahead_too : (n : ℕ) (last p : Point) → Ahead f (stops f true n) last p → Ahead f (stops f false n) last p
+  ahead_too n last p Here = Here
+  ahead_too n last p (Next _ q e edge rest) = Next p q (stops_too (is_call_at f Intrinsic.CoroEnd p) (makes f n p) e) edge (ahead_too n last q rest)
+
+  pub dead_resumed : (resumed : Bool) (n : ℕ) (p : Point) → IsDead f resumed n p → IsDead f true n p
+  dead_resumed true n p dead = dead
+  dead_resumed false n p dead = λ last path used. dead last (ahead_too n last p path) used
 
   begun_next : (instances : List Instance) (func : ℕ) (o : Option ℕ) (env : Env) (p q : Point) → is_call_at f Intrinsic.CoroBegin p ≡ false → IsTrue (has_point (nexts f p) q) → HasBegun instances func o env p → HasBegun instances func o env q
   begun_next instances func None env p q e h before = λ last path. before last (Next p q e h path)
   begun_next instances func (Some i) env p q e h before = before
 
-  -- to a point behind an edge, where neither begin stands nor a value of coro.frame is made
-  pub steady_next : (instances : List Instance) (func : ℕ) (o : Option ℕ) (env : Env) (p q : Point) → is_call_at f Intrinsic.CoroBegin p ≡ false → ((n : ℕ) → is_renamed r n ≡ true → makes f n p ≡ false) → IsTrue (has_point (nexts f p) q) → IsSteady instances func o env p → IsSteady instances func o env q
-  steady_next instances func o env p q begin none edge h = record {
+  -- to a point behind an edge, where neither begin stands nor a path of a value of coro.frame ends
+  pub steady_next : (instances : List Instance) (resumed : Bool) (func : ℕ) (o : Option ℕ) (env : Env) (p q : Point) → is_call_at f Intrinsic.CoroBegin p ≡ false → ((n : ℕ) → is_renamed r n ≡ true → stops f resumed n p ≡ false) → IsTrue (has_point (nexts f p) q) → IsSteady instances resumed func o env p → IsSteady instances resumed func o env q
+  steady_next instances resumed func o env p q begin none edge h = record {
     room = h.room;
     begun = begun_next instances func o env p q begin edge h.begun;
-    frames = λ n e. ⊎_elim (λ k. inl k) (λ dead. inr (dead_next n p q (none n e) edge dead)) (h.frames n e);
+    frames = λ n e. ⊎_elim (λ k. inl k) (λ dead. inr (dead_next resumed n p q (none n e) edge dead)) (h.frames n e);
   }
 
   -- ---- values that aren't concerned
@@ -111,8 +152,8 @@ module _ (f : Function) (r : Renaming) where
   begun_kept instances func None env env2 p k h = h
   begun_kept instances func (Some i) env env2 p k h = h ∙ ap (λ v. Some (func, v)) (sym k.to)
 
-  pub steady_kept : (instances : List Instance) (func : ℕ) (o : Option ℕ) (env env2 : Env) (p : Point) → AreKept env env2 → IsSteady instances func o env p → IsSteady instances func o env2 p
-  steady_kept instances func o env env2 p k h = record {
+  pub steady_kept : (instances : List Instance) (resumed : Bool) (func : ℕ) (o : Option ℕ) (env env2 : Env) (p : Point) → AreKept env env2 → IsSteady instances resumed func o env p → IsSteady instances resumed func o env2 p
+  steady_kept instances resumed func o env env2 p k h = record {
     room = k.as_long ∙ h.room;
     begun = begun_kept instances func o env env2 p k h.begun;
     frames = λ n e. ⊎_elim (λ known. inl (known_kept o env env2 n k e known)) (λ dead. inr dead) (h.frames n e);

@@ -10,13 +10,14 @@ use Rattle.coro_meaning.specs.Source.{begin, branch_leaving, enter, enter_block,
 use Rattle.coro_meaning.specs.State.{gives, next, numbered, own_facts, own_instance, point_of, with_instance, with_left, with_memory, with_status, work_of}
 use Rattle.coro_meaning.specs.declared.state.Activation.{Activation}
 use Rattle.coro_meaning.specs.declared.state.Instance.{Instance}
+use Rattle.coro_meaning.specs.declared.state.Mode.{Mode}
 use Rattle.coro_meaning.specs.declared.state.State.{State}
 use Rattle.coro_meaning.specs.declared.state.Status.{Status}
-use Rattle.early_agreement.proofs.Fits.{IsOrdinary}
-use Rattle.early_agreement.proofs.Invariant.{AreKept, IsAsleep, IsKnown, IsSteady, PlainName, dead_next, kept_on, kept_result, kept_same, kept_set, next_edge, next_point, origin_at, origin_of, steady_kept, steady_next}
+use Rattle.early_agreement.proofs.Fits.{IsOrdinary, ordinary_in}
+use Rattle.early_agreement.proofs.Invariant.{AreKept, IsAsleep, IsKnown, IsSteady, PlainName, dead_next, dead_resumed, is_resumed, kept_on, kept_result, kept_same, kept_set, next_edge, next_point, origin_at, origin_of, steady_kept, steady_next, unstopped_at}
 use Rattle.early_agreement.proofs.Lists.{equal_numbers, itself, not_equal, set_here, set_length, set_other}
 use Rattle.early_agreement.proofs.Preserved.{Below, Holds, Owns, Sleeps, StandsWell, goes_on, holds_instance, holds_left, holds_like, holds_memory, holds_slots, own_there, plain_name, settled_holds}
-use Rattle.early_agreement.specs.Regular.{AreRegular, Here, IsDead, IsDeadBehind, IsPlain, IsRegular, is_result, makes, passes}
+use Rattle.early_agreement.specs.Regular.{AreRegular, Here, IsDead, IsDeadBehind, IsPlain, IsRegular, is_result, passes, stops}
 use Rattle.early_lower.specs.Early.{renaming_of}
 use Rattle.early_lower.specs.Renaming.{is_renamed}
 use Rattle.early_lower.specs.declared.renaming.Renaming.{Renaming}
@@ -49,6 +50,14 @@ frame_no_begin : (i : Instr) → is_call_of Intrinsic.CoroFrame i ≡ true → i
 frame_no_begin (Instr.Call result must_tail ty (Callee.Intrinsic Intrinsic.CoroFrame) args) e = refl
 frame_no_begin _ e = absurd (cc)
 
+frame_no_end : (i : Instr) → is_call_of Intrinsic.CoroFrame i ≡ true → is_call_of Intrinsic.CoroEnd i ≡ false
+frame_no_end (Instr.Call result must_tail ty (Callee.Intrinsic Intrinsic.CoroFrame) args) e = refl
+frame_no_end _ e = absurd (cc)
+
+begin_no_end : (i : Instr) → is_call_of Intrinsic.CoroBegin i ≡ true → is_call_of Intrinsic.CoroEnd i ≡ false
+begin_no_end (Instr.Call result must_tail ty (Callee.Intrinsic Intrinsic.CoroBegin) args) e = refl
+begin_no_end _ e = absurd (cc)
+
 begin_no_frame : (i : Instr) → is_call_of Intrinsic.CoroBegin i ≡ true → is_call_of Intrinsic.CoroFrame i ≡ false
 begin_no_frame (Instr.Call result must_tail ty (Callee.Intrinsic Intrinsic.CoroBegin) args) e = refl
 begin_no_frame _ e = absurd (cc)
@@ -63,18 +72,18 @@ own_address instances j func v e = on (slice_get instances j) e
         let pair : ◌≡◌ {A = ℕ × Value} (origin_of x) (func, v) = cc in
         ap (λ (z : ℕ × Value). z.1) pair
 
-module _ (f : Function) (r : Renaming) (okf : IsRegular f r) (instances : List Instance) (func : ℕ) (p : Point) (i : Instr) (here : instr_at f p ≡ Some i) where
-  made_is : (n : ℕ) (o : Option ℕ) → result_of i ≡ o → makes f n p ≡ is_result n o
-  made_is n o e = ap (passes (λ j. is_result n (result_of j))) here ∙ ap (is_result n) e
+module _ (f : Function) (r : Renaming) (okf : IsRegular f r) (instances : List Instance) (resumed : Bool) (func : ℕ) (p : Point) (i : Instr) (here : instr_at f p ≡ Some i) where
+  stop_is : (n : ℕ) (o : Option ℕ) → is_call_of Intrinsic.CoroEnd i ≡ false → result_of i ≡ o → is_result n o ≡ false → stops f resumed n p ≡ false
+  stop_is n o end e d = unstopped_at f r resumed n p (Some i) here end (ap (is_result n) e ∙ d)
 
   other_than_begin : is_call_of Intrinsic.CoroFrame i ≡ true → (k : ℕ) → result_of i ≡ Some k → k ≡ r.to → ⊥
   other_than_begin frame k e same =
       let t : false ≡ true = sym (frame_no_begin i frame) ∙ okf.begin_calls p i here (e ∙ ap Some same) in absurd (cc)
 
   -- coro.frame sets the frame address
-  framed : (j : ℕ) (env : Env) (v : Value) → is_call_of Intrinsic.CoroFrame i ≡ true → v ≡ value_in env r.to → (o : Option ℕ) → result_of i ≡ o → IsSteady f r instances func (Some j) env p → IsSteady f r instances func (Some j) (with_result env o v) (next_point p)
+  framed : (j : ℕ) (env : Env) (v : Value) → is_call_of Intrinsic.CoroFrame i ≡ true → v ≡ value_in env r.to → (o : Option ℕ) → result_of i ≡ o → IsSteady f r instances resumed func (Some j) env p → IsSteady f r instances resumed func (Some j) (with_result env o v) (next_point p)
   framed j env v frame is None e h =
-      steady_next f r instances func (Some j) env p (next_point p) (ap (passes (is_call_of Intrinsic.CoroBegin)) here ∙ frame_no_begin i frame) (λ n c. made_is n None e) (next_edge f p i here) h
+      steady_next f r instances resumed func (Some j) env p (next_point p) (ap (passes (is_call_of Intrinsic.CoroBegin)) here ∙ frame_no_begin i frame) (λ n c. stop_is n None (frame_no_end i frame) e refl) (next_edge f p i here) h
   framed j env v frame is (Some k) e h = record {
     room = set_length env k (Some v) ∙ h.room;
     begun = h.begun ∙ ap (λ (x : Value). Some (func, x)) (sym to_same);
@@ -84,28 +93,28 @@ module _ (f : Function) (r : Renaming) (okf : IsRegular f r) (instances : List I
       to_same : value_in (with_value env k v) r.to ≡ value_in env r.to
       to_same = ap value_or_poison (set_other env k r.to (Some v) (other_than_begin frame k e))
 
-      on : (n : ℕ) → is_renamed r n ≡ true → (b : Bool) → (k == n) ≡ b → IsKnown f r (Some j) (with_value env k v) n ⊎ IsDead f n (next_point p)
+      on : (n : ℕ) → is_renamed r n ≡ true → (b : Bool) → (k == n) ≡ b → IsKnown f r (Some j) (with_value env k v) n ⊎ IsDead f resumed n (next_point p)
       on n c true d =
           let num : k ≡ n = equal_numbers k n d in
           let lt : n < length env = subst (λ (l : ℕ). n < l) (sym h.room) (okf.has_frames n c) in
           inl (to_same ∙ sym is ∙ sym (subst (λ (y : ℕ). value_in (with_value env y v) n ≡ v) (sym num) (ap value_or_poison (set_here env n (Some v) lt))))
       on n c false d = ⊎_elim
           (λ known. inl (to_same ∙ known ∙ sym (ap value_or_poison (set_other env k n (Some v) (not_equal k n d)))))
-          (λ dead. inr (dead_next f r n p (next_point p) (made_is n (Some k) e ∙ d) (next_edge f p i here) dead))
+          (λ dead. inr (dead_next f r resumed n p (next_point p) (stop_is n (Some k) (frame_no_end i frame) e d) (next_edge f p i here) dead))
           (h.frames n c)
 
-  pub frame_steady : (o : Option ℕ) (env : Env) → is_call_of Intrinsic.CoroFrame i ≡ true → IsSteady f r instances func o env p → IsSteady f r instances func o (with_result env (result_of i) (frame_address (option_and_then (numbered instances) o))) (next_point p)
+  pub frame_steady : (o : Option ℕ) (env : Env) → is_call_of Intrinsic.CoroFrame i ≡ true → IsSteady f r instances resumed func o env p → IsSteady f r instances resumed func o (with_result env (result_of i) (frame_address (option_and_then (numbered instances) o))) (next_point p)
   frame_steady None env frame h = absurd (h.begun p Here (ap (passes (is_call_of Intrinsic.CoroFrame)) here ∙ frame))
   frame_steady (Some j) env frame h = framed j env (frame_address (option_and_then (numbered instances) (Some j))) frame (own_address instances j func (value_in env r.to) h.begun) (result_of i) refl h
 
   -- coro.begin makes the instance
-  pub begin_steady : (grown : List Instance) (j : ℕ) (env : Env) (v : Value) → is_call_of Intrinsic.CoroBegin i ≡ true → origin_at grown j ≡ Some (func, v) → IsSteady f r instances func None env p → IsSteady f r grown func (Some j) (with_result env (result_of i) v) (next_point p)
+  pub begin_steady : (grown : List Instance) (j : ℕ) (env : Env) (v : Value) → is_call_of Intrinsic.CoroBegin i ≡ true → origin_at grown j ≡ Some (func, v) → IsSteady f r instances resumed func None env p → IsSteady f r grown resumed func (Some j) (with_result env (result_of i) v) (next_point p)
   begin_steady grown j env v begin there h =
-      subst (λ (o : Option ℕ). IsSteady f r grown func (Some j) (with_result env o v) (next_point p)) (sym is_begin)
+      subst (λ (o : Option ℕ). IsSteady f r grown resumed func (Some j) (with_result env o v) (next_point p)) (sym is_begin)
       (record {
         room = set_length env r.to (Some v) ∙ h.room;
         begun = there ∙ ap (λ (x : Value). Some (func, x)) (sym (ap value_or_poison (set_here env r.to (Some v) (subst (λ (l : ℕ). r.to < l) (sym h.room) okf.has_begin))));
-        frames = λ n c. ⊎_elim (λ known. absurd known) (λ dead. inr (dead_next f r n p (next_point p) (made_is n (Some r.to) is_begin ∙ other n c (r.to == n) refl) (next_edge f p i here) dead)) (h.frames n c);
+        frames = λ n c. ⊎_elim (λ known. absurd known) (λ dead. inr (dead_next f r resumed n p (next_point p) (stop_is n (Some r.to) (begin_no_end i begin) is_begin (other n c (r.to == n) refl)) (next_edge f p i here) dead)) (h.frames n c);
       })
     where
       is_begin : result_of i ≡ Some r.to
@@ -193,9 +202,9 @@ module _ (m : Module) (ok : AreRegular m) (sizes : List Frame) (answers : List �
             let p = point_of s in
             let q = entry_point f label in
             let env = with_all s.top.values (phi_values m s.top.values (label_of (slice_get f.blocks p.block)) (phis_of (slice_get f.blocks q.block))) in
-            steady_kept f r s.instances s.top.func s.top.instance s.top.values env q
+            steady_kept f r s.instances (is_resumed s.top.mode) s.top.func s.top.instance s.top.values env q
             (all_kept f r s.top.values (phi_values m s.top.values (label_of (slice_get f.blocks p.block)) (phis_of (slice_get f.blocks q.block))) (phis_plain r m s.top.values (label_of (slice_get f.blocks p.block)) (phis_of (slice_get f.blocks q.block)) ((ok s.top.func c).phis q.block)))
-            (steady_next f r s.instances s.top.func s.top.instance s.top.values p q (ap (passes (is_call_of Intrinsic.CoroBegin)) none) (λ n d. ap (passes (λ j. is_result n (result_of j))) none) (target_edge f p b label e at target) (h.top.steady c));
+            (steady_next f r s.instances (is_resumed s.top.mode) s.top.func s.top.instance s.top.values p q (ap (passes (is_call_of Intrinsic.CoroBegin)) none) (λ n d. unstopped_at f r (is_resumed s.top.mode) n p None none refl refl) (target_edge f p b label e at target) (h.top.steady c));
       };
       below = h.below;
       asleep = h.asleep;
@@ -224,7 +233,7 @@ module _ (m : Module) (ok : AreRegular m) (sizes : List Frame) (answers : List �
   blank_length zero = refl
   blank_length (suc n) = ap suc (blank_length n)
 
-  pub first_stands : (instances : List Instance) (func : ℕ) (args : List Value) → StandsWell m ok instances func None (entry_values (the func) args) (record { block = 0; at = 0 })
+  pub first_stands : (instances : List Instance) (func : ℕ) (args : List Value) → StandsWell m ok instances false func None (entry_values (the func) args) (record { block = 0; at = 0 })
   first_stands instances func args = record {
     owns = tt;
     steady = λ c. record {
@@ -234,10 +243,15 @@ module _ (m : Module) (ok : AreRegular m) (sizes : List Frame) (answers : List �
     };
   }
 
-  pub enter_good : (s : State) (h : Holds m ok s) (i : Instr) → instr_at (the s.top.func) (point_of s) ≡ Some i → IsOrdinary i → (func : ℕ) (args : List Value) (result : Option ℕ) → result ≡ result_of i → Holds m ok (enter g s func args result)
+  -- what is called isn't resumed
+  not_resumed : (b : Bool) → is_resumed (if b then Mode.Ramp else Mode.Plain) ≡ false
+  not_resumed true = refl
+  not_resumed false = refl
+
+  pub enter_good : (s : State) (h : Holds m ok s) (i : Instr) → instr_at (the s.top.func) (point_of s) ≡ Some i → IsOrdinary true i → (func : ℕ) (args : List Value) (result : Option ℕ) → result ≡ result_of i → Holds m ok (enter g s func args result)
   enter_good s h i here ordinary func args result e = record {
-    top = first_stands s.instances func args;
-    below = (λ c. subst (PlainName (the s.top.func) (ren s.top.func)) (sym e) (plain_name m ok s h i here ordinary c (result_of i) refl), goes_on m ok s h i here ordinary s.top.values (inl refl), h.below);
+    top = subst (λ (b : Bool). StandsWell m ok s.instances b func None (entry_values (the func) args) (record { block = 0; at = 0 })) (sym (not_resumed (the func).coroutine)) (first_stands s.instances func args);
+    below = (λ c. subst (PlainName (the s.top.func) (ren s.top.func)) (sym e) (plain_name m ok s h i here (ordinary_in (is_resumed s.top.mode) i ordinary) c (result_of i) refl), goes_on m ok s h i here (ordinary_in (is_resumed s.top.mode) i ordinary) s.top.values (inl refl), h.below);
     asleep = h.asleep;
   }
 
@@ -246,7 +260,7 @@ module _ (m : Module) (ok : AreRegular m) (sizes : List Frame) (answers : List �
   pop_good s h v (a ∷ below) b = record {
     top = record {
       owns = b.1.owns;
-      steady = λ c. steady_kept (the a.func) (ren a.func) s.instances a.func a.instance a.values (with_result a.values s.top.result (unwrap_or v Value.Poison)) (record { block = a.block; at = a.at }) (kept_result (the a.func) (ren a.func) a.values s.top.result (unwrap_or v Value.Poison) (b.0 c)) (b.1.steady c);
+      steady = λ c. steady_kept (the a.func) (ren a.func) s.instances (is_resumed a.mode) a.func a.instance a.values (with_result a.values s.top.result (unwrap_or v Value.Poison)) (record { block = a.block; at = a.at }) (kept_result (the a.func) (ren a.func) a.values s.top.result (unwrap_or v Value.Poison) (b.0 c)) (b.1.steady c);
     };
     below = b.2;
     asleep = h.asleep;
@@ -295,14 +309,14 @@ module _ (m : Module) (ok : AreRegular m) (sizes : List Frame) (answers : List �
       ap (λ (z : ℕ × Value). z.0) pair
 
   -- what a save keeps
-  asleep_at : (instances : List Instance) (func : ℕ) (o : Option ℕ) (env : Env) (p suspend : Point) (i : ℕ) → o ≡ Some i → ((n : ℕ) → is_renamed (ren func) n ≡ true → IsDead (the func) n p → IsDeadBehind (the func) n suspend) → IsSteady (the func) (ren func) instances func o env p → IsAsleep (the func) (ren func) instances func i env suspend
-  asleep_at instances func None env p suspend i e dead h = absurd (cc)
-  asleep_at instances func (Some j) env p suspend i e dead h =
+  asleep_at : (instances : List Instance) (func : ℕ) (o : Option ℕ) (env : Env) (p suspend : Point) (i : ℕ) → o ≡ Some i → ((n : ℕ) → is_renamed (ren func) n ≡ true → IsDead (the func) true n p → IsDeadBehind (the func) n suspend) → (resumed : Bool) → IsSteady (the func) (ren func) instances resumed func o env p → IsAsleep (the func) (ren func) instances func i env suspend
+  asleep_at instances func None env p suspend i e dead resumed h = absurd (cc)
+  asleep_at instances func (Some j) env p suspend i e dead resumed h =
       let num : j ≡ i = cc in
       subst (λ (k : ℕ). IsAsleep (the func) (ren func) instances func k env suspend) num
-      (record { room = h.room; begun = h.begun; frames = λ n c. ⊎_elim (λ known. inl known) (λ d. inr (dead n c d)) (h.frames n c) })
+      (record { room = h.room; begun = h.begun; frames = λ n c. ⊎_elim (λ known. inl known) (λ d. inr (dead n c (dead_resumed (the func) (ren func) resumed n p d))) (h.frames n c) })
 
-  save_good : (s : State) → Holds m ok s → (point suspend : Point) (k : State → Result State Cause) → ((the s.top.func).coroutine ≡ true → (n : ℕ) → is_renamed (ren s.top.func) n ≡ true → IsDead (the s.top.func) n (point_of s) → IsDeadBehind (the s.top.func) n suspend) → ((t : State) → Holds m ok t → t.top.func ≡ s.top.func → point_of t ≡ point_of s → Good (k t)) → Good (and_then (save_for s point suspend) k)
+  save_good : (s : State) → Holds m ok s → (point suspend : Point) (k : State → Result State Cause) → ((the s.top.func).coroutine ≡ true → (n : ℕ) → is_renamed (ren s.top.func) n ≡ true → IsDead (the s.top.func) true n (point_of s) → IsDeadBehind (the s.top.func) n suspend) → ((t : State) → Holds m ok t → t.top.func ≡ s.top.func → point_of t ≡ point_of s → Good (k t)) → Good (and_then (save_for s point suspend) k)
   save_good s h point suspend k dead goes = on (own_instance s) refl
     where
       kept : ℕ → Instance → Instance
@@ -312,7 +326,7 @@ module _ (m : Module) (ok : AreRegular m) (sizes : List Frame) (answers : List �
       sleeps i x own there =
           let func_is : x.coroutine ≡ s.top.func = origin_is s.instances i s.top.func x there (subst (Owns m ok s.instances s.top.func) own h.top.owns) in
           subst (λ (c : ℕ). (the c).coroutine ≡ true → IsAsleep (the c) (ren c) s.instances c i s.top.values suspend) (sym func_is)
-          (λ c. asleep_at s.instances s.top.func s.top.instance s.top.values (point_of s) suspend i own (dead c) (h.top.steady c))
+          (λ c. asleep_at s.instances s.top.func s.top.instance s.top.values (point_of s) suspend i own (dead c) (is_resumed s.top.mode) (h.top.steady c))
 
       test : (i : ℕ) (x : Instance) → s.top.instance ≡ Some i → slice_get s.instances i ≡ Some x → (b : Bool) → Good (and_then (ok_if b Cause.State (with_left (with_instance s i (kept i x)) true)) k)
       test i x own there true = goes (with_left (with_instance s i (kept i x)) true) (holds_left m ok (with_instance s i (kept i x)) true (holds_instance m ok s i x (kept i x) there refl (sleeps i x own there) h)) refl refl
@@ -329,20 +343,23 @@ module _ (m : Module) (ok : AreRegular m) (sizes : List Frame) (answers : List �
   pub here_too : (s t : State) (i : Instr) → same_here s i → t.top.func ≡ s.top.func → point_of t ≡ point_of s → same_here t i
   here_too s t i here func point = (λ k. instr_at (the (func k)) (point k)) ∙ here
 
-  pub gives_good : (s : State) → Holds m ok s → (i : Instr) → same_here s i → IsOrdinary i → (result : Option ℕ) → result ≡ result_of i → (v : Value) → Holds m ok (gives s result v)
-  gives_good s h i here ordinary result e v = settled_holds m ok s h i here ordinary (record { world = s.world; values = with_result s.top.values result v }) (inr (v, ap (λ (o : Option ℕ). with_result s.top.values o v) e))
+  pub gives_here : (s : State) → Holds m ok s → (i : Instr) → same_here s i → IsOrdinary (is_resumed s.top.mode) i → (result : Option ℕ) → result ≡ result_of i → (v : Value) → Holds m ok (gives s result v)
+  gives_here s h i here ordinary result e v = settled_holds m ok s h i here ordinary (record { world = s.world; values = with_result s.top.values result v }) (inr (v, ap (λ (o : Option ℕ). with_result s.top.values o v) e))
 
-  pub next_good : (s : State) → Holds m ok s → (i : Instr) → same_here s i → IsOrdinary i → Holds m ok (next s)
-  next_good s h i here ordinary = settled_holds m ok s h i here ordinary (work_of s) (inl refl)
+  pub gives_good : (s : State) → Holds m ok s → (i : Instr) → same_here s i → IsOrdinary true i → (result : Option ℕ) → result ≡ result_of i → (v : Value) → Holds m ok (gives s result v)
+  gives_good s h i here ordinary result e v = gives_here s h i here (ordinary_in (is_resumed s.top.mode) i ordinary) result e v
 
-  pub saved_good : (s : State) → Holds m ok s → (i : Instr) → same_here s i → IsOrdinary i → is_call_of Intrinsic.CoroSave i ≡ true → Good (save g s)
+  pub next_good : (s : State) → Holds m ok s → (i : Instr) → same_here s i → IsOrdinary true i → Holds m ok (next s)
+  next_good s h i here ordinary = settled_holds m ok s h i here (ordinary_in (is_resumed s.top.mode) i ordinary) (work_of s) (inl refl)
+
+  pub saved_good : (s : State) → Holds m ok s → (i : Instr) → same_here s i → IsOrdinary true i → is_call_of Intrinsic.CoroSave i ≡ true → Good (save g s)
   saved_good s h i here ordinary is =
       on_found Cause.State (suspend_of (the s.top.func) (point_of s)) (λ suspend. and_then (save_for s (point_of s) suspend) (λ t. Ok (next t)))
       (λ suspend e. save_good s h (point_of s) suspend (λ t. Ok (next t))
       (λ c n d dead. (ok s.top.func c).dead_behind_save (point_of s) suspend n (ap (passes (is_call_of Intrinsic.CoroSave)) here ∙ is) e d dead)
       (λ t ht func point. next_good t ht i (here_too s t i here func point) ordinary))
 
-  pub suspended_good : (s : State) → Holds m ok s → (i : Instr) → same_here s i → IsOrdinary i → is_call_of Intrinsic.CoroSuspend i ≡ true → (result : Option ℕ) → result ≡ result_of i → (x : Operand) → Good (suspend s result x)
+  pub suspended_good : (s : State) → Holds m ok s → (i : Instr) → same_here s i → IsOrdinary true i → is_call_of Intrinsic.CoroSuspend i ≡ true → (result : Option ℕ) → result ≡ result_of i → (x : Operand) → Good (suspend s result x)
   suspended_good s h i here ordinary is result e Operand.None =
       save_good s h (point_of s) (point_of s) (λ t. Ok (gives t result (integer 8 (negsuc 0))))
       (λ c n d dead. (ok s.top.func c).dead_behind (point_of s) n (ap (passes (is_call_of Intrinsic.CoroSuspend)) here ∙ is) d dead)

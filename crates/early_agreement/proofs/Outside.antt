@@ -21,7 +21,7 @@ use Rattle.window_rules.specs.Sets.{IsWithoutBegin}
 
 -- ---- parts of a function
 
-none_breaks : {A : Type 0} (P : A → Type 0) (place : A → Place) (xs : List A) → IsFirst P place xs None → Each (λ x. P x → ⊥) xs
+pub none_breaks : {A : Type 0} (P : A → Type 0) (place : A → Place) (xs : List A) → IsFirst P place xs None → Each (λ x. P x → ⊥) xs
 none_breaks P place [] h = tt
 none_breaks P place (x ∷ xs) (inl h) = absurd (cc)
 none_breaks P place (x ∷ xs) (inr h) = (h.0, none_breaks P place xs h.1)

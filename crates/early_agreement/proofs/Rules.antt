@@ -57,14 +57,14 @@ renamed_within f n e = on (first_result Intrinsic.CoroBegin f) e
 -- ---- begin stands somewhere
 
 -- a call of begin that gives a value
-record IsBegin (i : Instr) (n : ℕ) : Type 0 where
-  is_call : is_call_of Intrinsic.CoroBegin i ≡ true
-  result : result_of i ≡ Some n
+pub record IsBegin (i : Instr) (n : ℕ) : Type 0 where
+  pub is_call : is_call_of Intrinsic.CoroBegin i ≡ true
+  pub result : result_of i ≡ Some n
 
-record IsBeginAt (o : Option Instr) (n : ℕ) : Type 0 where
-  instr : Instr
-  stands : o ≡ Some instr
-  begins : IsBegin instr n
+pub record IsBeginAt (o : Option Instr) (n : ℕ) : Type 0 where
+  pub instr : Instr
+  pub stands : o ≡ Some instr
+  pub begins : IsBegin instr n
 
 is_begin : (i : Instr) (n : ℕ) → result_of_call Intrinsic.CoroBegin i ≡ Some n → IsBegin i n
 is_begin (Instr.Call result must_tail ty (Callee.Intrinsic j) args) n e = on (same_intrinsic Intrinsic.CoroBegin j) refl e
@@ -92,7 +92,7 @@ begin_in (i ∷ is) n e = on (result_of_call Intrinsic.CoroBegin i) refl (begin_
     on None d rest k = let x = rest k in (suc x.0, x.1)
     on (Some v) d rest k = (0, record { instr = i; stands = refl; begins = is_begin i n (d ∙ k) })
 
-begin_by : (bs : List Block) (n : ℕ) → first_result_by Intrinsic.CoroBegin bs ≡ Some n → (k : ℕ) × ((at : ℕ) × IsBeginAt (instr_in (slice_get bs k) at) n)
+pub begin_by : (bs : List Block) (n : ℕ) → first_result_by Intrinsic.CoroBegin bs ≡ Some n → (k : ℕ) × ((at : ℕ) × IsBeginAt (instr_in (slice_get bs k) at) n)
 begin_by [] n e = absurd (cc)
 begin_by (b ∷ bs) n e = on (first_result_in Intrinsic.CoroBegin b.instrs) refl (begin_by bs n) e
   where
@@ -122,7 +122,7 @@ begin_stays func f h = on (first_result Intrinsic.CoroBegin f) refl
 -- ---- a regular coroutine
 
 -- what isn't renamed is another than what is
-others : (f : Function) (n : ℕ) → is_renamed (renaming_of f) n ≡ true → (ps : List Phi) → Each (λ p. IsPlain (renaming_of f) p.result) ps → Each (λ p. p.result ≡ n → ⊥) ps
+pub others : (f : Function) (n : ℕ) → is_renamed (renaming_of f) n ≡ true → (ps : List Phi) → Each (λ p. IsPlain (renaming_of f) p.result) ps → Each (λ p. p.result ≡ n → ⊥) ps
 others f n e [] h = tt
 others f n e (p ∷ ps) h = ((λ same. let t : true ≡ false = sym e ∙ ap (is_renamed (renaming_of f)) (sym same) ∙ h.0.stays in absurd (cc)), others f n e ps h.1)
 
@@ -135,10 +135,10 @@ suspend_unmade func f h s i here is n e (Some k) d = on (k == n) refl
     on true c = let t : true ≡ false = sym (h.frame_calls s i n here (d ∙ ap Some (equal_numbers k n c)) e) ∙ other_call Intrinsic.CoroSuspend Intrinsic.CoroFrame i is refl in absurd (cc)
     on false c = refl
 
-behind_suspend : (func : ℕ) (f : Function) → f.coroutine ≡ true → KeepsRules func f → (s : Point) (n : ℕ) → is_renamed (renaming_of f) n ≡ true → IsDead f n s → (o : Option Instr) → instr_at f s ≡ o → IsTrue (passes (is_call_of Intrinsic.CoroSuspend) o) → IsDeadBehind f n s
+behind_suspend : (func : ℕ) (f : Function) → f.coroutine ≡ true → KeepsRules func f → (s : Point) (n : ℕ) → is_renamed (renaming_of f) n ≡ true → IsDead f true n s → (o : Option Instr) → instr_at f s ≡ o → IsTrue (passes (is_call_of Intrinsic.CoroSuspend) o) → IsDeadBehind f n s
 behind_suspend func f coroutine h s n e dead None d is = absurd (cc)
 behind_suspend func f coroutine h s n e dead (Some i) d is =
-    dead_behind_suspend func f coroutine h.switches (renaming_of f) n s i d is (ap (passes (λ j. is_result n (result_of j))) d ∙ suspend_unmade func f h s i d is n e (result_of i) refl) dead
+    dead_behind_suspend func f coroutine h.switches (renaming_of f) n s i d is (suspend_unmade func f h s i d is n e (result_of i) refl) dead
 
 pub regular : (func : ℕ) (f : Function) → f.coroutine ≡ true → KeepsRules func f → IsRegular f (renaming_of f)
 regular func f coroutine h = record {

@@ -16,15 +16,15 @@ use Rattle.coro_meaning.specs.declared.state.State.{State}
 use Rattle.coro_meaning.specs.declared.state.Status.{Status}
 use Rattle.early_agreement.proofs.Acting.{step_there}
 use Rattle.early_agreement.proofs.Acts.{asleep_there, begin_good, deallocate_good, destroy_good, done_good, end_good, frame_good, freed_good, resume_good}
-use Rattle.early_agreement.proofs.Fits.{AnInstr, ATerm, Ends, Fits, Nothing, Stands, ends, fits, stands}
-use Rattle.early_agreement.proofs.Invariant.{IsAsleep, IsKnown}
+use Rattle.early_agreement.proofs.Fits.{AnInstr, ATerm, Ends, Fits, Nothing, Stands, ends, fits, ordinary_in, stands}
+use Rattle.early_agreement.proofs.Invariant.{IsAsleep, IsKnown, is_resumed}
 use Rattle.early_agreement.proofs.Kept.{Good, enter_good, first_stands, gives_good, go_good, new_slot_good, next_good, on_result, return_good, saved_good, suspended_good}
 use Rattle.early_agreement.proofs.Lists.{equal_numbers, not_equal}
 use Rattle.early_agreement.proofs.Modules.{world_there}
 use Rattle.early_agreement.proofs.Preserved.{Holds, Sleeps, settled_holds}
 use Rattle.early_agreement.proofs.Sameness.{Agree, AgreeOn, by_function, facts_all, mild}
 use Rattle.early_agreement.specs.Passes.{renamed_function, renamed_module}
-use Rattle.early_agreement.specs.Regular.{AreRegular, AsOperand, Here, OnEdge, is_call_at, passes}
+use Rattle.early_agreement.specs.Regular.{AreRegular, AsOperand, Here, OnEdge, is_call_at, operands_read, passes}
 use Rattle.early_lower.specs.Early.{renaming_of}
 use Rattle.early_lower.specs.declared.renaming.Renaming.{Renaming}
 use Rattle.ir_model.specs.Names.{function_at, intrinsic_number, same_intrinsic}
@@ -44,7 +44,7 @@ use Rattle.ordinary_step.specs.Step.{Action, Context, Coro, Deallocate, Done, En
 use Rattle.ordinary_step.specs.Values.{Env, nth, truth_value, value_in}
 use Rattle.ordinary_step.specs.declared.world.World.{World}
 use Rattle.source_program.specs.Given.{Given}
-use Rattle.step_laws.specs.Changed.{operands_at, result_of}
+use Rattle.step_laws.specs.Changed.{result_of}
 
 -- a call of one intrinsic is none of another
 pub other_call : (j k : Intrinsic) (i : Instr) → is_call_of j i ≡ true → same_intrinsic j k ≡ false → is_call_of k i ≡ false
@@ -102,30 +102,30 @@ module _ (m : Module) (ok : AreRegular m) (sizes : List Frame) (answers : List �
     coro_good : (j : Intrinsic) (args : List Arg) (vs : List Value) (result : Option ℕ) → is_call_of j i ≡ true → result ≡ result_of i → Fine (coro g (continue g) s j args vs result)
     coro_good Intrinsic.CoroBegin args vs result is e = begin_good m ok sizes answers s hs i here is result e (nth vs 1)
     coro_good Intrinsic.CoroFrame args vs result is e = frame_good m ok sizes answers s hs i here is result e
-    coro_good Intrinsic.CoroSave args vs result is e = saved_good m ok sizes answers s hs i here (other_call Intrinsic.CoroSave Intrinsic.CoroFrame i is refl, other_call Intrinsic.CoroSave Intrinsic.CoroBegin i is refl) is
-    coro_good Intrinsic.CoroSuspend args vs result is e = suspended_good m ok sizes answers s hs i here (other_call Intrinsic.CoroSuspend Intrinsic.CoroFrame i is refl, other_call Intrinsic.CoroSuspend Intrinsic.CoroBegin i is refl) is result e (operand_at args 0)
-    coro_good Intrinsic.CoroResume args vs result is e = resume_good m ok sizes answers s hs i here (other_call Intrinsic.CoroResume Intrinsic.CoroFrame i is refl, other_call Intrinsic.CoroResume Intrinsic.CoroBegin i is refl) (nth vs 0)
-    coro_good Intrinsic.CoroDestroy args vs result is e = destroy_good m ok sizes answers s hs i here (other_call Intrinsic.CoroDestroy Intrinsic.CoroFrame i is refl, other_call Intrinsic.CoroDestroy Intrinsic.CoroBegin i is refl) (nth vs 0)
-    coro_good Intrinsic.CoroDone args vs result is e = done_good m ok sizes answers s hs i here (other_call Intrinsic.CoroDone Intrinsic.CoroFrame i is refl, other_call Intrinsic.CoroDone Intrinsic.CoroBegin i is refl) result e (nth vs 0)
+    coro_good Intrinsic.CoroSave args vs result is e = saved_good m ok sizes answers s hs i here (other_call Intrinsic.CoroSave Intrinsic.CoroFrame i is refl, other_call Intrinsic.CoroSave Intrinsic.CoroBegin i is refl, other_call Intrinsic.CoroSave Intrinsic.CoroEnd i is refl) is
+    coro_good Intrinsic.CoroSuspend args vs result is e = suspended_good m ok sizes answers s hs i here (other_call Intrinsic.CoroSuspend Intrinsic.CoroFrame i is refl, other_call Intrinsic.CoroSuspend Intrinsic.CoroBegin i is refl, other_call Intrinsic.CoroSuspend Intrinsic.CoroEnd i is refl) is result e (operand_at args 0)
+    coro_good Intrinsic.CoroResume args vs result is e = resume_good m ok sizes answers s hs i here (other_call Intrinsic.CoroResume Intrinsic.CoroFrame i is refl, other_call Intrinsic.CoroResume Intrinsic.CoroBegin i is refl, other_call Intrinsic.CoroResume Intrinsic.CoroEnd i is refl) (nth vs 0)
+    coro_good Intrinsic.CoroDestroy args vs result is e = destroy_good m ok sizes answers s hs i here (other_call Intrinsic.CoroDestroy Intrinsic.CoroFrame i is refl, other_call Intrinsic.CoroDestroy Intrinsic.CoroBegin i is refl, other_call Intrinsic.CoroDestroy Intrinsic.CoroEnd i is refl) (nth vs 0)
+    coro_good Intrinsic.CoroDone args vs result is e = done_good m ok sizes answers s hs i here (other_call Intrinsic.CoroDone Intrinsic.CoroFrame i is refl, other_call Intrinsic.CoroDone Intrinsic.CoroBegin i is refl, other_call Intrinsic.CoroDone Intrinsic.CoroEnd i is refl) result e (nth vs 0)
     coro_good Intrinsic.CoroEnd args vs result is e = end_good m ok sizes answers s hs i here (other_call Intrinsic.CoroEnd Intrinsic.CoroFrame i is refl, other_call Intrinsic.CoroEnd Intrinsic.CoroBegin i is refl) result e
-    coro_good Intrinsic.CoroFree args vs result is e = freed_good m ok sizes answers s hs i here (other_call Intrinsic.CoroFree Intrinsic.CoroFrame i is refl, other_call Intrinsic.CoroFree Intrinsic.CoroBegin i is refl) result e (frame_address (own_instance s)) (own_instance s) refl
+    coro_good Intrinsic.CoroFree args vs result is e = freed_good m ok sizes answers s hs i here (other_call Intrinsic.CoroFree Intrinsic.CoroFrame i is refl, other_call Intrinsic.CoroFree Intrinsic.CoroBegin i is refl, other_call Intrinsic.CoroFree Intrinsic.CoroEnd i is refl) result e (frame_address (own_instance s)) (own_instance s) refl
     coro_good Intrinsic.CoroPromise args vs result is e =
         on_result m ok sizes answers (promise g s (nth vs 0) (operand_at args 2)) (λ v. Ok (gives s result v))
-        (λ v d. gives_good m ok sizes answers s hs i here (other_call Intrinsic.CoroPromise Intrinsic.CoroFrame i is refl, other_call Intrinsic.CoroPromise Intrinsic.CoroBegin i is refl) result e v)
-    coro_good Intrinsic.CoroSizeI32 args vs result is e = gives_good m ok sizes answers s hs i here (other_call Intrinsic.CoroSizeI32 Intrinsic.CoroFrame i is refl, other_call Intrinsic.CoroSizeI32 Intrinsic.CoroBegin i is refl) result e _
-    coro_good Intrinsic.CoroSizeI64 args vs result is e = gives_good m ok sizes answers s hs i here (other_call Intrinsic.CoroSizeI64 Intrinsic.CoroFrame i is refl, other_call Intrinsic.CoroSizeI64 Intrinsic.CoroBegin i is refl) result e _
-    coro_good Intrinsic.CoroAlignI32 args vs result is e = gives_good m ok sizes answers s hs i here (other_call Intrinsic.CoroAlignI32 Intrinsic.CoroFrame i is refl, other_call Intrinsic.CoroAlignI32 Intrinsic.CoroBegin i is refl) result e _
-    coro_good Intrinsic.CoroAlignI64 args vs result is e = gives_good m ok sizes answers s hs i here (other_call Intrinsic.CoroAlignI64 Intrinsic.CoroFrame i is refl, other_call Intrinsic.CoroAlignI64 Intrinsic.CoroBegin i is refl) result e _
-    coro_good Intrinsic.CoroAlloc args vs result is e = gives_good m ok sizes answers s hs i here (other_call Intrinsic.CoroAlloc Intrinsic.CoroFrame i is refl, other_call Intrinsic.CoroAlloc Intrinsic.CoroBegin i is refl) result e (truth_value true)
-    coro_good Intrinsic.CoroId args vs result is e = next_good m ok sizes answers s hs i here (other_call Intrinsic.CoroId Intrinsic.CoroFrame i is refl, other_call Intrinsic.CoroId Intrinsic.CoroBegin i is refl)
-    coro_good Intrinsic.LifetimeStart args vs result is e = next_good m ok sizes answers s hs i here (other_call Intrinsic.LifetimeStart Intrinsic.CoroFrame i is refl, other_call Intrinsic.LifetimeStart Intrinsic.CoroBegin i is refl)
-    coro_good Intrinsic.LifetimeEnd args vs result is e = next_good m ok sizes answers s hs i here (other_call Intrinsic.LifetimeEnd Intrinsic.CoroFrame i is refl, other_call Intrinsic.LifetimeEnd Intrinsic.CoroBegin i is refl)
-    coro_good Intrinsic.MemcpyI64 args vs result is e = next_good m ok sizes answers s hs i here (other_call Intrinsic.MemcpyI64 Intrinsic.CoroFrame i is refl, other_call Intrinsic.MemcpyI64 Intrinsic.CoroBegin i is refl)
-    coro_good Intrinsic.MemcpyI32 args vs result is e = next_good m ok sizes answers s hs i here (other_call Intrinsic.MemcpyI32 Intrinsic.CoroFrame i is refl, other_call Intrinsic.MemcpyI32 Intrinsic.CoroBegin i is refl)
+        (λ v d. gives_good m ok sizes answers s hs i here (other_call Intrinsic.CoroPromise Intrinsic.CoroFrame i is refl, other_call Intrinsic.CoroPromise Intrinsic.CoroBegin i is refl, other_call Intrinsic.CoroPromise Intrinsic.CoroEnd i is refl) result e v)
+    coro_good Intrinsic.CoroSizeI32 args vs result is e = gives_good m ok sizes answers s hs i here (other_call Intrinsic.CoroSizeI32 Intrinsic.CoroFrame i is refl, other_call Intrinsic.CoroSizeI32 Intrinsic.CoroBegin i is refl, other_call Intrinsic.CoroSizeI32 Intrinsic.CoroEnd i is refl) result e _
+    coro_good Intrinsic.CoroSizeI64 args vs result is e = gives_good m ok sizes answers s hs i here (other_call Intrinsic.CoroSizeI64 Intrinsic.CoroFrame i is refl, other_call Intrinsic.CoroSizeI64 Intrinsic.CoroBegin i is refl, other_call Intrinsic.CoroSizeI64 Intrinsic.CoroEnd i is refl) result e _
+    coro_good Intrinsic.CoroAlignI32 args vs result is e = gives_good m ok sizes answers s hs i here (other_call Intrinsic.CoroAlignI32 Intrinsic.CoroFrame i is refl, other_call Intrinsic.CoroAlignI32 Intrinsic.CoroBegin i is refl, other_call Intrinsic.CoroAlignI32 Intrinsic.CoroEnd i is refl) result e _
+    coro_good Intrinsic.CoroAlignI64 args vs result is e = gives_good m ok sizes answers s hs i here (other_call Intrinsic.CoroAlignI64 Intrinsic.CoroFrame i is refl, other_call Intrinsic.CoroAlignI64 Intrinsic.CoroBegin i is refl, other_call Intrinsic.CoroAlignI64 Intrinsic.CoroEnd i is refl) result e _
+    coro_good Intrinsic.CoroAlloc args vs result is e = gives_good m ok sizes answers s hs i here (other_call Intrinsic.CoroAlloc Intrinsic.CoroFrame i is refl, other_call Intrinsic.CoroAlloc Intrinsic.CoroBegin i is refl, other_call Intrinsic.CoroAlloc Intrinsic.CoroEnd i is refl) result e (truth_value true)
+    coro_good Intrinsic.CoroId args vs result is e = next_good m ok sizes answers s hs i here (other_call Intrinsic.CoroId Intrinsic.CoroFrame i is refl, other_call Intrinsic.CoroId Intrinsic.CoroBegin i is refl, other_call Intrinsic.CoroId Intrinsic.CoroEnd i is refl)
+    coro_good Intrinsic.LifetimeStart args vs result is e = next_good m ok sizes answers s hs i here (other_call Intrinsic.LifetimeStart Intrinsic.CoroFrame i is refl, other_call Intrinsic.LifetimeStart Intrinsic.CoroBegin i is refl, other_call Intrinsic.LifetimeStart Intrinsic.CoroEnd i is refl)
+    coro_good Intrinsic.LifetimeEnd args vs result is e = next_good m ok sizes answers s hs i here (other_call Intrinsic.LifetimeEnd Intrinsic.CoroFrame i is refl, other_call Intrinsic.LifetimeEnd Intrinsic.CoroBegin i is refl, other_call Intrinsic.LifetimeEnd Intrinsic.CoroEnd i is refl)
+    coro_good Intrinsic.MemcpyI64 args vs result is e = next_good m ok sizes answers s hs i here (other_call Intrinsic.MemcpyI64 Intrinsic.CoroFrame i is refl, other_call Intrinsic.MemcpyI64 Intrinsic.CoroBegin i is refl, other_call Intrinsic.MemcpyI64 Intrinsic.CoroEnd i is refl)
+    coro_good Intrinsic.MemcpyI32 args vs result is e = next_good m ok sizes answers s hs i here (other_call Intrinsic.MemcpyI32 Intrinsic.CoroFrame i is refl, other_call Intrinsic.MemcpyI32 Intrinsic.CoroBegin i is refl, other_call Intrinsic.MemcpyI32 Intrinsic.CoroEnd i is refl)
 
     action_good : (a : Action) → Fits s.top.values i a → Fine (act g (continue g) s a)
-    action_good (Done w) fit = settled_holds m ok s hs i here fit.0 w fit.1
-    action_good (NewSlot w slot) fit = new_slot_good m ok sizes answers (settled s w) (settled_holds m ok s hs i here fit.0 w fit.1) slot
+    action_good (Done w) fit = settled_holds m ok s hs i here (ordinary_in (is_resumed s.top.mode) i fit.0) w fit.1
+    action_good (NewSlot w slot) fit = new_slot_good m ok sizes answers (settled s w) (settled_holds m ok s hs i here (ordinary_in (is_resumed s.top.mode) i fit.0) w fit.1) slot
     action_good (Enter func args result must_tail) fit = enter_good m ok sizes answers s hs i here fit.0 func args result fit.1
     action_good (Coro j args result) fit = coro_good j args _ result fit.0 fit.1
     action_good (Deallocate p) fit = deallocate_good m ok sizes answers s hs i here fit p
@@ -166,7 +166,7 @@ module _ (m : Module) (ok : AreRegular m) (sizes : List Frame) (answers : List �
 
     -- ---- what holds gives trust
 
-    operands_agree : (the s.top.func).coroutine ≡ true → Agree (ren s.top.func) s.top.values (operands_at here_of)
+    operands_agree : (the s.top.func).coroutine ≡ true → Agree (ren s.top.func) s.top.values (operands_read here_of)
     operands_agree c n e used = ⊎_elim
         (λ known. known_value (the s.top.func) (ren s.top.func) s.top.instance s.top.values n known)
         (λ dead. absurd (dead (point_of s) Here (AsOperand used)))

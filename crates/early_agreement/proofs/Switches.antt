@@ -4,11 +4,11 @@ use Rattle.std.specs.List.{list_any}
 use Rattle.std.specs.Prelude.{IsTrue, Some, None, Option, map, not, slice_get, ◌==◌, ◌||◌, ◌&&◌, if◌then◌else◌}
 use Rattle.coro_base.specs.declared.outcome.Place.{Place}
 use Rattle.coro_shape.specs.Switches.{breaks_switch, end_label, is_last, is_switch_on, is_switched, is_switched_in, wrong_switch}
-use Rattle.early_agreement.proofs.Invariant.{dead_next, next_edge}
+use Rattle.early_agreement.proofs.Invariant.{dead_next, next_edge, unstopped_at}
 use Rattle.early_agreement.proofs.Kept.{target_edge}
 use Rattle.early_agreement.proofs.Lists.{equal_numbers, itself}
 use Rattle.early_agreement.proofs.Outside.{at_point}
-use Rattle.early_agreement.specs.Regular.{Here, IsDead, IsDeadAt, IsDeadBehind, OnEdge, is_result, makes, passes}
+use Rattle.early_agreement.specs.Regular.{Here, IsDead, IsDeadAt, IsDeadBehind, OnEdge, is_result}
 use Rattle.early_lower.specs.declared.renaming.Renaming.{Renaming}
 use Rattle.function_parts.specs.Parts.{Part, first_part, instr_place, or_place, parts_of, place_if}
 use Rattle.ir_model.specs.declared.instr.Case.{Case}
@@ -16,6 +16,7 @@ use Rattle.ir_model.specs.declared.instr.Instr.{Instr}
 use Rattle.ir_model.specs.declared.instr.Terminator.{Terminator}
 use Rattle.ir_model.specs.declared.module.Block.{Block}
 use Rattle.ir_model.specs.declared.module.Function.{Function}
+use Rattle.ir_model.specs.declared.operand.Callee.{Callee}
 use Rattle.ir_model.specs.declared.operand.Intrinsic.{Intrinsic}
 use Rattle.ir_paths.specs.Paths.{entry_point, targets}
 use Rattle.ir_paths.specs.Windows.{call_result, destroy_label, instr_at, instr_in, is_call_of, is_number, label_at, label_in, label_of_term, resume_label}
@@ -23,7 +24,7 @@ use Rattle.ir_paths.specs.declared.point.Point.{Point}
 use Rattle.step_laws.specs.Changed.{Each, result_of}
 use Rattle.window_rules.specs.Points.{phi_count, phis_in}
 
-none_part : (breaks : Place → Part → Bool) (xs : List (Place × Part)) → first_part breaks xs ≡ None → Each (λ x. breaks x.0 x.1 ≡ false) xs
+pub none_part : (breaks : Place → Part → Bool) (xs : List (Place × Part)) → first_part breaks xs ≡ None → Each (λ x. breaks x.0 x.1 ≡ false) xs
 none_part breaks [] e = tt
 none_part breaks (x ∷ xs) e = on (breaks x.0 x.1) refl (none_part breaks xs) e
   where
@@ -69,6 +70,10 @@ switch_in v end (Terminator.Branch x a b) e n = absurd (cc)
 switch_in v end (Terminator.Ret value) e n = absurd (cc)
 switch_in v end Terminator.Unreachable e n = absurd (cc)
 
+suspend_no_end : (i : Instr) → is_call_of Intrinsic.CoroSuspend i ≡ true → is_call_of Intrinsic.CoroEnd i ≡ false
+suspend_no_end (Instr.Call result must_tail ty (Callee.Intrinsic Intrinsic.CoroSuspend) args) e = refl
+suspend_no_end _ e = absurd (cc)
+
 module _ (func : ℕ) (f : Function) (coroutine : f.coroutine ≡ true) (switches : wrong_switch func f ≡ None) where
   no_part : first_part (breaks_switch f) (parts_of func f) ≡ None
   no_part = subst (λ (c : Bool). (if c then first_part (breaks_switch f) (parts_of func f) else None) ≡ None) coroutine switches
@@ -99,20 +104,20 @@ module _ (func : ℕ) (f : Function) (coroutine : f.coroutine ≡ true) (switche
   get_past [] = refl
   get_past (x ∷ xs) = get_past xs
 
-  module _ (r : Renaming) (n : ℕ) (s : Point) (i : Instr) (here : instr_at f s ≡ Some i) (sw : IsSwitched f s) (unmade : makes f n s ≡ false) (dead : IsDead f n s) where
+  module _ (r : Renaming) (n : ℕ) (s : Point) (i : Instr) (here : instr_at f s ≡ Some i) (sw : IsSwitched f s) (end : is_call_of Intrinsic.CoroEnd i ≡ false) (unmade : is_result n (result_of i) ≡ false) (dead : IsDead f true n s) where
     dead_at : (label k : ℕ) → label ≡ label_of_term k sw.block.term → IsDeadAt f n s label
     dead_at label k e =
         let t : Point = record { block = s.block; at = s.at + 1 } in
         let gone : instr_at f t ≡ None = ap (λ (o : Option Block). instr_in o (s.at + 1)) sw.got ∙ ap (slice_get sw.block.instrs) sw.last ∙ get_past sw.block.instrs in
-        let dead_there : IsDead f n t = dead_next f r n s t unmade (next_edge f s i here) dead in
+        let dead_there : IsDead f true n t = dead_next f r true n s t (unstopped_at f r true n s (Some i) here end unmade) (next_edge f s i here) dead in
         let target : IsTrue (list_any (λ l. l == label) (targets sw.block.term)) = subst (λ (x : ℕ). IsTrue (list_any (λ l. l == x) (targets sw.block.term))) (sym e) (sw.on k) in
         record {
-          ahead = dead_next f r n t (entry_point f label) (ap (passes (λ j. is_result n (result_of j))) gone) (target_edge f t sw.block label sw.got sw.last target) dead_there;
+          ahead = dead_next f r true n t (entry_point f label) (unstopped_at f r true n t None gone refl refl) (target_edge f t sw.block label sw.got sw.last target) dead_there;
           not_taken = λ taken. dead_there t Here (OnEdge sw.block label sw.got sw.last target taken);
         }
 
     dead_both : IsDeadBehind f n s
     dead_both = record { resumed = dead_at (resume_label f s) 0 (ap (label_at 0) sw.got); destroyed = dead_at (destroy_label f s) 1 (ap (label_at 1) sw.got) }
 
-  pub dead_behind_suspend : (r : Renaming) (n : ℕ) (s : Point) (i : Instr) → instr_at f s ≡ Some i → is_call_of Intrinsic.CoroSuspend i ≡ true → makes f n s ≡ false → IsDead f n s → IsDeadBehind f n s
-  dead_behind_suspend r n s i here is unmade dead = dead_both r n s i here (by_result s (call_result i) (switched_at s i here is)) unmade dead
+  pub dead_behind_suspend : (r : Renaming) (n : ℕ) (s : Point) (i : Instr) → instr_at f s ≡ Some i → is_call_of Intrinsic.CoroSuspend i ≡ true → is_result n (result_of i) ≡ false → IsDead f true n s → IsDeadBehind f n s
+  dead_behind_suspend r n s i here is unmade dead = dead_both r n s i here (by_result s (call_result i) (switched_at s i here is)) (suspend_no_end i is) unmade dead

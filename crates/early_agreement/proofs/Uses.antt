@@ -9,7 +9,7 @@ use Rattle.definite_use.specs.Uses.{Use, block_uses, block_values, blocks_uses, 
 use Rattle.early_agreement.proofs.Fits.{AnInstr, ATerm, Nothing, Stands, stands}
 use Rattle.early_agreement.proofs.Lists.{equal_numbers, get_within, itself, not_equal}
 use Rattle.early_agreement.proofs.Outside.{each_left, each_right}
-use Rattle.early_agreement.specs.Regular.{Ahead, AsOperand, Here, IsDead, IsTaken, IsUsed, Next, OnEdge, entry, is_result, makes, passes}
+use Rattle.early_agreement.specs.Regular.{Ahead, AsOperand, Here, IsDead, IsTaken, IsUsed, Next, OnEdge, entry, is_result, makes, operands_read, passes}
 use Rattle.flow_solver.specs.Paths.{IsListed}
 use Rattle.function_parts.specs.Contents.{ending_operands, instr_operands, result_of as part_result}
 use Rattle.function_parts.specs.Parts.{instr_place}
@@ -21,17 +21,18 @@ use Rattle.ir_model.specs.declared.instr.Terminator.{Terminator}
 use Rattle.ir_model.specs.declared.module.Block.{Block}
 use Rattle.ir_model.specs.declared.module.Function.{Function}
 use Rattle.ir_model.specs.declared.operand.Callee.{Callee}
+use Rattle.ir_model.specs.declared.operand.Intrinsic.{Intrinsic}
 use Rattle.ir_model.specs.declared.operand.Operand.{Operand}
 use Rattle.ir_paths.proofs.Search.{same_point-same}
 use Rattle.ir_paths.specs.Paths.{entry_point, has_point, nexts, nexts_in, same_point, targets}
-use Rattle.ir_paths.specs.Windows.{instr_at, instr_in}
+use Rattle.ir_paths.specs.Windows.{instr_at, instr_in, is_call_of}
 use Rattle.ir_paths.specs.declared.point.Point.{Point}
 use Rattle.ordinary_step.specs.Step.{Fetched, fetch, incoming_from, label_of, phis_of}
-use Rattle.step_laws.specs.Changed.{Each, operands_at, operands_of, operands_of_term, result_of}
+use Rattle.step_laws.specs.Changed.{Each, operands_of, operands_of_term, result_of}
 
 -- ---- two spellings of operands and results
 
-result_spelt : (i : Instr) → part_result i ≡ result_of i
+pub result_spelt : (i : Instr) → part_result i ≡ result_of i
 result_spelt (Instr.Binary name op flags ty a b) = refl
 result_spelt (Instr.Icmp name pred ty a b) = refl
 result_spelt (Instr.Select name x a b) = refl
@@ -42,7 +43,7 @@ result_spelt (Instr.Store arg p align) = refl
 result_spelt (Instr.Gep name inbounds ty base indices) = refl
 result_spelt (Instr.Call result must_tail ty callee args) = refl
 
-operands_spelt : (i : Instr) → instr_operands i ≡ operands_of i
+pub operands_spelt : (i : Instr) → instr_operands i ≡ operands_of i
 operands_spelt (Instr.Binary name op flags ty a b) = refl
 operands_spelt (Instr.Icmp name pred ty a b) = refl
 operands_spelt (Instr.Select name x a b) = refl
@@ -56,7 +57,7 @@ operands_spelt (Instr.Call result must_tail ty (Callee.Allocator a) args) = refl
 operands_spelt (Instr.Call result must_tail ty (Callee.Intrinsic i) args) = refl
 operands_spelt (Instr.Call result must_tail ty (Callee.Local n) args) = refl
 
-ending_spelt : (t : Terminator) → ending_operands t ≡ operands_of_term t
+pub ending_spelt : (t : Terminator) → ending_operands t ≡ operands_of_term t
 ending_spelt (Terminator.Jump label) = refl
 ending_spelt (Terminator.Branch x a b) = refl
 ending_spelt (Terminator.Switch arg default cases) = refl
@@ -72,7 +73,7 @@ none_undefined f _ _ (UndefinedHere u us h) e = absurd (cc)
 none_undefined f _ _ (Later u us found h rest) e = (h, none_undefined f us found rest e)
 
 module _ (Q : Use → Type 0) (v : ℕ) where
-  use_at : (place : Place) (block : ℕ) (before : List ℕ) (xs : List Operand) → Each Q (uses_at place block before xs) → IsTrue (list_any (is_local v) xs) → Q (use_of place block before v)
+  pub use_at : (place : Place) (block : ℕ) (before : List ℕ) (xs : List Operand) → Each Q (uses_at place block before xs) → IsTrue (list_any (is_local v) xs) → Q (use_of place block before v)
   use_at place block before [] h e = absurd (cc)
   use_at place block before (Operand.Local k ∷ xs) h e = on (v == k) refl (use_at place block before xs h.1) e
     where
@@ -88,11 +89,11 @@ module _ (Q : Use → Type 0) (v : ℕ) where
   use_at place block before (Operand.Poison ∷ xs) h e = use_at place block before xs h e
 
   -- a use behind what doesn't make the value
-  record IsOpenUse (block : ℕ) : Type 0 where
-    place : Place
-    before : List ℕ
-    listed : Q (use_of place block before v)
-    unmade : IsListed v before → ⊥
+  pub record IsOpenUse (block : ℕ) : Type 0 where
+    pub place : Place
+    pub before : List ℕ
+    pub listed : Q (use_of place block before v)
+    pub unmade : IsListed v before → ⊥
 
   -- one instruction more that doesn't make it
   still_unmade : (before : List ℕ) (i : Instr) → is_result v (result_of i) ≡ false → (IsListed v before → ⊥) → IsListed v (option_to_list (part_result i) ++ before) → ⊥
@@ -103,7 +104,7 @@ module _ (Q : Use → Type 0) (v : ℕ) where
       on (Some w) e (inl same) = let t : true ≡ false = sym (itself w) ∙ ap (λ (n : ℕ). w == n) (sym same) ∙ e in absurd (cc)
       on (Some w) e (inr h) = old h
 
-  instr_use : (func block at : ℕ) (before : List ℕ) (is : List Instr) (k : ℕ) (i : Instr) → Each Q (instr_uses func block at before is) → slice_get is k ≡ Some i → IsTrue (list_any (is_local v) (instr_operands i)) → (IsListed v before → ⊥) → ((j : ℕ) (x : Instr) → j < k → slice_get is j ≡ Some x → is_result v (result_of x) ≡ false) → IsOpenUse block
+  pub instr_use : (func block at : ℕ) (before : List ℕ) (is : List Instr) (k : ℕ) (i : Instr) → Each Q (instr_uses func block at before is) → slice_get is k ≡ Some i → IsTrue (list_any (is_local v) (instr_operands i)) → (IsListed v before → ⊥) → ((j : ℕ) (x : Instr) → j < k → slice_get is j ≡ Some x → is_result v (result_of x) ≡ false) → IsOpenUse block
   instr_use func block at before [] k i h e used old none = absurd (cc)
   instr_use func block at before (x ∷ is) zero i h e used old none =
       let same : x ≡ i = cc in
@@ -119,11 +120,11 @@ module _ (Q : Use → Type 0) (v : ℕ) where
       e used (still_unmade before x (none 0 x (omega arith) refl) old) (λ j y lt d. none (suc j) y (omega arith) d)
 
   -- what none of the instructions makes
-  none_made : (before : List ℕ) (is : List Instr) → (IsListed v before → ⊥) → ((j : ℕ) (x : Instr) → slice_get is j ≡ Some x → is_result v (result_of x) ≡ false) → IsListed v (made_by_instrs before is) → ⊥
+  pub none_made : (before : List ℕ) (is : List Instr) → (IsListed v before → ⊥) → ((j : ℕ) (x : Instr) → slice_get is j ≡ Some x → is_result v (result_of x) ≡ false) → IsListed v (made_by_instrs before is) → ⊥
   none_made before [] old none = old
   none_made before (x ∷ is) old none = none_made (option_to_list (part_result x) ++ before) is (still_unmade before x (none 0 x refl) old) (λ j y d. none (suc j) y d)
 
-  none_by_phis : (before : List ℕ) (ps : List Phi) → (IsListed v before → ⊥) → Each (λ p. p.result ≡ v → ⊥) ps → IsListed v (made_by_phis before ps) → ⊥
+  pub none_by_phis : (before : List ℕ) (ps : List Phi) → (IsListed v before → ⊥) → Each (λ p. p.result ≡ v → ⊥) ps → IsListed v (made_by_phis before ps) → ⊥
   none_by_phis before [] old none = old
   none_by_phis before (p ∷ ps) old none = none_by_phis (p.result ∷ before) ps more none.1
     where
@@ -159,15 +160,15 @@ edges_in f at (c ∷ bs) (suc k) b label e h =
     listed_right {A = ℕ × ℕ} (at + suc k, position_of f label) (edges_out f at c) (edges_of_blocks f (at + 1) bs)
     (subst (λ (n : ℕ). IsListed {X = ℕ × ℕ} (n, position_of f label) (edges_of_blocks f (at + 1) bs)) same (edges_in f (at + 1) bs k b label e h))
 
-block_edge : (f : Function) (k : ℕ) (b : Block) (label : ℕ) → slice_get f.blocks k ≡ Some b → IsListed label (targets b.term) → IsListed {X = ℕ × ℕ} (k, position_of f label) (block_edges f)
+pub block_edge : (f : Function) (k : ℕ) (b : Block) (label : ℕ) → slice_get f.blocks k ≡ Some b → IsListed label (targets b.term) → IsListed {X = ℕ × ℕ} (k, position_of f label) (block_edges f)
 unfolding block_edges
 block_edge f k b label e h = let same : 0 + k ≡ k = omega arith in subst (λ (n : ℕ). IsListed {X = ℕ × ℕ} (n, position_of f label) (edges_of_blocks f 0 f.blocks)) same (edges_in f 0 f.blocks k b label e h)
 
 -- a label to whose block an edge leads
 pub record IsTarget (f : Function) (ts : List ℕ) (q : Point) : Type 0 where
-  label : ℕ
-  listed : IsListed label ts
-  point : q ≡ entry_point f label
+  pub label : ℕ
+  pub listed : IsListed label ts
+  pub point : q ≡ entry_point f label
 
 pub is_target : (f : Function) (ts : List ℕ) (q : Point) → IsTrue (has_point (map (entry_point f) ts) q) → IsTarget f ts q
 is_target f [] q h = absurd (cc)
@@ -184,7 +185,7 @@ pub record ReachesPoint (f : Function) (v : ℕ) (p : Point) : Type 0 where
 
 module _ (f : Function) (v : ℕ) (no_phi : (block : ℕ) → Each (λ p. p.result ≡ v → ⊥) (phis_of (slice_get f.blocks block))) where
   -- of a block whose instructions don't make the value
-  block_unmade : (k : ℕ) (b : Block) → slice_get f.blocks k ≡ Some b → ((j : ℕ) → j < length b.instrs → makes f v (record { block = k; at = j }) ≡ false) → IsListed v (values_at f k) → ⊥
+  pub block_unmade : (k : ℕ) (b : Block) → slice_get f.blocks k ≡ Some b → ((j : ℕ) → j < length b.instrs → makes f v (record { block = k; at = j }) ≡ false) → IsListed v (values_at f k) → ⊥
   block_unmade k b e none h =
       none_made (λ u. Unit {0}) v (phi_values b) b.instrs
       (none_by_phis (λ u. Unit {0}) v [] b.phis (λ x. x) (subst (λ (o : Option Block). Each (λ p. p.result ≡ v → ⊥) (phis_of o)) e (no_phi k)))
@@ -265,7 +266,7 @@ module _ (Q : Use → Type 0) (f : Function) (func v label : ℕ) where
           subst (λ (l : ℕ). Q (use_of place (position_of f l) (values_at f (position_of f l)) v)) (equal_numbers x.from label d) (of_value place x x.value (incoming_uses f place xs) h k)
       on false d rest k = rest k
 
-  of_phis : (block at : ℕ) (ps : List Phi) → Each Q (phi_uses f func block at ps) → IsTrue (list_any (λ p. is_local v (incoming_from p.incoming label)) ps) → (place : Place) × AtEnd place
+  pub of_phis : (block at : ℕ) (ps : List Phi) → Each Q (phi_uses f func block at ps) → IsTrue (list_any (λ p. is_local v (incoming_from p.incoming label)) ps) → (place : Place) × AtEnd place
   of_phis block at [] h e = absurd (cc)
   of_phis block at (p ∷ ps) h e = on (is_local v (incoming_from p.incoming label)) refl (of_phis block (at + 1) ps (each_right Q (incoming_uses f (instr_place func block at) p.incoming) (phi_uses f func block (at + 1) ps) h)) e
     where
@@ -284,16 +285,16 @@ module _ (Q : Use → Type 0) (f : Function) (func : ℕ) where
       let same : at + 1 + k ≡ at + suc k = omega arith in
       subst (λ (n : ℕ). Each Q (block_uses f func n b)) same (in_block_uses (at + 1) bs k b (each_right Q (block_uses f func at c) (blocks_uses f func (at + 1) bs) h) e)
 
-  of_block : (k : ℕ) (b : Block) → Each Q (uses_of func f) → slice_get f.blocks k ≡ Some b → Each Q (block_uses f func k b)
+  pub of_block : (k : ℕ) (b : Block) → Each Q (uses_of func f) → slice_get f.blocks k ≡ Some b → Each Q (block_uses f func k b)
   of_block k b h e = let same : 0 + k ≡ k = omega arith in subst (λ (n : ℕ). Each Q (block_uses f func n b)) same (in_block_uses 0 f.blocks k b h e)
 
   -- the uses of a block, of its three kinds
-  record AreOfBlock (k : ℕ) (b : Block) : Type 0 where
-    phis : Each Q (phi_uses f func k 0 b.phis)
-    instrs : Each Q (instr_uses func k (length b.phis) (phi_values b) b.instrs)
-    term : Each Q (uses_at (instr_place func k (length b.phis + length b.instrs)) k (block_values b) (ending_operands b.term))
+  pub record AreOfBlock (k : ℕ) (b : Block) : Type 0 where
+    pub phis : Each Q (phi_uses f func k 0 b.phis)
+    pub instrs : Each Q (instr_uses func k (length b.phis) (phi_values b) b.instrs)
+    pub term : Each Q (uses_at (instr_place func k (length b.phis + length b.instrs)) k (block_values b) (ending_operands b.term))
 
-  three_kinds : (k : ℕ) (b : Block) → Each Q (block_uses f func k b) → AreOfBlock k b
+  pub three_kinds : (k : ℕ) (b : Block) → Each Q (block_uses f func k b) → AreOfBlock k b
   unfolding block_uses
   three_kinds k b h =
       let rest = each_right Q (phi_uses f func k 0 b.phis) (instr_uses func k (length b.phis) (phi_values b) b.instrs ++ uses_at (instr_place func k (length b.phis + length b.instrs)) k (block_values b) (ending_operands b.term)) h in
@@ -304,12 +305,12 @@ module _ (Q : Use → Type 0) (f : Function) (func : ℕ) where
       }
 
 -- the instruction at a point stands in a block
-record StandsIn (f : Function) (p : Point) (i : Instr) : Type 0 where
-  block : Block
-  got : slice_get f.blocks p.block ≡ Some block
-  stands : slice_get block.instrs p.at ≡ Some i
+pub record StandsIn (f : Function) (p : Point) (i : Instr) : Type 0 where
+  pub block : Block
+  pub got : slice_get f.blocks p.block ≡ Some block
+  pub stands : slice_get block.instrs p.at ≡ Some i
 
-stands_in : (f : Function) (p : Point) (i : Instr) → instr_at f p ≡ Some i → StandsIn f p i
+pub stands_in : (f : Function) (p : Point) (i : Instr) → instr_at f p ≡ Some i → StandsIn f p i
 stands_in f p i e = on (slice_get f.blocks p.block) refl e
   where
     on : (o : Option Block) → slice_get f.blocks p.block ≡ o → instr_in o p.at ≡ Some i → StandsIn f p i
@@ -345,9 +346,13 @@ module _ (func : ℕ) (f : Function) (none : IsFirstUndefined f (uses_of func f)
       use_at IsDefined v (instr_place func p.block (length b.phis + length b.instrs)) p.block (block_values b) (ending_operands b.term) (uses_in p.block b e).term (subst (λ (xs : List Operand). IsTrue (list_any (is_local v) xs)) (sym (ending_spelt b.term)) used)
       (record { reaches = h.reaches; not_before = values_unmade p b e at h; no_param = no_param })
 
-  not_here : (p : Point) (here : Fetched) → Stands f p here → ReachesPoint f v p → IsTrue (list_any (is_local v) (operands_at here)) → ⊥
+  not_here : (p : Point) (here : Fetched) → Stands f p here → ReachesPoint f v p → IsTrue (list_any (is_local v) (operands_read here)) → ⊥
   not_here p _ Nothing h used = absurd (cc)
-  not_here p _ (AnInstr i e) h used = not_in_instr p i e h used
+  not_here p _ (AnInstr i e) h used = on (is_call_of Intrinsic.CoroEnd i) used
+    where
+      on : (b : Bool) → IsTrue (list_any (is_local v) (if b then [] else operands_of i)) → ⊥
+      on true k = absurd (cc)
+      on false k = not_in_instr p i e h k
   not_here p _ (ATerm b e at gone) h used = not_in_term p b e at h used
 
   not_on_edge : (p : Point) (b : Block) (label : ℕ) → slice_get f.blocks p.block ≡ Some b → p.at ≡ length b.instrs → ReachesPoint f v p → IsTaken f v p.block label → ⊥
@@ -363,7 +368,7 @@ module _ (func : ℕ) (f : Function) (none : IsFirstUndefined f (uses_of func f)
           subst (λ (n : ℕ). IsDefined (use_of u.0 n (values_at f n) v)) there u.1
           (record { reaches = h.reaches; not_before = λ l. values_unmade p b e at h (subst (λ (o : Option Block). IsListed v (values_in o)) e l); no_param = no_param })
 
-  pub dead_at_entry : IsDead f v entry
+  pub dead_at_entry : IsDead f false v entry
   dead_at_entry last path used = on used
     where
       reached : ReachesPoint f v last

@@ -1,0 +1,9 @@
+pub mod Order
+pub mod Locals
+pub mod Makers
+pub mod Once
+pub mod Slots
+pub mod Ends
+pub mod Behind
+pub mod Windows
+pub mod Accepted
