@@ -1,5 +1,5 @@
 -- The first pass keeps the meaning of sources: its three passes in turn.
-use Rattle.std.proofs.Common.{◌≡◌, ℕ, List, sym, subst}
+use Rattle.std.proofs.Common.{ℕ, List, sym, subst}
 use Rattle.std.specs.Prelude.{ℤ}
 use Rattle.agreement.proofs.Compose.{compose_within}
 use Rattle.agreement.specs.Agreements.{AgreesWithin}
