@@ -11,3 +11,4 @@ pub mod NamedUses
 pub mod NamedRules
 pub mod NamedFields
 pub mod Accepted
+pub mod Shaped

@@ -194,7 +194,7 @@ found_in test (c ∷ bs) k b e h = on (test c) refl k e (λ j d. found_in test b
         let x = rest j d in
         record { at = suc x.at; found = ap (λ (t : Bool). if t then Some 0 else option_map suc (first_where test bs)) is ∙ ap (option_map suc) x.found; block = x.block; there = x.there; passes = x.passes }
 
-names_are : (func : ℕ) (f : Function) → map name_of (locals_of func f) ≡ params_of f ++ row_of block_names f.blocks
+pub names_are : (func : ℕ) (f : Function) → map name_of (locals_of func f) ≡ params_of f ++ row_of block_names f.blocks
 names_are func f = names_in (parts_of func f) ∙ ap (λ l. params_of f ++ l) (of_blocks func 0 f.blocks)
 
 in_made : (i : Instr) (n : ℕ) → result_of i ≡ Some n → IsListed n (made_by i)

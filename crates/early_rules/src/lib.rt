@@ -11,7 +11,14 @@ ghost use Rattle.early_rules.specs.Named.{AreTabled, HaveNamedBegins};
 ghost use Rattle.ir_check.specs.Refused.{IsRefused};
 ghost use Rattle.ir_model.specs.declared.module.Frame.{Frame};
 ghost use Rattle.ir_model.specs.declared.module.Module.{Module};
+ghost use Rattle.name_order.specs.Shape.{IsShaped};
 ghost use Rattle.name_rules.specs.declared.stage.Stage.{Stage};
+
+/// In a module whose parts are parts of the grammar, as in each that a text stands for, what a coroutine defines are positions
+/// of its table of names.
+pub fn shaped_modules_are_tabled()
+    ensures { (m : Module) → IsShaped m → AreTabled m }
+{}
 
 /// A source that breaks no rule, in which begins have names, keeps what the theorem on the renaming asks.
 pub fn accepted_coroutines_keep_rules()
