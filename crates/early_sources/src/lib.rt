@@ -1,0 +1,25 @@
+//! That the first pass keeps the meaning of every source that breaks no rule.
+#![tactic(auto)]
+
+ghost use Rattle.std.specs.Prelude.{ℕ, ℤ, List, None};
+ghost use Rattle.agreement.specs.Agreements.{AgreesWithin};
+ghost use Rattle.coro_base.specs.declared.outcome.Word.{Word};
+ghost use Rattle.coro_meaning.specs.Source.{SourceAt};
+ghost use Rattle.early_lower.specs.Early.{early_module};
+ghost use Rattle.early_rules.specs.Named.{AreTabled};
+ghost use Rattle.ir_check.specs.Refused.{IsRefused};
+ghost use Rattle.ir_grammar.specs.Text.{StandsFor};
+ghost use Rattle.ir_model.specs.declared.module.Frame.{Frame};
+ghost use Rattle.ir_model.specs.declared.module.Module.{Module};
+ghost use Rattle.name_rules.specs.declared.stage.Stage.{Stage};
+
+/// What a coroutine of a module that a text stands for defines, labels and values alike, are positions of its table of names.
+pub fn texts_have_tables()
+    ensures { (text : List ℕ) (m : Module) → StandsFor text m → AreTabled m }
+{}
+
+/// Each run of a source that a text stands for and that breaks no rule agrees within 2 with the run of what the first pass
+/// makes of it.
+pub fn accepted_sources_keep_meaning()
+    ensures { (text : List ℕ) (m : Module) → StandsFor text m → IsRefused Stage.Source m None → (sizes : List Frame) (entry : ℕ) (args : List Word) (answers : List ℤ) → AgreesWithin 2 (SourceAt m sizes entry args answers) (SourceAt (early_module m) sizes entry args answers) }
+{}
