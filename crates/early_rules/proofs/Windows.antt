@@ -225,12 +225,11 @@ module _ (func : ℕ) (f : Function) (coroutine : f.coroutine ≡ true) (once : 
     -- K7: what is made in the window isn't used behind it
     no_use : IsMadeIn f k s n → IsUsedBehind func f s n → ⊥
     no_use made used =
-        let x = frame in
-        at_point (λ y. BreaksValue func f y → ⊥) func f x.point x.instr (none_breaks (BreaksValue func f) (λ y. y.0) (parts_of func f) kept) x.stands
+        at_point (λ y. BreaksValue func f y → ⊥) func f frame.point frame.instr (none_breaks (BreaksValue func f) (λ y. y.0) (parts_of func f) kept) frame.stands
         (record {
           is_coroutine = coroutine;
           value = n;
-          makes = result_spelt x.instr ∙ x.result;
+          makes = result_spelt frame.instr ∙ frame.result;
           is_kept = record { save = k; suspend = s; is_save = pair_listed f k s (points_where (is_call_of Intrinsic.CoroSave) f) (point_listed (is_call_of Intrinsic.CoroSave) f k i here is_save) pair; is_made = made; is_used = used };
         })
 
