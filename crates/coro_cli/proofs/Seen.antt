@@ -1,7 +1,7 @@
 -- The text of a run is that of what is seen of it.
 use Rattle.std.proofs.Common.{◌≡◌, ℕ, ℤ, List, [], ◌∷◌, ◌++◌, ◌∙◌, ap, refl, subst, Ok, Err}
 use Rattle.std.specs.Prelude.{map, codes, slice_get, Some, None, Option, Result, IfOk}
-use Rattle.agreement.specs.Machines.{Seen, SeenEvent}
+use Rattle.agreement.specs.Machines.{Seen}
 use Rattle.coro_base.specs.declared.outcome.Event.{Event}
 use Rattle.coro_base.specs.declared.outcome.Outcome.{Outcome}
 use Rattle.coro_cli.specs.Answers.{framed_answer, framed_run, plain_run, run_answer, run_verdict, seen_answer, shown, source_answer, source_run}
@@ -9,7 +9,7 @@ use Rattle.coro_cli.specs.declared.verdict.Answer.{Answer}
 use Rattle.coro_cli.specs.declared.verdict.EntryCall.{EntryCall}
 use Rattle.coro_meaning.specs.Source.{state_at}
 use Rattle.coro_names.specs.Spelling.{spelling}
-use Rattle.coro_report.specs.Report.{declared_text, event_text, events_text, outcome_text, run_text, seen_event_text, seen_events_text, seen_text, words_text}
+use Rattle.coro_report.specs.Report.{declared_text, event_text, events_text, outcome_text, run_text, seen_event_text, seen_events_text, words_text}
 use Rattle.frame_layout.specs.declared.layout.Layouts.{Layouts}
 use Rattle.framed_facts.proofs.Steps.{seen-same as framed-same}
 use Rattle.framed_facts.specs.FramedFacts.{HaveFramedFacts, given_with}
@@ -21,9 +21,8 @@ use Rattle.ir_model.specs.declared.module.Module.{Module}
 use Rattle.ir_paths.specs.declared.point.Facts.{Facts}
 use Rattle.ordinary_step.specs.Runs.{name_of_declaration, seen_event}
 use Rattle.path_facts.specs.HaveFacts.{HaveFacts}
-use Rattle.plain_meaning.specs.Plain.{PlainAt, PlainGiven, plain_state_at}
+use Rattle.plain_meaning.specs.Plain.{plain_state_at}
 use Rattle.source_facts.proofs.Steps.{seen-same}
-use Rattle.source_program.specs.Given.{Given}
 
 declared : (d : Option Declaration) → declared_text d ≡ spelling (name_of_declaration d)
 declared None = refl

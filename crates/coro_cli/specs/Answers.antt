@@ -1,7 +1,6 @@
 -- What a command answers to the bytes of its input.
-use Rattle.std.specs.Prelude.{◌≡◌, ℕ, Bool, true, false, not, List, [], length, map, max, min, codes, ℤ, Some, None, Option, is_some, slice_get, ◌&&◌, ◌+◌, ◌∷◌, if◌then◌else◌, ◌==◌}
+use Rattle.std.specs.Prelude.{◌≡◌, ℕ, Bool, true, false, not, List, [], map, max, min, codes, ℤ, Some, None, Option, is_some, slice_get, ◌&&◌, ◌+◌, ◌∷◌, if◌then◌else◌}
 use Rattle.agreement.specs.Machines.{Seen}
-use Rattle.coro_base.specs.declared.name.Name.{Name}
 use Rattle.coro_base.specs.declared.outcome.Outcome.{Outcome}
 use Rattle.coro_base.specs.declared.outcome.Place.{Place}
 use Rattle.coro_base.specs.declared.outcome.Word.{Word}
@@ -41,7 +40,7 @@ use Rattle.module_gen.specs.Generated.{generated_module}
 use Rattle.module_rules.specs.declared.order.Refusal.{Refusal}
 use Rattle.name_rules.specs.declared.stage.Stage.{Stage}
 use Rattle.source_program.specs.Given.{Given}
-use Rattle.plain_meaning.specs.Plain.{PlainAt, PlainGiven, plain_state_at}
+use Rattle.plain_meaning.specs.Plain.{PlainAt, plain_state_at}
 
 -- ---- answers
 
