@@ -1,15 +1,19 @@
 -- The text of a run is that of what is seen of it.
 use Rattle.std.proofs.Common.{◌≡◌, ℕ, ℤ, List, [], ◌∷◌, ◌++◌, ◌∙◌, ap, refl, subst, Ok, Err}
 use Rattle.std.specs.Prelude.{map, codes, slice_get, Some, None, Option, Result, IfOk}
-use Rattle.agreement.specs.Machines.{Seen, SeenEvent}
+use Rattle.agreement.specs.Machines.{Seen}
 use Rattle.coro_base.specs.declared.outcome.Event.{Event}
 use Rattle.coro_base.specs.declared.outcome.Outcome.{Outcome}
-use Rattle.coro_cli.specs.Answers.{plain_run, run_answer, run_verdict, seen_answer, shown, source_answer, source_run}
+use Rattle.coro_cli.specs.Answers.{framed_answer, framed_run, plain_run, run_answer, run_verdict, seen_answer, shown, source_answer, source_run}
 use Rattle.coro_cli.specs.declared.verdict.Answer.{Answer}
 use Rattle.coro_cli.specs.declared.verdict.EntryCall.{EntryCall}
 use Rattle.coro_meaning.specs.Source.{state_at}
 use Rattle.coro_names.specs.Spelling.{spelling}
-use Rattle.coro_report.specs.Report.{declared_text, event_text, events_text, outcome_text, run_text, seen_event_text, seen_events_text, seen_text, words_text}
+use Rattle.coro_report.specs.Report.{declared_text, event_text, events_text, outcome_text, run_text, seen_event_text, seen_events_text, words_text}
+use Rattle.frame_layout.specs.declared.layout.Layouts.{Layouts}
+use Rattle.framed_facts.proofs.Steps.{seen-same as framed-same}
+use Rattle.framed_facts.specs.FramedFacts.{HaveFramedFacts, given_with}
+use Rattle.framed_meaning.specs.Framed.{framed_state_at}
 use Rattle.ir_model.specs.declared.module.Declaration.{Declaration}
 use Rattle.ir_model.specs.declared.module.Frame.{Frame}
 use Rattle.ir_model.specs.declared.module.Function.{Function}
@@ -17,9 +21,8 @@ use Rattle.ir_model.specs.declared.module.Module.{Module}
 use Rattle.ir_paths.specs.declared.point.Facts.{Facts}
 use Rattle.ordinary_step.specs.Runs.{name_of_declaration, seen_event}
 use Rattle.path_facts.specs.HaveFacts.{HaveFacts}
-use Rattle.plain_meaning.specs.Plain.{PlainAt, PlainGiven, plain_state_at}
+use Rattle.plain_meaning.specs.Plain.{plain_state_at}
 use Rattle.source_facts.proofs.Steps.{seen-same}
-use Rattle.source_program.specs.Given.{Given}
 
 declared : (d : Option Declaration) → declared_text d ≡ spelling (name_of_declaration d)
 declared None = refl
@@ -53,3 +56,12 @@ source_is m sizes answers facts call steps have =
 pub source_by : {E : Type 0} (m : Module) (sizes : List Frame) (answers : List ℤ) (facts : List Facts) (call : EntryCall) (steps : ℕ) (functions : List Function) (r : Result Answer E) → functions ≡ m.functions → HaveFacts functions facts → IfOk r (λ a. a ≡ source_run (record { code = m; sizes = sizes; answers = answers; facts = facts }) call steps) → IfOk r (λ a. a ≡ source_answer m sizes answers call steps)
 source_by m sizes answers facts call steps functions (Ok a) same have is = is ∙ source_is m sizes answers facts call steps (subst (λ (fs : List Function). HaveFacts fs facts) same have)
 source_by m sizes answers facts call steps functions (Err e) same have is = is
+
+framed_is : (m : Module) (layouts : Layouts) (answers : List ℤ) (facts : List Facts) (call : EntryCall) (steps : ℕ) → HaveFramedFacts m.functions facts → framed_run (given_with m layouts.coroutines answers facts) call steps ≡ framed_answer m layouts answers call steps
+framed_is m layouts answers facts call steps have =
+    let s = framed_state_at (given_with m layouts.coroutines answers facts) call.func call.args steps in
+    as_seen m s.world.events s.world.allocs s.outcome ∙ ap (λ (seen : Seen). seen_answer m seen) (framed-same m layouts answers facts call.func call.args steps have)
+
+pub framed_by : {E : Type 0} (m : Module) (layouts : Layouts) (answers : List ℤ) (facts : List Facts) (call : EntryCall) (steps : ℕ) (functions : List Function) (r : Result Answer E) → functions ≡ m.functions → HaveFramedFacts functions facts → IfOk r (λ a. a ≡ framed_run (given_with m layouts.coroutines answers facts) call steps) → IfOk r (λ a. a ≡ framed_answer m layouts answers call steps)
+framed_by m layouts answers facts call steps functions (Ok a) same have is = is ∙ framed_is m layouts answers facts call steps (subst (λ (fs : List Function). HaveFramedFacts fs facts) same have)
+framed_by m layouts answers facts call steps functions (Err e) same have is = is

@@ -1,7 +1,6 @@
 -- What a command answers to the bytes of its input.
-use Rattle.std.specs.Prelude.{◌≡◌, ℕ, Bool, true, false, not, List, [], length, map, max, min, codes, ℤ, Some, None, Option, is_some, slice_get, ◌&&◌, ◌+◌, ◌∷◌, if◌then◌else◌, ◌==◌}
+use Rattle.std.specs.Prelude.{◌≡◌, ℕ, Bool, true, false, not, List, [], map, max, min, codes, ℤ, Some, None, Option, is_some, slice_get, ◌&&◌, ◌+◌, ◌∷◌, if◌then◌else◌}
 use Rattle.agreement.specs.Machines.{Seen}
-use Rattle.coro_base.specs.declared.name.Name.{Name}
 use Rattle.coro_base.specs.declared.outcome.Outcome.{Outcome}
 use Rattle.coro_base.specs.declared.outcome.Place.{Place}
 use Rattle.coro_base.specs.declared.outcome.Word.{Word}
@@ -20,6 +19,7 @@ use Rattle.coro_words.specs.declared.words.Words.{Words}
 use Rattle.coroutine_frames.specs.Report.{layout_text}
 use Rattle.frame_layout.specs.declared.layout.Layout.{Layout}
 use Rattle.frame_layout.specs.declared.layout.Layouts.{Layouts}
+use Rattle.framed_meaning.specs.Framed.{FramedAt, FramedGiven, framed_state_at}
 use Rattle.ir_ints.specs.Numbers.{word_of}
 use Rattle.ir_model.specs.Names.{same_text}
 use Rattle.ir_model.specs.Ty.{Ty, int}
@@ -40,7 +40,7 @@ use Rattle.module_gen.specs.Generated.{generated_module}
 use Rattle.module_rules.specs.declared.order.Refusal.{Refusal}
 use Rattle.name_rules.specs.declared.stage.Stage.{Stage}
 use Rattle.source_program.specs.Given.{Given}
-use Rattle.plain_meaning.specs.Plain.{PlainAt, PlainGiven, plain_state_at}
+use Rattle.plain_meaning.specs.Plain.{PlainAt, plain_state_at}
 
 -- ---- answers
 
@@ -221,6 +221,33 @@ abbrev pub IsSourceAnswer : Parsed → RunWords → Answer → Type 0
 IsSourceAnswer (Parsed.Syntax items) w a = a ≡ syntax_fault items
 IsSourceAnswer (Parsed.Module m) w a = IsMadeOfAcceptance m (not w.plain) (source_form_answer m w) a
 
+-- ---- run of a framed module
+
+-- the events and the outcome of a run of a framed module with these facts
+abbrev pub framed_run : FramedGiven → EntryCall → ℕ → Answer
+framed_run g call steps =
+    let s = framed_state_at g call.func call.args steps in shown (run_verdict s.outcome) (run_text g.given.code s.world.events s.outcome)
+
+-- what is seen of a framed module after so many steps
+abbrev pub framed_answer : Module → Layouts → List ℤ → EntryCall → ℕ → Answer
+framed_answer m layouts answers call steps = seen_answer m (FramedAt m layouts call.func call.args answers steps)
+
+abbrev pub framed_or : Module → Layouts → RunWords → Option EntryCall → Answer
+framed_or m layouts w None = not_callable w.entry
+framed_or m layouts w (Some call) = framed_answer m layouts w.answers call w.steps
+
+abbrev pub run_framed : Module → Layouts → RunWords → Answer
+run_framed m layouts w = framed_or m layouts w (entry_call m w.entry w.args)
+
+-- the source says whether the entry is callable; its framed form, with the layouts of its frames, runs the function of that name
+abbrev pub run_laid_out : Lowered → RunWords → Answer
+run_laid_out l w = if is_some (entry_call l.source w.entry w.args) then run_framed l.framed l.layouts w else not_callable w.entry
+
+abbrev pub framed_form_answer : Lowering → RunWords → Answer
+framed_form_answer (Lowering.Syntax items) w = syntax_fault items
+framed_form_answer (Lowering.Refused m rule place) w = refused m rule place
+framed_form_answer (Lowering.Done l) w = run_laid_out l w
+
 -- ---- layout
 
 -- the lines of the layouts
@@ -265,6 +292,7 @@ pub record IsMadeOf (plain : Bool) (bytes : List ℕ) (make : Lowering → Answe
 abbrev pub IsRunAnswer : Form → List ℕ → RunWords → Answer → Type 0
 IsRunAnswer Form.Source bytes w a = IsSourceAnswer (read_module bytes) w a
 IsRunAnswer Form.Text bytes w a = IsTextAnswer (read_module bytes) w a
+IsRunAnswer Form.Framed bytes w a = IsMadeOf w.plain bytes (λ l. framed_form_answer l w) a
 IsRunAnswer Form.Lowered bytes w a = IsMadeOf w.plain bytes (λ l. lowered_answer l w) a
 
 -- ---- gen

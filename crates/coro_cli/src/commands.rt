@@ -2,11 +2,11 @@
 
 ghost use Rattle.std.specs.Prelude.{◌≡◌, ◌≤◌, IfOk, not};
 ghost use Rattle.coro_words.specs.declared.words.Form.{Form};
-ghost use Rattle.coro_cli.specs.Answers.{lower_answer, checked_run, check_answer, IsTextAnswer, IsCheckAnswer, IsLayoutAnswer, IsMadeOfAcceptance, IsMadeOfRefusal, IsMadeOfRules, IsSourceAnswer, layout_answer, gen_answer, options_of, within, run_lowered, lowered_answer, source_form_answer, IsRunAnswer, IsMadeOf, IsAnswer};
+ghost use Rattle.coro_cli.specs.Answers.{lower_answer, checked_run, check_answer, IsTextAnswer, IsCheckAnswer, IsLayoutAnswer, IsMadeOfAcceptance, IsMadeOfRefusal, IsMadeOfRules, IsSourceAnswer, layout_answer, gen_answer, options_of, within, run_lowered, lowered_answer, run_laid_out, framed_form_answer, source_form_answer, IsRunAnswer, IsMadeOf, IsAnswer};
 ghost use Rattle.ir_parser.specs.Parse.{read_module};
 
 use crate::entry::entry_call;
-use crate::runs::{not_callable, run_module, run_source};
+use crate::runs::{not_callable, run_framed, run_module, run_source};
 use crate::texts::{refused, shown, syntax_fault};
 use crate::verdict::{Answer, Verdict};
 use coro_base::{Items, Options};
@@ -109,6 +109,44 @@ fn run_lowered_form(alloc: Global, bytes: &[u8], words: &RunWords) -> Result<Ans
     lowered_answer(alloc, lowering, words)
 }
 
+fn run_laid_out(alloc: Global, lowered: Lowered, words: &RunWords) -> Result<Answer, AllocError>
+    ensures { IfOk result (λ a. a ≡ run_laid_out lowered words.now) }
+{
+    let entry = words.entry.as_bytes();
+    let Lowered {
+        framed,
+        source,
+        layouts,
+        ..
+    } = lowered;
+    match entry_call(alloc, &source, entry, words.args.as_slice())? {
+        None => not_callable(alloc, entry),
+        Some(_) => run_framed(alloc, framed, &layouts, words),
+    }
+}
+
+fn framed_form_answer(
+    alloc: Global,
+    lowering: Lowering,
+    words: &RunWords,
+) -> Result<Answer, AllocError>
+    ensures { IfOk result (λ a. a ≡ framed_form_answer lowering words.now) }
+{
+    match lowering {
+        Lowering::Done(lowered) => run_laid_out(alloc, lowered, words),
+        Lowering::Syntax(items) => syntax_fault(alloc, items),
+        Lowering::Refused(source, rule, place) => refused(alloc, &source, rule, place),
+    }
+}
+
+#[tactic(auto, using(crate::proofs::Chosen::made_by))]
+fn run_framed_form(alloc: Global, bytes: &[u8], words: &RunWords) -> Result<Answer, AllocError>
+    ensures { IfOk result (λ a. IsRunAnswer Form.Framed bytes.now words.now a) }
+{
+    let lowering = lower(alloc, bytes, options_of(words.plain))?;
+    framed_form_answer(alloc, lowering, words)
+}
+
 /// Runs a source that is looked at for all rules.
 fn source_form_answer(
     alloc: Global,
@@ -154,6 +192,7 @@ fn run_in(alloc: Global, bytes: &[u8], words: &RunWords) -> Result<Answer, Alloc
     match words.form {
         Form::Source => run_source_form(alloc, bytes, words),
         Form::Text => run_text_form(alloc, bytes, words),
+        Form::Framed => run_framed_form(alloc, bytes, words),
         Form::Lowered => run_lowered_form(alloc, bytes, words),
     }
 }

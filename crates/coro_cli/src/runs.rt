@@ -1,7 +1,8 @@
 //! Runs of modules.
 
 ghost use Rattle.std.specs.Prelude.{◌≡◌, IfOk, map};
-ghost use Rattle.coro_cli.specs.Answers.{run_verdict, plain_run, run_answer, not_callable, run_module, size_of, sizes_of, source_run, source_answer, source_or, entry_call};
+ghost use Rattle.coro_cli.specs.Answers.{run_verdict, plain_run, run_answer, not_callable, run_module, size_of, sizes_of, source_run, source_answer, source_or, framed_run, framed_answer, run_framed, entry_call};
+ghost use Rattle.framed_facts.specs.FramedFacts.{given_with};
 
 use crate::entry::entry_call;
 use crate::texts::{shown, told};
@@ -11,6 +12,8 @@ use coro_meaning::SourceMachine;
 use coro_report::{not_callable_text, run_text};
 use coro_words::RunWords;
 use frame_layout::{Layout, Layouts};
+use framed_facts::all_framed_facts;
+use framed_meaning::FramedMachine;
 use ir_model::{Frame, Module};
 use ir_paths::Facts;
 use path_facts::all_facts;
@@ -146,5 +149,63 @@ pub fn run_source(
                 words.steps,
             )
         }
+    }
+}
+
+fn framed_run(
+    alloc: Global,
+    framed: Module,
+    layouts: &Layouts,
+    facts: Items<Facts>,
+    answers: &[i128],
+    call: &EntryCall,
+    steps: u64,
+) -> Result<Answer, AllocError>
+    ensures { IfOk result (λ a. a ≡ framed_run (given_with framed layouts.now.coroutines answers.now facts) call.now steps) }
+{
+    let args = call.args.as_slice();
+    let mut machine = FramedMachine::start(
+        alloc, framed, layouts, facts, call.func, args, answers,
+    )?;
+    let outcome = machine.run(steps)?;
+    let text = run_text(alloc, machine.code(), machine.events(), outcome)?;
+    Ok(shown(alloc, run_verdict(outcome), Items::from_vec(text)))
+}
+
+/// What is seen of a run of a framed module.
+fn framed_answer(
+    alloc: Global,
+    framed: Module,
+    layouts: &Layouts,
+    answers: &[i128],
+    call: &EntryCall,
+    steps: u64,
+) -> Result<Answer, AllocError>
+    ensures { IfOk result (λ a. a ≡ framed_answer framed layouts.now answers.now call.now steps) }
+{
+    let facts = all_framed_facts(alloc, framed.functions.as_slice())?;
+    framed_run(alloc, framed, layouts, facts, answers, call, steps)
+}
+
+/// Calls an entry of a framed module with the layouts of its coroutines' frames.
+pub fn run_framed(
+    alloc: Global,
+    framed: Module,
+    layouts: &Layouts,
+    words: &RunWords,
+) -> Result<Answer, AllocError>
+    ensures { IfOk result (λ a. a ≡ run_framed framed layouts.now words.now) }
+{
+    let entry = words.entry.as_bytes();
+    match entry_call(alloc, &framed, entry, words.args.as_slice())? {
+        None => not_callable(alloc, entry),
+        Some(call) => framed_answer(
+            alloc,
+            framed,
+            layouts,
+            words.answers.as_slice(),
+            &call,
+            words.steps,
+        ),
     }
 }

@@ -17,6 +17,7 @@ has_flag name rows = option_map_or (λ t. bytes_eq t (codes "true")) (first_of n
 abbrev pub form_named : Text → Option Form
 form_named t =
     if bytes_eq t (codes "source") then Some Form.Source
+    else if bytes_eq t (codes "framed") then Some Form.Framed
     else if bytes_eq t (codes "lowered") then Some Form.Lowered
     else if bytes_eq t (codes "text") then Some Form.Text
     else None

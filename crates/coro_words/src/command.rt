@@ -118,7 +118,7 @@ fn with_entry<'a>(alloc: Global, command: Command<'a>) -> Result<Command<'a>, Al
     ensures app { IfOk result (λ r. app_of r ≡ spec.with_entry (app_of command.entry)) }
     ensures local { IfOk result (λ r. (out-Command r).has_globals ≡ false) }
 {
-    let form = required(alloc, "form", "FORM", "source, lowered or text");
+    let form = required(alloc, "form", "FORM", "source, framed, lowered or text");
     let entry = required(alloc, "entry", "NAME", "The function that is called");
     with_arg(with_arg(command, form)?, entry)
 }

@@ -33,6 +33,8 @@ fn form_named(name: &str) -> Option<Form>
 {
     if name == "source" {
         Some(Form::Source)
+    } else if name == "framed" {
+        Some(Form::Framed)
     } else if name == "lowered" {
         Some(Form::Lowered)
     } else if name == "text" {

@@ -63,7 +63,7 @@ pub fn take_words(alloc: Global, words: &[String]) -> Result<Taken, AllocError>
         Ok(Reading::Read(asked)) => Ok(Taken::Words(asked)),
         Ok(Reading::BadList(word)) => Ok(Taken::BadList(word)),
         Ok(Reading::Refused) => {
-            let message = "the form is 'source', 'lowered' or 'text'";
+            let message = "the form is 'source', 'framed', 'lowered' or 'text'";
             told(
                 alloc,
                 words,

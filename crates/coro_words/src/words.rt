@@ -7,6 +7,8 @@ use coro_base::{Items, Text};
 pub enum Form {
     /// The module is run as it was read, with its coroutines.
     Source,
+    /// The frames of the module are laid out first.
+    Framed,
     /// The module is lowered first.
     Lowered,
     /// The module, which has no coroutines, is run as it was read.

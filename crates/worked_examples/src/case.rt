@@ -139,6 +139,7 @@ impl Case {
     fn is_in_all_forms(&self, alloc: Global, words: &str, text: &[u8]) -> Result<bool, AllocError> {
         Ok(
             self.is_run(alloc, "source", words, text)?
+                && self.is_run(alloc, "framed", words, text)?
                 && self.is_run(alloc, "lowered", words, text)?
                 && self.is_text(alloc, words, text)?,
         )

@@ -1,4 +1,4 @@
-use Rattle.std.proofs.Common.{◌≡◌, ◌++◌, length, List, Option}
+use Rattle.std.proofs.Common.{◌≡◌, length}
 use Rattle.coro_cli.specs.Answers.{words_for}
 use Rattle.coro_cli.proofs.Arguments.{with_words}
 use Rattle.coro_cli.proofs.entry.words_for.Given as goal
