@@ -1,3 +1,4 @@
 pub mod Marked
 pub mod Placed
 pub mod Underway
+pub mod Parted

@@ -3,7 +3,7 @@ use Rattle.std.proofs.Common.{◌≡◌, ℕ, zero, suc, ◌+◌, ◌≤◌, Boo
 use Rattle.std.specs.Prelude.{◌==◌, if◌then◌else◌, slice_get}
 use Rattle.std.proofs.lemmas.List.{drop_all}
 use mathlib.Core.Path.{fun_ext}
-use Rattle.coroutine_frames.specs.Frames.{ArePairs, ArePositions, IfKnown, IsLaid, conflicts_of}
+use Rattle.coroutine_frames.specs.Frames.{ArePositions, IfKnown, IsLaid, IsSharedBy, conflicts_of}
 use Rattle.coroutine_frames.specs.Held.{at_fields, both_at_fields, fields_of, position_from, position_of, slot_position}
 use Rattle.coroutine_frames.specs.Tables.{first_some}
 use Rattle.coroutine_frames.specs.declared.held.Holding.{Holding}
@@ -58,32 +58,39 @@ by_name held table h = fun_ext h
 pub by_slot : (held : List Holding) (table : List (Option ℕ)) (allocas : List ℕ) → ArePositions held table → slot_told (told table) allocas ≡ slot_told (position_of held) allocas
 by_slot held table allocas h = ap (λ (t : ℕ → Option ℕ). slot_told t allocas) (by_name held table h)
 
+pub known : (P : Result Layout LayoutError → Type 0) (result : Result Layout LayoutError) → P result → IfKnown P result
+known P (Ok layout) h = h
+known P (Err LayoutError.FrameTooLarge) h = h
+known P (Err LayoutError.OutOfMemory) h = tt
+
+known_of : (P Q : Result Layout LayoutError → Type 0) (result : Result Layout LayoutError) → (P result → Q result) → IfKnown P result → IfKnown Q result
+known_of P Q (Ok layout) to h = to h
+known_of P Q (Err LayoutError.FrameTooLarge) to h = to h
+known_of P Q (Err LayoutError.OutOfMemory) to h = tt
+
 same_conflicts : (fields : List Field) (crossing alive conflicts : List (ℕ × ℕ)) (a b c d : ℕ → Option ℕ) → a ≡ b → c ≡ d →
     field_conflicts fields (at_fields a crossing) (at_fields c alive) (both_at_fields c conflicts) ≡ field_conflicts fields (at_fields b crossing) (at_fields d alive) (both_at_fields d conflicts)
 same_conflicts fields crossing alive conflicts a b c d p q =
     ap (λ (t : ℕ → Option ℕ). field_conflicts fields (at_fields t crossing) (at_fields c alive) (both_at_fields c conflicts)) p
     ∙ ap (λ (t : ℕ → Option ℕ). field_conflicts fields (at_fields b crossing) (at_fields t alive) (both_at_fields t conflicts)) q
 
-known : (P : Result Layout LayoutError → Type 0) (result : Result Layout LayoutError) → P result → IfKnown P result
-known P (Ok layout) h = h
-known P (Err LayoutError.FrameTooLarge) h = h
-known P (Err LayoutError.OutOfMemory) h = tt
-
-pub shared_laid : (f : Function) (func : ℕ) (share : Bool) (held : List Holding) (crossing : List (ℕ × ℕ)) (allocas : List ℕ) (fields fields2 fields3 : List Field) (table : List (Option ℕ)) (pairs pairs2 : List (ℕ × ℕ)) (result : Result Layout LayoutError) →
-    share ≡ true → fields ≡ fields_of f held → fields2 ≡ fields → fields3 ≡ fields → pairs2 ≡ pairs → allocas ≡ allocas_of f → ArePositions held table → ArePairs f allocas fields2 table crossing pairs → IsLaidOut func fields3 pairs2 result →
-    IfKnown (IsLaid share f func held crossing) result
-shared_laid f func share held crossing allocas fields fields2 fields3 table pairs pairs2 result is fields_are same2 same3 same_pairs allocas_are positions p laid =
-    known (IsLaid share f func held crossing) result (subst (λ (s : Bool). IsLaid s f func held crossing result) (sym is) (record {
+pub shared_laid : (f : Function) (func : ℕ) (share : Bool) (held : List Holding) (crossing : List (ℕ × ℕ)) (allocas : List ℕ) (fields fields2 : List Field) (table : List (Option ℕ)) (result : Result Layout LayoutError) →
+    share ≡ true → fields ≡ fields_of f held → fields2 ≡ fields → allocas ≡ allocas_of f → ArePositions held table → IfKnown (IsSharedBy f func allocas fields2 table crossing) result → IfKnown (IsLaid share f func held crossing) result
+shared_laid f func share held crossing allocas fields fields2 table result is fields_are same allocas_are positions h =
+    known_of (IsSharedBy f func allocas fields2 table crossing) (IsLaid share f func held crossing) result
+    (λ (p : IsSharedBy f func allocas fields2 table crossing result). subst (λ (s : Bool). IsLaid s f func held crossing result) (sym is) (record {
       alive = p.alive;
       alive_are = p.alive_are;
       conflicts = p.conflicts;
       conflicts_are = p.conflicts_are;
-      laid = subst (λ (l : List (ℕ × ℕ)). IsLaidOut func (fields_of f held) l result) conflicts_are (subst (λ (l : List Field). IsLaidOut func l pairs2 result) (same3 ∙ fields_are) laid);
+      laid = subst (λ (l : List (ℕ × ℕ)). IsLaidOut func (fields_of f held) l result) (conflicts_are p.alive p.conflicts)
+          (subst (λ (l : List Field). IsLaidOut func l (field_conflicts l (at_fields (told table) crossing) (at_fields (slot_told (told table) allocas) p.alive) (both_at_fields (slot_told (told table) allocas) p.conflicts)) result)
+          (same ∙ fields_are) p.laid);
     }))
+    h
   where
-    conflicts_are : pairs2 ≡ conflicts_of f held crossing p.alive p.conflicts
-    conflicts_are =
-        same_pairs ∙ p.pairs_are
-        ∙ ap (λ (l : List Field). field_conflicts l (at_fields (told table) crossing) (at_fields (slot_told (told table) allocas) p.alive) (both_at_fields (slot_told (told table) allocas) p.conflicts)) (same2 ∙ fields_are)
-        ∙ same_conflicts (fields_of f held) crossing p.alive p.conflicts (told table) (position_of held) (slot_told (told table) allocas) (slot_position f held) (by_name held table positions)
+    conflicts_are : (alive conflicts : List (ℕ × ℕ)) →
+        field_conflicts (fields_of f held) (at_fields (told table) crossing) (at_fields (slot_told (told table) allocas) alive) (both_at_fields (slot_told (told table) allocas) conflicts) ≡ conflicts_of f held crossing alive conflicts
+    conflicts_are alive conflicts =
+        same_conflicts (fields_of f held) crossing alive conflicts (told table) (position_of held) (slot_told (told table) allocas) (slot_position f held) (by_name held table positions)
         (by_slot held table allocas positions ∙ ap (λ (l : List ℕ). slot_told (position_of held) l) allocas_are)

@@ -82,17 +82,18 @@ IsFrameOf m share func f (Ok frame) = IsFrameWith m share func f frame
 IsFrameOf m share func f (Err LayoutError.FrameTooLarge) = IsLayout m share func f (Err LayoutError.FrameTooLarge)
 IsFrameOf m share func f (Err LayoutError.OutOfMemory) = Unit {0}
 
--- the pairs of fields that conflict, by a table of positions and the allocas
-pub record ArePairs (f : Function) (allocas : List ℕ) (fields : List Field) (table : List (Option ℕ)) (crossing pairs : List (ℕ × ℕ)) : Type 0 where
+-- the layout by the conflicts of the fields, by a table of positions and the allocas
+pub record IsSharedBy (f : Function) (func : ℕ) (allocas : List ℕ) (fields : List Field) (table : List (Option ℕ)) (crossing : List (ℕ × ℕ)) (result : Result Layout LayoutError) : Type 0 where
   pub alive : List (ℕ × ℕ)
   pub alive_are : AreAliveAt f alive
   pub conflicts : List (ℕ × ℕ)
   pub conflicts_are : AreConflicts f conflicts
-  pub pairs_are : pairs
-      ≡ field_conflicts fields
+  pub laid : IsLaidOut func fields
+      (field_conflicts fields
       (at_fields (λ v. get_or table v None) crossing)
       (at_fields (λ i. get_or (map (λ v. get_or table v None) allocas) i None) alive)
-      (both_at_fields (λ i. get_or (map (λ v. get_or table v None) allocas) i None) conflicts)
+      (both_at_fields (λ i. get_or (map (λ v. get_or table v None) allocas) i None) conflicts))
+      result
 
 -- ---- of all coroutines, in order of the text
 

@@ -163,3 +163,8 @@ both_with (Some j) (Some k) = (j, k) ∷ []
 abbrev pub both_at_fields : (ℕ → Option ℕ) → List (ℕ × ℕ) → List (ℕ × ℕ)
 both_at_fields at [] = []
 both_at_fields at (p ∷ ps) = both_with (at p.0) (at p.1) ++ both_at_fields at ps
+
+-- the positions of fields of these
+abbrev pub field_positions : (ℕ → Option ℕ) → List ℕ → List ℕ
+field_positions at [] = []
+field_positions at (i ∷ is) = option_to_list (at i) ++ field_positions at is

@@ -1,18 +1,18 @@
 //! The frames of coroutines.
 
 ghost use Rattle.std.specs.Prelude.{◌≡◌, IfOk};
-ghost use Rattle.coroutine_frames.specs.Frames.{ArePairs, ArePositions, IfKnown, IsFrameOf, IsLaid};
+ghost use Rattle.coroutine_frames.specs.Frames.{ArePositions, IfKnown, IsFrameOf, IsLaid, IsSharedBy};
 ghost use Rattle.ir_paths.specs.Slots.{allocas_of as allocas_of_function};
 ghost use Rattle.slot_lifetime.specs.Classes.{AreClasses};
 
 use crate::fields::fields_of;
 use crate::held::{Holding, held_of};
-use crate::positions::{at_fields, both_at_fields, positions_of, slot_positions};
+use crate::positions::{at_fields, both_at_fields, field_positions, positions_of, slot_positions};
 use coro_base::{FuncId, Items, SuspendId, ValueId};
 use coro_shape::allocas_of;
-use frame_layout::{Field, Layout, LayoutError, field_conflicts, lay_out, lay_out_plain};
+use frame_layout::{Field, Layout, LayoutError, lay_out_by, lay_out_plain};
 use ir_model::Function;
-use slot_conflicts::{alive_by, conflicts_by};
+use slot_conflicts::{alive_by, parts_by};
 use slot_lifetime::{SlotClass, classes};
 use std::alloc::{AllocError, Global};
 use suspend_crossing::crossing;
@@ -27,26 +27,38 @@ pub struct CoroutineFrame {
     pub layout: Layout,
 }
 
-/// The pairs of fields that conflict.
-fn pairs_of(
+/// The layout of these fields, in which bytes are shared. The pairs of fields that conflict aren't made.
+fn laid_shared(
     alloc: Global,
+    func: FuncId,
     function: &Function,
     allocas: &[ValueId],
     classes: Items<SlotClass>,
     fields: &[Field],
     positions: &[Option<usize>],
     crossing: &[(ValueId, SuspendId)],
-) -> Result<Items<(usize, usize)>, AllocError>
+) -> Result<Layout, LayoutError>
     requires { AreClasses function.now classes }
-    ensures { IfOk result (λ pairs. ArePairs function.now allocas.now fields.now positions.now crossing.now pairs) }
+    ensures { IfKnown (IsSharedBy function.now func allocas.now fields.now positions.now crossing.now) result }
 {
     let slots = slot_positions(alloc, positions, allocas)?;
     let alive = alive_by(alloc, function, &classes)?;
-    let together = conflicts_by(alloc, function, classes)?;
+    let parts = parts_by(alloc, function, classes)?;
     let crossing = at_fields(alloc, positions, crossing)?;
-    let alive = at_fields(alloc, &slots, alive.as_slice())?;
-    let together = both_at_fields(alloc, &slots, together.as_slice())?;
-    field_conflicts(alloc, fields, &crossing, &alive, &together)
+    let alive = at_fields(alloc, slots.as_slice(), alive.as_slice())?;
+    let frame = field_positions(alloc, slots.as_slice(), parts.frame.as_slice())?;
+    let wide = field_positions(alloc, slots.as_slice(), parts.wide.as_slice())?;
+    let narrow = both_at_fields(alloc, slots.as_slice(), parts.narrow.as_slice())?;
+    lay_out_by(
+        alloc,
+        func,
+        fields,
+        crossing.as_slice(),
+        alive.as_slice(),
+        frame.as_slice(),
+        wide.as_slice(),
+        narrow.as_slice(),
+    )
 }
 
 /// The layout of these fields, in which bytes are shared, or the plain one.
@@ -68,10 +80,16 @@ fn laid(
 {
     let fields = fields_of(alloc, function, held)?;
     if share {
-        let pairs = pairs_of(
-            alloc, function, allocas, classes, &fields, positions, crossing,
-        )?;
-        lay_out(alloc, func, &fields, pairs.as_slice())
+        laid_shared(
+            alloc,
+            func,
+            function,
+            allocas,
+            classes,
+            fields.as_slice(),
+            positions,
+            crossing,
+        )
     } else {
         lay_out_plain(alloc, func, &fields)
     }

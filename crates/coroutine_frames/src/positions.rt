@@ -1,8 +1,8 @@
 //! The positions of fields.
 
-ghost use Rattle.std.specs.Prelude.{◌≡◌, ◌==◌, ◌++◌, ℕ, None, Option, Some, IfOk, OnOk, get_or, if◌then◌else◌, map};
+ghost use Rattle.std.specs.Prelude.{◌≡◌, ◌==◌, ◌++◌, ℕ, None, Option, Some, IfOk, OnOk, get_or, if◌then◌else◌, map, option_to_list};
 ghost use Rattle.coroutine_frames.specs.Frames.{ArePositions};
-ghost use Rattle.coroutine_frames.specs.Held.{at_fields as at_fields_by, both_at_fields as both_at_fields_by, both_with, pair_with};
+ghost use Rattle.coroutine_frames.specs.Held.{at_fields as at_fields_by, both_at_fields as both_at_fields_by, both_with, field_positions as field_positions_by, pair_with};
 ghost use Rattle.coroutine_frames.specs.Tables.{first_some};
 
 use crate::held::Holding;
@@ -61,6 +61,33 @@ pub(crate) fn slot_positions(
         positions.push(position_in(table, *slot))?;
     }
     Ok(positions)
+}
+
+fn push_if(all: &mut Vec<usize>, position: Option<usize>) -> Result<(), AllocError>
+    ensures { OnOk result (all.new.items ≡ all.old.items ++ option_to_list position) }
+{
+    match position {
+        None => Ok(()),
+        Some(position) => {
+            all.push(position)?;
+            Ok(())
+        }
+    }
+}
+
+/// The positions of the fields of these.
+pub(crate) fn field_positions(
+    alloc: Global,
+    table: &[Option<usize>],
+    numbers: &[usize],
+) -> Result<Vec<usize>, AllocError>
+    ensures { IfOk result (λ all. all.items ≡ field_positions_by (λ v. get_or table.now v None) numbers.now) }
+{
+    let mut all = Vec::new(alloc);
+    for number in numbers {
+        push_if(&mut all, position_in(table, *number))?;
+    }
+    Ok(all)
 }
 
 fn push_pair(

@@ -1,8 +1,8 @@
 -- The order of fields is an order, and it is total.
-use Rattle.std.proofs.Common.{◌≡◌, ◌≢◌, ℕ, List, Bool, true, false, not, Option, None, Some, refl, sym, ◌∙◌, arith}
+use Rattle.std.proofs.Common.{◌≡◌, ◌≢◌, ℕ, List, Bool, true, false, not, Option, None, Some, refl, sym, subst, ◌∙◌, arith}
 use Rattle.std.specs.Prelude.{◌&&◌, ◌||◌, nat_eq, nat_lt, IsTrue}
 use Rattle.std.specs.Cmp.{IsStrictWeakOrder}
-use Rattle.std.proofs.lemmas.Bool.{eqb-true}
+use Rattle.std.proofs.lemmas.Bool.{both_ways, eqb-true}
 use Rattle.std.proofs.lemmas.Bool.Decides.{nat_tests}
 use Rattle.field_placing.specs.Rooms.{alignment_at, comes_first, is_promise, needs_more, size_at}
 use Rattle.field_placing.specs.declared.room.Room.{Room}
@@ -66,3 +66,9 @@ none_before rooms promise j k is h = go (is_promise promise k) _ is h
     go : (p m : Bool) → p ≡ true → (not p && m) ≡ true → ⊥
     go true m e f = absurd (cc)
     go false m e f = absurd (cc)
+
+-- and none before itself
+pub first_differs : (rooms : List Room) (promise : Option ℕ) (j k : ℕ) → IsTrue (comes_first rooms promise j k) → j ≢ k
+first_differs rooms promise j k h same =
+    let first = subst (λ (x : ℕ). comes_first rooms promise x k ≡ true) same h in
+    both_ways (comes_first rooms promise k k) ((is_order rooms promise).one_way k k first) first

@@ -7,6 +7,7 @@ pub mod Covers
 pub mod Existing
 pub mod Firsts
 pub mod Greatest
+pub mod Grouping
 pub mod Orders
 pub mod Passing
 pub mod Places

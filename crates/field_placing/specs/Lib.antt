@@ -4,3 +4,4 @@ pub mod Ends
 pub mod Placings
 pub mod Bars
 pub mod Steps
+pub mod Groups

@@ -1,5 +1,5 @@
 -- Where fields lie: the promise behind the header, and each other field at the least offset at which it can stand.
-use Rattle.std.specs.Prelude.{◌≡◌, ℕ, ◌+◌, ◌%◌, ◌<◌, ◌≤◌, ◌⊎◌, List, Option, IsTrue, IsFalse, length, slice_index}
+use Rattle.std.specs.Prelude.{◌≡◌, ℕ, ◌+◌, ◌%◌, ◌<◌, ◌≤◌, ◌⊎◌, List, [], Option, IsTrue, IsFalse, get_or, length, slice_index}
 use Rattle.std.specs.List.{Contains}
 use Rattle.field_placing.specs.Rooms.{alignment_at, comes_first, is_promise, size_at}
 use Rattle.field_placing.specs.declared.room.Room.{Room}
@@ -36,6 +36,16 @@ pub record IsPlaced (rooms : List Room) (promise : Option ℕ) (Conflict : ℕ �
 -- fields conflict where one of the pairs names them, in either order
 abbrev pub IsPair : List (ℕ × ℕ) → ℕ → ℕ → Type 0
 IsPair conflicts j k = Contains conflicts (j, k) ⊎ Contains conflicts (k, j)
+
+-- of one group the first field is on the one side, and the second on the other; the lists have the groups of each field by side
+pub record AreOpposed (one other : List (List ℕ)) (j k : ℕ) : Type 0 where
+  pub group : ℕ
+  pub is_one : Contains (get_or one j []) group
+  pub is_other : Contains (get_or other k []) group
+
+-- fields conflict where one of the pairs names them, or where they are on two sides of one group
+abbrev pub AreKeptApart : List (ℕ × ℕ) → List (List ℕ) → List (List ℕ) → ℕ → ℕ → Type 0
+AreKeptApart conflicts one other j k = IsPair conflicts j k ⊎ (AreOpposed one other j k ⊎ AreOpposed one other k j)
 
 -- in the plain layout all conflict
 abbrev pub Always : ℕ → ℕ → Type 0

@@ -35,3 +35,11 @@ pub record IsPlacing (rooms : List Room) (promise : Option ℕ) (conflicts : Lis
   pub plain_placed : IsPlaced rooms promise Always plain
   pub shared_placed : IsPlaced rooms promise (IsPair conflicts) shared
   pub told : MatchOption found (2 ^ 24 < end_of rooms plain) (λ placing. (end_of rooms plain ≤ 2 ^ 24) × IsFrame rooms (chosen_offsets rooms plain shared) placing)
+
+-- the same of any conflicts of fields
+pub record IsPlacingBy (rooms : List Room) (promise : Option ℕ) (Conflict : ℕ → ℕ → Type 0) (found : Option Placing) : Type 0 where
+  pub plain : List ℕ
+  pub shared : List ℕ
+  pub plain_placed : IsPlaced rooms promise Always plain
+  pub shared_placed : IsPlaced rooms promise Conflict shared
+  pub told : MatchOption found (2 ^ 24 < end_of rooms plain) (λ placing. (end_of rooms plain ≤ 2 ^ 24) × IsFrame rooms (chosen_offsets rooms plain shared) placing)

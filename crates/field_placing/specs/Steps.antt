@@ -3,7 +3,7 @@ use Rattle.std.specs.Prelude.{◌≡◌, ℕ, ◌+◌, ◌^◌, ◌<◌, ◌≤�
 use Rattle.std.specs.List.{Contains}
 use Rattle.field_placing.specs.Bars.{AreBars, IsCovered, IsFree, IsLeastFree}
 use Rattle.field_placing.specs.Ends.{end_of}
-use Rattle.field_placing.specs.Placed.{IsByteOf, IsItsPlace, IsPair, IsPlaced, IsTaken}
+use Rattle.field_placing.specs.Placed.{IsByteOf, IsItsPlace, IsPlaced, IsTaken}
 use Rattle.field_placing.specs.Placings.{chosen_offsets}
 use Rattle.field_placing.specs.Rooms.{alignment_at, comes_first, is_promise, size_at}
 use Rattle.field_placing.specs.declared.bars.Bar.{Bar}
@@ -89,9 +89,9 @@ pub record IsPlacedWithin (rooms : List Room) (promise : Option ℕ) (Conflict :
   pub ends : end_of rooms offsets ≤ limit
 
 -- the offsets are chosen between the plain ones and those by the conflicts
-pub record AreChosen (rooms : List Room) (promise : Option ℕ) (conflicts : List (ℕ × ℕ)) (plain offsets : List ℕ) : Type 0 where
+pub record AreChosen (rooms : List Room) (promise : Option ℕ) (Conflict : ℕ → ℕ → Type 0) (plain offsets : List ℕ) : Type 0 where
   pub shared : List ℕ
-  pub shared_placed : IsPlaced rooms promise (IsPair conflicts) shared
+  pub shared_placed : IsPlaced rooms promise Conflict shared
   pub chosen : offsets ≡ chosen_offsets rooms plain shared
   pub one_each : length offsets ≡ length rooms
   pub each_within : (k : ℕ) → k < length rooms → slice_index offsets k + size_at rooms k ≤ 2 ^ 24

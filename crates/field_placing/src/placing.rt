@@ -1,8 +1,8 @@
 //! The layouts of a frame.
 
 ghost use Rattle.std.specs.Prelude.{◌≡◌, ◌≤◌, ◌<◌, ◌+◌, ◌^◌, ℕ, IfOk, length, slice_index};
-ghost use Rattle.field_placing.specs.Placed.{Always};
-ghost use Rattle.field_placing.specs.Placings.{IsFrame, IsPlacing, IsPlainPlacing};
+ghost use Rattle.field_placing.specs.Placed.{Always, AreKeptApart};
+ghost use Rattle.field_placing.specs.Placings.{IsFrame, IsPlacing, IsPlacingBy, IsPlainPlacing};
 ghost use Rattle.field_placing.specs.Rooms.{size_at};
 ghost use Rattle.field_placing.specs.Steps.{AreChosen, IsOrder, IsPlacedWithin};
 
@@ -66,16 +66,55 @@ fn chosen(
     promise: Option<usize>,
     order: &[usize],
     conflicts: &[(usize, usize)],
+    one: &[Items<usize>],
+    other: &[Items<usize>],
     plain: Items<u64>,
 ) -> Result<Items<u64>, AllocError>
     requires order { IsOrder rooms.now promise order.now }
     requires plain { IsPlacedWithin rooms.now promise Always (2 ^ 24) plain }
-    ensures { IfOk result (λ offsets. AreChosen rooms.now promise conflicts.now plain offsets) }
+    ensures { IfOk result (λ offsets. AreChosen rooms.now promise (AreKeptApart conflicts.now one.now other.now) plain offsets) }
 {
     let limit = end_of(rooms, plain.as_slice());
-    match place_beside(alloc, rooms, promise, order, conflicts, limit)? {
+    match place_beside(alloc, rooms, promise, order, conflicts, one, other, limit)? {
         None => Ok(plain),
         Some(shared) => Ok(shared),
+    }
+}
+
+/// The layout in which fields may share bytes unless they conflict: unless one of the pairs names them, or one of them is on the
+/// one side of a group and the other on its other side. `one` and `other` have for each field the groups on whose sides it is.
+/// Where the layout would end later than the plain one, it is that one. None where the plain layout ends above 2^24.
+///
+/// Fields need no pair for each two of them that conflict: the time goes by the pairs, and by the stretches of bytes that are
+/// taken on the sides of a field's groups.
+///
+/// Fails only for want of memory.
+pub fn place_by(
+    alloc: Global,
+    rooms: &[Room],
+    promise: Option<usize>,
+    conflicts: &[(usize, usize)],
+    one: &[Items<usize>],
+    other: &[Items<usize>],
+) -> Result<Option<Placing>, AllocError>
+    ensures { IfOk result (λ found. IsPlacingBy rooms.now promise (AreKeptApart conflicts.now one.now other.now) found) }
+{
+    let order = order_of(alloc, rooms, promise)?;
+    match place_behind(alloc, rooms, promise, order.as_slice(), LIMIT)? {
+        None => Ok(None),
+        Some(plain) => {
+            let offsets = chosen(
+                alloc,
+                rooms,
+                promise,
+                order.as_slice(),
+                conflicts,
+                one,
+                other,
+                plain,
+            )?;
+            Ok(Some(frame_of(rooms, offsets)))
+        }
     }
 }
 
@@ -92,12 +131,5 @@ pub fn place(
 ) -> Result<Option<Placing>, AllocError>
     ensures { IfOk result (λ found. IsPlacing rooms.now promise conflicts.now found) }
 {
-    let order = order_of(alloc, rooms, promise)?;
-    match place_behind(alloc, rooms, promise, order.as_slice(), LIMIT)? {
-        None => Ok(None),
-        Some(plain) => {
-            let offsets = chosen(alloc, rooms, promise, order.as_slice(), conflicts, plain)?;
-            Ok(Some(frame_of(rooms, offsets)))
-        }
-    }
+    place_by(alloc, rooms, promise, conflicts, &[], &[])
 }

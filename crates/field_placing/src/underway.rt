@@ -1,15 +1,15 @@
 //! Placing field by field in the order.
 
-ghost use Rattle.std.specs.Prelude.{◌≡◌, ℕ, ◌<◌, ◌≤◌, ◌+◌, ◌^◌, ◌⊎◌, IfOk, MatchOption, OnOk, Some, length, map, replicate, slice_get, slice_index};
-ghost use Rattle.std.specs.List.{Contains};
-ghost use Rattle.field_placing.specs.Bars.{AreBars, IsFloor, IsMore};
-ghost use Rattle.field_placing.specs.Placed.{Always, IsPair};
+ghost use Rattle.std.specs.Prelude.{◌≡◌, ◌<◌, ◌≤◌, ◌^◌, ◌⊎◌, IfOk, MatchOption, Some, length, map, replicate, slice_get};
+ghost use Rattle.field_placing.specs.Bars.{AreBars, IsFloor};
+ghost use Rattle.field_placing.specs.Placed.{Always, AreKeptApart};
 ghost use Rattle.field_placing.specs.Rooms.{size_at};
-ghost use Rattle.field_placing.specs.Steps.{CoverFields, HasNoRoom, HasRoom, IsOrder, IsPlacedWithin, NoneWithin, placed_by};
+ghost use Rattle.field_placing.specs.Steps.{HasNoRoom, HasRoom, IsOrder, IsPlacedWithin, NoneWithin, placed_by};
 
-use crate::bars::{Bar, add, least_offset};
+use crate::bars::{Bar, least_offset};
 use crate::earlier::earlier;
 use crate::room::{Room, alignment_at, is_promise, size_at};
+use crate::sides::{add_field, add_to, groups_of, taken_bars};
 use coro_base::Items;
 use std::alloc::{AllocError, Global};
 
@@ -69,44 +69,6 @@ fn floor_for(last: Last, size: u64, align: u64) -> u64
     }
 }
 
-/// The bytes of these fields, in order of their starts.
-fn bars_of(
-    alloc: Global,
-    rooms: &[Room],
-    offsets: &[u64],
-    fields: &[usize],
-) -> Result<Vec<Bar>, AllocError>
-    requires { (j : ℕ) → Contains fields.now j → (j < length offsets.now) × (slice_index offsets.now j + size_at rooms.now j ≤ 2 ^ 24) }
-    ensures { IfOk result (λ bars. CoverFields rooms.now offsets.now fields.now bars.items) }
-{
-    let mut bars = Vec::new(alloc);
-    for k in fields {
-        let size = size_at(rooms, *k);
-        let start = offsets[*k];
-        if size > 0 {
-            bars.push(Bar {
-                start,
-                end: start + size,
-            })?;
-        }
-    }
-    bars.sort_unstable_by_key(|bar| bar.start);
-    Ok(bars)
-}
-
-/// Covers the bytes of a field.
-fn add_field(bars: &mut Vec<Bar>, offset: u64, size: u64) -> Result<(), AllocError>
-    requires bars { AreBars bars.old.items }
-    requires fits { offset + size ≤ 2 ^ 24 }
-    ensures { OnOk result (IsMore bars.old.items (record { start = offset; end = offset + size }) bars.new.items) }
-{
-    if size == 0 {
-        return Ok(());
-    }
-    let end = offset + size;
-    add(bars, Bar { start: offset, end })
-}
-
 fn row_at(rows: &[Vec<usize>], k: usize) -> &[usize]
     requires { k < length rows.now }
     ensures { slice_get (map (λ row. row.items) rows.now) k ≡ Some result.now }
@@ -121,21 +83,41 @@ pub(crate) fn place_beside(
     promise: Option<usize>,
     order: &[usize],
     conflicts: &[(usize, usize)],
+    one: &[Items<usize>],
+    other: &[Items<usize>],
     limit: u64,
 ) -> Result<Option<Items<u64>>, AllocError>
     requires order { IsOrder rooms.now promise order.now }
     requires header { 16 ≤ limit }
     requires limit { limit ≤ 2 ^ 24 }
-    ensures { IfOk result (λ found. MatchOption found (NoneWithin rooms.now promise (IsPair conflicts.now) limit) (λ offsets. IsPlacedWithin rooms.now promise (IsPair conflicts.now) limit offsets)) }
+    ensures { IfOk result (λ found. MatchOption found (NoneWithin rooms.now promise (AreKeptApart conflicts.now one.now other.now) limit) (λ offsets. IsPlacedWithin rooms.now promise (AreKeptApart conflicts.now one.now other.now) limit offsets)) }
 {
     let rows = earlier(alloc, rooms, promise, conflicts)?;
     let mut offsets = zeros(alloc, rooms.len())?;
+    let mut ones = Vec::new(alloc);
+    let mut others = Vec::new(alloc);
     for k in order {
         let row = row_at(rows.as_slice(), *k);
-        let bars = bars_of(alloc, rooms, offsets.as_slice(), row)?;
+        let on_one = groups_of(one, *k);
+        let on_other = groups_of(other, *k);
+        let bars = taken_bars(
+            alloc,
+            rooms,
+            offsets.as_slice(),
+            row,
+            ones.as_slice(),
+            others.as_slice(),
+            on_one,
+            on_other,
+        )?;
         match place_one(rooms, promise, bars.as_slice(), *k, BEHIND_HEADER, limit) {
             None => return Ok(None),
-            Some(offset) => offsets.set(*k, offset),
+            Some(offset) => {
+                let size = size_at(rooms, *k);
+                add_to(alloc, &mut ones, on_one, offset, size)?;
+                add_to(alloc, &mut others, on_other, offset, size)?;
+                offsets.set(*k, offset);
+            }
         }
     }
     Ok(Some(offsets))

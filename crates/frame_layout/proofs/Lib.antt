@@ -1,3 +1,4 @@
+pub mod Grouped
 pub mod Marked
 pub mod Orders
 pub mod Turns

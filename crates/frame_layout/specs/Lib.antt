@@ -2,3 +2,4 @@ pub mod Frames
 pub mod Conflicts
 pub mod Rows
 pub mod Layouts
+pub mod Sides

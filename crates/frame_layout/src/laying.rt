@@ -1,14 +1,18 @@
 //! The layouts of frames.
 
-ghost use Rattle.std.specs.Prelude.{◌≡◌, IfOk, map, position};
+ghost use Rattle.std.specs.Prelude.{◌≡◌, ℕ, IfOk, List, map, position};
 ghost use Rattle.field_placing.specs.declared.placing.Placing.{Placing as ThePlacing};
-ghost use Rattle.frame_layout.specs.Layouts.{IsLaidOut, IsLaidOutPlain, IsLayoutBy, index_offset as index_offset_of, is_index as is_index_kind, is_promise as is_promise_kind, placed as placed_at, promise_of as promise_position, rooms_of as rooms_of_fields};
+ghost use Rattle.frame_layout.specs.Conflicts.{field_conflicts};
+ghost use Rattle.frame_layout.specs.Layouts.{IsLaidOut, IsLaidOutPlain, IsLayoutBy, IsPlaced, index_offset as index_offset_of, is_index as is_index_kind, is_promise as is_promise_kind, placed as placed_at, promise_of as promise_position, rooms_of as rooms_of_fields};
+ghost use Rattle.frame_layout.specs.Sides.{AreNamed};
 ghost use Rattle.frame_layout.specs.declared.laying.LayoutError.TheVariants.{OutOfMemory};
 
 use crate::layout::{Field, FieldKind, Layout, PlacedField};
 use crate::order::{offset_at, order_of};
-use coro_base::{Data, FuncId, Items};
-use field_placing::{Placing, Room, place, place_plain};
+use crate::rows::rows_by_first;
+use crate::sides::{one_pairs, other_pairs};
+use coro_base::{Data, FuncId, Items, SuspendId};
+use field_placing::{Placing, Room, place, place_by, place_plain};
 use std::alloc::{AllocError, Global};
 use thiserror::Error;
 
@@ -159,6 +163,56 @@ pub fn lay_out(
 {
     let rooms = rooms_of(alloc, fields)?;
     match place(alloc, &rooms, promise_of(fields), conflicts)? {
+        None => Err(LayoutError::FrameTooLarge),
+        Some(placing) => Ok(layout_by(alloc, coroutine, fields, placing)?),
+    }
+}
+
+/// The offsets of fields whose conflicts are given without their pairs.
+fn placed_by(
+    alloc: Global,
+    fields: &[Field],
+    crossing: &[(usize, SuspendId)],
+    alive_at: &[(usize, SuspendId)],
+    slots: &[usize],
+    wide: &[usize],
+    narrow: &[(usize, usize)],
+) -> Result<Option<Placing>, AllocError>
+    ensures { IfOk result (λ found. (named : List (ℕ × ℕ)) → AreNamed slots.now wide.now narrow.now named → IsPlaced fields.now (field_conflicts fields.now crossing.now alive_at.now named) found) }
+{
+    let rooms = rooms_of(alloc, fields)?;
+    let one = one_pairs(alloc, fields, crossing, wide)?;
+    let other = other_pairs(alloc, fields, crossing, alive_at, slots)?;
+    let one = rows_by_first(alloc, one.as_slice())?;
+    let other = rows_by_first(alloc, other.as_slice())?;
+    place_by(
+        alloc,
+        rooms.as_slice(),
+        promise_of(fields),
+        narrow,
+        one.as_slice(),
+        other.as_slice(),
+    )
+}
+
+/// What `lay_out` gives by `field_conflicts`, without the pairs: by the values that cross suspends, the slots that may be alive
+/// there, and of the slots those that conflict with all slots (`wide`), and the pairs of others that conflict (`narrow`). It is
+/// the layout by any list of pairs of slots that names just these.
+///
+/// The frame is too large exactly where the plain layout ends above 2^24.
+pub fn lay_out_by(
+    alloc: Global,
+    coroutine: FuncId,
+    fields: &[Field],
+    crossing: &[(usize, SuspendId)],
+    alive_at: &[(usize, SuspendId)],
+    slots: &[usize],
+    wide: &[usize],
+    narrow: &[(usize, usize)],
+) -> Result<Layout, LayoutError>
+    ensures { (named : List (ℕ × ℕ)) → AreNamed slots.now wide.now narrow.now named → IsLaidOut coroutine fields.now (field_conflicts fields.now crossing.now alive_at.now named) result }
+{
+    match placed_by(alloc, fields, crossing, alive_at, slots, wide, narrow)? {
         None => Err(LayoutError::FrameTooLarge),
         Some(placing) => Ok(layout_by(alloc, coroutine, fields, placing)?),
     }

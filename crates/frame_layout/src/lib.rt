@@ -8,7 +8,8 @@ mod layout;
 mod marks;
 mod order;
 mod rows;
+mod sides;
 
 pub use conflicts::field_conflicts;
-pub use laying::{LayoutError, lay_out, lay_out_plain};
+pub use laying::{LayoutError, lay_out, lay_out_by, lay_out_plain};
 pub use layout::{Field, FieldKind, Layout, Layouts, PlacedField, index_alone, index_size};

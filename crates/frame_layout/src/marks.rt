@@ -9,7 +9,8 @@ use crate::rows::row_of;
 use coro_base::Items;
 use std::alloc::{AllocError, Global};
 
-fn is_apart(kind: FieldKind) -> bool
+/// Whether a field of a kind shares bytes with none.
+pub(crate) fn is_apart(kind: FieldKind) -> bool
     ensures { result ≡ is_apart kind }
 {
     match kind {

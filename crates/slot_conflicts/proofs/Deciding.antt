@@ -82,7 +82,7 @@ far_back f slot n a (suc m) quiet s =
 
 -- ---- one slot
 
-record IsPart (f : Function) (looked : List Point) (chunks : List Chunk) (i slot : ℕ) : Type 0 where
+pub record IsPart (f : Function) (looked : List Point) (chunks : List Chunk) (i slot : ℕ) : Type 0 where
   pub loose : is_loose_at chunks i ≡ true → (markers_of f slot ≡ [] → ⊥) × (IsUsedEarly f slot → ⊥)
   pub tight : is_loose_at chunks i ≡ false → (markers_of f slot ≡ []) ⊎ IsUsedEarly f slot
   pub seen : is_loose_at chunks i ≡ true → (k : ℕ) → HasBit (word_at (seen_at chunks (i / 64)) k) (i % 64) ↔ IsSeen f slot looked k
@@ -91,7 +91,7 @@ not_bit : (w c : ℕ) → (bit_at w c == 1) ≡ false → HasBit w c → ⊥
 not_bit w c e h = false≢true (sym e ∙ eq-eqb (bit_at w c) 1 h)
 
 module _ (f : Function) (known : Known) (is : IsKnown f known) where
-  part_of : (i slot : ℕ) → IsFrameSlotAt f i slot → IsPart f is.looked known.chunks i slot
+  pub part_of : (i slot : ℕ) → IsFrameSlotAt f i slot → IsPart f is.looked known.chunks i slot
   part_of i slot at =
       let lt = slice_get_within (allocas_of f) i slot at.stands in
       let found : (x : Chunk) × (slice_get known.chunks (i / 64) ≡ Some x) = place_in known.chunks (i / 64) (is.are_all i lt) in

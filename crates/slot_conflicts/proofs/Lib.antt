@@ -9,3 +9,5 @@ pub mod Earliness
 pub mod Meetings
 pub mod Chunks
 pub mod Deciding
+pub mod Parting
+pub mod Named

@@ -6,3 +6,4 @@ pub mod Looked
 pub mod Early
 pub mod Meeting
 pub mod Known
+pub mod Parts

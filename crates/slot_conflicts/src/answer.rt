@@ -19,7 +19,8 @@ use std::alloc::{AllocError, Global};
 
 // ---- conflicts
 
-fn loose_at(chunks: &Items<Chunk>, at: usize) -> u64
+/// The slots of a chunk that have markers and aren't used before begin.
+pub(crate) fn loose_at(chunks: &Items<Chunk>, at: usize) -> u64
     ensures { result ≡ loose_of_chunk chunks.now at }
 {
     match chunks.get(at) {
@@ -29,7 +30,7 @@ fn loose_at(chunks: &Items<Chunk>, at: usize) -> u64
 }
 
 /// Whether the slot of a position has markers and isn't used before begin.
-fn is_loose(known: &Known, at: usize) -> bool
+pub(crate) fn is_loose(known: &Known, at: usize) -> bool
     ensures { result ≡ is_loose_at known.now.chunks at }
 {
     has_bit(loose_at(&known.chunks, at / 64), at % 64)
@@ -53,7 +54,7 @@ fn are_apart(known: &Known, met: &Items<Items<u64>>, one: usize, other: usize) -
 }
 
 /// Whether a frame slot conflicts with the slot of a position behind it.
-fn is_conflict(
+pub(crate) fn is_conflict(
     function: &Function,
     known: &Known,
     met: &Items<Items<u64>>,

@@ -6,10 +6,14 @@ mod answer;
 mod bits;
 mod early;
 mod facts;
+mod law;
 mod looked;
 mod meeting;
 mod pairs;
+mod parts;
 mod started;
 mod suspended;
 
 pub use answer::{alive_at, alive_by, conflicts, conflicts_by};
+pub use law::parts_stand_for_pairs;
+pub use parts::{SlotParts, parts_by};

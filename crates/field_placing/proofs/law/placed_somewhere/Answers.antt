@@ -1,4 +1,4 @@
-use Rattle.field_placing.proofs.Both.{is_plain, is_shared}
+use Rattle.field_placing.proofs.Both.{is_apart, is_plain, is_shared}
 use Rattle.field_placing.proofs.law.placed_somewhere.Goals as goal
 
 pub returns-clause-plain : goal.returns-clause-plain
@@ -6,3 +6,6 @@ returns-clause-plain c = λ rooms promise. is_plain rooms promise
 
 pub returns-clause-shared : goal.returns-clause-shared
 returns-clause-shared c = λ rooms promise conflicts. is_shared rooms promise conflicts
+
+pub returns-clause-grouped : goal.returns-clause-grouped
+returns-clause-grouped c = λ rooms promise conflicts one other. is_apart rooms promise conflicts one other

@@ -1,5 +1,7 @@
 use Rattle.std.proofs.Common.{List, ℕ, length, ap, ◌∙◌, arith}
 use Rattle.field_placing.specs.Ends.{end_of}
+use Rattle.field_placing.specs.Placed.{AreKeptApart}
+use Rattle.field_placing.proofs.Both.{is_apart}
 use Rattle.field_placing.proofs.Choosing.{kept_plain}
 use Rattle.field_placing.proofs.Greatest.{end_from}
 use Rattle.field_placing.proofs.placing.chosen.Goals as goal
@@ -14,4 +16,5 @@ place_beside-requires-clause-header c =
 pub returns-in-None : goal.returns-in-None
 returns-in-None c =
     let is = c.end_of-limit.ensures ∙ ap (λ (o : List ℕ). end_of c.args.rooms.now o) c.as_slice.ensures in
-    kept_plain c.args.rooms.now c.args.promise c.args.conflicts.now c.args.plain c.end_of-limit.result c.requires.plain is (rw c.in-None.is at c.in_ok-place_beside.ensures)
+    kept_plain c.args.rooms.now c.args.promise (AreKeptApart c.args.conflicts.now c.args.one.now c.args.other.now) c.args.plain c.end_of-limit.result c.requires.plain is
+    (is_apart c.args.rooms.now c.args.promise c.args.conflicts.now c.args.one.now c.args.other.now) (rw c.in-None.is at c.in_ok-place_beside.ensures)

@@ -1,5 +1,5 @@
-use Rattle.field_placing.proofs.Choosing.{too_large}
+use Rattle.field_placing.proofs.Choosing.{if_by_none}
 use Rattle.field_placing.proofs.placing.place.Goals as goal
 
-pub returns-in-None : goal.returns-in-None
-returns-in-None c = too_large c.args.rooms.now c.args.promise c.args.conflicts.now (rw c.in-None.is at c.in_ok-place_behind.ensures)
+pub returns : goal.returns
+returns c = if_by_none c.args.rooms.now c.args.promise c.args.conflicts.now c.place_by.result c.place_by.ensures

@@ -1,6 +1,12 @@
-use Rattle.field_placing.specs.Placed.{IsPair}
+use Rattle.std.proofs.Common.{map}
+use Rattle.field_placing.specs.Groups.{CoverSide}
+use Rattle.field_placing.specs.Placed.{AreKeptApart}
 use Rattle.field_placing.specs.Steps.{IsUnderway}
 use Rattle.field_placing.proofs.underway.place_beside.Given as goal
 
 abbrev pub invariant-loop-k : goal.invariant-loop-k
-invariant-loop-k l = IsUnderway l.rooms l.promise (IsPair l.conflicts) l.order l.limit l.k-index l.offsets
+invariant-loop-k l = record {
+  underway : IsUnderway l.rooms l.promise (AreKeptApart l.conflicts l.one l.other) l.order l.limit l.k-index l.offsets;
+  ones : CoverSide l.rooms l.order l.k-index l.offsets l.one (map (λ bars. bars.items) l.ones.items);
+  others : CoverSide l.rooms l.order l.k-index l.offsets l.other (map (λ bars. bars.items) l.others.items);
+}

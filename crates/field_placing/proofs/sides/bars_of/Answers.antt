@@ -2,8 +2,8 @@ use Rattle.std.proofs.Common.{rules, take, subst, sym, ◌∙◌, ap, arith, ◌
 use Rattle.std.proofs.lemmas.List.Sorted.{IsNonDecreasingBy-from_sort_by_key}
 use Rattle.field_placing.specs.declared.bars.Bar.{Bar}
 use Rattle.field_placing.proofs.Covering.{IsGathered, gather_push, gather_skip, gathered}
-use Rattle.field_placing.proofs.underway.bars_of.Goals as goal
-use Rattle.field_placing.proofs.underway.bars_of.Goals.{then-size-gt0+in_ok-push, else-size-gt0}
+use Rattle.field_placing.proofs.sides.bars_of.Goals as goal
+use Rattle.field_placing.proofs.sides.bars_of.Goals.{then-size-gt0+in_ok-push, else-size-gt0}
 
 pub loop-k-preserved : goal.loop-k-preserved
 loop-k-preserved c =
