@@ -7,8 +7,6 @@ mod progress;
 mod starting;
 mod state;
 mod stepping;
-#[cfg(test)]
-mod tests;
 
 pub use machine::PlainMachine;
 pub use progress::Progress;
