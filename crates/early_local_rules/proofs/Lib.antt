@@ -1,0 +1,3 @@
+pub mod Turned
+pub mod Carried
+pub mod Rules
