@@ -7,7 +7,7 @@ use Rattle.coro_base.specs.declared.name.Name.{Name}
 use Rattle.coro_base.specs.declared.outcome.Item.{Item}
 use Rattle.coro_base.specs.declared.outcome.Place.{Place}
 use Rattle.early_local_rules.proofs.Carried.{Carries, StaysOut, carried, on_instrs}
-use Rattle.early_local_rules.proofs.Turned.{Begins, Saves, Stays, Turns, TurnsTo, turned_function}
+use Rattle.early_local_rules.proofs.Turned.{Any, Begins, Saves, Stays, Turns, TurnsTo, turned_function}
 use Rattle.early_local_rules.specs.Local.{BreaksNoLocalRule, BreaksNoLocalRuleIn}
 use Rattle.early_lower.specs.Early.{early_function, early_module}
 use Rattle.early_lower.specs.Renaming.{renamed, renamed_arg, renamed_callee, renamed_incoming, renamed_instr, renamed_phi, renamed_return, renamed_term}
@@ -36,6 +36,7 @@ use Rattle.local_rules.specs.Extents.{breaks_extents, misaligned_globals}
 use Rattle.local_rules.specs.Instrs.{on_instr}
 use Rattle.local_rules.specs.Intrinsics.{calls_inner}
 use Rattle.local_rules.specs.Transfers.{breaks_transfers}
+use Rattle.name_rules.specs.Definitions.{second_definitions}
 use Rattle.name_rules.specs.Items.{Sentence, first_function, first_item, first_place}
 use Rattle.name_rules.specs.Known.{allocator_name}
 use Rattle.name_rules.specs.declared.stage.Stage.{Stage}
@@ -158,7 +159,7 @@ module _ (m : Module) where
       on None = declared (declaration_named m n)
       on (Some k) = refl
 
-  module _ (r : Renaming) where
+  module _ (r : Renaming) (fresh : ℕ → Type 0) where
     calls_closed_same : (p q : Place) (i : Instr) → calls_closed m2 q (renamed_instr r i) ≡ calls_closed m p i
     calls_closed_same p q (Instr.Binary result op flags ty left right) = refl
     calls_closed_same p q (Instr.Icmp result pred ty left right) = refl
@@ -173,10 +174,10 @@ module _ (m : Module) where
     calls_closed_same p q (Instr.Call result must_tail ty (Callee.Intrinsic j) args) = refl
     calls_closed_same p q (Instr.Call result must_tail ty (Callee.Local v) args) = refl
 
-    closed_over : (p : Place) (i : Instr) (js : List Instr) → Turns r i js → calls_closed m p i ≡ false → Each (StaysOut (on_instr (calls_closed m2)) p) js
+    closed_over : (p : Place) (i : Instr) (js : List Instr) → Turns r fresh i js → calls_closed m p i ≡ false → Each (StaysOut (on_instr (calls_closed m2)) p) js
     closed_over p i _ (Stays _) e = (λ q d. calls_closed_same p q i ∙ e, tt)
     closed_over p _ _ (Begins n result must_tail ty args) e = (λ q d. refl, tt)
-    closed_over p _ _ (Saves n result must_tail ty a args none) e = (λ q d. refl, (λ q d. refl, tt))
+    closed_over p _ _ (Saves n result must_tail ty a args number none) e = (λ q d. refl, (λ q d. refl, tt))
 
     -- ---- Y4
 
@@ -191,10 +192,10 @@ module _ (m : Module) where
     extents_same p q (Instr.Gep result inbounds ty base indices) = refl
     extents_same p q (Instr.Call result must_tail ty callee args) = refl
 
-    extents_over : (p : Place) (i : Instr) (js : List Instr) → Turns r i js → breaks_extents Stage.Source m p i ≡ false → Each (StaysOut (on_instr (breaks_extents Stage.Source m2)) p) js
+    extents_over : (p : Place) (i : Instr) (js : List Instr) → Turns r fresh i js → breaks_extents Stage.Source m p i ≡ false → Each (StaysOut (on_instr (breaks_extents Stage.Source m2)) p) js
     extents_over p i _ (Stays _) e = (λ q d. extents_same p q i ∙ e, tt)
     extents_over p _ _ (Begins n result must_tail ty args) e = (λ q d. refl, tt)
-    extents_over p _ _ (Saves n result must_tail ty a args none) e = (λ q d. refl, (λ q d. refl, tt))
+    extents_over p _ _ (Saves n result must_tail ty a args number none) e = (λ q d. refl, (λ q d. refl, tt))
 
     -- ---- Y5
 
@@ -209,10 +210,10 @@ module _ (m : Module) where
     transfers_same f g p q (Instr.Gep result inbounds ty base indices) = refl
     transfers_same f g p q (Instr.Call result must_tail ty callee args) = refl
 
-    transfers_over : (f g : Function) (p : Place) (i : Instr) (js : List Instr) → Turns r i js → breaks_transfers Stage.Source f p i ≡ false → Each (StaysOut (on_instr (breaks_transfers Stage.Source g)) p) js
+    transfers_over : (f g : Function) (p : Place) (i : Instr) (js : List Instr) → Turns r fresh i js → breaks_transfers Stage.Source f p i ≡ false → Each (StaysOut (on_instr (breaks_transfers Stage.Source g)) p) js
     transfers_over f g p i _ (Stays _) e = (λ q d. transfers_same f g p q i ∙ e, tt)
     transfers_over f g p _ _ (Begins n result must_tail ty args) e = (λ q d. e, tt)
-    transfers_over f g p _ _ (Saves n result must_tail ty a args none) e = (λ q d. refl, (λ q d. e, tt))
+    transfers_over f g p _ _ (Saves n result must_tail ty a args number none) e = (λ q d. refl, (λ q d. e, tt))
 
     -- ---- F3
 
@@ -227,10 +228,10 @@ module _ (m : Module) where
     late_same p q (Instr.Gep result inbounds ty base indices) d = refl
     late_same p q (Instr.Call result must_tail ty callee args) d = refl
 
-    late_over : (p : Place) (i : Instr) (js : List Instr) → Turns r i js → allocates_late p i ≡ false → Each (StaysOut (on_instr allocates_late) p) js
+    late_over : (p : Place) (i : Instr) (js : List Instr) → Turns r fresh i js → allocates_late p i ≡ false → Each (StaysOut (on_instr allocates_late) p) js
     late_over p i _ (Stays _) e = (λ q d. late_same p q i d ∙ e, tt)
     late_over p _ _ (Begins n result must_tail ty args) e = (λ q d. refl, tt)
-    late_over p _ _ (Saves n result must_tail ty a args none) e = (λ q d. refl, (λ q d. refl, tt))
+    late_over p _ _ (Saves n result must_tail ty a args number none) e = (λ q d. refl, (λ q d. refl, tt))
 
     -- ---- K1
 
@@ -248,10 +249,10 @@ module _ (m : Module) where
     inner_same b p q (Instr.Call result must_tail ty (Callee.Intrinsic j) args) = refl
     inner_same b p q (Instr.Call result must_tail ty (Callee.Local v) args) = refl
 
-    inner_over : (b : Bool) (p : Place) (i : Instr) (js : List Instr) → Turns r i js → calls_inner b p i ≡ false → Each (StaysOut (on_instr (calls_inner b)) p) js
+    inner_over : (b : Bool) (p : Place) (i : Instr) (js : List Instr) → Turns r fresh i js → calls_inner b p i ≡ false → Each (StaysOut (on_instr (calls_inner b)) p) js
     inner_over b p i _ (Stays _) e = (λ q d. inner_same b p q i ∙ e, tt)
     inner_over b p _ _ (Begins n result must_tail ty args) e = (λ q d. e, tt)
-    inner_over b p _ _ (Saves n result must_tail ty a args none) e = (λ q d. e, (λ q d. e, tt))
+    inner_over b p _ _ (Saves n result must_tail ty a args number none) e = (λ q d. e, (λ q d. e, tt))
 
     -- ---- P1
 
@@ -295,12 +296,12 @@ module _ (m : Module) where
         let first : c ≡ true = h (holds a (or_first_out (not a) b e)) in
         (λ i. not (first i) || k i) ∙ or_second_out (not a) b e
 
-    pointers_over : (p : Place) (i : Instr) (js : List Instr) → Turns r i js → points_to_functions m p (OfInstr i) ≡ false → Each (StaysOut (points_to_functions m2) p) js
+    pointers_over : (p : Place) (i : Instr) (js : List Instr) → Turns r fresh i js → points_to_functions m p (OfInstr i) ≡ false → Each (StaysOut (points_to_functions m2) p) js
     pointers_over p i _ (Stays _) e =
         (λ q d. no_pointer (list_all (is_no_function m) (instr_operands i)) (calls_indirectly (OfInstr i)) (list_all (is_no_function m2) (instr_operands (renamed_instr r i))) (calls_indirectly (OfInstr (renamed_instr r i))) (all_in_instr r (is_no_function m) (is_no_function m2) no_function_renamed i) (indirect_same i) e, tt)
     pointers_over p _ _ (Begins n result must_tail ty args) e =
         (λ q d. no_pointer (list_all (is_no_function m) (arg_operands args)) false (list_all (is_no_function m2) (arg_operands (map (renamed_arg r) args))) false (all_in_args r (is_no_function m) (is_no_function m2) no_function_renamed args) refl e, tt)
-    pointers_over p _ _ (Saves n result must_tail ty a args none) e = (
+    pointers_over p _ _ (Saves n result must_tail ty a args number none) e = (
       λ q d. refl,
       (
         λ q d. no_pointer (list_all (is_no_function m) (a.value ∷ arg_operands args)) false (list_all (is_no_function m2) (arg_operands (map (renamed_arg r) args))) false
@@ -309,7 +310,7 @@ module _ (m : Module) where
       ),
     )
 
-    pointers_carried : (f g : Function) → Carries r f g (points_to_functions m) (points_to_functions m2)
+    pointers_carried : (f g : Function) → Carries r fresh f g (points_to_functions m) (points_to_functions m2)
     pointers_carried f g =
         record {
           signature = λ p e. refl;
@@ -336,7 +337,7 @@ module _ (m : Module) where
       on None = declared (declaration_named m n)
       on (Some k) = ap (fits_function ty ts) (slice_get-map early_function m.functions k) ∙ of_function (slice_get m.functions k)
 
-  module _ (r : Renaming) where
+  module _ (r : Renaming) (fresh : ℕ → Type 0) where
     types_same : (args : List Arg) → map (λ a. a.ty) (map (renamed_arg r) args) ≡ map (λ a. a.ty) args
     types_same [] = refl
     types_same (a ∷ args) = λ k. a.ty ∷ types_same args k
@@ -383,12 +384,12 @@ module _ (m : Module) where
     otherwise_same p q (Instr.Gep result inbounds ty base indices) = refl
     otherwise_same p q (Instr.Call result must_tail ty callee args) = ap not (callee_same ty args callee)
 
-    otherwise_over : (p : Place) (i : Instr) (js : List Instr) → Turns r i js → calls_otherwise m p (OfInstr i) ≡ false → Each (StaysOut (calls_otherwise m2) p) js
+    otherwise_over : (p : Place) (i : Instr) (js : List Instr) → Turns r fresh i js → calls_otherwise m p (OfInstr i) ≡ false → Each (StaysOut (calls_otherwise m2) p) js
     otherwise_over p i _ (Stays _) e = (λ q d. otherwise_same p q i ∙ e, tt)
     otherwise_over p _ _ (Begins n result must_tail ty args) e = (λ q d. ap not (callee_same ty args (Callee.Intrinsic Intrinsic.CoroBegin)) ∙ e, tt)
-    otherwise_over p _ _ (Saves n result must_tail ty a args none) e = (λ q d. refl, (λ q d. ap not (callee_same ty (a ∷ args) (Callee.Intrinsic Intrinsic.CoroSuspend)) ∙ e, tt))
+    otherwise_over p _ _ (Saves n result must_tail ty a args number none) e = (λ q d. refl, (λ q d. ap not (callee_same ty (a ∷ args) (Callee.Intrinsic Intrinsic.CoroSuspend)) ∙ e, tt))
 
-    otherwise_carried : (f g : Function) → Carries r f g (calls_otherwise m) (calls_otherwise m2)
+    otherwise_carried : (f g : Function) → Carries r fresh f g (calls_otherwise m) (calls_otherwise m2)
     otherwise_carried f g =
         record {
           signature = λ p e. refl;
@@ -406,15 +407,15 @@ pub record CarriesSentence (m : Module) (s now : Sentence) : Type 0 where
   pub on_declaration : (k : ℕ) (d : Declaration) → s.on_declaration k d ≡ false → now.on_declaration k d ≡ false
   pub in_function : (k : ℕ) (f : Function) → slice_get m.functions k ≡ Some f → s.in_function k f ≡ None → now.in_function k (early_function f) ≡ None
 
-first_out : (o q : Option Place) → or_place o q ≡ None → o ≡ None
+pub first_out : (o q : Option Place) → or_place o q ≡ None → o ≡ None
 first_out None q e = refl
 first_out (Some p) q e = absurd (cc)
 
-second_out : (o q : Option Place) → or_place o q ≡ None → q ≡ None
+pub second_out : (o q : Option Place) → or_place o q ≡ None → q ≡ None
 second_out None q e = e
 second_out (Some p) q e = absurd (cc)
 
-both_out : (o q : Option Place) → o ≡ None → q ≡ None → or_place o q ≡ None
+pub both_out : (o q : Option Place) → o ≡ None → q ≡ None → or_place o q ≡ None
 both_out o q e d = ap (λ (x : Option Place). or_place x q) e ∙ d
 
 not_placed : (b : Bool) (p : Place) → place_if b p ≡ None → b ≡ false
@@ -468,12 +469,12 @@ in_function_carried m k f h =
     let r : Renaming = t.renaming in
     let m2 : Module = early_module m in
     record {
-      closed_calls = carried r f g (on_instr (calls_closed m)) (on_instr (calls_closed m2)) (on_instrs r f g (calls_closed m) (calls_closed m2) (closed_over m r)) k t.blocks h.closed_calls;
-      extents = carried r f g (on_instr (breaks_extents Stage.Source m)) (on_instr (breaks_extents Stage.Source m2)) (on_instrs r f g (breaks_extents Stage.Source m) (breaks_extents Stage.Source m2) (extents_over m r)) k t.blocks h.extents;
-      transfers = carried r f g (on_instr (breaks_transfers Stage.Source f)) (on_instr (breaks_transfers Stage.Source g)) (on_instrs r f g (breaks_transfers Stage.Source f) (breaks_transfers Stage.Source g) (transfers_over m r f g)) k t.blocks h.transfers;
-      allocas = carried r f g (on_instr allocates_late) (on_instr allocates_late) (on_instrs r f g allocates_late allocates_late (late_over m r)) k t.blocks h.allocas;
-      function_pointers = carried r f g (points_to_functions m) (points_to_functions m2) (pointers_carried m r f g) k t.blocks h.function_pointers;
-      misplaced = subst (λ (b : Bool). first_part (on_instr (calls_inner b)) (parts_of k g) ≡ None) (sym t.coroutine) (carried r f g (on_instr (calls_inner f.coroutine)) (on_instr (calls_inner f.coroutine)) (on_instrs r f g (calls_inner f.coroutine) (calls_inner f.coroutine) (inner_over m r f.coroutine)) k t.blocks h.misplaced);
+      closed_calls = carried r Any f g (on_instr (calls_closed m)) (on_instr (calls_closed m2)) (on_instrs r Any f g (calls_closed m) (calls_closed m2) (closed_over m r Any)) k t.blocks h.closed_calls;
+      extents = carried r Any f g (on_instr (breaks_extents Stage.Source m)) (on_instr (breaks_extents Stage.Source m2)) (on_instrs r Any f g (breaks_extents Stage.Source m) (breaks_extents Stage.Source m2) (extents_over m r Any)) k t.blocks h.extents;
+      transfers = carried r Any f g (on_instr (breaks_transfers Stage.Source f)) (on_instr (breaks_transfers Stage.Source g)) (on_instrs r Any f g (breaks_transfers Stage.Source f) (breaks_transfers Stage.Source g) (transfers_over m r Any f g)) k t.blocks h.transfers;
+      allocas = carried r Any f g (on_instr allocates_late) (on_instr allocates_late) (on_instrs r Any f g allocates_late allocates_late (late_over m r Any)) k t.blocks h.allocas;
+      function_pointers = carried r Any f g (points_to_functions m) (points_to_functions m2) (pointers_carried m r Any f g) k t.blocks h.function_pointers;
+      misplaced = subst (λ (b : Bool). first_part (on_instr (calls_inner b)) (parts_of k g) ≡ None) (sym t.coroutine) (carried r Any f g (on_instr (calls_inner f.coroutine)) (on_instr (calls_inner f.coroutine)) (on_instrs r Any f g (calls_inner f.coroutine) (calls_inner f.coroutine) (inner_over m r Any f.coroutine)) k t.blocks h.misplaced);
     }
 
 types_carried : (m : Module) → CarriesSentence m (other_types m) (other_types (early_module m))
@@ -482,7 +483,7 @@ types_carried m =
       on_type = λ k t e. e;
       on_global = λ k g e. e;
       on_declaration = λ k d e. e;
-      in_function = λ k f there e. let t = turned_function f in carried t.renaming f (early_function f) (calls_otherwise m) (calls_otherwise (early_module m)) (otherwise_carried m t.renaming f (early_function f)) k t.blocks e;
+      in_function = λ k f there e. let t = turned_function f in carried t.renaming Any f (early_function f) (calls_otherwise m) (calls_otherwise (early_module m)) (otherwise_carried m t.renaming Any f (early_function f)) k t.blocks e;
     }
 
 initial_stays : (m : Module) (ty : Ty) (x : Operand) → fits_initial (early_module m) ty x ≡ fits_initial m ty x
@@ -507,9 +508,10 @@ initials_carried m =
 alignments_carried : (m : Module) → CarriesSentence m misaligned_globals misaligned_globals
 alignments_carried m = record { on_type = λ k t e. e; on_global = λ k g e. e; on_declaration = λ k d e. e; in_function = λ k f there e. refl }
 
-pub local_rules_carried : (m : Module) → BreaksNoLocalRule m → BreaksNoLocalRule (early_module m)
-local_rules_carried m h =
+pub local_rules_carried : (m : Module) → BreaksNoLocalRule m → first_place (second_definitions (early_module m)) (early_module m) ≡ None → BreaksNoLocalRule (early_module m)
+local_rules_carried m h definitions =
     record {
+      definitions = definitions;
       types = sentence_carried m (other_types m) (other_types (early_module m)) (types_carried m) h.types;
       initials = sentence_carried m (wrong_initials m) (wrong_initials (early_module m)) (initials_carried m) h.initials;
       alignments = sentence_carried m misaligned_globals misaligned_globals (alignments_carried m) h.alignments;

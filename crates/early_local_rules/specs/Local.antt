@@ -8,6 +8,7 @@ use Rattle.local_rules.specs.Entries.{first_late_alloca}
 use Rattle.local_rules.specs.Extents.{first_past_extent, misaligned_globals}
 use Rattle.local_rules.specs.Intrinsics.{first_misplaced}
 use Rattle.local_rules.specs.Transfers.{first_wrong_transfer}
+use Rattle.name_rules.specs.Definitions.{second_definitions}
 use Rattle.name_rules.specs.Items.{first_place}
 use Rattle.name_rules.specs.declared.stage.Stage.{Stage}
 use Rattle.type_rules.specs.Signatures.{other_types}
@@ -22,8 +23,9 @@ pub record BreaksNoLocalRuleIn (m : Module) (k : ℕ) (f : Function) : Type 0 wh
   pub function_pointers : first_function_pointer m k f ≡ None
   pub misplaced : first_misplaced Stage.Source k f ≡ None
 
--- a module breaks none of Y2, of Y1 and Y4 of globals, and of these
+-- a module breaks none of N1 and Y2, of Y1 and Y4 of globals, and of these
 pub record BreaksNoLocalRule (m : Module) : Type 0 where
+  pub definitions : first_place (second_definitions m) m ≡ None
   pub types : first_place (other_types m) m ≡ None
   pub initials : first_place (wrong_initials m) m ≡ None
   pub alignments : first_place misaligned_globals m ≡ None
