@@ -82,12 +82,14 @@ in_function m k f x e =
     let values = in_values m k f a.0 in
     let placing = in_placing m k f c.0 in
     record {
+      values = values.0;
       closed_calls = values.1;
       extents = values.2;
       transfers = values.3;
       allocas = in_flow k f x b.0;
       function_pointers = placing.0;
       misplaced = placing.1;
+      marks = (both_refused Rule.K13 (first_other_mark m k f) None d.1).0;
     }
 
 in_functions : (m : Module) (faults : List PathFaults) (at : ℕ) (fs : List Function) (k : ℕ) (f : Function) → functions_refusal Stage.Source m faults at fs ≡ None → slice_get fs k ≡ Some f → function_refusal Stage.Source m (at + k) f (faults_at faults (at + k)) ≡ None
@@ -143,6 +145,7 @@ accepted_breaks_none m h =
     let items = in_items m h.faults both.1 in
     record {
       definitions = of_module.definitions;
+      known = of_module.known;
       types = of_module.types;
       initials = items.initials;
       alignments = items.alignments;

@@ -4,4 +4,9 @@ pub mod Rules
 pub mod Woven
 pub mod Names
 pub mod Accepted
+pub mod ValueKinds
+pub mod Defined
+pub mod Followed
+pub mod Known
+pub mod Fitting
 pub mod Sources

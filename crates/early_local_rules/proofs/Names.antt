@@ -98,18 +98,18 @@ Single is = (k l : ℕ) (i j : Instr) → slice_get is k ≡ Some i → slice_ge
 abbrev SingleIn : List Block → Type 0
 SingleIn bs = (k l : ℕ) (b c : Block) (x y : ℕ) (i j : Instr) → slice_get bs k ≡ Some b → slice_get bs l ≡ Some c → slice_get b.instrs x ≡ Some i → slice_get c.instrs y ≡ Some j → is_begin i ≡ true → is_begin j ≡ true → (k ≡ l) × (x ≡ y)
 
-abbrev Unnamed : Instr → Type 0
+abbrev pub Unnamed : Instr → Type 0
 Unnamed i = result_of_call Intrinsic.CoroBegin i ≡ None
 
-left_none : (a b : Option ℕ) → or_else a b ≡ None → a ≡ None
+pub left_none : (a b : Option ℕ) → or_else a b ≡ None → a ≡ None
 left_none None b e = refl
 left_none (Some n) b e = absurd (cc)
 
-right_none : (a b : Option ℕ) → or_else a b ≡ None → b ≡ None
+pub right_none : (a b : Option ℕ) → or_else a b ≡ None → b ≡ None
 right_none None b e = e
 right_none (Some n) b e = absurd (cc)
 
-unnamed_in : (is : List Instr) → first_result_in Intrinsic.CoroBegin is ≡ None → Each Unnamed is
+pub unnamed_in : (is : List Instr) → first_result_in Intrinsic.CoroBegin is ≡ None → Each Unnamed is
 unnamed_in [] e = tt
 unnamed_in (i ∷ is) e = (left_none (result_of_call Intrinsic.CoroBegin i) (first_result_in Intrinsic.CoroBegin is) e, unnamed_in is (right_none (result_of_call Intrinsic.CoroBegin i) (first_result_in Intrinsic.CoroBegin is) e))
 
@@ -222,7 +222,7 @@ is_definition [] n h = absurd h
 is_definition (d ∷ ds) n (inl e) = (d, (inl refl, sym e))
 is_definition (d ∷ ds) n (inr h) = let x = is_definition ds n h in (x.0, (inr x.1.0, x.1.1))
 
-longer : {A : Type 0} (xs : List A) (x : A) → length (xs ++ x ∷ []) ≡ length xs + 1
+pub longer : {A : Type 0} (xs : List A) (x : A) → length (xs ++ x ∷ []) ≡ length xs + 1
 longer [] x = refl
 longer (y ∷ xs) x = let e = longer xs x in omega (arith, e)
 

@@ -35,10 +35,11 @@ use Rattle.local_rules.specs.Entries.{allocates_late, is_past_entry}
 use Rattle.local_rules.specs.Extents.{breaks_extents, misaligned_globals}
 use Rattle.local_rules.specs.Instrs.{on_instr}
 use Rattle.local_rules.specs.Intrinsics.{calls_inner}
+use Rattle.local_rules.specs.Markers.{first_other_mark}
 use Rattle.local_rules.specs.Transfers.{breaks_transfers}
 use Rattle.name_rules.specs.Definitions.{second_definitions}
 use Rattle.name_rules.specs.Items.{Sentence, first_function, first_item, first_place}
-use Rattle.name_rules.specs.Known.{allocator_name}
+use Rattle.name_rules.specs.Known.{allocator_name, unknown_names}
 use Rattle.name_rules.specs.declared.stage.Stage.{Stage}
 use Rattle.step_laws.specs.Changed.{Each}
 use Rattle.type_rules.specs.Signatures.{are_wanted, calls_otherwise, fits_callee, fits_declaration, fits_function, fits_named, fits_position, is_result, other_types, same_list, same_result}
@@ -46,6 +47,7 @@ use Rattle.type_rules.specs.Wants.{allocator_params, allocator_result, intrinsic
 use Rattle.type_rules.specs.declared.wants.Demand.{Demand}
 use Rattle.type_rules.specs.declared.wants.Wanted.{Wanted}
 use Rattle.value_rules.specs.Initials.{fits_initial, wrong_initials}
+use Rattle.value_rules.specs.Values.{first_wrong_value}
 
 -- ---- tests of two and of all
 
@@ -389,7 +391,7 @@ module _ (m : Module) where
     otherwise_over p _ _ (Begins n result must_tail ty args) e = (λ q d. ap not (callee_same ty args (Callee.Intrinsic Intrinsic.CoroBegin)) ∙ e, tt)
     otherwise_over p _ _ (Saves n result must_tail ty a args number none) e = (λ q d. refl, (λ q d. ap not (callee_same ty (a ∷ args) (Callee.Intrinsic Intrinsic.CoroSuspend)) ∙ e, tt))
 
-    otherwise_carried : (f g : Function) → Carries r fresh f g (calls_otherwise m) (calls_otherwise m2)
+    pub otherwise_carried : (f g : Function) → Carries r fresh f g (calls_otherwise m) (calls_otherwise m2)
     otherwise_carried f g =
         record {
           signature = λ p e. refl;
@@ -462,13 +464,15 @@ sentence_carried m s now h e =
 
 -- ---- all of them
 
-in_function_carried : (m : Module) (k : ℕ) (f : Function) → BreaksNoLocalRuleIn m k f → BreaksNoLocalRuleIn (early_module m) k (early_function f)
-in_function_carried m k f h =
+in_function_carried : (m : Module) (k : ℕ) (f : Function) → BreaksNoLocalRuleIn m k f → first_wrong_value (early_module m) k (early_function f) ≡ None → first_other_mark (early_module m) k (early_function f) ≡ None → BreaksNoLocalRuleIn (early_module m) k (early_function f)
+in_function_carried m k f h values marks =
     let g : Function = early_function f in
     let t : TurnsTo f g = turned_function f in
     let r : Renaming = t.renaming in
     let m2 : Module = early_module m in
     record {
+      values = values;
+      marks = marks;
       closed_calls = carried r Any f g (on_instr (calls_closed m)) (on_instr (calls_closed m2)) (on_instrs r Any f g (calls_closed m) (calls_closed m2) (closed_over m r Any)) k t.blocks h.closed_calls;
       extents = carried r Any f g (on_instr (breaks_extents Stage.Source m)) (on_instr (breaks_extents Stage.Source m2)) (on_instrs r Any f g (breaks_extents Stage.Source m) (breaks_extents Stage.Source m2) (extents_over m r Any)) k t.blocks h.extents;
       transfers = carried r Any f g (on_instr (breaks_transfers Stage.Source f)) (on_instr (breaks_transfers Stage.Source g)) (on_instrs r Any f g (breaks_transfers Stage.Source f) (breaks_transfers Stage.Source g) (transfers_over m r Any f g)) k t.blocks h.transfers;
@@ -508,10 +512,16 @@ initials_carried m =
 alignments_carried : (m : Module) → CarriesSentence m misaligned_globals misaligned_globals
 alignments_carried m = record { on_type = λ k t e. e; on_global = λ k g e. e; on_declaration = λ k d e. e; in_function = λ k f there e. refl }
 
-pub local_rules_carried : (m : Module) → BreaksNoLocalRule m → first_place (second_definitions (early_module m)) (early_module m) ≡ None → BreaksNoLocalRule (early_module m)
-local_rules_carried m h definitions =
+-- what the pass makes of each function breaks neither Y1 nor K13
+abbrev pub AreRight : Module → Type 0
+AreRight m = (k : ℕ) (f : Function) → slice_get m.functions k ≡ Some f → (first_wrong_value (early_module m) k (early_function f) ≡ None) × (first_other_mark (early_module m) k (early_function f) ≡ None)
+
+-- all rules, given those that ask more than that the source breaks them not
+pub local_rules_carried : (m : Module) → BreaksNoLocalRule m → first_place (second_definitions (early_module m)) (early_module m) ≡ None → first_place (unknown_names (early_module m)) (early_module m) ≡ None → AreRight m → BreaksNoLocalRule (early_module m)
+local_rules_carried m h definitions known right =
     record {
       definitions = definitions;
+      known = known;
       types = sentence_carried m (other_types m) (other_types (early_module m)) (types_carried m) h.types;
       initials = sentence_carried m (wrong_initials m) (wrong_initials (early_module m)) (initials_carried m) h.initials;
       alignments = sentence_carried m misaligned_globals misaligned_globals (alignments_carried m) h.alignments;
@@ -522,4 +532,4 @@ local_rules_carried m h definitions =
     of_each k g None e d = absurd (cc)
     of_each k g (Some f) e d =
         let same : early_function f ≡ g = cc in
-        subst (BreaksNoLocalRuleIn (early_module m) k) same (in_function_carried m k f (h.functions k f e))
+        subst (BreaksNoLocalRuleIn (early_module m) k) same (in_function_carried m k f (h.functions k f e) (right k f e).0 (right k f e).1)

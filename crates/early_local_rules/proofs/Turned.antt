@@ -308,12 +308,18 @@ module _ (begin : ℕ) where
 
 -- ---- functions
 
+pub turned_as : (f : Function) (o : Option ℕ) → TurnsBlocks (renaming_of (if_unnamed o f)) Any f.blocks (early_named (if_unnamed o f)).blocks
+turned_as f None = turned_blocks_named (renaming_of (begin_named f)) (length f.names) (length (begin_named f).names) f.blocks
+turned_as f (Some n) = turned_blocks (renaming_of f) (length f.names) f.blocks
+
+-- a begin that gets a name, or has one
+pub name_as : (f : Function) (o : Option ℕ) → TurnsBlocks none_renamed Any f.blocks (if_unnamed o f).blocks
+name_as f None = blocks_named (length f.names) f.blocks
+name_as f (Some n) = same_blocks Any f.blocks
+
 turned_coroutine : (f : Function) (o : Option ℕ) → TurnsTo f (early_named (if_unnamed o f))
-turned_coroutine f None =
-    let g : Function = begin_named f in
-    record { renaming = renaming_of g; name = refl; result = refl; params = refl; coroutine = refl; blocks = turned_blocks_named (renaming_of g) (length f.names) (length g.names) f.blocks }
-turned_coroutine f (Some n) =
-    record { renaming = renaming_of f; name = refl; result = refl; params = refl; coroutine = refl; blocks = turned_blocks (renaming_of f) (length f.names) f.blocks }
+turned_coroutine f None = record { renaming = renaming_of (begin_named f); name = refl; result = refl; params = refl; coroutine = refl; blocks = turned_as f None }
+turned_coroutine f (Some n) = record { renaming = renaming_of f; name = refl; result = refl; params = refl; coroutine = refl; blocks = turned_as f (Some n) }
 
 pub turned_function : (f : Function) → TurnsTo f (early_function f)
 turned_function f = on f.coroutine

@@ -77,7 +77,7 @@ apart_names ns (d ∷ ds) e = on (has_number ns d.name) e (apart_names (d.name �
     on true k rest = absurd (cc)
     on false k rest = (not_first k, rest k)
 
-other_number : (m n : ℕ) → (m ≡ n → ⊥) → (m == n) ≡ false
+pub other_number : (m n : ℕ) → (m ≡ n → ⊥) → (m == n) ≡ false
 other_number m n h = on (m == n) refl
   where
     on : (b : Bool) → (m == n) ≡ b → b ≡ false
