@@ -1,13 +1,13 @@
 -- The values that a function defines are those that have a kind, and its labels those of its blocks.
-use Rattle.std.proofs.Common.{◌≡◌, ℕ, zero, suc, ◌+◌, Bool, true, false, List, [], ◌∷◌, ◌++◌, length, refl, sym, ap, ◌∙◌}
+use Rattle.std.proofs.Common.{◌≡◌, ℕ, ◌+◌, Bool, true, false, List, [], ◌∷◌, ◌++◌, length, refl, sym, ap, ◌∙◌}
 use Rattle.std.specs.List.{list_any}
-use Rattle.std.specs.Prelude.{None, Option, Some, is_some, map, option_to_list, ◌&&◌, ◌==◌, ◌||◌, if◌then◌else◌}
+use Rattle.std.specs.Prelude.{None, Option, Some, is_some, map, ◌&&◌, ◌==◌, ◌||◌, if◌then◌else◌}
 use Rattle.coro_base.specs.declared.outcome.Place.{Place}
 use Rattle.early_local_rules.proofs.Turned.{NoBlock, OneMore, TurnsBlocks}
 use Rattle.early_lower.specs.declared.renaming.Renaming.{Renaming}
 use Rattle.function_parts.specs.Contents.{part_locals}
-use Rattle.function_parts.specs.Locals.{is_head, local_at, locals_at, locals_in, locals_of}
-use Rattle.function_parts.specs.Parts.{Ending, Head, OfInstr, OfPhi, Part, Signature, block_parts, blocks_parts, function_place, instr_parts, instr_place, parts_of, phi_parts}
+use Rattle.function_parts.specs.Locals.{local_at, locals_at, locals_in}
+use Rattle.function_parts.specs.Parts.{Ending, Head, OfInstr, Part, Signature, block_parts, blocks_parts, function_place, instr_parts, instr_place, parts_of, phi_parts}
 use Rattle.function_parts.specs.declared.defined.Definition.{Definition}
 use Rattle.ir_model.specs.declared.instr.Instr.{Instr}
 use Rattle.ir_model.specs.declared.instr.Phi.{Phi}
@@ -15,7 +15,7 @@ use Rattle.ir_model.specs.declared.module.Block.{Block}
 use Rattle.ir_model.specs.declared.module.Function.{Function}
 use Rattle.ir_model.specs.declared.module.Param.{Param}
 use Rattle.local_tables.specs.Tables.{first_in, or_first}
-use Rattle.name_rules.specs.Known.{is_defined, is_kind, is_label, is_value}
+use Rattle.name_rules.specs.Known.{is_kind, is_label, is_value}
 use Rattle.value_rules.specs.Kinds.{block_kind, instr_kind, kind_of, param_kind, phi_kind, result_kind, value_kind}
 use Rattle.value_rules.specs.declared.kinds.Kind.{Kind}
 

@@ -1,39 +1,37 @@
 -- Values that fit their types in the source do in the result (rule Y1).
-use Rattle.std.proofs.Common.{◌≡◌, ℕ, zero, suc, ◌+◌, Bool, true, false, List, [], ◌∷◌, ◌++◌, length, refl, sym, ap, ◌∙◌, subst}
+use Rattle.std.proofs.Common.{◌≡◌, ℕ, Bool, true, false, List, [], ◌∷◌, refl, sym, ap, ◌∙◌}
 use Rattle.std.specs.List.{list_all}
-use Rattle.std.specs.Prelude.{None, Option, Some, map, not, ◌&&◌, ◌||◌, if◌then◌else◌}
+use Rattle.std.specs.Prelude.{None, Option, Some, map, not, ◌&&◌, ◌||◌}
 use Rattle.coro_base.specs.declared.outcome.Place.{Place}
 use Rattle.early_local_rules.proofs.Carried.{Carries, Passing, StaysOut, none_of, passing}
 use Rattle.early_local_rules.proofs.Known.{all_over, out_of}
 use Rattle.early_local_rules.proofs.Rules.{and_both, and_first, and_second, holds}
 use Rattle.early_local_rules.proofs.Turned.{Begins, Saves, Stays, Turns, saved_args}
-use Rattle.early_lower.specs.Early.{early_module, save_call}
-use Rattle.early_lower.specs.Renaming.{renamed, renamed_arg, renamed_callee, renamed_incoming, renamed_instr, renamed_phi, renamed_return, renamed_term, renamed_value}
+use Rattle.early_lower.specs.Early.{early_module}
+use Rattle.early_lower.specs.Renaming.{renamed, renamed_arg, renamed_callee, renamed_incoming, renamed_instr, renamed_return, renamed_term, renamed_value}
 use Rattle.early_lower.specs.declared.renaming.Renaming.{Renaming}
-use Rattle.function_parts.specs.Parts.{Ending, OfInstr, OfPhi, Part, Signature, first_part, or_place, place_if}
+use Rattle.function_parts.specs.Parts.{Ending, OfInstr, OfPhi, Part, Signature, first_part}
 use Rattle.ir_model.specs.Layout.{same_type, unnamed}
-use Rattle.ir_model.specs.Ty.{Ty, Tys, array, field, int, named, none, ptr, structure, token}
+use Rattle.ir_model.specs.Ty.{Ty, array, int, named, ptr, structure, token}
 use Rattle.ir_model.specs.declared.instr.Case.{Case}
 use Rattle.ir_model.specs.declared.instr.Incoming.{Incoming}
 use Rattle.ir_model.specs.declared.instr.Instr.{Instr}
-use Rattle.ir_model.specs.declared.instr.Phi.{Phi}
 use Rattle.ir_model.specs.declared.instr.Terminator.{Terminator}
 use Rattle.ir_model.specs.declared.module.Function.{Function}
 use Rattle.ir_model.specs.declared.module.Module.{Module}
-use Rattle.ir_model.specs.declared.module.Param.{Param}
 use Rattle.ir_model.specs.declared.operand.Arg.{Arg}
 use Rattle.ir_model.specs.declared.operand.Callee.{Callee}
 use Rattle.ir_model.specs.declared.operand.Intrinsic.{Intrinsic}
 use Rattle.ir_model.specs.declared.operand.Operand.{Operand}
 use Rattle.step_laws.specs.Changed.{Each}
 use Rattle.type_rules.specs.Signatures.{are_wanted, calls_otherwise, is_result}
-use Rattle.type_rules.specs.Wants.{intrinsic_params, intrinsic_result, is_int, is_token}
+use Rattle.type_rules.specs.Wants.{intrinsic_params, is_int, is_token}
 use Rattle.type_rules.specs.declared.wants.Basic.{Basic}
 use Rattle.value_rules.specs.Fits.{fits, fits_arg, fits_integer, fits_kind, fits_scalar, is_integer, is_scalar, is_tokenless}
 use Rattle.value_rules.specs.Geps.{field_number, field_of, indices_fit, inner_part, leads_in, only_if, part_of}
 use Rattle.value_rules.specs.Instrs.{both_fit, casts, compares, fits_call, fits_called, fits_gep, fits_instr, fits_result, fits_select, is_passed, is_save_or_none, is_saved, passes, suspends_on}
 use Rattle.value_rules.specs.Switches.{any_twice, bits_in, case_word, fits_case, fits_switch, is_constant}
-use Rattle.value_rules.specs.Values.{breaks_values, fits_ending, fits_part, fits_phi, fits_return, fits_signature, has_scalar, is_scalar_or_void, takes}
+use Rattle.value_rules.specs.Values.{breaks_values, fits_ending, fits_phi, fits_return, has_scalar, is_scalar_or_void, takes}
 use Rattle.value_rules.specs.declared.kinds.Kind.{Kind}
 
 -- ---- one of two rules
@@ -55,11 +53,6 @@ first_no false b e = refl
 second_no : (a b : Bool) → (a || b) ≡ false → b ≡ false
 second_no true b e = absurd (cc)
 second_no false b e = e
-
-all_between : {A B C : Type 0} (t : B → Bool) (u : C → Bool) (f : A → B) (g : A → C) → ((x : A) → t (f x) ≡ true → u (g x) ≡ true) → (xs : List A) → list_all t (map f xs) ≡ true → list_all u (map g xs) ≡ true
-all_between t u f g h [] e = refl
-all_between t u f g h (x ∷ xs) e =
-    and_both (u (g x)) (list_all u (map g xs)) (h x (and_first (t (f x)) (list_all t (map f xs)) e)) (all_between t u f g h xs (and_second (t (f x)) (list_all t (map f xs)) e))
 
 -- a test of elements, and one of what they become
 all_become : {A B : Type 0} (t : A → Bool) (u : B → Bool) (f : A → B) → ((x : A) → t x ≡ true → u (f x) ≡ true) → (xs : List A) → list_all t xs ≡ true → list_all u (map f xs) ≡ true

@@ -1,22 +1,22 @@
 -- What the values of the result are, beside those of the source.
-use Rattle.std.proofs.Common.{◌≡◌, ⊎_elim, ℕ, zero, suc, ◌+◌, ◌<◌, ◌≤◌, Bool, true, false, List, [], ◌∷◌, ◌++◌, length, refl, sym, ap, ◌∙◌, subst, arith}
+use Rattle.std.proofs.Common.{◌≡◌, ⊎_elim, ℕ, suc, ◌+◌, ◌<◌, ◌≤◌, Bool, true, false, List, [], ◌∷◌, ◌++◌, length, refl, sym, ap, ◌∙◌, arith}
 use Rattle.std.proofs.lemmas.Bool.{cases_lt}
-use Rattle.std.specs.Prelude.{None, Option, Some, not, slice_get, ◌==◌, ◌&&◌, if◌then◌else◌}
+use Rattle.std.specs.Prelude.{None, Option, Some, slice_get, ◌==◌, ◌&&◌, if◌then◌else◌}
 use Rattle.coro_base.specs.declared.outcome.Place.{Place}
 use Rattle.early_agreement.proofs.Lists.{each_there, equal_numbers, itself}
 use Rattle.early_agreement.proofs.Outside.{at_point}
 use Rattle.early_agreement.proofs.Switches.{none_part}
 use Rattle.early_local_rules.proofs.Carried.{carried}
-use Rattle.early_local_rules.proofs.Names.{AreApart, early_once, longer, name_apart, named_once, save_apart, source_apart}
+use Rattle.early_local_rules.proofs.Names.{AreApart, name_apart, named_once, save_apart, source_apart}
 use Rattle.early_local_rules.proofs.Rules.{and_first, holds, otherwise_carried}
 use Rattle.early_local_rules.proofs.Turned.{Any, Begins, Further, NoBlock, Nothing, OneMore, Saves, Stays, Turns, TurnsAll, TurnsBlocks, marked_blocks, name_as, none_renamed, same_blocks, turned_as}
 use Rattle.early_local_rules.proofs.ValueKinds.{kind_made, kind_none, named_value_kind, saved_value_kind}
 use Rattle.early_local_rules.proofs.Woven.{other_number}
-use Rattle.early_lower.specs.BeginName.{begin_name, if_unnamed, with_begin_name}
+use Rattle.early_lower.specs.BeginName.{if_unnamed, with_begin_name}
 use Rattle.early_lower.specs.Early.{early_module, early_named, renaming_of, renaming_to, save_call}
 use Rattle.early_lower.specs.Renaming.{is_renamed, renamed_instr, renamed_value}
 use Rattle.early_lower.specs.declared.renaming.Renaming.{Renaming}
-use Rattle.early_rules.proofs.Makers.{HasFrame, begin_of, not_frame, renamed_frame, to_is}
+use Rattle.early_rules.proofs.Makers.{begin_of, not_frame, renamed_frame, to_is}
 use Rattle.early_rules.proofs.Order.{IsUnbroken}
 use Rattle.early_rules.specs.Named.{HasTabledLocals}
 use Rattle.function_parts.specs.Parts.{OfInstr, instr_place, parts_of}

@@ -1,26 +1,23 @@
 -- Markers, names and values that the source has right, the result has (rules K13, N2 and Y1).
-use Rattle.std.proofs.Common.{◌≡◌, ℕ, zero, suc, ◌+◌, Bool, true, false, List, [], ◌∷◌, ◌++◌, length, refl, sym, ap, ◌∙◌, subst}
-use Rattle.std.specs.List.{list_all, list_any}
+use Rattle.std.proofs.Common.{◌≡◌, ℕ, Bool, true, false, List, [], ◌∷◌, ◌++◌, refl, ap, ◌∙◌}
+use Rattle.std.specs.List.{list_all}
 use Rattle.std.specs.Prelude.{None, Option, Some, is_some, map, not, option_to_list, ◌&&◌, ◌||◌, if◌then◌else◌}
 use Rattle.coro_base.specs.declared.name.Name.{Name}
 use Rattle.coro_base.specs.declared.outcome.Place.{Place}
 use Rattle.early_local_rules.proofs.Carried.{Carries, StaysOut}
-use Rattle.early_local_rules.proofs.Rules.{all_in_args, all_in_instr, all_in_phi, all_in_term, all_mapped, and_both, and_first, and_second, holds, named_same}
+use Rattle.early_local_rules.proofs.Rules.{all_in_args, all_in_instr, all_in_phi, all_in_term, and_both, and_first, and_second, holds, named_same}
 use Rattle.early_local_rules.proofs.Turned.{Begins, Saves, Stays, Turns, saved_args}
-use Rattle.early_lower.specs.Early.{early_module, save_call}
+use Rattle.early_lower.specs.Early.{early_module}
 use Rattle.early_lower.specs.Renaming.{is_renamed, renamed, renamed_arg, renamed_callee, renamed_incoming, renamed_instr, renamed_phi, renamed_return, renamed_term, renamed_value}
 use Rattle.early_lower.specs.declared.renaming.Renaming.{Renaming}
-use Rattle.function_parts.specs.Contents.{arg_operands, arg_types, ending_labels, ending_operands, ending_types, instr_operands, instr_types, part_labels, part_operands, part_types, return_types}
+use Rattle.function_parts.specs.Contents.{arg_operands, arg_types, ending_labels, ending_types, instr_types, part_labels, part_operands, part_types, return_types}
 use Rattle.function_parts.specs.Parts.{Ending, Head, OfInstr, OfPhi, Part, Signature}
-use Rattle.ir_model.specs.Layout.{same_type, unnamed}
-use Rattle.ir_model.specs.Names.{declaration_named, function_named, global_named}
+use Rattle.ir_model.specs.Names.{declaration_named, global_named}
 use Rattle.ir_model.specs.Table.{callee_named}
 use Rattle.ir_model.specs.Ty.{Ty, Tys, array, field, int, named, none, ptr, structure, token}
 use Rattle.ir_model.specs.declared.instr.Incoming.{Incoming}
 use Rattle.ir_model.specs.declared.instr.Instr.{Instr}
-use Rattle.ir_model.specs.declared.instr.Phi.{Phi}
 use Rattle.ir_model.specs.declared.instr.Terminator.{Terminator}
-use Rattle.ir_model.specs.declared.module.Block.{Block}
 use Rattle.ir_model.specs.declared.module.Function.{Function}
 use Rattle.ir_model.specs.declared.module.Module.{Module}
 use Rattle.ir_model.specs.declared.operand.Arg.{Arg}

@@ -23,14 +23,14 @@ use Rattle.early_rules.specs.Named.{AreTabled, HasTabledLocals}
 use Rattle.function_parts.specs.Locals.{locals_of}
 use Rattle.function_parts.specs.Parts.{first_part, function_place, or_place, parts_of, place_if}
 use Rattle.ir_check.specs.Refused.{IsRefused}
-use Rattle.ir_model.specs.Names.{declaration_named, function_at, function_named, global_named, no_function}
+use Rattle.ir_model.specs.Names.{declaration_named, function_at, global_named, no_function}
 use Rattle.ir_model.specs.Ty.{Ty}
 use Rattle.ir_model.specs.declared.module.Function.{Function}
 use Rattle.ir_model.specs.declared.module.Module.{Module}
 use Rattle.ir_model.specs.declared.operand.Operand.{Operand}
 use Rattle.local_rules.specs.Instrs.{on_instr}
 use Rattle.local_rules.specs.Markers.{marks_otherwise, slot_size}
-use Rattle.name_rules.specs.Definitions.{first_second, first_twice, is_position, is_second_function, second_definitions}
+use Rattle.name_rules.specs.Definitions.{first_twice, is_position, is_second_function, second_definitions}
 use Rattle.name_rules.specs.Items.{Sentence, first_function, first_item, first_place}
 use Rattle.name_rules.specs.Known.{is_label, is_value, knows_operand, knows_type, names_unknown, unknown_names}
 use Rattle.name_rules.specs.declared.stage.Stage.{Stage}
