@@ -1,0 +1,12 @@
+pub mod Turned
+pub mod Carried
+pub mod Rules
+pub mod Woven
+pub mod Names
+pub mod Accepted
+pub mod ValueKinds
+pub mod Defined
+pub mod Followed
+pub mod Known
+pub mod Fitting
+pub mod Sources
