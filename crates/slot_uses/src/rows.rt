@@ -11,12 +11,13 @@ use std::alloc::{AllocError, Global};
 fn use_row(alloc: Global, words: &[u64], block: &Block) -> Result<Items<u64>, AllocError>
     ensures { IfOk result (λ row. row ≡ row_of_uses words.now block.now) }
 {
-    let mut row = Items::new(alloc);
-    for instr in block.instrs.as_slice() {
+    let instrs = block.instrs.as_slice();
+    let mut row = Vec::with_capacity(alloc, instrs.len() + 1)?;
+    for instr in instrs {
         row.push(used(words, instr))?;
     }
     row.push(with_term(words, 0, &block.term))?;
-    Ok(row)
+    Ok(Items::from_vec(row))
 }
 
 /// For each block, and for each of its instructions and its terminator, the word of the names that are used there. A marker
@@ -28,11 +29,12 @@ pub fn use_rows(
 ) -> Result<Items<Items<u64>>, AllocError>
     ensures { IfOk result (λ rows. rows ≡ rows_of_uses words.now function.now) }
 {
-    let mut rows = Items::new(alloc);
-    for block in function.blocks.as_slice() {
+    let blocks = function.blocks.as_slice();
+    let mut rows = Vec::with_capacity(alloc, blocks.len())?;
+    for block in blocks {
         rows.push(use_row(alloc, words, block)?)?;
     }
-    Ok(rows)
+    Ok(Items::from_vec(rows))
 }
 
 fn marker_row(
@@ -43,12 +45,13 @@ fn marker_row(
 ) -> Result<Items<u64>, AllocError>
     ensures { IfOk result (λ row. row ≡ row_of_markers marker words.now block.now) }
 {
-    let mut row = Items::new(alloc);
-    for instr in block.instrs.as_slice() {
+    let instrs = block.instrs.as_slice();
+    let mut row = Vec::with_capacity(alloc, instrs.len() + 1)?;
+    for instr in instrs {
         row.push(marked(marker, words, instr))?;
     }
     row.push(0)?;
-    Ok(row)
+    Ok(Items::from_vec(row))
 }
 
 /// For each block, and for each of its instructions and its terminator, the word of the pointer of a marker that stands
@@ -61,9 +64,10 @@ pub fn marker_rows(
 ) -> Result<Items<Items<u64>>, AllocError>
     ensures { IfOk result (λ rows. rows ≡ rows_of_markers marker words.now function.now) }
 {
-    let mut rows = Items::new(alloc);
-    for block in function.blocks.as_slice() {
+    let blocks = function.blocks.as_slice();
+    let mut rows = Vec::with_capacity(alloc, blocks.len())?;
+    for block in blocks {
         rows.push(marker_row(alloc, marker, words, block)?)?;
     }
-    Ok(rows)
+    Ok(Items::from_vec(rows))
 }

@@ -1,13 +1,13 @@
 -- Values that are used in no block but those that make them before, and by no phi, cross nothing.
-use Rattle.std.proofs.Common.{◌≡◌, ℕ, zero, suc, ◌+◌, ◌*◌, ◌/◌, ◌%◌, ◌<◌, ◌≤◌, ◌⊎◌, Bool, true, false, List, [], ◌∷◌, ◌++◌, filter, length, take, get_or, Some, Option, refl, sym, ap, ◌∙◌, subst, ⊎_elim, inl, inr, arith}
+use Rattle.std.proofs.Common.{◌≡◌, ℕ, zero, suc, ◌+◌, ◌/◌, ◌%◌, ◌⊎◌, Bool, true, false, List, [], ◌∷◌, ◌++◌, filter, length, Some, Option, refl, sym, ap, ◌∙◌, subst, ⊎_elim, inl, inr, arith}
 use Rattle.std.specs.Prelude.{bit_or, slice_get, if◌then◌else◌, ◌==◌, ◌||◌}
 use Rattle.std.specs.Int.{bit_at}
-use Rattle.std.proofs.lemmas.Bool.{cases_lt, eq-eqb, eqb-true, false≢true}
-use Rattle.std.proofs.lemmas.List.{append-nil, take_more}
+use Rattle.std.proofs.lemmas.Bool.{eq-eqb, eqb-true, false≢true}
+use Rattle.std.proofs.lemmas.List.{append-nil}
 use Rattle.std.proofs.lemmas.List.Elements.{filter-append}
-use Rattle.std.proofs.lemmas.Option.{slice_get-get_or, slice_get_within}
+use Rattle.std.proofs.lemmas.Option.{slice_get_within}
 use Rattle.bit_reach.specs.Bits.{HasBit}
-use Rattle.definite_use.specs.Questions.{has_bit, value_word}
+use Rattle.definite_use.specs.Questions.{value_word}
 use Rattle.flow_solver.proofs.Lists.{place_of}
 use Rattle.flow_solver.specs.Paths.{IsListed}
 use Rattle.ir_model.specs.declared.module.Block.{Block}
@@ -17,7 +17,6 @@ use Rattle.ir_paths.specs.Windows.{destroy_label, resume_label}
 use Rattle.ir_paths.specs.declared.point.Point.{Point}
 use Rattle.suspend_crossing.proofs.Bits.{IsOwn, left_bit, own_bit, right_bit}
 use Rattle.suspend_crossing.proofs.Blocks.{get_behind, one_further}
-use Rattle.suspend_crossing.proofs.Crossed.{same_chunk, take_all}
 use Rattle.suspend_crossing.proofs.Made.{open_some}
 use Rattle.suspend_crossing.proofs.Numbering.{place_of_name}
 use Rattle.suspend_crossing.proofs.Solving.{in_filter}
@@ -29,7 +28,7 @@ use Rattle.suspend_crossing.specs.Crossing.CrossedBy.{Nothing, More}
 use Rattle.suspend_crossing.specs.EdgeUses.{IsUsedOn, edge_use, edge_uses}
 use Rattle.suspend_crossing.specs.Paths.{IsNeededBehind}
 use Rattle.suspend_crossing.specs.Values.{distinct, values_of, with_new}
-use Rattle.suspend_crossing.specs.Words.{AreNumbered, block_open, far_mask, is_far, is_far_at, opens_mask, uses_mask, value_if}
+use Rattle.suspend_crossing.specs.Words.{AreNumbered, block_open, far_mask, is_far, is_far_at, opens_mask, uses_mask}
 use Rattle.suspend_crossing.specs.declared.edge_use.EdgeUse.{EdgeUse}
 
 -- ---- what the mask has
@@ -126,57 +125,6 @@ all_are_crossed f numbers known far phis pairs n known_are phis_are far_are c =
 
 pub far_are_values : (f : Function) (numbers : List (Option ℕ)) (known far : List ℕ) (phis : List EdgeUse) → known ≡ values_of f → far ≡ filter (is_far numbers f.blocks phis) known → (v : ℕ) → IsListed v far → IsListed v (values_of f)
 far_are_values f numbers known far phis known_are far_are v h = subst (IsListed v) known_are (in_filter (is_far numbers f.blocks phis) v known (subst (IsListed v) far_are h)).0
-
--- ---- what is told
-
-filter_last : (p : ℕ → Bool) (v : ℕ) → filter p (v ∷ []) ≡ value_if (p v) v
-filter_last p v = on (p v)
-  where
-    on : (b : Bool) → (if b then v ∷ [] else []) ≡ value_if b v
-    on true = refl
-    on false = refl
-
-pub more_far : (names : ℕ) (numbers : List (Option ℕ)) (values xs : List ℕ) (blocks : List Block) (uses : List EdgeUse) (chunk start n mask : ℕ) (far far2 : List ℕ) → AreNumbered names numbers values → xs ≡ values → start ≡ chunk * 64 → start ≤ n → n < start + 64 → n < length xs → mask ≡ far_mask numbers chunk blocks uses →
-    far2 ≡ far ++ value_if (has_bit mask (n % 64)) (get_or xs n 0) → far ≡ filter (is_far numbers blocks uses) (take n values) → far2 ≡ filter (is_far numbers blocks uses) (take (n + 1) values)
-more_far names numbers values xs blocks uses chunk start n mask far far2 numbered xs_are start_is le lt within mask_is far_is old =
-    far_is
-    ∙ ap (λ (l : List ℕ). l ++ value_if (has_bit mask (n % 64)) (get_or xs n 0)) old
-    ∙ ap (λ (l : List ℕ). filter p (take n values) ++ value_if (has_bit mask (n % 64)) (get_or l n 0)) xs_are
-    ∙ ap (λ (w : ℕ). filter p (take n values) ++ value_if (has_bit w (n % 64)) v) mask_is
-    ∙ ap (λ (b : Bool). filter p (take n values) ++ value_if b v) (sym is_it)
-    ∙ ap (λ (l : List ℕ). filter p (take n values) ++ l) (sym (filter_last p v))
-    ∙ sym (filter-append p (take n values) (v ∷ []))
-    ∙ ap (filter p) (sym (take_more values n 0 inside))
-  where
-    p : ℕ → Bool
-    p = is_far numbers blocks uses
-
-    v : ℕ
-    v = get_or values n 0
-
-    inside : n < length values
-    inside = let same = ap length xs_are in omega (arith, within, same)
-
-    chunk_is : n / 64 ≡ chunk
-    chunk_is = same_chunk chunk n (omega (arith, le, start_is)) (omega (arith, lt, start_is))
-
-    is_it : is_far numbers blocks uses v ≡ has_bit (far_mask numbers chunk blocks uses) (n % 64)
-    is_it = ap (is_far_at numbers blocks uses) (numbered.numbered v n (slice_get-get_or values n 0 inside)) ∙ ap (λ (k : ℕ). has_bit (far_mask numbers k blocks uses) (n % 64)) chunk_is
-
-pub chunk_far : (p : ℕ → Bool) (values xs far : List ℕ) (count start end : ℕ) → xs ≡ values → count ≡ length xs → end ≤ start + 64 → (end < start + 64 → end ≡ count) → far ≡ filter p (take end values) → far ≡ filter p (take (start + 64) values)
-chunk_far p values xs far count start end xs_are count_is le all is = is ∙ ap (filter p) (⊎_elim short long (cases_lt end (start + 64)))
-  where
-    short : end < start + 64 → take end values ≡ take (start + 64) values
-    short lt =
-        let same = all lt in
-        let len = ap length xs_are in
-        take_all values end (omega (arith, same, count_is, len)) ∙ sym (take_all values (start + 64) (omega (arith, same, count_is, len, lt)))
-
-    long : start + 64 ≤ end → take end values ≡ take (start + 64) values
-    long ge = ap (λ (n : ℕ). take n values) (let same : end ≡ start + 64 = omega (arith, ge, le) in same)
-
-pub all_far : (p : ℕ → Bool) (values far : List ℕ) (n : ℕ) → length values ≤ n → far ≡ filter p (take n values) → far ≡ filter p values
-all_far p values far n le is = is ∙ ap (filter p) (take_all values n le)
 
 -- ---- fewer values, each once
 

@@ -11,3 +11,4 @@ pub mod Telling
 pub mod Crossed
 pub mod ChunkWords
 pub mod FarValues
+pub mod OneWalking

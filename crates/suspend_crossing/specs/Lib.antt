@@ -3,3 +3,4 @@ pub mod EdgeUses
 pub mod Paths
 pub mod Crossing
 pub mod Words
+pub mod OneWalk

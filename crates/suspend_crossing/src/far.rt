@@ -1,42 +1,67 @@
 //! The values that are used in a block which doesn't make them before, or by a phi: no other value is needed behind a suspend.
 
-ghost use Rattle.std.specs.Prelude.{◌≡◌, ◌++◌, ◌<◌, ◌≤◌, ◌*◌, ◌+◌, IfOk, OnOk, filter, length, take};
-ghost use Rattle.suspend_crossing.specs.Words.{AreNumbered, IsPlanOf, far_mask as mask_of, is_far, opens_mask as mask_of_opens, uses_mask as mask_of_uses, value_if};
+ghost use Rattle.std.specs.Prelude.{◌≡◌, ◌++◌, IfOk, OnOk, filter, length};
+ghost use Rattle.suspend_crossing.specs.OneWalk.{blocks_far, far_table as table_of, is_in as is_in_table, uses_far};
+ghost use Rattle.suspend_crossing.specs.Words.{AreNumbered, IsPlanOf, is_far, value_if};
 
-use crate::chunks::{chunk_end, chunks_of};
 use crate::edge_use::EdgeUse;
 use crate::numbers::{Numbers, numbers_of};
 use crate::plan::Plan;
-use crate::text::{block_open, has_bit, value_word};
+use crate::walk::{make_phis, see_instrs};
 use coro_base::{Items, ValueId};
+use function_parts::next;
 use ir_model::{Block, Function};
 use std::alloc::{AllocError, Global};
 
-fn opens_mask(numbers: &Items<Option<usize>>, chunk: usize, blocks: &[Block]) -> u64
-    ensures { result ≡ mask_of_opens numbers.now chunk 0 blocks.now }
+/// What blocks use before making it.
+fn see_blocks(
+    made: &mut Items<usize>,
+    far: &mut Items<bool>,
+    blocks: &[Block],
+) -> Result<(), AllocError>
+    ensures { OnOk result (far.new ≡ blocks_far 1 made.old far.old blocks.now) }
 {
-    let mut word = 0;
+    let mut mark = 1;
     for block in blocks {
-        word |= block_open(numbers, chunk, block);
+        make_phis(made, mark, block.phis.as_slice());
+        see_instrs(made, mark, far, block.instrs.as_slice(), &block.term);
+        mark = next(mark)?;
     }
-    word
+    Ok(())
 }
 
-fn uses_mask(numbers: &Items<Option<usize>>, chunk: usize, first: u64, uses: &[EdgeUse]) -> u64
-    ensures { result ≡ mask_of_uses numbers.now chunk first uses.now }
+/// What phis use.
+fn see_uses(far: &mut Items<bool>, uses: &[EdgeUse])
+    ensures { far.new ≡ uses_far far.old uses.now }
 {
-    let mut word = first;
     for one in uses {
-        word |= value_word(numbers, chunk, one.value);
+        far.set(one.value, true);
     }
-    word
 }
 
-fn far_mask(numbers: &Items<Option<usize>>, chunk: usize, blocks: &[Block], uses: &[EdgeUse]) -> u64
-    ensures { result ≡ mask_of numbers.now chunk blocks.now uses.now }
+/// For each of so many names whether it is used so, by one walk over the text.
+fn far_table(
+    alloc: Global,
+    names: usize,
+    blocks: &[Block],
+    uses: &[EdgeUse],
+) -> Result<Items<bool>, AllocError>
+    ensures { IfOk result (λ far. far ≡ table_of names blocks.now uses.now) }
 {
-    let opens = opens_mask(numbers, chunk, blocks);
-    uses_mask(numbers, chunk, opens, uses)
+    let mut made = Items::from_vec(vec![in alloc; 0; names]?);
+    let mut far = Items::from_vec(vec![in alloc; false; names]?);
+    see_blocks(&mut made, &mut far, blocks)?;
+    see_uses(&mut far, uses);
+    Ok(far)
+}
+
+fn is_in(table: &Items<bool>, value: ValueId) -> bool
+    ensures { result ≡ is_in_table table.now value }
+{
+    match table.get(value) {
+        None => false,
+        Some(is_on) => *is_on,
+    }
 }
 
 fn push_if(far: &mut Vec<ValueId>, is_far: bool, value: ValueId) -> Result<(), AllocError>
@@ -48,28 +73,18 @@ fn push_if(far: &mut Vec<ValueId>, is_far: bool, value: ValueId) -> Result<(), A
     Ok(())
 }
 
-/// Adds the values of a chunk that are used so.
-fn push_chunk(
-    far: &mut Vec<ValueId>,
-    known: &Numbers,
-    blocks: &[Block],
-    uses: &[EdgeUse],
-    names: usize,
-    chunk: usize,
-) -> Result<(), AllocError>
-    requires numbers { AreNumbered names known.now.numbers known.now.values }
-    requires chunk { chunk * 64 < length known.now.values }
-    requires far { far.old.items ≡ filter (is_far known.now.numbers blocks.now uses.now) (take (chunk * 64) known.now.values) }
-    ensures { OnOk result (far.new.items ≡ filter (is_far known.now.numbers blocks.now uses.now) (take (chunk * 64 + 64) known.now.values)) }
+fn values_in(
+    alloc: Global,
+    table: &Items<bool>,
+    values: &[ValueId],
+) -> Result<Vec<ValueId>, AllocError>
+    ensures { IfOk result (λ far. far.items ≡ filter (is_in_table table.now) values.now) }
 {
-    let values = known.values.as_slice();
-    let count = values.len();
-    let start = chunk * 64;
-    let mask = far_mask(&known.numbers, chunk, blocks, uses);
-    for number in start..chunk_end(count, start) {
-        push_if(far, has_bit(mask, number % 64), values[number])?;
+    let mut far = Vec::new(alloc);
+    for value in values {
+        push_if(&mut far, is_in(table, *value), *value)?;
     }
-    Ok(())
+    Ok(far)
 }
 
 fn far_values(
@@ -82,11 +97,8 @@ fn far_values(
     requires { AreNumbered names known.now.numbers known.now.values }
     ensures { IfOk result (λ far. far.items ≡ filter (is_far known.now.numbers blocks.now uses.now) known.now.values) }
 {
-    let mut far = Vec::new(alloc);
-    for chunk in 0..chunks_of(known.values.len()) {
-        push_chunk(&mut far, known, blocks, uses, names, chunk)?;
-    }
-    Ok(far)
+    let table = far_table(alloc, names, blocks, uses)?;
+    values_in(alloc, &table, known.values.as_slice())
 }
 
 /// Numbers those of the known values that are used in a block which doesn't make them before, or by a phi.

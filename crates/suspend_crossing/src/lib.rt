@@ -13,5 +13,6 @@ mod pairs;
 mod plan;
 mod text;
 mod values;
+mod walk;
 
 pub use answer::crossing;

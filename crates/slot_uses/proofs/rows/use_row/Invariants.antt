@@ -3,4 +3,4 @@ use Rattle.slot_uses.specs.Words.{used}
 use Rattle.slot_uses.proofs.rows.use_row.Given as goal
 
 abbrev pub invariant-loop-instr : goal.invariant-loop-instr
-invariant-loop-instr l = l.row ≡ map (used l.words) (take l.instr-index l.block.instrs)
+invariant-loop-instr l = l.row.items ≡ map (used l.words) (take l.instr-index l.instrs)
