@@ -1,0 +1,4 @@
+pub mod Alike
+pub mod Crossing
+pub mod Values
+pub mod Renamed
