@@ -1,4 +1,4 @@
-pub mod Alike
-pub mod Crossing
-pub mod Values
-pub mod Renamed
+pub mod Strands
+pub mod SlotsAlike
+pub mod Spots
+pub mod Classes

@@ -9,10 +9,10 @@ use Rattle.early_agreement.proofs.Lists.{equal_numbers, itself}
 use Rattle.early_agreement.proofs.Parts.{block_same, call_of_same, destroy_same, end_same, fetch_same, points_where_same, position_same, resume_same}
 use Rattle.early_agreement.specs.Passes.{renamed_block, renamed_coroutine}
 use Rattle.early_agreement.specs.Regular.{IsPlain}
-use Rattle.early_frames.proofs.Alike.{AreAlike, IsAlike}
-use Rattle.early_frames.proofs.Crossing.{AreAsCrossing, crosses_forth, crosses_home, crossing_same}
-use Rattle.early_frames.proofs.Values.{values_hold}
-use Rattle.early_frames.specs.Plain.{HasPlainNames}
+use Rattle.early_crossing.proofs.Alike.{AreAlike, IsAlike}
+use Rattle.early_crossing.proofs.Crossing.{AreAsCrossing, crosses_forth, crosses_home, crossing_same}
+use Rattle.early_crossing.proofs.Values.{values_hold}
+use Rattle.early_crossing.specs.Plain.{HasPlainNames}
 use Rattle.early_lower.specs.Renaming.{is_renamed, renamed, renamed_arg, renamed_callee, renamed_incoming, renamed_instr, renamed_phi, renamed_return, renamed_term, renamed_value}
 use Rattle.early_lower.specs.declared.renaming.Renaming.{Renaming}
 use Rattle.flow_solver.specs.Paths.{IsListed}
@@ -288,7 +288,7 @@ pub values_plain : (r : Renaming) (f : Function) → HasPlainNames f r → (v : 
 values_plain r f plain = values_hold (IsPlain r) f plain.params plain.phis
     (λ k b d j i v e a h. let no = not_begin i a in plain.results k b j i v d e h no.0 no.1)
 
-map_itself : {A : Type 0} (xs : List A) → map (λ x. x) xs ≡ xs
+pub map_itself : {A : Type 0} (xs : List A) → map (λ x. x) xs ≡ xs
 map_itself [] = refl
 map_itself (x ∷ xs) = ap (λ ys. x ∷ ys) (map_itself xs)
 
