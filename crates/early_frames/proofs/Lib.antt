@@ -2,3 +2,10 @@ pub mod Strands
 pub mod SlotsAlike
 pub mod Spots
 pub mod Classes
+pub mod Conflicts
+pub mod Windows
+pub mod Tests
+pub mod Edges
+pub mod Names
+pub mod SavedSlots
+pub mod Laws
