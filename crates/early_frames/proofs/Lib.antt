@@ -9,3 +9,7 @@ pub mod Edges
 pub mod Names
 pub mod SavedSlots
 pub mod Laws
+pub mod Still
+pub mod RenamedParts
+pub mod NamedPlaces
+pub mod RenamedSlots
