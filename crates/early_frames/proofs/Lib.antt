@@ -13,3 +13,4 @@ pub mod Still
 pub mod RenamedParts
 pub mod NamedPlaces
 pub mod RenamedSlots
+pub mod NamedSlots
