@@ -27,13 +27,13 @@ same_results (Instr.Store arg p align) = refl
 same_results (Instr.Gep name inbounds ty base indices) = refl
 same_results (Instr.Call result must_tail ty callee args) = refl
 
-named_params : (n : ℕ) (ps : List Param) → Each (λ (p : Param). p.name < n) ps → (v : ℕ) → IsListed v (map (λ (p : Param). p.name) ps) → v < n
+pub named_params : (n : ℕ) (ps : List Param) → Each (λ (p : Param). p.name < n) ps → (v : ℕ) → IsListed v (map (λ (p : Param). p.name) ps) → v < n
 named_params n [] h v l = absurd l
 named_params n (p ∷ ps) h v (inl e) = subst (λ (x : ℕ). x < n) (sym e) h.0
 named_params n (p ∷ ps) h v (inr l) = named_params n ps h.1 v l
 
 module _ (f : Function) (named : HasNamedLocals f) where
-  named_phi : (k : ℕ) (b : Block) (j : ℕ) (p : Phi) → Rattle.std.specs.Prelude.slice_get f.blocks k ≡ Some b → Rattle.std.specs.Prelude.slice_get b.phis j ≡ Some p → p.result < length f.names
+  pub named_phi : (k : ℕ) (b : Block) (j : ℕ) (p : Phi) → Rattle.std.specs.Prelude.slice_get f.blocks k ≡ Some b → Rattle.std.specs.Prelude.slice_get b.phis j ≡ Some p → p.result < length f.names
   named_phi k b j p e d =
       each_at (λ (q : Phi). q.result < length f.names) b.phis j p
       (each_at (λ (c : Block). Each (λ (q : Phi). q.result < length f.names) c.phis) f.blocks k b named.phis e) d

@@ -14,3 +14,7 @@ pub mod RenamedParts
 pub mod NamedPlaces
 pub mod RenamedSlots
 pub mod NamedSlots
+pub mod Held
+pub mod Layouts
+pub mod HeldAlike
+pub mod Modules

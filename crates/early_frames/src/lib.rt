@@ -1,18 +1,24 @@
 //! What frames hold stays under the first pass.
 #![tactic(auto)]
 
-ghost use Rattle.std.specs.Prelude.{◌↔◌, ℕ, List};
-ghost use Rattle.early_agreement.specs.Passes.{renamed_coroutine};
-ghost use Rattle.early_agreement.specs.Regular.{IsRegular};
+ghost use Rattle.std.specs.Prelude.{◌↔◌, ℕ, Bool, List, Result};
+ghost use Rattle.coroutine_frames.specs.Frames.{AreLayouts};
+ghost use Rattle.coroutine_frames.specs.declared.module_frames.LayoutsError.{LayoutsError};
+ghost use Rattle.early_agreement.specs.Passes.{named_module, renamed_coroutine, renamed_module};
+ghost use Rattle.early_agreement.specs.Regular.{AllKeepRules, IsRegular};
+ghost use Rattle.early_frames.specs.NoParams.{AreBeginsNoParams};
 ghost use Rattle.early_lower.specs.BeginName.{with_begin_name};
+ghost use Rattle.early_lower.specs.Early.{early_module};
 ghost use Rattle.early_lower.specs.declared.renaming.Renaming.{Renaming};
+ghost use Rattle.frame_layout.specs.declared.layout.Layouts.{Layouts};
 ghost use Rattle.ir_model.specs.declared.module.Function.{Function};
-ghost use Rattle.save_agreement.specs.SavesWritten.{saved_function};
+ghost use Rattle.ir_model.specs.declared.module.Module.{Module};
+ghost use Rattle.save_agreement.specs.SavesWritten.{saved_function, saves_written};
 ghost use Rattle.save_agreement.specs.Tokens.{HasNamedTokens};
 ghost use Rattle.slot_conflicts.specs.Conflicts.{AreAliveAt, AreConflicts};
 ghost use Rattle.slot_lifetime.specs.Classes.{AreClasses};
 ghost use Rattle.slot_lifetime.specs.declared.class.SlotClass.{SlotClass};
-ghost use Rattle.sound_states.specs.Named.{HasNamedOperands};
+ghost use Rattle.sound_states.specs.Named.{AreLocalsNamed, AreUsesNamed, HasNamedOperands};
 
 /// The classes of slots stay where saves are written out.
 pub fn classes_stay_saved()
@@ -57,4 +63,24 @@ pub fn alive_stay_named()
 /// And those that conflict.
 pub fn conflicts_stay_named()
     ensures { (f : Function) → HasNamedOperands f → (pairs : List (ℕ × ℕ)) → AreConflicts f pairs ↔ AreConflicts (with_begin_name f) pairs }
+{}
+
+/// The layouts of a module's coroutines stay where begin's value gets a name.
+pub fn layouts_stay_named()
+    ensures { (m : Module) → AreLocalsNamed m → AreUsesNamed m → (share : Bool) (result : Result Layouts LayoutsError) → AreLayouts m share result ↔ AreLayouts (named_module m) share result }
+{}
+
+/// They stay where uses of `coro.frame` are renamed, if begin's value is none of the parameters.
+pub fn layouts_stay_renamed()
+    ensures { (m : Module) → AllKeepRules m → AreBeginsNoParams m → (share : Bool) (result : Result Layouts LayoutsError) → AreLayouts m share result ↔ AreLayouts (renamed_module m) share result }
+{}
+
+/// And where saves are written out.
+pub fn layouts_stay_saved()
+    ensures { (m : Module) → AreLocalsNamed m → AreUsesNamed m → (share : Bool) (result : Result Layouts LayoutsError) → AreLayouts m share result ↔ AreLayouts (saves_written m) share result }
+{}
+
+/// So the layouts that are taken of a module are those of what the first pass makes of it.
+pub fn layouts_stay()
+    ensures { (m : Module) → AreLocalsNamed m → AreUsesNamed m → AllKeepRules (named_module m) → AreBeginsNoParams (named_module m) → (share : Bool) (result : Result Layouts LayoutsError) → AreLayouts m share result ↔ AreLayouts (early_module m) share result }
 {}
