@@ -1,5 +1,5 @@
 -- Two functions in which the same stands at the same places, but that what stands at a place of the one may stand one further on in the other, behind an instruction of the other's own.
-use Rattle.std.proofs.Common.{◌≡◌, ℕ, ◌+◌, ◌⊎◌, inl, inr, List, Some, refl, sym, ap, ◌∙◌, subst, ◌↔◌}
+use Rattle.std.proofs.Common.{◌≡◌, ℕ, ◌+◌, ◌⊎◌, Some, refl, sym, subst, ◌↔◌}
 use Rattle.definite_use.specs.Undefined.{params_of}
 use Rattle.definite_use.specs.Uses.{locals_in}
 use Rattle.flow_solver.specs.Paths.{IsListed}
@@ -9,7 +9,6 @@ use Rattle.ir_model.specs.declared.instr.Instr.{Instr}
 use Rattle.ir_model.specs.declared.module.Function.{Function}
 use Rattle.ir_paths.specs.Paths.{targets}
 use Rattle.ir_paths.specs.Windows.{destroy_label, end_block, resume_label}
-use Rattle.ir_paths.specs.declared.point.Point.{Point}
 use Rattle.ordinary_step.specs.Step.{Fetched, Nowhere, AtInstr, AtTerm, fetch}
 use Rattle.suspend_crossing.specs.EdgeUses.{IsUsedOn}
 use Rattle.suspend_crossing.specs.Paths.{BranchesTo, phis_at, used_by}

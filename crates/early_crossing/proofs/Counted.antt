@@ -1,7 +1,6 @@
 -- Values of functions whose locals are positions of their tables.
-use Rattle.std.proofs.Common.{◌≡◌, ℕ, ◌<◌, ◌⊎◌, inl, inr, List, [], ◌∷◌, length, Some, refl, sym, ap, ◌∙◌, subst}
+use Rattle.std.proofs.Common.{◌≡◌, ℕ, ◌<◌, inl, inr, List, [], ◌∷◌, length, Some, refl, sym, ◌∙◌, subst}
 use Rattle.std.specs.Prelude.{map, Option}
-use Rattle.definite_use.specs.Undefined.{params_of}
 use Rattle.early_crossing.proofs.Values.{values_hold}
 use Rattle.flow_solver.specs.Paths.{IsListed}
 use Rattle.function_parts.specs.Contents.{result_of}

@@ -1,11 +1,9 @@
 -- Which values cross which suspends, in functions that are alike.
-use Rattle.std.proofs.Common.{◌≡◌, ℕ, ◌+◌, ◌⊎◌, inl, inr, List, [], ◌∷◌, ◌++◌, Some, map, refl, sym, ap, ◌∙◌, subst, ◌↔◌}
-use Rattle.definite_use.specs.Uses.{locals_in}
-use Rattle.early_crossing.proofs.Alike.{AreAlike, IsAt, IsMaking, IsOfPlace, IsOneOn, branches_alike, instr_forth, instr_home, uses_alike}
+use Rattle.std.proofs.Common.{◌≡◌, ℕ, ◌+◌, ◌⊎◌, inl, inr, List, [], ◌∷◌, map, sym, ap, ◌∙◌, subst, ◌↔◌}
+use Rattle.early_crossing.proofs.Alike.{AreAlike, IsAt, IsOfPlace, IsOneOn, branches_alike, instr_forth, instr_home, uses_alike}
 use Rattle.flow_solver.specs.Paths.{IsListed}
-use Rattle.function_parts.specs.Contents.{instr_operands, result_of}
+use Rattle.function_parts.specs.Contents.{result_of}
 use Rattle.ir_model.specs.Names.{position_of}
-use Rattle.ir_model.specs.declared.instr.Instr.{Instr}
 use Rattle.ir_model.specs.declared.module.Function.{Function}
 use Rattle.ir_paths.specs.Windows.{destroy_label, resume_label}
 use Rattle.ir_paths.specs.declared.point.Point.{Point}

@@ -1,5 +1,5 @@
 -- A function and the same with its begins named are alike, so far as the names of the function's own go.
-use Rattle.std.proofs.Common.{◌≡◌, ℕ, ◌+◌, ◌<◌, ◌⊎◌, inl, inr, Bool, true, false, List, [], ◌∷◌, ◌++◌, length, refl, sym, ap, ◌∙◌, subst, arith, ◌↔◌}
+use Rattle.std.proofs.Common.{◌≡◌, ℕ, ◌+◌, ◌<◌, inl, Bool, true, false, List, [], ◌∷◌, ◌++◌, length, refl, sym, ap, ◌∙◌, subst, arith, ◌↔◌}
 use Rattle.std.specs.Prelude.{Some, None, Option, map, option_map, slice_get, ◌||◌, ◌==◌}
 use Rattle.begin_naming.proofs.NamedParts.{block_same, call_of_same, destroy_same, end_same, fetch_same, named_fetched, points_where_same, position_same, resume_same, same_but_begin, with_begin}
 use Rattle.begin_naming.proofs.NamedSlots.{begin_unnamed}
@@ -22,7 +22,6 @@ use Rattle.ir_model.specs.declared.operand.Callee.{Callee}
 use Rattle.ir_model.specs.declared.operand.Intrinsic.{Intrinsic}
 use Rattle.ir_model.specs.declared.operand.Operand.{Operand}
 use Rattle.ir_paths.specs.Windows.{instr_in, is_call_of}
-use Rattle.ir_paths.specs.declared.point.Point.{Point}
 use Rattle.ordinary_step.specs.Step.{AtInstr, AtTerm, Fetched, Nowhere, fetch, fetch_in, fetch_or}
 use Rattle.sound_states.specs.Named.{HasNamedLocals}
 use Rattle.suspend_crossing.specs.Crossing.{AreCrossing, suspends_of}

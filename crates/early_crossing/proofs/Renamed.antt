@@ -1,11 +1,10 @@
 -- A function and the same with uses of coro.frame renamed are alike.
-use Rattle.std.proofs.Common.{◌≡◌, ℕ, zero, suc, ◌+◌, ◌⊎◌, inl, inr, Bool, true, false, List, [], ◌∷◌, ◌++◌, Some, None, Option, refl, sym, ap, ◌∙◌, subst, ◌↔◌}
+use Rattle.std.proofs.Common.{◌≡◌, ℕ, ◌+◌, ◌⊎◌, inl, inr, Bool, true, false, List, [], ◌∷◌, ◌++◌, Some, None, Option, refl, sym, ap, ◌∙◌, subst, ◌↔◌}
 use Rattle.std.proofs.lemmas.List.{map-append}
 use Rattle.std.specs.Prelude.{map, option_map, option_to_list, slice_get, if◌then◌else◌, ◌||◌, ◌==◌}
-use Rattle.definite_use.specs.Undefined.{params_of}
 use Rattle.definite_use.specs.Uses.{local_of, locals_in, made_by_phis}
 use Rattle.early_agreement.proofs.Actions.{renamed_fetched}
-use Rattle.early_agreement.proofs.Lists.{equal_numbers, itself}
+use Rattle.early_agreement.proofs.Lists.{itself}
 use Rattle.early_agreement.proofs.Parts.{block_same, call_of_same, destroy_same, end_same, fetch_same, points_where_same, position_same, resume_same}
 use Rattle.early_agreement.specs.Passes.{renamed_block, renamed_coroutine}
 use Rattle.early_agreement.specs.Regular.{IsPlain}
@@ -13,10 +12,10 @@ use Rattle.early_crossing.proofs.Alike.{AreAlike, IsAlike}
 use Rattle.early_crossing.proofs.Crossing.{AreAsCrossing, crosses_forth, crosses_home, crossing_same}
 use Rattle.early_crossing.proofs.Values.{values_hold}
 use Rattle.early_crossing.specs.Plain.{HasPlainNames}
-use Rattle.early_lower.specs.Renaming.{is_renamed, renamed, renamed_arg, renamed_callee, renamed_incoming, renamed_instr, renamed_phi, renamed_return, renamed_term, renamed_value}
+use Rattle.early_lower.specs.Renaming.{is_renamed, renamed, renamed_arg, renamed_callee, renamed_incoming, renamed_instr, renamed_phi, renamed_term, renamed_value}
 use Rattle.early_lower.specs.declared.renaming.Renaming.{Renaming}
 use Rattle.flow_solver.specs.Paths.{IsListed}
-use Rattle.function_parts.specs.Contents.{arg_operands, callee_operands, ending_operands, instr_operands, result_of, return_operands}
+use Rattle.function_parts.specs.Contents.{arg_operands, callee_operands, ending_operands, instr_operands, result_of}
 use Rattle.ir_model.specs.Names.{position_of}
 use Rattle.ir_model.specs.declared.instr.Case.{Case}
 use Rattle.ir_model.specs.declared.instr.Incoming.{Incoming}
@@ -31,12 +30,11 @@ use Rattle.ir_model.specs.declared.operand.Intrinsic.{Intrinsic}
 use Rattle.ir_model.specs.declared.operand.Operand.{Operand}
 use Rattle.ir_paths.specs.Paths.{targets}
 use Rattle.ir_paths.specs.Windows.{is_call_of}
-use Rattle.ir_paths.specs.declared.point.Point.{Point}
 use Rattle.ordinary_step.specs.Step.{Fetched, Nowhere, AtInstr, AtTerm, fetch}
-use Rattle.suspend_crossing.specs.Crossing.{AreCrossing, Crosses, suspends_of}
-use Rattle.suspend_crossing.specs.EdgeUses.{IsUsedOn, blocks_uses, edge_use, edge_uses, incoming_uses, phis_uses, uses_by}
+use Rattle.suspend_crossing.specs.Crossing.{AreCrossing, suspends_of}
+use Rattle.suspend_crossing.specs.EdgeUses.{blocks_uses, edge_use, incoming_uses, phis_uses, uses_by}
 use Rattle.suspend_crossing.specs.Paths.{phis_at, phis_in}
-use Rattle.suspend_crossing.specs.Values.{all_defined, blocks_defined, distinct, instrs_defined, is_apart, params_defined, phis_defined, result_unless, unless, is_token, values_of}
+use Rattle.suspend_crossing.specs.Values.{blocks_defined, distinct, instrs_defined, is_apart, params_defined, phis_defined, result_unless, unless, is_token, values_of}
 use Rattle.suspend_crossing.specs.declared.edge_use.EdgeUse.{EdgeUse}
 
 -- both or neither of two lists have something, also behind others that both have

@@ -1,15 +1,14 @@
 -- A function and the same with its saves written out are alike, so far as the names of the function's own go.
-use Rattle.std.proofs.Common.{◌≡◌, ℕ, suc, ◌+◌, ◌<◌, ◌≤◌, ◌⊎◌, inl, inr, Bool, true, false, List, [], ◌∷◌, ◌++◌, length, refl, sym, ap, ◌∙◌, subst, arith, add-one, add-zero, ◌↔◌}
-use Rattle.std.specs.Prelude.{Some, None, Option, map, option_map, slice_get, if◌then◌else◌, ◌==◌}
+use Rattle.std.proofs.Common.{◌≡◌, ℕ, ◌+◌, ◌<◌, ◌≤◌, ◌⊎◌, inl, inr, Bool, true, false, List, [], ◌∷◌, ◌++◌, length, refl, sym, ap, ◌∙◌, subst, arith, add-one, add-zero, ◌↔◌}
+use Rattle.std.specs.Prelude.{Some, None, Option, option_map, slice_get, if◌then◌else◌, ◌==◌}
 use Rattle.definite_use.specs.Uses.{local_of, locals_in}
 use Rattle.early_crossing.proofs.Alike.{AreAlike, IsAlike, IsOfPlace, IsOneOn, IsOther}
 use Rattle.early_crossing.proofs.Counted.{values_named}
 use Rattle.early_crossing.proofs.Crossing.{AreAsCrossing, crosses_forth, crosses_home, crossing_same}
-use Rattle.early_crossing.proofs.Unsaved.{IsFrom, bare_is, each_from, more_block, more_name}
+use Rattle.early_crossing.proofs.Unsaved.{bare_is, each_from, more_block, more_name}
 use Rattle.early_lower.specs.Early.{save_call, saved}
 use Rattle.flow_solver.specs.Paths.{IsListed}
-use Rattle.function_parts.specs.Contents.{arg_operands, ending_operands, instr_operands, result_of}
-use Rattle.ir_model.specs.Names.{position_of}
+use Rattle.function_parts.specs.Contents.{arg_operands, result_of}
 use Rattle.ir_model.specs.declared.instr.Incoming.{Incoming}
 use Rattle.ir_model.specs.declared.instr.Instr.{Instr}
 use Rattle.ir_model.specs.declared.instr.Phi.{Phi}
@@ -21,14 +20,14 @@ use Rattle.ir_model.specs.declared.operand.Callee.{Callee}
 use Rattle.ir_model.specs.declared.operand.Intrinsic.{Intrinsic}
 use Rattle.ir_paths.specs.Windows.{label_at}
 use Rattle.ir_paths.specs.declared.point.Point.{Point}
-use Rattle.ordinary_step.specs.Step.{Fetched, AtInstr, AtTerm, Nowhere, fetch, fetch_in, fetch_or}
+use Rattle.ordinary_step.specs.Step.{AtInstr, Nowhere, fetch, fetch_in, fetch_or}
 use Rattle.save_agreement.proofs.Apart.{back_back, front_back}
 use Rattle.save_agreement.proofs.Behind.{end_saved, suspends_moved}
 use Rattle.save_agreement.proofs.Blocks.{get_block, instrs_saved, position_saved}
 use Rattle.save_agreement.proofs.Instrs.{get_save, instr_then, name_at, next_place}
 use Rattle.save_agreement.proofs.Parts.{fetch_back}
-use Rattle.save_agreement.specs.SavesWritten.{behind_save, behind_saves, is_bare, saved_block, saved_blocks, saved_function, with_save, with_saves}
-use Rattle.save_agreement.specs.Spots.{back_of, front_of, instrs_in, number_of_block, own_saves, place_in}
+use Rattle.save_agreement.specs.SavesWritten.{behind_save, behind_saves, is_bare, saved_block, saved_blocks, saved_function, with_saves}
+use Rattle.save_agreement.specs.Spots.{back_of, instrs_in, number_of_block, own_saves, place_in}
 use Rattle.sound_states.specs.Named.{HasNamedLocals}
 use Rattle.suspend_crossing.specs.Crossing.{AreCrossing}
 use Rattle.suspend_crossing.specs.EdgeUses.{blocks_uses, edge_uses, incoming_uses, phis_uses, uses_by}
@@ -207,7 +206,7 @@ module _ (f : Function) where
     found_at : (b x : ℕ) (j : Instr) → fetch g b x ≡ AtInstr j → IsOfPlace front back b x
     found_at b x j e =
         let from = each_from f.coroutine (number b) (instrs b) x j
-            (sym (ap (λ (is : List Instr). slice_get is x) (instrs_saved f.coroutine b (length f.names) f.blocks)) ∙ instr_fetched (slice_get g.blocks b) x j e) in
+        (sym (ap (λ (is : List Instr). slice_get is x) (instrs_saved f.coroutine b (length f.names) f.blocks)) ∙ instr_fetched (slice_get g.blocks b) x j e) in
         record { at = from.at; is_at = from.is_at }
 
     pub alike_saved : AreAlike f g front back v

@@ -1,5 +1,5 @@
 -- What holds of each value of a function that may cross a suspend.
-use Rattle.std.proofs.Common.{◌≡◌, ℕ, suc, ◌⊎◌, inl, inr, Bool, true, false, List, [], ◌∷◌, ◌++◌, Some, None, Option, refl, sym, ap, ◌∙◌, subst, ⊎_elim}
+use Rattle.std.proofs.Common.{◌≡◌, ℕ, suc, inl, inr, Bool, true, false, List, [], ◌∷◌, ◌++◌, Some, None, Option, refl, sym, subst}
 use Rattle.std.specs.Prelude.{map, slice_get, if◌then◌else◌}
 use Rattle.definite_use.specs.Undefined.{params_of}
 use Rattle.flow_solver.specs.Paths.{IsListed}

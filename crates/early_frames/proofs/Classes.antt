@@ -1,5 +1,5 @@
 -- The classes of slots, where slots may be alive at suspends, and which slots conflict, in functions that are alike.
-use Rattle.std.proofs.Common.{◌≡◌, ℕ, ◌⊎◌, inl, inr, Bool, true, false, List, [], ◌∷◌, length, map, Some, refl, sym, ap, ◌∙◌, subst, ◌↔◌}
+use Rattle.std.proofs.Common.{◌≡◌, ℕ, inl, inr, Bool, true, false, List, [], length, Some, refl, sym, ap, ◌∙◌, subst, ◌↔◌}
 use Rattle.std.specs.Prelude.{slice_get}
 use Rattle.early_frames.proofs.SlotsAlike.{AreLone, AreSlotsAlike, after_forth, after_home, alive_forth, alive_home, none_lone}
 use Rattle.early_frames.proofs.Spots.{IsOfSpot, behind_forth, behind_home, from_forth, from_home, moved_spot, point_moved, start_forth, start_home, use_forth, use_home}
@@ -9,13 +9,11 @@ use Rattle.ir_paths.proofs.Search.{Has}
 use Rattle.ir_paths.specs.Paths.{has_point}
 use Rattle.ir_paths.specs.Slots.{allocas_of, is_escaped}
 use Rattle.ir_paths.specs.declared.point.Point.{Point}
-use Rattle.slot_lifetime.specs.Alive.{MayBeAlive}
 use Rattle.slot_lifetime.specs.Classes.{AreClasses, IsAliveAcross, IsOf, IsUsedAcross, IsUsedAway, MeetsLater, NeedsFrame, Touches, parting, suspends}
 use Rattle.slot_lifetime.specs.Classes.NeedsFrame.{Promise, Away, Across, Alive}
 use Rattle.slot_lifetime.specs.declared.class.SlotClass.{SlotClass}
 use Rattle.slot_rules.specs.Closed.{IsClosed}
 use Rattle.slot_uses.specs.Spots.{IsBehind, LeadsFrom, Spot, point_at}
-use Rattle.window_rules.specs.Sets.{IsAfterEnd}
 
 module _ (f g : Function) (front back : Point → Point) (Name : ℕ → Type 0) (alike : AreSlotsAlike f g front back Name) where
   abbrev moved : Spot → Spot

@@ -1,5 +1,5 @@
 -- Which slots may be alive at suspends, and which conflict, in functions that are alike.
-use Rattle.std.proofs.Common.{◌≡◌, ℕ, ◌⊎◌, inl, inr, true, false, List, [], ◌∷◌, map, Some, None, Option, refl, sym, ap, ◌∙◌, subst, ◌↔◌}
+use Rattle.std.proofs.Common.{◌≡◌, ℕ, ◌⊎◌, inl, inr, true, false, List, [], ◌∷◌, Some, None, Option, refl, sym, ap, ◌∙◌, subst, ◌↔◌}
 use Rattle.std.proofs.lemmas.Option.{slice_get-map}
 use Rattle.std.specs.Prelude.{option_map, slice_get}
 use Rattle.early_frames.proofs.Classes.{of_forth, of_home}
@@ -10,19 +10,15 @@ use Rattle.ir_model.specs.declared.module.Function.{Function}
 use Rattle.ir_paths.proofs.Search.{Has, either, or_left, same_point-itself, same_point-same}
 use Rattle.ir_paths.specs.Paths.{Leads, has_point, same_point}
 use Rattle.ir_paths.specs.Slots.{allocas_of}
-use Rattle.ir_paths.specs.Windows.{end_block}
 use Rattle.ir_paths.specs.declared.point.Point.{Point}
 use Rattle.point_graph.specs.Reached.{IsReached}
 use Rattle.slot_conflicts.specs.Conflicts.{AliveAt, AreAliveAt, AreAliveTogether, AreConflicts, Conflict, ConflictAt, IsFrameSlotAt, IsUsedEarly}
 use Rattle.slot_conflicts.specs.Conflicts.Conflict.{Unmarked, Early, Together}
-use Rattle.slot_conflicts.specs.Pairs.{AreThePairs}
-use Rattle.slot_lifetime.specs.Alive.{markers_of}
 use Rattle.slot_lifetime.specs.Classes.{suspends}
 use Rattle.slot_lifetime.specs.declared.class.SlotClass.{SlotClass}
 use Rattle.slot_rules.specs.Early.{IsBeforeBegin}
-use Rattle.slot_uses.specs.Spots.{Comes, Spot, point_at}
+use Rattle.slot_uses.specs.Spots.{Comes, point_at}
 use Rattle.window_rules.specs.Points.{begins, entry}
-use Rattle.window_rules.specs.Sets.{IsWithoutBegin}
 
 only_one : (y x : Point) → Has (y ∷ []) x → x ≡ y
 only_one y x h = on (either (same_point x y) false h)

@@ -3,11 +3,11 @@ use Rattle.std.proofs.Common.{◌≡◌, ℕ, ◌+◌, ◌<◌, ◌≤◌, ◌�
 use Rattle.std.proofs.lemmas.Bool.{cases_lt, le-ltb, lt-ltb}
 use Rattle.std.proofs.lemmas.Option.{slice_get_within}
 use Rattle.std.specs.Prelude.{Some, None, Option, map, nat_lt, option_map, slice_get, if◌then◌else◌, ◌==◌}
-use Rattle.early_frames.proofs.Strands.{AreStrands, IsMovedFrom, IsOnlyNext, has_map, map_has}
+use Rattle.early_frames.proofs.Strands.{AreStrands, IsOnlyNext, has_map, map_has}
 use Rattle.ir_model.specs.declared.instr.Instr.{Instr}
 use Rattle.ir_model.specs.declared.module.Block.{Block}
 use Rattle.ir_model.specs.declared.module.Function.{Function}
-use Rattle.ir_paths.proofs.Search.{Has, either, eq_from, eq_itself, or_left, same_point-itself, same_point-same}
+use Rattle.ir_paths.proofs.Search.{either, eq_from, eq_itself, or_left, same_point-itself, same_point-same}
 use Rattle.ir_paths.specs.Paths.{entry_point, has_point, nexts, nexts_in, same_point, targets}
 use Rattle.ir_paths.specs.declared.point.Point.{Point}
 use Rattle.save_agreement.proofs.Apart.{back_back, front_back, front_front}

@@ -1,11 +1,10 @@
 -- What frames hold, and its fields.
-use Rattle.std.proofs.Common.{◌≡◌, ℕ, suc, ◌+◌, ◌⊎◌, inl, inr, Bool, true, false, List, [], ◌∷◌, ◌++◌, length, map, Some, None, Option, refl, sym, ap, ◌∙◌, subst}
-use Rattle.std.specs.Prelude.{slice_get, if◌then◌else◌, ◌==◌, ◌||◌}
-use Rattle.coroutine_frames.specs.Held.{crossing_values, field_of, fields_of, held_blocks, held_by, held_instr, held_instrs, held_of, held_params, held_phis, if_result, if_value, index_field, result_size, slot_held, suspend_count, value_held}
+use Rattle.std.proofs.Common.{◌≡◌, ℕ, suc, ◌+◌, ◌⊎◌, inl, inr, Bool, true, false, List, [], ◌∷◌, ◌++◌, map, Some, None, Option, refl, ap, subst}
+use Rattle.std.specs.Prelude.{slice_get, if◌then◌else◌, ◌==◌}
+use Rattle.coroutine_frames.specs.Held.{crossing_values, field_of, fields_of, held_blocks, held_by, held_instr, held_instrs, held_params, held_phis, if_result, if_value, index_field, result_size, slot_held, suspend_count, value_held}
 use Rattle.coroutine_frames.specs.declared.held.Holding.{Holding}
 use Rattle.definite_use.specs.Undefined.{params_of}
 use Rattle.flow_solver.specs.Paths.{IsListed}
-use Rattle.frame_layout.specs.declared.layout.Field.{Field}
 use Rattle.function_parts.specs.Contents.{result_of}
 use Rattle.ir_model.specs.declared.instr.Instr.{Instr}
 use Rattle.ir_model.specs.declared.instr.Phi.{Phi}

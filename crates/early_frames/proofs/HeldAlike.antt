@@ -1,8 +1,7 @@
 -- What frames hold is the same under each of the three passes.
-use Rattle.std.proofs.Common.{◌≡◌, ℕ, zero, suc, ◌+◌, ◌<◌, ◌≤◌, Bool, true, false, List, [], ◌∷◌, ◌++◌, length, map, Some, None, Option, refl, sym, ap, ◌∙◌, subst, arith}
+use Rattle.std.proofs.Common.{◌≡◌, ℕ, suc, ◌+◌, ◌≤◌, Bool, true, false, List, [], ◌∷◌, ◌++◌, map, Some, None, Option, refl, sym, ap, ◌∙◌, arith}
 use Rattle.std.specs.Prelude.{slice_get, if◌then◌else◌}
-use Rattle.coroutine_frames.specs.Held.{held_blocks, held_instr, held_instrs, held_params, held_phis, if_result, if_value, result_size, value_held, value_size}
-use Rattle.coroutine_frames.specs.declared.held.Holding.{Holding}
+use Rattle.coroutine_frames.specs.Held.{held_blocks, held_instr, held_instrs, held_phis, if_result, if_value, result_size, value_held, value_size}
 use Rattle.early_agreement.specs.Passes.{renamed_block}
 use Rattle.early_crossing.proofs.Unsaved.{bare_is}
 use Rattle.early_lower.specs.BeginName.{named_block, named_instr}
@@ -17,7 +16,7 @@ use Rattle.ir_model.specs.declared.module.Block.{Block}
 use Rattle.ir_model.specs.declared.module.Module.{Module}
 use Rattle.ir_model.specs.declared.operand.Callee.{Callee}
 use Rattle.ir_model.specs.declared.operand.Intrinsic.{Intrinsic}
-use Rattle.save_agreement.specs.SavesWritten.{behind_save, behind_saves, is_bare, saved_blocks, with_save, with_saves}
+use Rattle.save_agreement.specs.SavesWritten.{behind_save, behind_saves, is_bare, saved_blocks, with_saves}
 use Rattle.type_sizes.specs.Cut.{capped}
 use Rattle.coroutine_frames.specs.Held.{slot_kind}
 

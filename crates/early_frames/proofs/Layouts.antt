@@ -1,10 +1,10 @@
 -- Layouts of modules whose functions change, but not in what frames hold.
-use Rattle.std.proofs.Common.{◌≡◌, ℕ, suc, ◌+◌, Bool, true, false, List, [], ◌∷◌, map, Some, None, Option, refl, sym, ap, ◌∙◌, subst, ◌↔◌}
-use Rattle.std.specs.Prelude.{IsTrue, Result, Ok, Err, get_or, slice_get}
-use Rattle.coroutine_frames.specs.Frames.{AreLaid, AreLayouts, IsFrame, IsLaid, IsLayout, IsShared, IsTooLarge, conflicts_of}
+use Rattle.std.proofs.Common.{◌≡◌, ℕ, suc, ◌+◌, Bool, true, false, List, [], ◌∷◌, map, Some, None, refl, sym, ap, ◌∙◌, subst, ◌↔◌}
+use Rattle.std.specs.Prelude.{Result, Ok, Err, get_or, slice_get}
+use Rattle.coroutine_frames.specs.Frames.{AreLaid, AreLayouts, IsFrame, IsLaid, IsLayout, IsTooLarge, conflicts_of}
 use Rattle.coroutine_frames.specs.Frames.AreLaid.{NoMore, Other, Coroutine}
 use Rattle.coroutine_frames.specs.Frames.IsTooLarge.{Here, BehindOther, BehindFrame}
-use Rattle.coroutine_frames.specs.Held.{at_fields, both_at_fields, fields_of, held_of, position_of, slot_position}
+use Rattle.coroutine_frames.specs.Held.{at_fields, both_at_fields, fields_of, held_of, position_of}
 use Rattle.coroutine_frames.specs.declared.held.Holding.{Holding}
 use Rattle.coroutine_frames.specs.declared.module_frames.LayoutsError.{LayoutsError}
 use Rattle.frame_layout.specs.Conflicts.{field_conflicts}

@@ -1,12 +1,12 @@
 -- The layouts of a module stay under the first pass.
-use Rattle.std.proofs.Common.{◌≡◌, ℕ, ◌<◌, ◌≤◌, Bool, true, false, List, [], ◌∷◌, ◌++◌, length, map, Some, None, Option, refl, sym, ap, ◌∙◌, subst, arith, ◌↔◌}
+use Rattle.std.proofs.Common.{◌≡◌, ℕ, ◌<◌, ◌≤◌, Bool, true, false, List, [], ◌∷◌, ◌++◌, length, Some, None, Option, refl, sym, ap, ◌∙◌, subst, arith, ◌↔◌}
 use Rattle.std.proofs.lemmas.Bool.{eqb-true}
 use Rattle.std.proofs.lemmas.List.{length-map}
 use Rattle.std.specs.Prelude.{Result, slice_get, unwrap_or, if◌then◌else◌, ◌==◌}
 use Rattle.begin_naming.proofs.NamedParts.{call_of_same as call_of_named, points_where_same as points_named, with_begin}
 use Rattle.begin_naming.proofs.NamedSlots.{begin_unnamed, promise_same as promise_named}
 use Rattle.coroutine_frames.specs.Frames.{AreLayouts}
-use Rattle.coroutine_frames.specs.Held.{crossing_values, fields_of, frame_slots, frame_slots_from, held_blocks, held_by, held_of, held_params, suspend_count}
+use Rattle.coroutine_frames.specs.Held.{crossing_values, fields_of, frame_slots, frame_slots_from, held_blocks, held_of, held_params}
 use Rattle.coroutine_frames.specs.declared.held.Holding.{Holding}
 use Rattle.coroutine_frames.specs.declared.module_frames.LayoutsError.{LayoutsError}
 use Rattle.definite_use.specs.Undefined.{params_of}
@@ -38,14 +38,12 @@ use Rattle.flow_solver.specs.Paths.{IsListed}
 use Rattle.frame_layout.specs.declared.layout.Layouts.{Layouts}
 use Rattle.ir_model.specs.Calls.{first_result}
 use Rattle.ir_model.specs.Names.{function_at, no_function}
-use Rattle.ir_model.specs.declared.instr.Instr.{Instr}
 use Rattle.ir_model.specs.declared.module.Block.{Block}
 use Rattle.ir_model.specs.declared.module.Function.{Function}
 use Rattle.ir_model.specs.declared.module.Module.{Module}
 use Rattle.ir_model.specs.declared.operand.Intrinsic.{Intrinsic}
 use Rattle.ir_paths.specs.Slots.{allocas_in, allocas_of, has_name, promise_of}
 use Rattle.ir_paths.specs.Windows.{instr_in, is_call_of, points_where}
-use Rattle.ir_paths.specs.declared.point.Point.{Point}
 use Rattle.ordinary_step.specs.Step.{phis_of}
 use Rattle.save_agreement.proofs.Behind.{suspends_moved}
 use Rattle.save_agreement.proofs.Expansion.{get_front}

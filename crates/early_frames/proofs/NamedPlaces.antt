@@ -1,35 +1,19 @@
 -- Addresses and escaped slots of a function whose begin is named are those of its own.
-use Rattle.std.proofs.Common.{◌≡◌, ℕ, zero, suc, ◌+◌, Bool, true, false, List, [], ◌∷◌, ◌++◌, length, refl, sym, ap, ◌∙◌, arith}
-use Rattle.std.proofs.lemmas.Bool.{eqb-true}
-use Rattle.std.specs.List.{cons_option, list_any}
-use Rattle.std.specs.Prelude.{Some, None, Option, option_map, option_and_then, option_to_list, filter, filter_map, flat_map, map, not, slice_get, if◌then◌else◌, ◌==◌, ◌&&◌, ◌||◌}
-use Rattle.begin_naming.proofs.NamedParts.{block_same, call_of_same, destroy_same, end_same, entry_same, found_same, instr_same, led_same, points_where_same, resume_same, same_but_begin, with_begin}
-use Rattle.coro_base.specs.declared.outcome.Place.{Place}
+use Rattle.std.proofs.Common.{◌≡◌, ℕ, zero, suc, Bool, List, [], ◌∷◌, ◌++◌, length, refl, ap, ◌∙◌}
+use Rattle.std.specs.List.{list_any}
+use Rattle.std.specs.Prelude.{Some, None, Option, option_map, flat_map, map, slice_get, if◌then◌else◌, ◌||◌}
+use Rattle.begin_naming.proofs.NamedParts.{block_same, end_same, points_where_same, same_but_begin, with_begin}
 use Rattle.early_agreement.proofs.Lists.{any_same}
-use Rattle.early_agreement.proofs.Modules.{length_same, map_same}
+use Rattle.early_agreement.proofs.Modules.{length_same}
 use Rattle.early_lower.specs.BeginName.{named_block, named_instr}
-use Rattle.ir_model.specs.Calls.{first_result, first_result_by, first_result_in, or_else, result_of_call}
-use Rattle.ir_model.specs.Names.{is_local, same_intrinsic}
-use Rattle.ir_model.specs.Ty.{Ty}
 use Rattle.ir_model.specs.declared.instr.Instr.{Instr}
 use Rattle.ir_model.specs.declared.module.Block.{Block}
 use Rattle.ir_model.specs.declared.module.Function.{Function}
-use Rattle.ir_model.specs.declared.operand.Arg.{Arg}
-use Rattle.ir_model.specs.declared.operand.Callee.{Callee}
-use Rattle.ir_model.specs.declared.operand.Intrinsic.{Intrinsic}
 use Rattle.ir_model.specs.declared.operand.Operand.{Operand}
-use Rattle.ir_paths.specs.Facts.{facts_of}
-use Rattle.ir_paths.specs.Paths.{block_points, entry_point, found_from, has_point, same_point}
-use Rattle.ir_paths.specs.Slots.{addresses_of, addresses_within, allocas_in, allocas_of, behind_suspends, end_points, exposed_in_block, exposes, geps_from, has_name, have_common, is_escaped, is_gep, is_ramp_slot, local_of, occurs_in_phi, occurs_in_term, points_at, points_behind, promise_of, touches, touching_points}
-use Rattle.ir_paths.specs.Windows.{call_operand, call_result, destroy_label, end_block, instr_at, instr_in, is_call_of, is_suspend_of, operand_at, points_from, points_in, points_where, resume_label, saves_of, suspend_of, window_of, windows_of}
+use Rattle.ir_paths.specs.Paths.{block_points}
+use Rattle.ir_paths.specs.Slots.{addresses_of, addresses_within, allocas_in, end_points, exposed_in_block, exposes, geps_from, has_name, is_escaped, is_gep, occurs_in_phi, occurs_in_term, points_at}
+use Rattle.ir_paths.specs.Windows.{end_block, points_where}
 use Rattle.ir_paths.specs.declared.point.Point.{Point}
-use Rattle.ordinary_step.specs.Step.{has_markers, is_marker_of, phis_of, place_at}
-use Rattle.save_agreement.proofs.Saves.{each_at}
-use Rattle.save_agreement.specs.Tokens.{IsNamed}
-use Rattle.save_agreement.specs.Tokens.{Each as EachOf}
-use Rattle.sound_states.specs.Named.{HasNamedOperands}
-use Rattle.source_program.specs.Given.{has_final, is_final, is_final_call, is_true}
-use Rattle.step_laws.specs.Changed.{Each, operands_of, values_of}
 
 module _ (n : ℕ) (f : Function) where
   abbrev g : Function

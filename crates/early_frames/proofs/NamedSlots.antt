@@ -1,5 +1,5 @@
 -- A function and the same with its begins named are alike, so far as slots go.
-use Rattle.std.proofs.Common.{◌≡◌, ℕ, ◌+◌, ◌<◌, ◌≤◌, ◌⊎◌, inl, inr, Bool, true, false, List, [], ◌∷◌, length, map, refl, sym, ap, ◌∙◌, subst, ◌↔◌}
+use Rattle.std.proofs.Common.{◌≡◌, ℕ, ◌≤◌, inl, inr, List, length, refl, sym, ap, ◌∙◌, subst}
 use Rattle.std.specs.Prelude.{Some, None, Option, option_map, option_to_list, slice_get}
 use Rattle.begin_naming.proofs.NamedParts.{block_same, call_of_same, destroy_same, end_same, instr_same, nexts_same, points_where_same, position_same, resume_same, same_but_begin, with_begin}
 use Rattle.begin_naming.proofs.NamedSlots.{facts_same, promise_same, suspend_same}
@@ -9,7 +9,7 @@ use Rattle.early_frames.proofs.NamedPlaces.{addresses_same, allocas_same, blocks
 use Rattle.early_frames.proofs.SlotsAlike.{AreSlotsAlike}
 use Rattle.early_frames.proofs.Still.{stay, still_carried, still_lone, still_strands}
 use Rattle.early_frames.proofs.Strands.{IsOf}
-use Rattle.early_frames.proofs.Windows.{IsIn, in_some, some_in, window_forth, window_home}
+use Rattle.early_frames.proofs.Windows.{in_some, some_in, window_forth, window_home}
 use Rattle.early_lower.specs.BeginName.{named_block, named_instr}
 use Rattle.flow_solver.specs.Paths.{IsListed}
 use Rattle.ir_model.specs.Calls.{first_result}
@@ -22,7 +22,7 @@ use Rattle.ir_paths.proofs.Search.{Has}
 use Rattle.ir_paths.specs.Facts.{facts_of}
 use Rattle.ir_paths.specs.Paths.{has_point}
 use Rattle.ir_paths.specs.Slots.{IsRampSlot, allocas_in, allocas_of, end_points, has_name, occurs, occurs_in_term}
-use Rattle.ir_paths.specs.Windows.{call_operand, instr_at, is_call_of, points_where, suspend_of}
+use Rattle.ir_paths.specs.Windows.{instr_at, is_call_of, points_where}
 use Rattle.ir_paths.specs.declared.point.Point.{Point}
 use Rattle.point_reach.specs.Reached.{IsPointOf}
 use Rattle.slot_lifetime.specs.Classes.{suspends}

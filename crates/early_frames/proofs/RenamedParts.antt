@@ -1,13 +1,13 @@
 -- Addresses, uses and escaped slots of a renamed coroutine are those of its own.
-use Rattle.std.proofs.Common.{◌≡◌, ℕ, zero, suc, ◌+◌, Bool, true, false, List, [], ◌∷◌, ◌++◌, length, refl, sym, ap, ◌∙◌, subst, arith}
-use Rattle.std.specs.List.{cons_option, list_any}
-use Rattle.std.specs.Prelude.{IsTrue, Some, None, Option, option_map, option_and_then, option_to_list, filter, filter_map, flat_map, map, not, slice_get, if◌then◌else◌, ◌==◌, ◌&&◌, ◌||◌}
-use Rattle.early_agreement.proofs.Lists.{any_same, each_behind, each_there, equal_numbers, itself}
-use Rattle.early_agreement.proofs.Modules.{length_same, map_same}
-use Rattle.early_agreement.proofs.Parts.{block_same, call_of_same, call_operand_same, destroy_same, end_same, entry_same, found_same, instr_same, led_same, local_same, points_where_same, result_same, resume_same}
+use Rattle.std.proofs.Common.{◌≡◌, ℕ, zero, suc, Bool, true, false, List, [], ◌∷◌, ◌++◌, length, refl, ap, ◌∙◌}
+use Rattle.std.specs.List.{list_any}
+use Rattle.std.specs.Prelude.{Some, None, Option, option_map, flat_map, map, not, slice_get, if◌then◌else◌, ◌==◌, ◌&&◌, ◌||◌}
+use Rattle.early_agreement.proofs.Lists.{any_same, each_behind, each_there}
+use Rattle.early_agreement.proofs.Modules.{length_same}
+use Rattle.early_agreement.proofs.Parts.{block_same, end_same, local_same, points_where_same}
 use Rattle.early_agreement.specs.Passes.{renamed_block, renamed_coroutine}
-use Rattle.early_agreement.specs.Regular.{IsMark, IsPlain, IsRegular, is_call_at, passes}
-use Rattle.early_lower.specs.Renaming.{is_renamed, renamed, renamed_arg, renamed_callee, renamed_incoming, renamed_instr, renamed_phi, renamed_term, renamed_value}
+use Rattle.early_agreement.specs.Regular.{IsPlain, IsRegular}
+use Rattle.early_lower.specs.Renaming.{renamed_arg, renamed_callee, renamed_incoming, renamed_instr, renamed_phi, renamed_term, renamed_value}
 use Rattle.early_lower.specs.declared.renaming.Renaming.{Renaming}
 use Rattle.ir_model.specs.Names.{is_local}
 use Rattle.ir_model.specs.declared.instr.Instr.{Instr}
@@ -17,19 +17,15 @@ use Rattle.ir_model.specs.declared.module.Block.{Block}
 use Rattle.ir_model.specs.declared.module.Function.{Function}
 use Rattle.ir_model.specs.declared.operand.Arg.{Arg}
 use Rattle.ir_model.specs.declared.operand.Callee.{Callee}
-use Rattle.ir_model.specs.declared.operand.Intrinsic.{Intrinsic}
 use Rattle.ir_model.specs.declared.operand.Operand.{Operand}
-use Rattle.ir_paths.specs.Facts.{facts_of}
-use Rattle.ir_paths.specs.Paths.{block_points, entry_point, found_from, has_point, same_point}
-use Rattle.ir_paths.specs.Slots.{addresses_of, addresses_within, allocas_in, allocas_of, behind_suspends, end_points, exposed_in_block, exposes, geps_from, has_name, have_common, is_escaped, is_gep, is_in_args, is_memcpy, is_no_use, is_ramp_slot, local_of, occurs, occurs_in_phi, occurs_in_term, points_at, points_behind, promise_of, touches, touching_points}
-use Rattle.ir_paths.specs.Windows.{call_operand, call_result, destroy_label, end_block, instr_at, instr_in, is_call_of, is_suspend_of, points_from, points_in, points_where, resume_label, saves_of, suspend_of, window_of, windows_of}
+use Rattle.ir_paths.specs.Paths.{block_points}
+use Rattle.ir_paths.specs.Slots.{addresses_of, addresses_within, allocas_in, end_points, exposed_in_block, exposes, geps_from, has_name, is_escaped, is_gep, is_in_args, is_memcpy, is_no_use, occurs, occurs_in_phi, occurs_in_term, points_at}
+use Rattle.ir_paths.specs.Windows.{end_block, instr_at, instr_in, points_where}
 use Rattle.ir_paths.specs.declared.point.Point.{Point}
-use Rattle.ordinary_step.specs.Step.{has_markers, is_lifetime, is_marker_of}
-use Rattle.step_laws.specs.Changed.{Each, result_of}
+use Rattle.step_laws.specs.Changed.{Each}
 use Rattle.early_agreement.proofs.Slots.{plain_result}
 
 module _ (r : Renaming) where
-
   -- ---- occurrences of plain names
 
   pub in_args_same : (v : ℕ) → IsPlain r v → (args : List Arg) → is_in_args v (map (renamed_arg r) args) ≡ is_in_args v args

@@ -1,7 +1,6 @@
 -- A function and the same with uses of coro.frame renamed are alike, so far as slots go.
-use Rattle.std.proofs.Common.{◌≡◌, ℕ, ◌+◌, ◌<◌, ◌≤◌, ◌⊎◌, inl, inr, Bool, true, false, List, [], ◌∷◌, length, map, refl, sym, ap, ◌∙◌, subst, ◌↔◌}
-use Rattle.std.specs.List.{list_any}
-use Rattle.std.specs.Prelude.{IsTrue, Some, None, Option, option_map, option_to_list, slice_get, ◌&&◌, ◌||◌, ◌==◌}
+use Rattle.std.proofs.Common.{◌≡◌, ℕ, ◌≤◌, ◌⊎◌, inl, inr, true, List, [], ◌∷◌, length, map, refl, sym, ap, ◌∙◌, subst, ◌↔◌}
+use Rattle.std.specs.Prelude.{Some, None, Option, option_map, option_to_list, slice_get, ◌&&◌, ◌==◌}
 use Rattle.block_paths.proofs.Elements.{listed_map, map_listed}
 use Rattle.definite_use.specs.Uses.{local_of}
 use Rattle.early_agreement.proofs.Lists.{at_each}
@@ -9,15 +8,15 @@ use Rattle.early_agreement.proofs.Modules.{length_same}
 use Rattle.early_agreement.proofs.Parts.{block_same, call_of_same, call_operand_same, destroy_same, end_same, instr_same, local_same, nexts_same, points_where_same, position_same, resume_same}
 use Rattle.early_agreement.proofs.Slots.{promise_same, ramp_slots_same, suspend_same}
 use Rattle.early_agreement.specs.Passes.{renamed_block, renamed_coroutine}
-use Rattle.early_agreement.specs.Regular.{IsPlain, IsRegular, passes}
+use Rattle.early_agreement.specs.Regular.{IsPlain, IsRegular}
 use Rattle.early_crossing.proofs.Renamed.{map_itself, value_is}
 use Rattle.early_frames.proofs.RenamedParts.{addresses_same, allocas_plain, allocas_same, blocks_plain, blocks_same, end_points_same, escaped_same, no_use_same, occurs_same, of_addresses_plain, slots_plain, term_same}
 use Rattle.early_frames.proofs.SlotsAlike.{AreSlotsAlike}
 use Rattle.early_frames.proofs.Still.{stay, still_carried, still_lone, still_strands}
 use Rattle.early_frames.proofs.Strands.{IsOf}
 use Rattle.early_frames.proofs.Tests.{where_is}
-use Rattle.early_frames.proofs.Windows.{IsIn, in_some, some_in, window_forth, window_home}
-use Rattle.early_lower.specs.Renaming.{renamed, renamed_incoming, renamed_instr, renamed_phi, renamed_term, renamed_value}
+use Rattle.early_frames.proofs.Windows.{in_some, some_in, window_forth, window_home}
+use Rattle.early_lower.specs.Renaming.{renamed, renamed_incoming, renamed_instr, renamed_phi, renamed_value}
 use Rattle.early_lower.specs.declared.renaming.Renaming.{Renaming}
 use Rattle.flow_solver.specs.Paths.{IsListed}
 use Rattle.ir_model.specs.Names.{is_local}

@@ -1,5 +1,5 @@
 -- A function and the same with its saves written out are alike, so far as slots go.
-use Rattle.std.proofs.Common.{◌≡◌, ℕ, ◌+◌, ◌<◌, ◌≤◌, ◌⊎◌, inl, inr, ⊎_elim, Bool, true, false, List, [], ◌∷◌, ◌++◌, length, map, refl, sym, ap, ◌∙◌, subst, arith, add-zero, ◌↔◌}
+use Rattle.std.proofs.Common.{◌≡◌, ℕ, ◌+◌, ◌<◌, ◌≤◌, ◌⊎◌, inl, inr, ⊎_elim, Bool, true, false, List, [], ◌∷◌, length, refl, sym, ap, ◌∙◌, subst, arith, add-zero}
 use Rattle.std.proofs.lemmas.Bool.{cases_lt}
 use Rattle.std.specs.List.{list_any}
 use Rattle.std.specs.Prelude.{Some, None, Option, option_and_then, option_map, option_to_list, slice_get, if◌then◌else◌, ◌&&◌, ◌||◌}
@@ -13,18 +13,16 @@ use Rattle.early_frames.proofs.Tests.{IsPassed, passed, where_is}
 use Rattle.early_frames.proofs.Windows.{IsIn, in_some, some_in, window_forth, window_home}
 use Rattle.early_lower.specs.Early.{save_call, saved}
 use Rattle.flow_solver.specs.Paths.{IsListed}
-use Rattle.ir_model.specs.Names.{is_local, position_of}
+use Rattle.ir_model.specs.Names.{is_local}
 use Rattle.ir_model.specs.declared.instr.Instr.{Instr}
-use Rattle.ir_model.specs.declared.instr.Phi.{Phi}
 use Rattle.ir_model.specs.declared.module.Block.{Block}
 use Rattle.ir_model.specs.declared.module.Function.{Function}
 use Rattle.ir_model.specs.declared.operand.Intrinsic.{Intrinsic}
 use Rattle.ir_paths.proofs.Right.{facts_of_right}
 use Rattle.ir_paths.proofs.Search.{Has, or_left, or_right, same_point-itself}
-use Rattle.ir_paths.specs.Facts.{facts_of}
 use Rattle.ir_paths.specs.Paths.{IsPath, has_point, same_point}
-use Rattle.ir_paths.specs.Slots.{IsRampSlot, addresses_of, allocas_of, exposed_in_block, exposes, has_name, is_escaped, is_promise, occurs, occurs_in_phi, occurs_in_term}
-use Rattle.ir_paths.specs.Windows.{IsInWindow, call_operand, call_result, instr_at, instr_in, is_call_of, is_suspend_of, label_at, points_where, suspend_of}
+use Rattle.ir_paths.specs.Slots.{IsRampSlot, addresses_of, allocas_of, exposed_in_block, exposes, has_name, is_escaped, occurs, occurs_in_phi, occurs_in_term}
+use Rattle.ir_paths.specs.Windows.{IsInWindow, call_result, instr_at, is_call_of, is_suspend_of, label_at, points_where, suspend_of}
 use Rattle.ir_paths.specs.declared.point.Point.{Point}
 use Rattle.point_reach.specs.Reached.{IsPointOf}
 use Rattle.save_agreement.proofs.Behind.{any_saved, back_ending, end_saved, front_ending, suspends_moved}
@@ -187,7 +185,7 @@ module _ (f : Function) (named : HasNamedTokens f) where
   of_point : (x : Point) (j : Instr) → instr_at g x ≡ Some j → (p : Point) × IsOf front back p x
   of_point x j e =
       let stands : slice_get (with_saves f.coroutine (number x.block) (instrs x.block)) x.at ≡ Some j =
-          sym (ap (λ (is : List Instr). slice_get is x.at) (instrs_saved f.coroutine x.block names f.blocks)) ∙ sym (instr_at_is (slice_get g.blocks x.block) x.at) ∙ e in
+      sym (ap (λ (is : List Instr). slice_get is x.at) (instrs_saved f.coroutine x.block names f.blocks)) ∙ sym (instr_at_is (slice_get g.blocks x.block) x.at) ∙ e in
       let from = each_from f.coroutine (number x.block) (instrs x.block) x.at j stands in
       (record { block = x.block; at = from.at }, on from.at from.is_at)
     where
@@ -348,13 +346,13 @@ module _ (f : Function) (named : HasNamedTokens f) where
       on None e =
           let count : instr_count (slice_get g.blocks b) ≡ 0 = ap instr_count (get_block f.coroutine b names f.blocks ∙ ap (option_map (saved_block f.coroutine (number b))) e) in
           let own : place_in f.coroutine (instr_count (slice_get f.blocks b)) (number b) (instrs b) + own_saves f.coroutine (slice_get (instrs b) (instr_count (slice_get f.blocks b))) ≡ 0 =
-              ap (λ (o : Option Block). place_in f.coroutine (instr_count o) (number b) (instrs_in o) + own_saves f.coroutine (slice_get (instrs_in o) (instr_count o))) e in
+          ap (λ (o : Option Block). place_in f.coroutine (instr_count o) (number b) (instrs_in o) + own_saves f.coroutine (slice_get (instrs_in o) (instr_count o))) e in
           λ k. record { block = b; at = (count ∙ sym own) k }
       on (Some x) e =
           let count : instr_count (slice_get g.blocks b) ≡ length (with_saves f.coroutine (number b) x.instrs) = ap instr_count (get_block f.coroutine b names f.blocks ∙ ap (option_map (saved_block f.coroutine (number b))) e) in
           let own : place_in f.coroutine (instr_count (slice_get f.blocks b)) (number b) (instrs b) + own_saves f.coroutine (slice_get (instrs b) (instr_count (slice_get f.blocks b))) ≡ length (with_saves f.coroutine (number b) x.instrs) =
-              ap (λ (o : Option Block). place_in f.coroutine (instr_count o) (number b) (instrs_in o) + own_saves f.coroutine (slice_get (instrs_in o) (instr_count o))) e
-              ∙ back_end f.coroutine (length x.instrs) (number b) x.instrs refl in
+          ap (λ (o : Option Block). place_in f.coroutine (instr_count o) (number b) (instrs_in o) + own_saves f.coroutine (slice_get (instrs_in o) (instr_count o))) e
+          ∙ back_end f.coroutine (length x.instrs) (number b) x.instrs refl in
           λ k. record { block = b; at = (count ∙ sym own) k }
 
   label_same : (n : ℕ) (s : Point) → label_at n (slice_get g.blocks s.block) ≡ label_at n (slice_get f.blocks s.block)
@@ -571,7 +569,7 @@ module _ (f : Function) (named : HasNamedTokens f) where
           absurd (none_between k (back p) b (subst (λ (x : Point). IsInWindow g (front k) x (back p)) same (subst (λ (x : Point). IsInWindow g x w.suspend (back p)) e w.inside)))
       at_bare w i k (inr e) b =
           let both : Some (saved (name_of k) b.instr) ≡ Some i.instr =
-              sym (at_back f k ∙ ap (instr_then f.coroutine k.at (number k.block) (instrs k.block)) b.is ∙ ap (λ (t : Bool). Some (if t then saved (name_of k) b.instr else b.instr)) b.bare) ∙ ap (instr_at g) (sym e) ∙ i.is in
+          sym (at_back f k ∙ ap (instr_then f.coroutine k.at (number k.block) (instrs k.block)) b.is ∙ ap (λ (t : Bool). Some (if t then saved (name_of k) b.instr else b.instr)) b.bare) ∙ ap (instr_at g) (sym e) ∙ i.is in
           let same : saved (name_of k) b.instr ≡ i.instr = cc in
           let never : true ≡ false = sym i.passes_it ∙ ap (is_call_of Intrinsic.CoroSave) (sym same) ∙ saved_no_save f.coroutine b.instr b.bare (name_of k) in
           absurd (cc)

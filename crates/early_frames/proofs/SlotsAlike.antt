@@ -1,5 +1,5 @@
 -- Two functions in which the same is said of slots at the same points, but that a point of the one may be two of the other.
-use Rattle.std.proofs.Common.{◌≡◌, ℕ, ◌⊎◌, inl, inr, true, false, List, [], ◌∷◌, ◌++◌, length, map, Some, refl, sym, ap, ◌∙◌, subst, ◌↔◌}
+use Rattle.std.proofs.Common.{◌≡◌, ℕ, inl, inr, true, false, List, [], ◌∷◌, ◌++◌, length, map, Some, refl, sym, ap, ◌∙◌, subst, ◌↔◌}
 use Rattle.std.specs.Prelude.{slice_get}
 use Rattle.early_frames.proofs.Strands.{AreCarried, AreStrands, IsLedTo, IsOf, IsOpen, leads_back, leads_front, leads_home, none_carried, to_point}
 use Rattle.ir_model.specs.Names.{position_of}

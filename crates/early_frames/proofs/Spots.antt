@@ -1,7 +1,7 @@
 -- Where something of a slot stands, and what lies behind a suspend, in functions that are alike.
-use Rattle.std.proofs.Common.{◌≡◌, ℕ, ◌<◌, ◌⊎◌, inl, inr, true, false, List, [], ◌∷◌, ◌++◌, length, map, refl, sym, ap, ◌∙◌, subst, ◌↔◌}
+use Rattle.std.proofs.Common.{◌≡◌, ℕ, ◌<◌, inr, true, List, [], ◌∷◌, ◌++◌, map, refl, sym, ap, ◌∙◌, subst}
 use Rattle.early_frames.proofs.SlotsAlike.{AreLone, AreSlotsAlike}
-use Rattle.early_frames.proofs.Strands.{AreCarried, IsLedTo, IsMovedFrom, IsOpen, both_carried, both_open, comes_forth, comes_home, has_map, leads_back, leads_home, map_has, to_point}
+use Rattle.early_frames.proofs.Strands.{AreCarried, IsOpen, both_carried, both_open, comes_forth, comes_home, has_map, leads_back, leads_home, map_has, to_point}
 use Rattle.flow_solver.specs.Paths.{IsListed}
 use Rattle.ir_model.specs.Names.{position_of}
 use Rattle.ir_model.specs.declared.module.Function.{Function}

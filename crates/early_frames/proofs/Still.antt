@@ -1,9 +1,8 @@
 -- Functions in which the same stands at the same points.
-use Rattle.std.proofs.Common.{◌≡◌, ◌⊎◌, inl, inr, List, map, refl, sym, ap, ◌∙◌, subst}
+use Rattle.std.proofs.Common.{◌≡◌, inl, List, refl, sym, ap, ◌∙◌}
 use Rattle.early_frames.proofs.SlotsAlike.{AreLone}
 use Rattle.early_frames.proofs.Strands.{AreCarried, AreStrands}
 use Rattle.ir_model.specs.declared.module.Function.{Function}
-use Rattle.ir_paths.proofs.Search.{Has}
 use Rattle.ir_paths.specs.Paths.{has_point, nexts}
 use Rattle.ir_paths.specs.declared.point.Point.{Point}
 

@@ -1,5 +1,5 @@
 -- The points at which a test of instructions passes.
-use Rattle.std.proofs.Common.{◌≡◌, Bool, true, false, Some, None, Option, refl, sym, ap, ◌∙◌}
+use Rattle.std.proofs.Common.{◌≡◌, Bool, true, false, Some, None, Option, refl, sym, ◌∙◌}
 use Rattle.early_agreement.proofs.Outside.{where_none, where_pass}
 use Rattle.early_agreement.specs.Regular.{passes}
 use Rattle.ir_model.specs.declared.instr.Instr.{Instr}
