@@ -18,3 +18,4 @@ pub mod Held
 pub mod Layouts
 pub mod HeldAlike
 pub mod Modules
+pub mod Functions

@@ -168,7 +168,7 @@ module _ (m k : Module) (types : k.types ≡ m.types) where
 there : (m : Module) (j : ℕ) (f : Function) → slice_get m.functions j ≡ Some f → function_at m j ≡ f
 there m j f e = ap (λ (o : Option Function). unwrap_or o no_function) e
 
-named_stays : (f : Function) → (named_function f).coroutine ≡ f.coroutine
+pub named_stays : (f : Function) → (named_function f).coroutine ≡ f.coroutine
 named_stays f = on f.coroutine
   where
     by : (o : Option ℕ) → (if_unnamed o f).coroutine ≡ f.coroutine
@@ -187,7 +187,7 @@ layouts_named m locals uses share result = layouts_same m (named_module m) named
         subst (λ (b : Bool). HoldAlike m (named_module m) f (if b then with_begin_name f else f)) (sym c)
         (named_holds m (named_module m) refl f (subst HasNamedLocals (there m j f e) (locals j)) (subst HasNamedOperands (there m j f e) (uses j).operands))
 
-renamed_stays : (f : Function) → (renamed_function f).coroutine ≡ f.coroutine
+pub renamed_stays : (f : Function) → (renamed_function f).coroutine ≡ f.coroutine
 renamed_stays f = on f.coroutine
   where
     on : (b : Bool) → (if b then renamed_by_its_own f else f).coroutine ≡ f.coroutine
@@ -195,7 +195,7 @@ renamed_stays f = on f.coroutine
     on false = refl
 
 -- the rules give what the renaming doesn't touch
-plain_names : (func : ℕ) (f : Function) → KeepsRules func f → IsRegular f (renaming_of f) → (IsListed (renaming_of f).to (params_of f) → ⊥) → HasPlainNames f (renaming_of f)
+pub plain_names : (func : ℕ) (f : Function) → KeepsRules func f → IsRegular f (renaming_of f) → (IsListed (renaming_of f).to (params_of f) → ⊥) → HasPlainNames f (renaming_of f)
 plain_names func f rules ok none = record {
   params = λ v l. record { stays = stays v l (is_renamed (renaming_of f) v) refl; is_other = other v l (v == (renaming_of f).to) refl };
   phis = λ b x j p e d.

@@ -1,7 +1,7 @@
 //! What frames hold stays under the first pass.
 #![tactic(auto)]
 
-ghost use Rattle.std.specs.Prelude.{◌↔◌, ℕ, Bool, List, Result};
+ghost use Rattle.std.specs.Prelude.{◌≡◌, ◌↔◌, ℕ, Bool, true, List, Result};
 ghost use Rattle.coroutine_frames.specs.Frames.{AreLayouts};
 ghost use Rattle.coroutine_frames.specs.declared.module_frames.LayoutsError.{LayoutsError};
 ghost use Rattle.early_agreement.specs.Passes.{named_module, renamed_coroutine, renamed_module};
@@ -11,6 +11,7 @@ ghost use Rattle.early_lower.specs.BeginName.{with_begin_name};
 ghost use Rattle.early_lower.specs.Early.{early_module};
 ghost use Rattle.early_lower.specs.declared.renaming.Renaming.{Renaming};
 ghost use Rattle.frame_layout.specs.declared.layout.Layouts.{Layouts};
+ghost use Rattle.ir_model.specs.Names.{function_at};
 ghost use Rattle.ir_model.specs.declared.module.Function.{Function};
 ghost use Rattle.ir_model.specs.declared.module.Module.{Module};
 ghost use Rattle.save_agreement.specs.SavesWritten.{saved_function, saves_written};
@@ -19,6 +20,7 @@ ghost use Rattle.slot_conflicts.specs.Conflicts.{AreAliveAt, AreConflicts};
 ghost use Rattle.slot_lifetime.specs.Classes.{AreClasses};
 ghost use Rattle.slot_lifetime.specs.declared.class.SlotClass.{SlotClass};
 ghost use Rattle.sound_states.specs.Named.{AreLocalsNamed, AreUsesNamed, HasNamedOperands};
+ghost use Rattle.suspend_crossing.specs.Crossing.{AreCrossing};
 
 /// The classes of slots stay where saves are written out.
 pub fn classes_stay_saved()
@@ -83,4 +85,24 @@ pub fn layouts_stay_saved()
 /// So the layouts that are taken of a module are those of what the first pass makes of it.
 pub fn layouts_stay()
     ensures { (m : Module) → AreLocalsNamed m → AreUsesNamed m → AllKeepRules (named_module m) → AreBeginsNoParams (named_module m) → (share : Bool) (result : Result Layouts LayoutsError) → AreLayouts m share result ↔ AreLayouts (early_module m) share result }
+{}
+
+/// The same of each coroutine of a module: the values that cross suspends are those of what the first pass makes of it.
+pub fn crossing_stays()
+    ensures { (m : Module) → AreLocalsNamed m → AreUsesNamed m → AllKeepRules (named_module m) → AreBeginsNoParams (named_module m) → (func : ℕ) → (function_at m func).coroutine ≡ true → (all : List (ℕ × ℕ)) → AreCrossing (function_at m func) all ↔ AreCrossing (function_at (early_module m) func) all }
+{}
+
+/// So are the classes of slots.
+pub fn classes_stay()
+    ensures { (m : Module) → AreLocalsNamed m → AreUsesNamed m → AllKeepRules (named_module m) → AreBeginsNoParams (named_module m) → (func : ℕ) → (function_at m func).coroutine ≡ true → (classes : List SlotClass) → AreClasses (function_at m func) classes ↔ AreClasses (function_at (early_module m) func) classes }
+{}
+
+/// The slots that may be alive at suspends.
+pub fn alive_stay()
+    ensures { (m : Module) → AreLocalsNamed m → AreUsesNamed m → AllKeepRules (named_module m) → AreBeginsNoParams (named_module m) → (func : ℕ) → (function_at m func).coroutine ≡ true → (pairs : List (ℕ × ℕ)) → AreAliveAt (function_at m func) pairs ↔ AreAliveAt (function_at (early_module m) func) pairs }
+{}
+
+/// And those that conflict.
+pub fn conflicts_stay()
+    ensures { (m : Module) → AreLocalsNamed m → AreUsesNamed m → AllKeepRules (named_module m) → AreBeginsNoParams (named_module m) → (func : ℕ) → (function_at m func).coroutine ≡ true → (pairs : List (ℕ × ℕ)) → AreConflicts (function_at m func) pairs ↔ AreConflicts (function_at (early_module m) func) pairs }
 {}
