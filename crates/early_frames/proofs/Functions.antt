@@ -31,7 +31,7 @@ use Rattle.sound_states.specs.Named.{AreLocalsNamed, AreUsesNamed, HasNamedLocal
 use Rattle.suspend_crossing.specs.Crossing.{AreCrossing}
 
 -- a coroutine of a module whose functions change
-changed_there : (change : Function → Function) (m : Module) (func : ℕ) → (function_at m func).coroutine ≡ true → function_at (with_functions change m) func ≡ change (function_at m func)
+pub changed_there : (change : Function → Function) (m : Module) (func : ℕ) → (function_at m func).coroutine ≡ true → function_at (with_functions change m) func ≡ change (function_at m func)
 changed_there change m func c = ap (λ (o : Option Function). unwrap_or o no_function) (slice_get-map change m.functions func) ∙ on (slice_get m.functions func) c
   where
     on : (o : Option Function) → (unwrap_or o no_function).coroutine ≡ true → unwrap_or (option_map change o) no_function ≡ change (unwrap_or o no_function)

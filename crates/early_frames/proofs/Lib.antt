@@ -19,3 +19,4 @@ pub mod Layouts
 pub mod HeldAlike
 pub mod Modules
 pub mod Functions
+pub mod NoParams

@@ -1,7 +1,7 @@
 //! What frames hold stays under the first pass.
 #![tactic(auto)]
 
-ghost use Rattle.std.specs.Prelude.{◌≡◌, ◌↔◌, ℕ, Bool, true, List, Result};
+ghost use Rattle.std.specs.Prelude.{◌≡◌, ◌↔◌, ℕ, Bool, true, List, None, Result};
 ghost use Rattle.coroutine_frames.specs.Frames.{AreLayouts};
 ghost use Rattle.coroutine_frames.specs.declared.module_frames.LayoutsError.{LayoutsError};
 ghost use Rattle.early_agreement.specs.Passes.{named_module, renamed_coroutine, renamed_module};
@@ -11,9 +11,11 @@ ghost use Rattle.early_lower.specs.BeginName.{with_begin_name};
 ghost use Rattle.early_lower.specs.Early.{early_module};
 ghost use Rattle.early_lower.specs.declared.renaming.Renaming.{Renaming};
 ghost use Rattle.frame_layout.specs.declared.layout.Layouts.{Layouts};
+ghost use Rattle.ir_check.specs.Refused.{IsRefused};
 ghost use Rattle.ir_model.specs.Names.{function_at};
 ghost use Rattle.ir_model.specs.declared.module.Function.{Function};
 ghost use Rattle.ir_model.specs.declared.module.Module.{Module};
+ghost use Rattle.name_rules.specs.declared.stage.Stage.{Stage};
 ghost use Rattle.save_agreement.specs.SavesWritten.{saved_function, saves_written};
 ghost use Rattle.save_agreement.specs.Tokens.{HasNamedTokens};
 ghost use Rattle.slot_conflicts.specs.Conflicts.{AreAliveAt, AreConflicts};
@@ -105,4 +107,9 @@ pub fn alive_stay()
 /// And those that conflict.
 pub fn conflicts_stay()
     ensures { (m : Module) → AreLocalsNamed m → AreUsesNamed m → AllKeepRules (named_module m) → AreBeginsNoParams (named_module m) → (func : ℕ) → (function_at m func).coroutine ≡ true → (pairs : List (ℕ × ℕ)) → AreConflicts (function_at m func) pairs ↔ AreConflicts (function_at (early_module m) func) pairs }
+{}
+
+/// In a source that breaks no rule begin's value is none of the parameters.
+pub fn begins_are_no_params()
+    ensures { (m : Module) → IsRefused Stage.Source m None → AreLocalsNamed m → AreBeginsNoParams (named_module m) }
 {}
