@@ -1,5 +1,5 @@
 -- What the first pass leaves as it is of each coroutine of a module.
-use Rattle.std.proofs.Common.{◌≡◌, ℕ, Bool, true, false, List, Some, None, Option, refl, sym, ap, ◌∙◌, subst, ◌↔◌}
+use Rattle.std.proofs.Common.{◌≡◌, ℕ, Bool, true, List, Some, None, Option, refl, sym, ap, ◌∙◌, subst, ◌↔◌}
 use Rattle.std.proofs.lemmas.Option.{slice_get-map}
 use Rattle.std.specs.Prelude.{option_map, slice_get, unwrap_or, if◌then◌else◌}
 use Rattle.early_agreement.proofs.Composition.{early_in_turn}
@@ -10,8 +10,8 @@ use Rattle.early_crossing.proofs.Named.{crossing_named}
 use Rattle.early_crossing.proofs.Renamed.{crossing_renamed}
 use Rattle.early_crossing.proofs.Saved.{crossing_saved}
 use Rattle.early_crossing.specs.Plain.{HasPlainNames}
-use Rattle.early_frames.proofs.Laws.{alive_named, alive_renamed, alive_saved, classes_named, classes_renamed, classes_saved, conflicts_named, conflicts_renamed, conflicts_saved}
-use Rattle.early_frames.proofs.Modules.{named_stays, plain_names, renamed_stays}
+use Rattle.early_slots.proofs.Laws.{alive_named, alive_renamed, alive_saved, classes_named, classes_renamed, classes_saved, conflicts_named, conflicts_renamed, conflicts_saved}
+use Rattle.early_frames.proofs.Modules.{named_stays, plain_names}
 use Rattle.early_frames.specs.NoParams.{AreBeginsNoParams}
 use Rattle.early_lower.specs.BeginName.{with_begin_name}
 use Rattle.early_lower.specs.Early.{early_module, renaming_of}
@@ -21,7 +21,7 @@ use Rattle.ir_model.specs.Names.{function_at, no_function}
 use Rattle.ir_model.specs.declared.module.Function.{Function}
 use Rattle.ir_model.specs.declared.module.Module.{Module}
 use Rattle.save_agreement.proofs.Parts.{function_saved}
-use Rattle.save_agreement.specs.SavesWritten.{saved_function, saves_written}
+use Rattle.save_agreement.specs.SavesWritten.{saved_function}
 use Rattle.save_agreement.specs.Tokens.{HasNamedTokens}
 use Rattle.save_simulation.proofs.Names.{tokens_named}
 use Rattle.slot_conflicts.specs.Conflicts.{AreAliveAt, AreConflicts}

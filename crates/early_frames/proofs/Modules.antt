@@ -24,10 +24,10 @@ use Rattle.early_crossing.proofs.Saved.{crossing_saved}
 use Rattle.early_crossing.specs.Plain.{HasPlainNames}
 use Rattle.early_frames.proofs.Held.{all_fields_are, crossing_holds, held_values}
 use Rattle.early_frames.proofs.HeldAlike.{blocks_named, blocks_renamed, blocks_saved, blocks_stay}
-use Rattle.early_frames.proofs.Laws.{alive_named, alive_renamed, alive_saved, classes_named, classes_renamed, classes_saved, conflicts_named, conflicts_renamed, conflicts_saved}
+use Rattle.early_slots.proofs.Laws.{alive_named, alive_renamed, alive_saved, classes_named, classes_renamed, classes_saved, conflicts_named, conflicts_renamed, conflicts_saved}
 use Rattle.early_frames.proofs.Layouts.{HoldAlike, layouts_same}
-use Rattle.early_frames.proofs.NamedPlaces.{allocas_same as allocas_named, blocks_same as blocks_of_named}
-use Rattle.early_frames.proofs.RenamedParts.{allocas_same, blocks_same}
+use Rattle.early_slots.proofs.NamedPlaces.{allocas_same as allocas_named, blocks_same as blocks_of_named}
+use Rattle.early_slots.proofs.RenamedParts.{allocas_same, blocks_same}
 use Rattle.early_frames.specs.NoParams.{AreBeginsNoParams}
 use Rattle.early_lower.specs.BeginName.{begin_name, if_unnamed, with_begin_name}
 use Rattle.early_lower.specs.Early.{early_module, renaming_of, save_names}

@@ -1,5 +1,5 @@
 -- The value of a begin is none of the parameters, in a module that breaks no rule.
-use Rattle.std.proofs.Common.{◌≡◌, ℕ, ◌<◌, Bool, true, false, length, Some, None, Option, refl, sym, ap, ◌∙◌, subst, arith}
+use Rattle.std.proofs.Common.{◌≡◌, ℕ, Bool, true, false, length, Some, None, Option, refl, sym, ap, ◌∙◌, subst, arith}
 use Rattle.std.specs.Prelude.{option_map, slice_get, unwrap_or, if◌then◌else◌, ◌||◌}
 use Rattle.begin_naming.proofs.NamedParts.{call_of_same, instr_same, with_begin}
 use Rattle.begin_naming.proofs.NamedSlots.{begin_unnamed}
@@ -105,6 +105,6 @@ accepted_apart m accepted locals func is = on (slice_get m.functions func) refl
         let same : f ≡ function_at m func = sym (ap (λ (o : Option Function). unwrap_or o no_function) e) in
         let coroutine = own (Some f) e in
         let there : function_at (named_module m) func ≡ with_begin_name (function_at m func) =
-            changed_there named_function m func coroutine ∙ ap (λ (b : Bool). if b then with_begin_name (function_at m func) else function_at m func) coroutine in
+        changed_there named_function m func coroutine ∙ ap (λ (b : Bool). if b then with_begin_name (function_at m func) else function_at m func) coroutine in
         subst (λ (h : Function). IsListed (renaming_of h).to (params_of h) → ⊥) (sym there)
         (no_begin_param m func (function_at m func) coroutine (subst (IsUnbroken m func) same (unbroken m func f accepted e)) (locals func))
