@@ -45,19 +45,19 @@ pub record StaysUnderEach (P : Function → Type 0) : Type 0 where
   pub saved : (f : Function) → HasNamedLocals f → HasNamedTokens f → P f ↔ P (saved_function f)
 
 module _ (m : Module) (locals : AreLocalsNamed m) (uses : AreUsesNamed m) (rules : AllKeepRules (named_module m)) (none : AreBeginsNoParams (named_module m)) (func : ℕ) (is : (function_at m func).coroutine ≡ true) where
-  abbrev first : Module
+  abbrev pub first : Module
   first = named_module m
 
-  abbrev second : Module
+  abbrev pub second : Module
   second = renamed_module (named_module m)
 
-  first_is : function_at first func ≡ with_begin_name (function_at m func)
+  pub first_is : function_at first func ≡ with_begin_name (function_at m func)
   first_is = changed_there named_function m func is ∙ ap (λ (b : Bool). if b then with_begin_name (function_at m func) else function_at m func) is
 
-  in_first : (function_at first func).coroutine ≡ true
+  pub in_first : (function_at first func).coroutine ≡ true
   in_first = ap (λ (f : Function). f.coroutine) (changed_there named_function m func is) ∙ named_stays (function_at m func) ∙ is
 
-  second_is : function_at second func ≡ renamed_by_its_own (function_at first func)
+  pub second_is : function_at second func ≡ renamed_by_its_own (function_at first func)
   second_is = changed_there renamed_function first func in_first ∙ ap (λ (b : Bool). if b then renamed_by_its_own (function_at first func) else function_at first func) in_first
 
   pub stays_under_all : (P : Function → Type 0) → StaysUnderEach P → P (function_at m func) ↔ P (function_at (early_module m) func)

@@ -4,3 +4,4 @@ pub mod Layouts
 pub mod Modules
 pub mod Functions
 pub mod NoParams
+pub mod Frames

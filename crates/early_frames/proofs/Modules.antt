@@ -85,7 +85,7 @@ module _ (m k : Module) (types : k.types ≡ m.types) where
       (λ i. held_params (has_name (crossing_values all)) (params i) ++ held_blocks k (promise i) (has_name (crossing_values all)) (has_name (frame_slots_from classes 0 (allocas i))) g.blocks)
       ∙ (λ i. held_params (has_name (crossing_values all)) f.params ++ blocks i)
 
-  saved_holds : (f : Function) → HasNamedLocals f → HasNamedTokens f → HoldAlike m k f (saved_function f)
+  pub saved_holds : (f : Function) → HasNamedLocals f → HasNamedTokens f → HoldAlike m k f (saved_function f)
   saved_holds f locals tokens = record {
     crossing = crossing_saved f locals;
     classes = classes_saved f tokens;
@@ -101,7 +101,7 @@ module _ (m k : Module) (types : k.types ≡ m.types) where
     allocas = same_allocas f tokens;
   }
 
-  renamed_holds : (f : Function) (r : Renaming) → IsRegular f r → HasPlainNames f r → HoldAlike m k f (renamed_coroutine r f)
+  pub renamed_holds : (f : Function) (r : Renaming) → IsRegular f r → HasPlainNames f r → HoldAlike m k f (renamed_coroutine r f)
   renamed_holds f r ok plain = record {
     crossing = crossing_renamed f r plain;
     classes = classes_renamed f r ok;
@@ -131,7 +131,7 @@ module _ (m k : Module) (types : k.types ≡ m.types) where
     allocas = refl;
   }
 
-  named_holds : (f : Function) → HasNamedLocals f → HasNamedOperands f → HoldAlike m k f (with_begin_name f)
+  pub named_holds : (f : Function) → HasNamedLocals f → HasNamedOperands f → HoldAlike m k f (with_begin_name f)
   named_holds f locals uses = record {
     crossing = crossing_named f locals;
     classes = classes_named f uses;

@@ -2,12 +2,16 @@
 #![tactic(auto)]
 
 ghost use Rattle.std.specs.Prelude.{◌≡◌, ◌↔◌, ℕ, Bool, true, List, None, Result};
-ghost use Rattle.coroutine_frames.specs.Frames.{AreLayouts};
+ghost use Rattle.coroutine_frames.specs.Frames.{AreContents, AreLayouts, IsFrame};
+ghost use Rattle.coroutine_frames.specs.declared.contents.Contents.{Contents};
+ghost use Rattle.coroutine_frames.specs.declared.held.Holding.{Holding};
 ghost use Rattle.coroutine_frames.specs.declared.module_frames.LayoutsError.{LayoutsError};
 ghost use Rattle.early_agreement.specs.Passes.{named_module, renamed_module};
 ghost use Rattle.early_agreement.specs.Regular.{AllKeepRules};
 ghost use Rattle.early_frames.specs.NoParams.{AreBeginsNoParams};
 ghost use Rattle.early_lower.specs.Early.{early_module};
+ghost use Rattle.frame_layout.specs.declared.laying.LayoutError.{LayoutError};
+ghost use Rattle.frame_layout.specs.declared.layout.Layout.{Layout};
 ghost use Rattle.frame_layout.specs.declared.layout.Layouts.{Layouts};
 ghost use Rattle.ir_check.specs.Refused.{IsRefused};
 ghost use Rattle.ir_model.specs.Names.{function_at};
@@ -63,4 +67,14 @@ pub fn conflicts_stay()
 /// In a source that breaks no rule begin's value is none of the parameters.
 pub fn begins_are_no_params()
     ensures { (m : Module) → IsRefused Stage.Source m None → AreLocalsNamed m → AreBeginsNoParams (named_module m) }
+{}
+
+/// What a coroutine's frame holds is what that of its early form holds.
+pub fn contents_stay()
+    ensures { (m : Module) → AreLocalsNamed m → AreUsesNamed m → AllKeepRules (named_module m) → AreBeginsNoParams (named_module m) → (func : ℕ) → (function_at m func).coroutine ≡ true → (c : Contents) → AreContents m (function_at m func) c ↔ AreContents (early_module m) (function_at (early_module m) func) c }
+{}
+
+/// So its frame is that of its early form.
+pub fn frames_stay()
+    ensures { (m : Module) → AreLocalsNamed m → AreUsesNamed m → AllKeepRules (named_module m) → AreBeginsNoParams (named_module m) → (func : ℕ) → (function_at m func).coroutine ≡ true → (share : Bool) (number : ℕ) (held : List Holding) (result : Result Layout LayoutError) → IsFrame m share number (function_at m func) held result ↔ IsFrame (early_module m) share number (function_at (early_module m) func) held result }
 {}
