@@ -1,0 +1,16 @@
+pub mod Strands
+pub mod SlotsAlike
+pub mod Spots
+pub mod Classes
+pub mod Conflicts
+pub mod Windows
+pub mod Tests
+pub mod Edges
+pub mod Names
+pub mod SavedSlots
+pub mod Still
+pub mod RenamedParts
+pub mod NamedPlaces
+pub mod RenamedSlots
+pub mod NamedSlots
+pub mod Laws
