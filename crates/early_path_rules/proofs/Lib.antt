@@ -1,0 +1,14 @@
+pub mod Holding
+pub mod Origins
+pub mod Seconds
+pub mod Unsaved
+pub mod SavedCalls
+pub mod Strands
+pub mod Ways
+pub mod SavedEdges
+pub mod SavedSwitches
+pub mod RenamedOperands
+pub mod RenamedEdges
+pub mod RenamedCalls
+pub mod RenamedPromise
+pub mod RenamedSwitches
