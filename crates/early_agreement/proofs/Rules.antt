@@ -122,7 +122,7 @@ begin_stays func f h = on (first_result Intrinsic.CoroBegin f) refl
 -- ---- a regular coroutine
 
 -- what isn't renamed is another than what is
-pub others : (f : Function) (n : ℕ) → is_renamed (renaming_of f) n ≡ true → (ps : List Phi) → Each (λ p. IsPlain (renaming_of f) p.result) ps → Each (λ p. p.result ≡ n → ⊥) ps
+others : (f : Function) (n : ℕ) → is_renamed (renaming_of f) n ≡ true → (ps : List Phi) → Each (λ p. IsPlain (renaming_of f) p.result) ps → Each (λ p. p.result ≡ n → ⊥) ps
 others f n e [] h = tt
 others f n e (p ∷ ps) h = ((λ same. let t : true ≡ false = sym e ∙ ap (is_renamed (renaming_of f)) (sym same) ∙ h.0.stays in absurd (cc)), others f n e ps h.1)
 

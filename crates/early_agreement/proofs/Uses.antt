@@ -67,7 +67,7 @@ ending_spelt Terminator.Unreachable = refl
 
 -- ---- uses that are listed
 
-none_undefined : (f : Function) (us : List Use) (o : Option Place) → IsFirstUndefined f us o → o ≡ None → Each (λ u. IsUndefined f u → ⊥) us
+pub none_undefined : (f : Function) (us : List Use) (o : Option Place) → IsFirstUndefined f us o → o ≡ None → Each (λ u. IsUndefined f u → ⊥) us
 none_undefined f _ _ NoneUndefined e = tt
 none_undefined f _ _ (UndefinedHere u us h) e = absurd (cc)
 none_undefined f _ _ (Later u us found h rest) e = (h, none_undefined f us found rest e)

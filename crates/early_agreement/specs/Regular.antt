@@ -14,11 +14,11 @@ use Rattle.ir_model.specs.declared.module.Block.{Block}
 use Rattle.ir_model.specs.declared.module.Function.{Function}
 use Rattle.ir_model.specs.declared.module.Module.{Module}
 use Rattle.ir_model.specs.declared.operand.Intrinsic.{Intrinsic}
+use Rattle.ir_model.specs.declared.operand.Operand.{Operand}
 use Rattle.ir_paths.specs.Paths.{entry_point, has_point, nexts, targets}
 use Rattle.ir_paths.specs.Slots.{is_in_args, promise_of}
 use Rattle.ir_paths.specs.Windows.{destroy_label, instr_at, is_call_of, resume_label, suspend_of}
 use Rattle.ir_paths.specs.declared.point.Point.{Point}
-use Rattle.ir_model.specs.declared.operand.Operand.{Operand}
 use Rattle.ordinary_step.specs.Step.{AtInstr, AtTerm, Fetched, Nowhere, fetch, incoming_from, is_lifetime, label_of, phis_of}
 use Rattle.step_laws.specs.Changed.{Each, operands_of, operands_of_term, result_of}
 use Rattle.window_rules.specs.Outside.{IsFirstOutside}

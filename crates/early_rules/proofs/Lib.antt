@@ -6,4 +6,9 @@ pub mod Slots
 pub mod Ends
 pub mod Behind
 pub mod Windows
+pub mod Naming
+pub mod NamedUses
+pub mod NamedRules
+pub mod NamedFields
 pub mod Accepted
+pub mod Shaped

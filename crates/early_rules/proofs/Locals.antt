@@ -1,10 +1,11 @@
 -- Where each local is defined once (rule N1), a value's name says by which part of the function it is made.
-use Rattle.std.proofs.Common.{◌≡◌, ◌⊎◌, inl, inr, ⊎_elim, ℕ, zero, suc, ◌+◌, Bool, true, false, List, [], ◌∷◌, ◌++◌, length, refl, sym, ap, ◌∙◌, subst, append_assoc}
+use Rattle.std.proofs.Common.{◌≡◌, ◌⊎◌, inl, inr, ⊎_elim, ℕ, zero, suc, ◌+◌, ◌<◌, Bool, true, false, List, [], ◌∷◌, ◌++◌, length, refl, sym, ap, ◌∙◌, subst, append_assoc}
 use Rattle.std.specs.Prelude.{Some, None, Option, map, option_to_list, slice_get, unwrap_or, option_map, ◌==◌, ◌||◌, if◌then◌else◌}
 use Rattle.coro_base.specs.declared.outcome.Place.{Place}
 use Rattle.definite_use.specs.Undefined.{params_of}
 use Rattle.early_agreement.proofs.Lists.{equal_numbers, itself}
 use Rattle.early_agreement.proofs.Uses.{result_spelt, stands_in}
+use Rattle.early_rules.specs.Named.{HasTabledLocals}
 use Rattle.flow_solver.specs.Paths.{IsListed}
 use Rattle.function_parts.specs.Contents.{part_locals, result_of as part_result}
 use Rattle.function_parts.specs.Locals.{is_head, local_at, locals_at, locals_in, locals_of}
@@ -82,7 +83,7 @@ same_place g (z ∷ xs) h n (suc j) (suc k) a b d e x y = ap suc (same_place g x
 
 -- ---- the definitions
 
-abbrev name_of : Definition → ℕ
+abbrev pub name_of : Definition → ℕ
 name_of d = d.name
 
 not_before : (ns : List ℕ) (ds : List Definition) → first_twice ns ds ≡ None → (n : ℕ) → IsListed n (map name_of ds) → has_number ns n ≡ false
@@ -193,21 +194,43 @@ found_in test (c ∷ bs) k b e h = on (test c) refl k e (λ j d. found_in test b
         let x = rest j d in
         record { at = suc x.at; found = ap (λ (t : Bool). if t then Some 0 else option_map suc (first_where test bs)) is ∙ ap (option_map suc) x.found; block = x.block; there = x.there; passes = x.passes }
 
+pub names_are : (func : ℕ) (f : Function) → map name_of (locals_of func f) ≡ params_of f ++ row_of block_names f.blocks
+names_are func f = names_in (parts_of func f) ∙ ap (λ l. params_of f ++ l) (of_blocks func 0 f.blocks)
+
+in_made : (i : Instr) (n : ℕ) → result_of i ≡ Some n → IsListed n (made_by i)
+in_made i n e = subst (λ (o : Option ℕ). IsListed n (option_to_list o)) (sym (result_spelt i ∙ e)) (inl refl)
+
+in_instrs : (b : Block) (at n : ℕ) (i : Instr) → slice_get b.instrs at ≡ Some i → result_of i ≡ Some n → IsListed n (row_of made_by b.instrs)
+in_instrs b at n i there e = in_row made_by b.instrs at n i there (in_made i n e)
+
+in_block : (b : Block) (at n : ℕ) (i : Instr) → slice_get b.instrs at ≡ Some i → result_of i ≡ Some n → IsListed n (block_names b)
+in_block b at n i there e = inr (listed_right n (phi_names b.phis) (row_of made_by b.instrs) (in_instrs b at n i there e))
+
+-- ---- names that are positions of the function's table
+
+is_definition : (ds : List Definition) (n : ℕ) → IsListed n (map name_of ds) → (d : Definition) × (IsListed d ds × (d.name ≡ n))
+is_definition [] n h = absurd h
+is_definition (d ∷ ds) n (inl e) = (d, (inl refl, sym e))
+is_definition (d ∷ ds) n (inr h) = let x = is_definition ds n h in (x.0, (inr x.1.0, x.1.1))
+
+module _ (func : ℕ) (f : Function) (tabled : HasTabledLocals func f) where
+  below : (n : ℕ) → IsListed n (row_of block_names f.blocks) → n < length f.names
+  below n h =
+      let x = is_definition (locals_of func f) n (subst (IsListed n) (sym (names_are func f)) (listed_right n (params_of f) (row_of block_names f.blocks) h)) in
+      subst (λ (k : ℕ). k < length f.names) x.1.1 (tabled x.0 x.1.0)
+
+  pub result_below : (p : Point) (i : Instr) (n : ℕ) → instr_at f p ≡ Some i → result_of i ≡ Some n → n < length f.names
+  result_below p i n d e = let x = stands_in f p i d in below n (in_row block_names f.blocks p.block n x.block x.got (in_block x.block p.at n i x.stands e))
+
+  pub phi_below : (block : ℕ) (b : Block) (n : ℕ) → slice_get f.blocks block ≡ Some b → IsListed n (phi_names b.phis) → n < length f.names
+  phi_below block b n e h = below n (in_row block_names f.blocks block n b e (inr (listed_left n (phi_names b.phis) (row_of made_by b.instrs) h)))
+
 module _ (func : ℕ) (f : Function) (once : first_twice [] (locals_of func f) ≡ None) where
   all_apart : Apart (params_of f ++ row_of block_names f.blocks)
-  all_apart = subst Apart (names_in (parts_of func f) ∙ ap (λ l. params_of f ++ l) (of_blocks func 0 f.blocks)) (apart_names [] (locals_of func f) once)
+  all_apart = subst Apart (names_are func f) (apart_names [] (locals_of func f) once)
 
   blocks_apart : Apart (row_of block_names f.blocks)
   blocks_apart = apart_right (params_of f) (row_of block_names f.blocks) all_apart
-
-  in_made : (i : Instr) (n : ℕ) → result_of i ≡ Some n → IsListed n (made_by i)
-  in_made i n e = subst (λ (o : Option ℕ). IsListed n (option_to_list o)) (sym (result_spelt i ∙ e)) (inl refl)
-
-  in_instrs : (b : Block) (at n : ℕ) (i : Instr) → slice_get b.instrs at ≡ Some i → result_of i ≡ Some n → IsListed n (row_of made_by b.instrs)
-  in_instrs b at n i there e = in_row made_by b.instrs at n i there (in_made i n e)
-
-  in_block : (b : Block) (at n : ℕ) (i : Instr) → slice_get b.instrs at ≡ Some i → result_of i ≡ Some n → IsListed n (block_names b)
-  in_block b at n i there e = inr (listed_right n (phi_names b.phis) (row_of made_by b.instrs) (in_instrs b at n i there e))
 
   -- two instructions that make one value are one
   pub same_result : (p q : Point) (i j : Instr) (n : ℕ) → instr_at f p ≡ Some i → instr_at f q ≡ Some j → result_of i ≡ Some n → result_of j ≡ Some n → p ≡ q

@@ -90,6 +90,14 @@ renamed_frame f n h = on (first_result Intrinsic.CoroBegin f) h
     on None k = absurd (cc)
     on (Some begin) k = frame_of f n k
 
+-- what no coro.frame makes isn't renamed
+pub stays : (f : Function) (n : ℕ) → (HasFrame f n → ⊥) → is_renamed (renaming_of f) n ≡ false
+stays f n none = on (is_renamed (renaming_of f) n) refl
+  where
+    on : (b : Bool) → is_renamed (renaming_of f) n ≡ b → b ≡ false
+    on true h = absurd (none (renamed_frame f n h))
+    on false h = refl
+
 -- ---- begin
 
 pub record HasBegin (f : Function) (n : ℕ) : Type 0 where
@@ -115,13 +123,11 @@ module _ (func : ℕ) (f : Function) (once : first_twice [] (locals_of func f) �
       let x = renamed_frame f n h in
       ap (is_call_of Intrinsic.CoroFrame) (same_instr func f once p x.point i x.instr n there x.stands e x.result) ∙ x.is_call
 
-  -- what another instruction makes isn't renamed
-  pub other_stays : (p : Point) (i : Instr) (n : ℕ) → instr_at f p ≡ Some i → result_of i ≡ Some n → is_call_of Intrinsic.CoroFrame i ≡ false → is_renamed (renaming_of f) n ≡ false
-  other_stays p i n there e other = on (is_renamed (renaming_of f) n) refl
-    where
-      on : (b : Bool) → is_renamed (renaming_of f) n ≡ b → b ≡ false
-      on true h = sym (frame_calls p i n there e h) ∙ other
-      on false h = refl
+  -- what another instruction makes no coro.frame makes
+  pub not_frame : (p : Point) (i : Instr) (n : ℕ) → instr_at f p ≡ Some i → result_of i ≡ Some n → is_call_of Intrinsic.CoroFrame i ≡ false → HasFrame f n → ⊥
+  not_frame p i n there e other x =
+      let t : true ≡ false = sym x.is_call ∙ ap (is_call_of Intrinsic.CoroFrame) (sym (same_instr func f once p x.point i x.instr n there x.stands e x.result)) ∙ other in
+      absurd (cc)
 
   pub params : (n : ℕ) → is_renamed (renaming_of f) n ≡ true → IsListed n (params_of f) → ⊥
   params n h listed = let x = renamed_frame f n h in no_param func f once x.point x.instr n x.stands x.result listed

@@ -10,11 +10,9 @@ use Rattle.coro_shape.specs.Promise.{is_wrong_promise, promise_operand, slot_of,
 use Rattle.early_agreement.proofs.Lists.{equal_numbers}
 use Rattle.early_agreement.proofs.Outside.{at_point, where_pass}
 use Rattle.early_agreement.proofs.Switches.{none_part}
-use Rattle.early_agreement.specs.Regular.{IsMark, passes}
-use Rattle.early_lower.specs.Early.{renaming_of}
-use Rattle.early_lower.specs.Renaming.{is_renamed}
+use Rattle.early_agreement.specs.Regular.{passes}
 use Rattle.early_rules.proofs.Locals.{listed_either}
-use Rattle.early_rules.proofs.Makers.{other_stays}
+use Rattle.early_rules.proofs.Makers.{HasFrame, not_frame}
 use Rattle.early_rules.proofs.Once.{first_call_at, none_missing, one_id, place_listed, there_is}
 use Rattle.flow_solver.specs.Paths.{IsListed}
 use Rattle.function_parts.specs.Locals.{locals_of}
@@ -154,8 +152,8 @@ first_or_false true b e = absurd (cc)
 first_or_false false b e = refl
 
 module _ (func : ℕ) (f : Function) (coroutine : f.coroutine ≡ true) (calls : wrong_call func f ≡ None) (once : first_twice [] (locals_of func f) ≡ None) where
-  alloca_stays : (v : ℕ) → HasAlloca f v → is_renamed (renaming_of f) v ≡ false
-  alloca_stays v x = other_stays func f once x.point (Instr.Alloca v x.ty x.align) v x.stands refl refl
+  alloca_stays : (v : ℕ) → HasAlloca f v → HasFrame f v → ⊥
+  alloca_stays v x = not_frame func f once x.point (Instr.Alloca v x.ty x.align) v x.stands refl refl
 
   promise_named : (v : ℕ) → HasId f v → promise_operand f ≡ Some (Operand.Local v)
   promise_named v x =
@@ -174,10 +172,15 @@ module _ (func : ℕ) (f : Function) (coroutine : f.coroutine ≡ true) (calls :
       let slot : not (is_some (slot_of f v)) ≡ false = sym (ap (is_wrong_promise f) (promise_named v x)) ∙ right in
       found_listed (allocas_of f) v (not_false (is_some (slot_of f v)) slot)
 
-  pub promise : wrong_promise func f ≡ None → (v : ℕ) → promise_of f ≡ Some v → is_renamed (renaming_of f) v ≡ false
+  pub promise : wrong_promise func f ≡ None → (v : ℕ) → promise_of f ≡ Some v → HasFrame f v → ⊥
   promise none v e = alloca_stays v (alloca_of f v (promise_slot v none (id_of f v e)))
 
 -- ---- markers
+
+-- the instruction marks no value of coro.frame
+abbrev pub MarksNone : Function → Instr → Type 0
+MarksNone f (Instr.Call result must_tail ty callee args) = IsTrue (is_lifetime callee) → (v : ℕ) → IsTrue (is_in_args v args) → HasFrame f v → ⊥
+MarksNone f i = Unit {0}
 
 lifetime_marker : (callee : Callee) → is_lifetime callee ≡ true → is_marker callee ≡ true
 lifetime_marker (Callee.Intrinsic Intrinsic.LifetimeStart) e = refl
@@ -263,13 +266,13 @@ module _ (m : Module) (v s : ℕ) where
       record { point = record { block = x.0; at = x.1.0 }; ty = x.1.1.ty; align = x.1.1.align; stands = x.1.1.stands }
 
 module _ (m : Module) (func : ℕ) (f : Function) (once : first_twice [] (locals_of func f) ≡ None) (none : first_other_mark m func f ≡ None) where
-  marked_stays : (args : List Arg) (v : ℕ) → marks (slot_size m f) args ≡ true → IsTrue (is_in_args v args) → is_renamed (renaming_of f) v ≡ false
+  marked_stays : (args : List Arg) (v : ℕ) → marks (slot_size m f) args ≡ true → IsTrue (is_in_args v args) → HasFrame f v → ⊥
   marked_stays args v e h =
       let x = of_args (slot_size m f) v args e h in
       let y = sized_alloca m v x.0 f x.1 in
-      other_stays func f once y.point (Instr.Alloca v y.ty y.align) v y.stands refl refl
+      not_frame func f once y.point (Instr.Alloca v y.ty y.align) v y.stands refl refl
 
-  of_marker : (p : Place) (i : Instr) → marks_otherwise (slot_size m f) p i ≡ false → IsMark (renaming_of f) i
+  of_marker : (p : Place) (i : Instr) → marks_otherwise (slot_size m f) p i ≡ false → MarksNone f i
   of_marker p (Instr.Call result must_tail ty callee args) e = λ lifetime v h. marked_stays args v (marks_right (is_marker callee) (marks (slot_size m f) args) e (lifetime_marker callee lifetime)) h
   of_marker p (Instr.Alloca name ty align) e = tt
   of_marker p (Instr.Binary r op flags ty a b) e = tt
@@ -280,7 +283,7 @@ module _ (m : Module) (func : ℕ) (f : Function) (once : first_twice [] (locals
   of_marker p (Instr.Store arg q align) e = tt
   of_marker p (Instr.Gep r inbounds ty base indices) e = tt
 
-  pub marked : (p : Point) (i : Instr) → instr_at f p ≡ Some i → IsMark (renaming_of f) i
+  pub marked : (p : Point) (i : Instr) → instr_at f p ≡ Some i → MarksNone f i
   marked p i e =
       of_marker (instr_place func p.block (phi_count f p.block + p.at)) i
       (at_point (λ x. on_instr (marks_otherwise (slot_size m f)) x.0 x.1 ≡ false) func f p i (none_part (on_instr (marks_otherwise (slot_size m f))) (parts_of func f) none) e)

@@ -7,24 +7,22 @@ use Rattle.coro_shape.specs.Switches.{wrong_switch}
 use Rattle.early_agreement.proofs.Invariant.{dead_next, unstopped_at}
 use Rattle.early_agreement.proofs.Lists.{equal_numbers}
 use Rattle.early_agreement.proofs.Outside.{at_point, none_breaks, where_pass}
-use Rattle.early_agreement.proofs.Rules.{others}
 use Rattle.early_agreement.proofs.Simulation.{other_call}
 use Rattle.early_agreement.proofs.Switches.{dead_behind_suspend}
 use Rattle.early_agreement.proofs.Uses.{result_spelt, stands_in}
 use Rattle.early_agreement.specs.Regular.{IsDead, IsDeadAt, IsDeadBehind, is_call_at, is_result, makes, passes, stops}
 use Rattle.early_lower.specs.Early.{renaming_of}
-use Rattle.early_lower.specs.Renaming.{is_renamed}
 use Rattle.early_rules.proofs.Behind.{used_ahead, used_on_edge}
 use Rattle.early_rules.proofs.Ends.{end_first}
-use Rattle.early_rules.proofs.Locals.{listed_left, listed_right, own_label}
-use Rattle.early_rules.proofs.Makers.{frame_calls, phis, renamed_frame}
+use Rattle.early_rules.proofs.Locals.{listed_left, listed_right, no_phi, own_label, phi_names}
+use Rattle.early_rules.proofs.Makers.{HasFrame, not_frame}
 use Rattle.early_rules.proofs.Slots.{first_has}
 use Rattle.flow_solver.specs.Paths.{IsListed}
 use Rattle.function_parts.specs.Locals.{locals_of}
 use Rattle.function_parts.specs.Parts.{parts_of}
-use Rattle.ir_model.specs.Calls.{first_result}
 use Rattle.ir_model.specs.Names.{position_of}
 use Rattle.ir_model.specs.declared.instr.Instr.{Instr}
+use Rattle.ir_model.specs.declared.instr.Phi.{Phi}
 use Rattle.ir_model.specs.declared.module.Block.{Block}
 use Rattle.ir_model.specs.declared.module.Function.{Function}
 use Rattle.ir_model.specs.declared.operand.Callee.{Callee}
@@ -91,12 +89,12 @@ each_at P (y ∷ xs) x h (inr k) = each_at P xs x h.1 k
 
 -- ---- what stands at a point
 
-record IsThere (test : Instr → Bool) (o : Option Instr) : Type 0 where
-  instr : Instr
-  stands : o ≡ Some instr
-  passes : test instr ≡ true
+pub record IsThere (test : Instr → Bool) (o : Option Instr) : Type 0 where
+  pub instr : Instr
+  pub stands : o ≡ Some instr
+  pub passes : test instr ≡ true
 
-there : (test : Instr → Bool) (o : Option Instr) → passes test o ≡ true → IsThere test o
+pub there : (test : Instr → Bool) (o : Option Instr) → passes test o ≡ true → IsThere test o
 there test None e = absurd (cc)
 there test (Some i) e = record { instr = i; stands = refl; passes = e }
 
@@ -150,7 +148,7 @@ outside_both k s v h = on (same_point v k) (same_point v s) h
     on false true e = absurd (cc)
     on false false e = (refl, refl)
 
-module _ (func : ℕ) (f : Function) (coroutine : f.coroutine ≡ true) (once : first_twice [] (locals_of func f) ≡ None) (calls : wrong_call func f ≡ None) (switches : wrong_switch func f ≡ None) (window : IsFirstWindow func f None) (kept : IsFirstKept func f None) (begin : ℕ) (named : first_result Intrinsic.CoroBegin f ≡ Some begin) where
+module _ (func : ℕ) (f : Function) (coroutine : f.coroutine ≡ true) (once : first_twice [] (locals_of func f) ≡ None) (calls : wrong_call func f ≡ None) (switches : wrong_switch func f ≡ None) (window : IsFirstWindow func f None) (kept : IsFirstKept func f None) where
   not_broken : (k : Point) (i : Instr) → instr_at f k ≡ Some i → is_call_of Intrinsic.CoroSave i ≡ true → BreaksWindow f k → ⊥
   not_broken k i e is broken =
       each_at (λ x. BreaksSave f x → ⊥) (points_where (is_call_of Intrinsic.CoroSave) f) k
@@ -158,14 +156,14 @@ module _ (func : ℕ) (f : Function) (coroutine : f.coroutine ≡ true) (once : 
       (point_listed (is_call_of Intrinsic.CoroSave) f k i e is) (coroutine, broken)
 
   -- what is no coro.frame doesn't make the value
-  unmade : (n : ℕ) → is_renamed (renaming_of f) n ≡ true → (p : Point) (i : Instr) → instr_at f p ≡ Some i → is_call_of Intrinsic.CoroFrame i ≡ false → is_result n (result_of i) ≡ false
-  unmade n renamed p i e other = on (is_result n (result_of i)) refl
+  unmade : (n : ℕ) → HasFrame f n → (p : Point) (i : Instr) → instr_at f p ≡ Some i → is_call_of Intrinsic.CoroFrame i ≡ false → is_result n (result_of i) ≡ false
+  unmade n frame p i e other = on (is_result n (result_of i)) refl
     where
       on : (b : Bool) → is_result n (result_of i) ≡ b → b ≡ false
-      on true d = sym (frame_calls func f once p i n e (result_there n (result_of i) d) renamed) ∙ other
+      on true d = absurd (not_frame func f once p i n e (result_there n (result_of i) d) other frame)
       on false d = refl
 
-  module _ (k s : Point) (n : ℕ) (renamed : is_renamed (renaming_of f) n ≡ true) (i : Instr) (here : instr_at f k ≡ Some i) (is_save : is_call_of Intrinsic.CoroSave i ≡ true) (pair : suspend_of f k ≡ Some s) where
+  module _ (k s : Point) (n : ℕ) (frame : HasFrame f n) (i : Instr) (here : instr_at f k ≡ Some i) (is_save : is_call_of Intrinsic.CoroSave i ≡ true) (pair : suspend_of f k ≡ Some s) where
     abbrev ends : List Point
     ends = k ∷ s ∷ []
 
@@ -215,7 +213,7 @@ module _ (func : ℕ) (f : Function) (coroutine : f.coroutine ≡ true) (once : 
         (λ e. walk_on more w path.2 path.1 (leads-more f ends k v w to out path.0) (dead_next f (renaming_of f) true n v w e path.0 dead))
 
     open_save : stops f true n k ≡ false
-    open_save = unstopped_at f (renaming_of f) true n k (Some i) here (other_call Intrinsic.CoroSave Intrinsic.CoroEnd i is_save refl) (unmade n renamed k i here (other_call Intrinsic.CoroSave Intrinsic.CoroFrame i is_save refl))
+    open_save = unstopped_at f (renaming_of f) true n k (Some i) here (other_call Intrinsic.CoroSave Intrinsic.CoroEnd i is_save refl) (unmade n frame k i here (other_call Intrinsic.CoroSave Intrinsic.CoroFrame i is_save refl))
 
     walk_from : IsDead f true n k → (between : List Point) → IsPath f ends k between s → IsSettled
     walk_from dead [] path = inr (dead_next f (renaming_of f) true n k s open_save path dead)
@@ -227,12 +225,11 @@ module _ (func : ℕ) (f : Function) (coroutine : f.coroutine ≡ true) (once : 
     -- K7: what is made in the window isn't used behind it
     no_use : IsMadeIn f k s n → IsUsedBehind func f s n → ⊥
     no_use made used =
-        let x = renamed_frame f n renamed in
-        at_point (λ y. BreaksValue func f y → ⊥) func f x.point x.instr (none_breaks (BreaksValue func f) (λ y. y.0) (parts_of func f) kept) x.stands
+        at_point (λ y. BreaksValue func f y → ⊥) func f frame.point frame.instr (none_breaks (BreaksValue func f) (λ y. y.0) (parts_of func f) kept) frame.stands
         (record {
           is_coroutine = coroutine;
           value = n;
-          makes = result_spelt x.instr ∙ x.result;
+          makes = result_spelt frame.instr ∙ frame.result;
           is_kept = record { save = k; suspend = s; is_save = pair_listed f k s (points_where (is_call_of Intrinsic.CoroSave) f) (point_listed (is_call_of Intrinsic.CoroSave) f k i here is_save) pair; is_made = made; is_used = used };
         })
 
@@ -240,22 +237,31 @@ module _ (func : ℕ) (f : Function) (coroutine : f.coroutine ≡ true) (once : 
     at_suspend : IsThere (is_suspend_of (option_and_then call_result (instr_at f k))) (instr_at f s)
     at_suspend = there (is_suspend_of (option_and_then call_result (instr_at f k))) (instr_at f s) (where_pass (is_suspend_of (option_and_then call_result (instr_at f k))) f s (first_has (points_where (is_suspend_of (option_and_then call_result (instr_at f k))) f) s pair))
 
-    no_phi : (block : ℕ) → Each (λ p. p.result ≡ n → ⊥) (phis_of (slice_get f.blocks block))
-    no_phi block = others f n renamed (phis_of (slice_get f.blocks block)) (phis func f once begin named block)
+    no_phis_in : (block : ℕ) (b : Block) → slice_get f.blocks block ≡ Some b → (ps : List Phi) → ((v : ℕ) → IsListed v (phi_names ps) → IsListed v (phi_names b.phis)) → Each (λ p. p.result ≡ n → ⊥) ps
+    no_phis_in block b e [] all = tt
+    no_phis_in block b e (p ∷ ps) all =
+        (λ same. no_phi func f once block b frame.point frame.instr n e (subst (λ (v : ℕ). IsListed v (phi_names b.phis)) same (all p.result (inl refl))) frame.stands frame.result, no_phis_in block b e ps (λ v h. all v (inr h)))
+
+    no_phis : (block : ℕ) → Each (λ p. p.result ≡ n → ⊥) (phis_of (slice_get f.blocks block))
+    no_phis block = on (slice_get f.blocks block) refl
+      where
+        on : (o : Option Block) → slice_get f.blocks block ≡ o → Each (λ p. p.result ≡ n → ⊥) (phis_of o)
+        on None e = tt
+        on (Some b) e = no_phis_in block b e b.phis (λ v h. h)
 
     dead_at : (label : ℕ) → IsListed (position_of f label) (own_blocks f s) → IsMadeIn f k s n → IsDeadAt f n s label
     dead_at label own made =
         let x = stands_in f s at_suspend.instr at_suspend.stands in
         record {
-          ahead = λ last path used. no_use made (used_ahead func f s n no_phi (own_label func f once) (end_first func f coroutine calls) label own last path used);
-          not_taken = λ taken. no_use made (used_on_edge func f s n no_phi (own_label func f once) (end_first func f coroutine calls) label x.block x.got own taken);
+          ahead = λ last path used. no_use made (used_ahead func f s n no_phis (own_label func f once) (end_first func f coroutine calls) label own last path used);
+          not_taken = λ taken. no_use made (used_on_edge func f s n no_phis (own_label func f once) (end_first func f coroutine calls) label x.block x.got own taken);
         }
 
     settled_dead : IsSettled → IsDeadBehind f n s
     settled_dead (inl made) = record { resumed = dead_at (resume_label f s) (inl refl) made; destroyed = dead_at (destroy_label f s) (inr (inl refl)) made }
     settled_dead (inr dead) =
         let is = suspend_call (option_and_then call_result (instr_at f k)) at_suspend.instr at_suspend.passes in
-        dead_behind_suspend func f coroutine switches (renaming_of f) n s at_suspend.instr at_suspend.stands is (unmade n renamed s at_suspend.instr at_suspend.stands (other_call Intrinsic.CoroSuspend Intrinsic.CoroFrame at_suspend.instr is refl)) dead
+        dead_behind_suspend func f coroutine switches (renaming_of f) n s at_suspend.instr at_suspend.stands is (unmade n frame s at_suspend.instr at_suspend.stands (other_call Intrinsic.CoroSuspend Intrinsic.CoroFrame at_suspend.instr is refl)) dead
 
     dead_both : IsDead f true n k → IsDeadBehind f n s
     dead_both dead = record {
@@ -263,7 +269,7 @@ module _ (func : ℕ) (f : Function) (coroutine : f.coroutine ≡ true) (once : 
       destroyed = record { ahead = λ last path used. settled dead (λ x. (settled_dead x).destroyed.ahead last path used); not_taken = λ taken. settled dead (λ x. (settled_dead x).destroyed.not_taken taken) };
     }
 
-  pub dead_behind_save : (k s : Point) (n : ℕ) → IsTrue (is_call_at f Intrinsic.CoroSave k) → suspend_of f k ≡ Some s → is_renamed (renaming_of f) n ≡ true → IsDead f true n k → IsDeadBehind f n s
-  dead_behind_save k s n is pair renamed dead =
+  pub dead_behind_save : (k s : Point) (n : ℕ) → IsTrue (is_call_at f Intrinsic.CoroSave k) → suspend_of f k ≡ Some s → HasFrame f n → IsDead f true n k → IsDeadBehind f n s
+  dead_behind_save k s n is pair frame dead =
       let x = there (is_call_of Intrinsic.CoroSave) (instr_at f k) is in
-      dead_both k s n renamed x.instr x.stands x.passes pair dead
+      dead_both k s n frame x.instr x.stands x.passes pair dead
