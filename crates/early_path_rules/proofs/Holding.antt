@@ -1,6 +1,6 @@
 -- What holds of all parts of a function, by what stands at each place of it.
-use Rattle.std.proofs.Common.{◌≡◌, ◌⊎◌, inl, inr, ℕ, zero, suc, ◌+◌, Bool, true, false, List, [], ◌∷◌, ◌++◌, length, refl, sym, ap, ◌∙◌, subst, arith}
-use Rattle.std.specs.Prelude.{Some, None, Option, slice_get, if◌then◌else◌}
+use Rattle.std.proofs.Common.{◌≡◌, inr, ℕ, zero, suc, ◌+◌, Bool, false, List, [], ◌∷◌, ◌++◌, length, refl, ap, ◌∙◌, subst, arith}
+use Rattle.std.specs.Prelude.{Some, None, slice_get}
 use Rattle.coro_base.specs.declared.outcome.Place.{Place}
 use Rattle.early_agreement.proofs.Lists.{each_behind}
 use Rattle.early_agreement.proofs.Outside.{each_left, each_right}

@@ -12,3 +12,6 @@ pub mod RenamedEdges
 pub mod RenamedCalls
 pub mod RenamedPromise
 pub mod RenamedSwitches
+pub mod NamedCalls
+pub mod Order
+pub mod Passes

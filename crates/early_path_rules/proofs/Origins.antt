@@ -1,5 +1,5 @@
 -- What each instruction of a function whose saves are written out comes from.
-use Rattle.std.proofs.Common.{◌≡◌, ◌⊎◌, inl, inr, ℕ, zero, suc, ◌+◌, ◌<◌, ◌≤◌, Bool, true, false, List, [], ◌∷◌, ◌++◌, length, refl, sym, ap, ◌∙◌, subst, arith, add-zero}
+use Rattle.std.proofs.Common.{◌≡◌, ℕ, zero, suc, ◌+◌, ◌≤◌, Bool, true, false, List, [], ◌∷◌, ◌++◌, length, refl, sym, ap, ◌∙◌, subst, arith}
 use Rattle.std.specs.Prelude.{Some, None, Option, option_map, slice_get, if◌then◌else◌}
 use Rattle.early_lower.specs.Early.{save_call, saved}
 use Rattle.ir_model.specs.declared.instr.Instr.{Instr}
@@ -8,7 +8,7 @@ use Rattle.ir_model.specs.declared.module.Function.{Function}
 use Rattle.ir_paths.specs.Windows.{instr_at, instr_in}
 use Rattle.ir_paths.specs.declared.point.Point.{Point}
 use Rattle.save_agreement.proofs.Blocks.{get_block}
-use Rattle.save_agreement.specs.SavesWritten.{behind_save, behind_saves, is_bare, saved_block, saved_blocks, saved_function, with_save, with_saves}
+use Rattle.save_agreement.specs.SavesWritten.{behind_save, behind_saves, is_bare, saved_block, saved_function, with_save, with_saves}
 use Rattle.save_agreement.specs.Spots.{back_of, front_of, instrs_in, number_of_block, own_saves, place_in}
 
 -- an instruction of a block comes from one that stays, from a suspend that gets a save, or is that save

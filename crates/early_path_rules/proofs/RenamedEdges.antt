@@ -1,5 +1,5 @@
 -- The edges of a renamed function: rule F1.
-use Rattle.std.proofs.Common.{◌≡◌, ℕ, zero, suc, ◌+◌, Bool, true, false, List, [], ◌∷◌, ◌++◌, length, refl, sym, ap, ◌∙◌, subst, arith}
+use Rattle.std.proofs.Common.{◌≡◌, ℕ, Bool, true, false, List, [], ◌∷◌, refl, sym, ap, ◌∙◌, subst}
 use Rattle.std.proofs.lemmas.Option.{slice_get-map}
 use Rattle.std.specs.List.{list_all, list_any}
 use Rattle.std.specs.Prelude.{Some, None, Option, filter, map, not, option_map, slice_get, if◌then◌else◌, ◌&&◌, ◌==◌, ◌||◌}
@@ -9,12 +9,12 @@ use Rattle.early_agreement.proofs.Switches.{none_part}
 use Rattle.early_agreement.specs.Passes.{renamed_block, renamed_coroutine}
 use Rattle.early_lower.specs.Renaming.{renamed, renamed_incoming, renamed_phi, renamed_term, renamed_value}
 use Rattle.early_lower.specs.declared.renaming.Renaming.{Renaming}
-use Rattle.early_path_rules.proofs.Holding.{HoldsIn, HoldsOf, of_parts, part_none, to_parts}
+use Rattle.early_path_rules.proofs.Holding.{HoldsIn, of_parts, part_none, to_parts}
 use Rattle.early_path_rules.proofs.RenamedOperands.{map_was}
 use Rattle.edge_rules.specs.Edges.{breaks_edges, differs, first_wrong_edge, fits_edges, has, incoming_labels, into_block, is_empty, is_entry, leads, predecessors}
 use Rattle.edge_rules.specs.Operands.{same_operand}
 use Rattle.function_parts.specs.Contents.{ending_labels}
-use Rattle.function_parts.specs.Parts.{Part, Signature, Head, OfPhi, OfInstr, Ending, instr_place, parts_of}
+use Rattle.function_parts.specs.Parts.{Part, OfPhi, instr_place, parts_of}
 use Rattle.ir_model.specs.declared.instr.Incoming.{Incoming}
 use Rattle.ir_model.specs.declared.instr.Phi.{Phi}
 use Rattle.ir_model.specs.declared.instr.Terminator.{Terminator}

@@ -1,18 +1,17 @@
 -- The operands of a renamed function, and how its parts come from the function's.
-use Rattle.std.proofs.Common.{◌≡◌, ℕ, zero, suc, ◌+◌, Bool, true, false, List, [], ◌∷◌, ◌++◌, length, refl, sym, ap, ◌∙◌, subst, arith}
-use Rattle.std.specs.Prelude.{Some, None, Option, cond, count_by, flat_map, map, option_map, slice_get, if◌then◌else◌, ◌==◌}
+use Rattle.std.proofs.Common.{◌≡◌, ℕ, zero, suc, ◌+◌, Bool, true, false, List, [], ◌∷◌, ◌++◌, refl, sym, ap, ◌∙◌}
+use Rattle.std.specs.Prelude.{Some, None, cond, flat_map, map, slice_get, if◌then◌else◌, ◌==◌}
 use Rattle.coro_calls.specs.Calls.{is_null, is_true}
-use Rattle.coro_shape.specs.Uses.{block_operands, operands_of, phi_operands, uses_of}
-use Rattle.early_agreement.proofs.Lists.{equal_numbers, itself}
+use Rattle.coro_shape.specs.Uses.{block_operands, phi_operands, uses_of}
+use Rattle.early_agreement.proofs.Lists.{equal_numbers}
 use Rattle.early_agreement.proofs.Parts.{local_same}
 use Rattle.early_agreement.specs.Passes.{renamed_block, renamed_coroutine}
 use Rattle.early_agreement.specs.Regular.{IsPlain}
-use Rattle.early_lower.specs.Renaming.{is_renamed, renamed, renamed_arg, renamed_callee, renamed_incoming, renamed_instr, renamed_phi, renamed_term, renamed_value}
+use Rattle.early_lower.specs.Renaming.{is_renamed, renamed, renamed_arg, renamed_incoming, renamed_instr, renamed_phi, renamed_term, renamed_value}
 use Rattle.early_lower.specs.declared.renaming.Renaming.{Renaming}
 use Rattle.early_path_rules.proofs.SavedSwitches.{times_append, times_in, times_more}
-use Rattle.function_parts.specs.Contents.{arg_operands, callee_operands, ending_operands, instr_operands, result_of}
+use Rattle.function_parts.specs.Contents.{arg_operands, ending_operands, instr_operands, result_of}
 use Rattle.ir_model.specs.Names.{is_local}
-use Rattle.ir_model.specs.declared.instr.Case.{Case}
 use Rattle.ir_model.specs.declared.instr.Incoming.{Incoming}
 use Rattle.ir_model.specs.declared.instr.Instr.{Instr}
 use Rattle.ir_model.specs.declared.instr.Phi.{Phi}

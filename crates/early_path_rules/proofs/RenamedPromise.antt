@@ -1,48 +1,30 @@
 -- The promise of a renamed function: rule K10.
-use Rattle.std.proofs.Common.{◌≡◌, ◌⊎◌, inl, inr, ℕ, zero, suc, ◌+◌, Bool, true, false, List, [], ◌∷◌, ◌++◌, length, refl, sym, ap, ◌∙◌, subst, arith}
+use Rattle.std.proofs.Common.{◌≡◌, ◌⊎◌, inl, inr, ℕ, suc, ◌+◌, Bool, true, false, List, [], ◌∷◌, ◌++◌, length, refl, sym, ap, ◌∙◌, arith}
 use Rattle.std.proofs.lemmas.Bool.{le-ltb}
-use Rattle.std.proofs.lemmas.Option.{slice_get-map}
-use Rattle.std.specs.Prelude.{Some, None, Option, cond, find, flat_map, is_none, is_some, map, nat_le, nat_lt, not, option_and_then, option_map, position, slice_get, if◌then◌else◌, ◌==◌, ◌&&◌, ◌||◌}
+use Rattle.std.specs.Prelude.{Some, None, Option, cond, flat_map, is_some, map, nat_lt, not, option_and_then, option_map, position, slice_get, if◌then◌else◌, ◌==◌}
 use Rattle.std.specs.List.{position_or_len}
 use Rattle.coro_base.specs.declared.outcome.Place.{Place}
-use Rattle.coro_calls.specs.Calls.{first_call, first_call_by, first_call_in, is_final, is_null, is_true, is_value, or_instr, value_of_first}
-use Rattle.coro_shape.specs.OneOfEach.{breaks_calls, calls_of, has_frame_at, has_no_other_frame, has_token, is_first_in_block, is_right, is_right_instr, is_second, wrong_call}
-use Rattle.coro_shape.specs.Places.{is_the, place_of_passing, places_by, places_in, places_where}
+use Rattle.coro_calls.specs.Calls.{first_call, is_null}
+use Rattle.coro_shape.specs.Places.{places_where}
 use Rattle.coro_shape.specs.Promise.{is_promise, is_wrong_promise, promise_operand, slot_named, slot_of, wrong_promise}
-use Rattle.coro_shape.specs.Suspends.{is_final_suspend, is_suspend, second_final, suspend_too_many}
-use Rattle.coro_shape.specs.Switches.{are_both, breaks_switch, end_label, is_last, is_switch_on, is_switched, is_switched_in, wrong_switch}
-use Rattle.coro_shape.specs.Uses.{uses_of}
-use Rattle.coro_shape.specs.declared.one_of_each.Calls.{Calls}
 use Rattle.early_agreement.proofs.Lists.{each_behind, equal_numbers}
-use Rattle.early_agreement.proofs.Modules.{length_same}
-use Rattle.early_agreement.proofs.Parts.{block_same, call_of_same, call_operand_same, end_same, operand_at_same, result_same}
-use Rattle.early_agreement.proofs.Simulation.{other_call}
-use Rattle.early_agreement.proofs.Slots.{plain_result}
-use Rattle.early_agreement.proofs.Switches.{none_part}
+use Rattle.early_agreement.proofs.Parts.{call_of_same, call_operand_same}
 use Rattle.early_agreement.specs.Passes.{renamed_block, renamed_coroutine}
-use Rattle.early_agreement.specs.Regular.{IsPlain, IsRegular}
-use Rattle.early_lower.specs.Renaming.{is_renamed, renamed, renamed_arg, renamed_instr, renamed_phi, renamed_term, renamed_value}
+use Rattle.early_agreement.specs.Regular.{IsRegular}
+use Rattle.early_lower.specs.Renaming.{is_renamed, renamed, renamed_instr}
 use Rattle.early_lower.specs.declared.renaming.Renaming.{Renaming}
-use Rattle.early_path_rules.proofs.Holding.{HoldsIn, HoldsOf, of_parts, part_none, to_parts}
-use Rattle.early_path_rules.proofs.RenamedOperands.{local_stays, map_was, null_stays, true_stays, uses_renamed}
+use Rattle.early_path_rules.proofs.RenamedOperands.{null_stays}
 use Rattle.early_path_rules.proofs.SavedCalls.{by_promise, if_own, promise_by}
-use Rattle.early_path_rules.proofs.SavedSwitches.{both_true, no_switch_breaks}
-use Rattle.early_rules.proofs.Once.{first_call_at}
-use Rattle.function_parts.specs.Parts.{Part, Signature, Head, OfPhi, OfInstr, Ending, first_part, instr_place, parts_of, place_if}
-use Rattle.ir_model.specs.Names.{is_local}
+use Rattle.function_parts.specs.Parts.{place_if}
 use Rattle.ir_model.specs.declared.instr.Instr.{Instr}
-use Rattle.ir_model.specs.declared.instr.Terminator.{Terminator}
 use Rattle.ir_model.specs.declared.module.Block.{Block}
 use Rattle.ir_model.specs.declared.module.Function.{Function}
-use Rattle.ir_model.specs.declared.operand.Arg.{Arg}
-use Rattle.ir_model.specs.declared.operand.Callee.{Callee}
 use Rattle.ir_model.specs.declared.operand.Intrinsic.{Intrinsic}
 use Rattle.ir_model.specs.declared.operand.Operand.{Operand}
 use Rattle.ir_paths.specs.Slots.{allocas_in, allocas_of}
-use Rattle.ir_paths.specs.Windows.{call_operand, call_result, end_block, instr_at, instr_in, is_call_of, operand_at}
-use Rattle.ir_paths.specs.declared.point.Point.{Point}
+use Rattle.ir_paths.specs.Windows.{call_operand, instr_at, instr_in, is_call_of}
 use Rattle.step_laws.specs.Changed.{Each, result_of}
-use Rattle.early_path_rules.proofs.RenamedCalls.{both_stay, call_result_is, either_stays, first_call_renamed, places_same}
+use Rattle.early_path_rules.proofs.RenamedCalls.{either_stays, first_call_renamed, places_same}
 
 -- no alloca is a value of coro.frame
 module _ (r : Renaming) where

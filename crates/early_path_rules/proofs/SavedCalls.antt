@@ -1,12 +1,12 @@
 -- The calls of a function whose saves are written out: rules K2, K4, K10 and K11.
-use Rattle.std.proofs.Common.{◌≡◌, ◌⊎◌, inl, inr, ℕ, zero, suc, ◌+◌, ◌<◌, ◌≤◌, Bool, true, false, List, [], ◌∷◌, ◌++◌, length, refl, sym, ap, ◌∙◌, subst, arith, length-append}
+use Rattle.std.proofs.Common.{◌≡◌, ◌⊎◌, inl, inr, ℕ, ◌+◌, Bool, true, false, List, [], ◌∷◌, ◌++◌, length, refl, sym, ap, ◌∙◌, subst, arith, length-append}
 use Rattle.std.proofs.lemmas.Option.{slice_get_past}
 use Rattle.std.specs.Prelude.{Some, None, Option, find, is_none, is_some, not, option_and_then, option_map, position, slice_get, if◌then◌else◌, ◌==◌, ◌&&◌, ◌||◌}
 use Rattle.coro_base.specs.declared.outcome.Place.{Place}
-use Rattle.coro_calls.specs.Calls.{first_call, first_call_by, first_call_in, is_null, or_instr, value_of_first}
-use Rattle.coro_shape.specs.OneOfEach.{breaks_calls, calls_of, has_no_other_frame, is_first_in_block, is_missing, is_right, is_right_instr, is_second, second_call, wrong_call}
+use Rattle.coro_calls.specs.Calls.{first_call, first_call_by, first_call_in, is_null, or_instr}
+use Rattle.coro_shape.specs.OneOfEach.{breaks_calls, calls_of, has_no_other_frame, is_first_in_block, is_right, is_right_instr, is_second, second_call, wrong_call}
 use Rattle.coro_shape.specs.Places.{is_spot, is_the, place_of_passing, places_by, places_in, places_where}
-use Rattle.coro_shape.specs.Promise.{is_promise, is_wrong_promise, promise_operand, slot_named, wrong_promise}
+use Rattle.coro_shape.specs.Promise.{is_wrong_promise, promise_operand, slot_named, wrong_promise}
 use Rattle.coro_shape.specs.Suspends.{is_final_suspend, is_suspend, second_final, suspend_too_many}
 use Rattle.coro_shape.specs.declared.one_of_each.Calls.{Calls}
 use Rattle.early_agreement.proofs.Lists.{equal_numbers}
@@ -15,7 +15,7 @@ use Rattle.early_lower.specs.Early.{save_call, saved}
 use Rattle.early_path_rules.proofs.Holding.{HoldsIn, HoldsOf, of_parts, part_none, to_parts}
 use Rattle.early_path_rules.proofs.Origins.{ComesFrom, IsSavedBlock, Saves, Stays, Suspends, block_from, comes_from, number_least}
 use Rattle.early_path_rules.proofs.Seconds.{no_second_begin, no_second_end, no_second_id}
-use Rattle.function_parts.specs.Parts.{Part, Signature, Head, OfPhi, OfInstr, Ending, first_part, instr_place, parts_of, place_if}
+use Rattle.function_parts.specs.Parts.{OfInstr, first_part, instr_place, parts_of, place_if}
 use Rattle.ir_model.specs.declared.instr.Instr.{Instr}
 use Rattle.ir_model.specs.declared.module.Block.{Block}
 use Rattle.ir_model.specs.declared.module.Function.{Function}
@@ -23,7 +23,6 @@ use Rattle.ir_model.specs.declared.operand.Arg.{Arg}
 use Rattle.ir_model.specs.declared.operand.Callee.{Callee}
 use Rattle.ir_model.specs.declared.operand.Intrinsic.{Intrinsic}
 use Rattle.ir_model.specs.declared.operand.Operand.{Operand}
-use Rattle.ir_paths.specs.Slots.{allocas_of}
 use Rattle.ir_paths.specs.Windows.{call_operand, call_result, is_call_of}
 use Rattle.save_agreement.proofs.Expansion.{none_past}
 use Rattle.save_agreement.proofs.Slots.{same_allocas}
@@ -149,7 +148,6 @@ module _ (k : Intrinsic) (own : IsOwn (is_call_of k)) (other : (c : Bool) (i : I
 
   pub first_call_saved : (f : Function) → first_call k (saved_function f) ≡ first_call k f
   first_call_saved f = first_by_saved f.coroutine (length f.names) f.blocks
-
 
 no_id : (c : Bool) (i : Instr) → is_bare c i ≡ true → is_call_of Intrinsic.CoroId i ≡ false
 no_id c i e = let is = bare_is c i e in ap (is_call_of Intrinsic.CoroId) is.is

@@ -1,12 +1,12 @@
 -- The edges of a function whose saves are written out: rules F1 and K3.
-use Rattle.std.proofs.Common.{◌≡◌, ℕ, zero, suc, ◌+◌, ◌<◌, ◌≤◌, Bool, true, false, List, [], ◌∷◌, ◌++◌, length, refl, sym, ap, ◌∙◌, subst, arith, length-append}
+use Rattle.std.proofs.Common.{◌≡◌, ℕ, Bool, true, false, List, [], ◌∷◌, length, refl, sym, ap, ◌∙◌, subst}
 use Rattle.std.specs.Prelude.{Some, None, Option, filter, map, not, option_map, slice_get, if◌then◌else◌, ◌&&◌}
 use Rattle.coro_base.specs.declared.outcome.Place.{Place}
 use Rattle.early_agreement.proofs.Switches.{none_part}
-use Rattle.early_path_rules.proofs.Holding.{HoldsIn, HoldsOf, of_parts, part_none, to_parts}
-use Rattle.early_path_rules.proofs.Origins.{IsSavedBlock, block_from}
+use Rattle.early_path_rules.proofs.Holding.{HoldsIn, of_parts, part_none, to_parts}
+use Rattle.early_path_rules.proofs.Origins.{block_from}
 use Rattle.edge_rules.specs.Edges.{breaks_edges, first_wrong_edge, fits_edges, into_block, is_empty, is_entry, leads, predecessors}
-use Rattle.function_parts.specs.Parts.{Part, Signature, Head, OfPhi, OfInstr, Ending, parts_of}
+use Rattle.function_parts.specs.Parts.{Part, parts_of}
 use Rattle.ir_model.specs.declared.module.Block.{Block}
 use Rattle.ir_model.specs.declared.module.Function.{Function}
 use Rattle.save_agreement.proofs.Blocks.{get_block}

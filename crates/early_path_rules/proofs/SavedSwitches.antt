@@ -1,18 +1,17 @@
 -- The switches of suspends of a function whose saves are written out: rule K3.
-use Rattle.std.proofs.Common.{◌≡◌, ℕ, zero, suc, ◌+◌, ◌<◌, ◌≤◌, Bool, true, false, List, [], ◌∷◌, ◌++◌, length, refl, sym, ap, ◌∙◌, subst, arith, length-append}
+use Rattle.std.proofs.Common.{◌≡◌, ℕ, suc, ◌+◌, ◌<◌, Bool, true, false, List, [], ◌∷◌, ◌++◌, length, refl, sym, ap, ◌∙◌, subst, arith}
 use Rattle.std.proofs.lemmas.List.Sums.{sum_by-append, sum_by-cons}
-use Rattle.std.specs.Prelude.{Some, None, Option, cond, count_by, flat_map, map, nat_le, not, option_and_then, option_map, slice_get, if◌then◌else◌, ◌&&◌, ◌==◌}
+use Rattle.std.specs.Prelude.{Some, None, Option, cond, count_by, flat_map, nat_le, not, option_map, slice_get, if◌then◌else◌, ◌&&◌, ◌==◌}
 use Rattle.coro_base.specs.declared.outcome.Place.{Place}
 use Rattle.coro_shape.specs.Switches.{breaks_switch, end_label, is_last, is_switch_on, is_switched, is_switched_in, wrong_switch}
-use Rattle.coro_shape.specs.Uses.{block_operands, operands_of, phi_operands, uses_of}
-use Rattle.early_agreement.proofs.Lists.{equal_numbers}
+use Rattle.coro_shape.specs.Uses.{block_operands, phi_operands, uses_of}
 use Rattle.early_agreement.proofs.Switches.{none_part}
 use Rattle.early_lower.specs.Early.{save_call, saved}
-use Rattle.early_path_rules.proofs.Holding.{HoldsIn, HoldsOf, of_parts, part_none, to_parts}
-use Rattle.early_path_rules.proofs.Origins.{ComesFrom, IsSavedBlock, Saves, Stays, Suspends, block_from, comes_from, number_least}
+use Rattle.early_path_rules.proofs.Holding.{HoldsIn, of_parts, part_none, to_parts}
+use Rattle.early_path_rules.proofs.Origins.{ComesFrom, Saves, Stays, Suspends, block_from, comes_from, number_least}
 use Rattle.early_path_rules.proofs.Unsaved.{bare_is}
 use Rattle.function_parts.specs.Contents.{arg_operands, ending_operands, instr_operands}
-use Rattle.function_parts.specs.Parts.{Part, Signature, Head, OfPhi, OfInstr, Ending, first_part, instr_place, parts_of}
+use Rattle.function_parts.specs.Parts.{Part, OfInstr, first_part, instr_place, parts_of}
 use Rattle.ir_model.specs.Names.{is_local}
 use Rattle.ir_model.specs.declared.instr.Instr.{Instr}
 use Rattle.ir_model.specs.declared.module.Block.{Block}

@@ -1,5 +1,5 @@
 -- A suspend whose save isn't written.
-use Rattle.std.proofs.Common.{◌≡◌, ℕ, Bool, true, List, [], ◌∷◌, refl, ap, ◌∙◌}
+use Rattle.std.proofs.Common.{◌≡◌, ℕ, Bool, true, List, [], ◌∷◌, refl}
 use Rattle.std.specs.Prelude.{Option}
 use Rattle.early_lower.specs.Early.{is_none, is_unsaved}
 use Rattle.ir_model.specs.Ty.{Ty}
