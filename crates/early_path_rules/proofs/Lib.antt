@@ -15,3 +15,8 @@ pub mod RenamedSwitches
 pub mod NamedCalls
 pub mod Order
 pub mod Passes
+pub mod Where
+pub mod Moved
+pub mod Outside
+pub mod SavedUses
+pub mod RenamedUses

@@ -1,6 +1,8 @@
 -- The three passes in a row, function by function.
 use Rattle.std.proofs.Common.{◌≡◌, ℕ, Bool, true, false, refl, sym, ap, ◌∙◌, subst}
 use Rattle.std.specs.Prelude.{Some, None, Option, slice_get, unwrap_or, if◌then◌else◌}
+use Rattle.definite_use.specs.Undefined.{IsFirstUndefined}
+use Rattle.definite_use.specs.Uses.{uses_of}
 use Rattle.early_agreement.proofs.Composition.{early_in_turn}
 use Rattle.early_agreement.proofs.Rules.{regular}
 use Rattle.early_agreement.specs.Passes.{named_function, named_module, renamed_by_its_own, renamed_function, renamed_module}
@@ -10,14 +12,18 @@ use Rattle.early_lower.specs.Early.{early_module, renaming_of}
 use Rattle.early_meaning.proofs.Names.{named_locals, named_uses, renamed_locals, renamed_uses}
 use Rattle.early_path_rules.proofs.NamedCalls.{second_final_named, too_many_named, wrong_call_named, wrong_edge_named, wrong_promise_named}
 use Rattle.early_path_rules.proofs.Order.{breaks_none}
+use Rattle.early_path_rules.proofs.Outside.{of_outside, outside_renamed, outside_saved, to_outside}
 use Rattle.early_path_rules.proofs.RenamedCalls.{second_final_renamed, too_many_renamed, wrong_call_renamed}
 use Rattle.early_path_rules.proofs.RenamedEdges.{wrong_edge_renamed}
 use Rattle.early_path_rules.proofs.RenamedOperands.{map_was}
 use Rattle.early_path_rules.proofs.RenamedPromise.{wrong_promise_renamed}
 use Rattle.early_path_rules.proofs.RenamedSwitches.{wrong_switch_renamed}
+use Rattle.early_path_rules.proofs.RenamedUses.{undefined_renamed}
 use Rattle.early_path_rules.proofs.SavedCalls.{second_final_saved, too_many_saved, wrong_call_saved, wrong_promise_saved}
 use Rattle.early_path_rules.proofs.SavedEdges.{wrong_edge_saved}
 use Rattle.early_path_rules.proofs.SavedSwitches.{wrong_switch_saved}
+use Rattle.early_path_rules.proofs.SavedUses.{undefined_saved}
+use Rattle.early_path_rules.specs.Paths.{KeepsPaths}
 use Rattle.early_path_rules.specs.Shape.{KeepsShape}
 use Rattle.early_rules.proofs.Accepted.{all_named_keep}
 use Rattle.early_rules.specs.Named.{AreTabled}
@@ -33,6 +39,7 @@ use Rattle.save_agreement.specs.SavesWritten.{saved_function, saves_written}
 use Rattle.save_agreement.specs.Tokens.{HasNamedTokens}
 use Rattle.save_simulation.proofs.Names.{tokens_named}
 use Rattle.sound_states.specs.Named.{AreLocalsNamed, AreUsesNamed}
+use Rattle.window_rules.specs.Outside.{IsFirstOutside}
 
 -- ---- one function
 
@@ -108,6 +115,29 @@ shape_third func f true e h rules named =
     let there : HasNamedTokens (renamed_by_its_own (with_begin_name f)) = subst HasNamedTokens (second_coroutine f e) named in
     subst (λ (x : Function). KeepsShape func (saved_function x)) (sym (second_coroutine f e)) (shape_saved func (renamed_by_its_own (with_begin_name f)) now there two)
 
+-- ---- the rules on paths
+
+paths_renamed : (func : ℕ) (f : Function) → f.coroutine ≡ true → KeepsRules func f → KeepsPaths func (renamed_by_its_own f)
+paths_renamed func f coroutine rules =
+    let nothing = of_outside func f coroutine rules.outside in
+    record {
+      undefined_use = undefined_renamed (renaming_of f) func f (regular func f coroutine rules) nothing rules.params rules.undefined_use;
+      outside = to_outside func (renamed_by_its_own f) (outside_renamed (renaming_of f) f nothing);
+    }
+
+paths_saved : (func : ℕ) (f : Function) → f.coroutine ≡ true → HasNamedTokens f → KeepsPaths func f → KeepsPaths func (saved_function f)
+paths_saved func f coroutine named h = record {
+  undefined_use = undefined_saved func f h.undefined_use;
+  outside = to_outside func (saved_function f) (outside_saved f named (of_outside func f coroutine h.outside));
+}
+
+paths_third : (func : ℕ) (f : Function) (b : Bool) → f.coroutine ≡ b → KeepsPaths func f → (f.coroutine ≡ true → KeepsRules func (with_begin_name f)) → HasNamedTokens (second f) → KeepsPaths func (third f)
+paths_third func f false e h rules named = subst (KeepsPaths func) (sym (third_plain f e)) h
+paths_third func f true e h rules named =
+    let now : (with_begin_name f).coroutine ≡ true = begin_named_stays f ∙ e in
+    let there : HasNamedTokens (renamed_by_its_own (with_begin_name f)) = subst HasNamedTokens (second_coroutine f e) named in
+    subst (λ (x : Function). KeepsPaths func (saved_function x)) (sym (second_coroutine f e)) (paths_saved func (renamed_by_its_own (with_begin_name f)) now there (paths_renamed func (with_begin_name f) now (rules e)))
+
 -- ---- the module
 
 -- what becomes of a function of a module that breaks no rule
@@ -148,3 +178,16 @@ early_shape m accepted tabled locals uses k g e =
 
 pub accepted_shape : (m : Module) → IsRefused Stage.Source m None → (k : ℕ) (f : Function) → slice_get m.functions k ≡ Some f → KeepsShape k f
 accepted_shape m accepted k f there = (breaks_none m k f accepted there).shape
+
+pub accepted_paths : (m : Module) → IsRefused Stage.Source m None → (k : ℕ) (f : Function) → slice_get m.functions k ≡ Some f → KeepsPaths k f
+accepted_paths m accepted k f there =
+    let x = breaks_none m k f accepted there in
+    record {
+      undefined_use = subst (IsFirstUndefined f (uses_of k f)) x.none.undefined_use x.are.undefined_use;
+      outside = subst (IsFirstOutside k f) x.none.outside x.are.outside;
+    }
+
+pub early_paths : (m : Module) → IsRefused Stage.Source m None → AreTabled m → AreLocalsNamed m → AreUsesNamed m → (k : ℕ) (g : Function) → slice_get (early_module m).functions k ≡ Some g → KeepsPaths k g
+early_paths m accepted tabled locals uses k g e =
+    let x = becomes m accepted tabled locals uses k g e in
+    subst (KeepsPaths k) (sym x.is) (paths_third k x.function x.function.coroutine refl (accepted_paths m accepted k x.function x.there) x.rules x.named)
