@@ -20,3 +20,6 @@ pub mod Moved
 pub mod Outside
 pub mod SavedUses
 pub mod RenamedUses
+pub mod Windows
+pub mod NamedWindows
+pub mod SavedWindows

@@ -33,7 +33,7 @@ same_source f y p q (inr e) (inl d) = sym (front_back f q p (sym d ∙ e))
 same_source f y p q (inr e) (inr d) = back_back f p q (sym e ∙ d)
 
 -- where no instruction stands none is written
-none_front : (f : Function) (p : Point) → slice_get (instrs_in (slice_get f.blocks p.block)) p.at ≡ None → front_of f p ≡ back_of f p
+pub none_front : (f : Function) (p : Point) → slice_get (instrs_in (slice_get f.blocks p.block)) p.at ≡ None → front_of f p ≡ back_of f p
 none_front f p e =
     let none : own_saves f.coroutine (slice_get (instrs_in (slice_get f.blocks p.block)) p.at) ≡ 0 = ap (own_saves f.coroutine) e in
     let same : (front_of f p).at ≡ (back_of f p).at = omega (arith, none) in

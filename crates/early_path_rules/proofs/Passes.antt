@@ -7,10 +7,11 @@ use Rattle.early_agreement.proofs.Composition.{early_in_turn}
 use Rattle.early_agreement.proofs.Rules.{regular}
 use Rattle.early_agreement.specs.Passes.{named_function, named_module, renamed_by_its_own, renamed_function, renamed_module}
 use Rattle.early_agreement.specs.Regular.{AllKeepRules, IsRegular, KeepsRules}
-use Rattle.early_lower.specs.BeginName.{if_unnamed, with_begin_name}
+use Rattle.early_lower.specs.BeginName.{begin_named, if_unnamed, with_begin_name}
 use Rattle.early_lower.specs.Early.{early_module, renaming_of}
 use Rattle.early_meaning.proofs.Names.{named_locals, named_uses, renamed_locals, renamed_uses}
 use Rattle.early_path_rules.proofs.NamedCalls.{second_final_named, too_many_named, wrong_call_named, wrong_edge_named, wrong_promise_named}
+use Rattle.early_path_rules.proofs.NamedWindows.{alike_named}
 use Rattle.early_path_rules.proofs.Order.{breaks_none}
 use Rattle.early_path_rules.proofs.Outside.{of_outside, outside_renamed, outside_saved, to_outside}
 use Rattle.early_path_rules.proofs.RenamedCalls.{second_final_renamed, too_many_renamed, wrong_call_renamed}
@@ -23,6 +24,8 @@ use Rattle.early_path_rules.proofs.SavedCalls.{second_final_saved, too_many_save
 use Rattle.early_path_rules.proofs.SavedEdges.{wrong_edge_saved}
 use Rattle.early_path_rules.proofs.SavedSwitches.{wrong_switch_saved}
 use Rattle.early_path_rules.proofs.SavedUses.{undefined_saved}
+use Rattle.early_path_rules.proofs.SavedWindows.{windows_saved}
+use Rattle.early_path_rules.proofs.Windows.{alike_renamed, of_window, to_window, windows_alike}
 use Rattle.early_path_rules.specs.Paths.{KeepsPaths}
 use Rattle.early_path_rules.specs.Shape.{KeepsShape}
 use Rattle.early_rules.proofs.Accepted.{all_named_keep}
@@ -40,6 +43,7 @@ use Rattle.save_agreement.specs.Tokens.{HasNamedTokens}
 use Rattle.save_simulation.proofs.Names.{tokens_named}
 use Rattle.sound_states.specs.Named.{AreLocalsNamed, AreUsesNamed}
 use Rattle.window_rules.specs.Outside.{IsFirstOutside}
+use Rattle.window_rules.specs.Windows.{IsFirstWindow}
 
 -- ---- one function
 
@@ -117,26 +121,39 @@ shape_third func f true e h rules named =
 
 -- ---- the rules on paths
 
-paths_renamed : (func : ℕ) (f : Function) → f.coroutine ≡ true → KeepsRules func f → KeepsPaths func (renamed_by_its_own f)
-paths_renamed func f coroutine rules =
-    let nothing = of_outside func f coroutine rules.outside in
-    record {
-      undefined_use = undefined_renamed (renaming_of f) func f (regular func f coroutine rules) nothing rules.params rules.undefined_use;
-      outside = to_outside func (renamed_by_its_own f) (outside_renamed (renaming_of f) f nothing);
-    }
+module _ (func : ℕ) where
+  paths_named : (f : Function) (o : Option ℕ) → f.coroutine ≡ true → KeepsPaths func f → KeepsRules func (if_unnamed o f) → KeepsPaths func (if_unnamed o f)
+  paths_named f None coroutine h rules = record {
+    undefined_use = rules.undefined_use;
+    outside = rules.outside;
+    window = to_window func (begin_named f) (windows_alike f (begin_named f) (alike_named f) (of_window func f coroutine h.window));
+  }
+  paths_named f (Some n) coroutine h rules = h
 
-paths_saved : (func : ℕ) (f : Function) → f.coroutine ≡ true → HasNamedTokens f → KeepsPaths func f → KeepsPaths func (saved_function f)
-paths_saved func f coroutine named h = record {
-  undefined_use = undefined_saved func f h.undefined_use;
-  outside = to_outside func (saved_function f) (outside_saved f named (of_outside func f coroutine h.outside));
-}
+  paths_renamed : (f : Function) → f.coroutine ≡ true → KeepsRules func f → KeepsPaths func f → KeepsPaths func (renamed_by_its_own f)
+  paths_renamed f coroutine rules h =
+      let nothing = of_outside func f coroutine rules.outside in
+      let ok = regular func f coroutine rules in
+      record {
+        undefined_use = undefined_renamed (renaming_of f) func f ok nothing rules.params rules.undefined_use;
+        outside = to_outside func (renamed_by_its_own f) (outside_renamed (renaming_of f) f nothing);
+        window = to_window func (renamed_by_its_own f) (windows_alike f (renamed_by_its_own f) (alike_renamed (renaming_of f) f ok) (of_window func f coroutine h.window));
+      }
+
+  paths_saved : (f : Function) → f.coroutine ≡ true → HasNamedTokens f → KeepsPaths func f → KeepsPaths func (saved_function f)
+  paths_saved f coroutine named h = record {
+    undefined_use = undefined_saved func f h.undefined_use;
+    outside = to_outside func (saved_function f) (outside_saved f named (of_outside func f coroutine h.outside));
+    window = to_window func (saved_function f) (windows_saved f named (of_window func f coroutine h.window));
+  }
 
 paths_third : (func : ℕ) (f : Function) (b : Bool) → f.coroutine ≡ b → KeepsPaths func f → (f.coroutine ≡ true → KeepsRules func (with_begin_name f)) → HasNamedTokens (second f) → KeepsPaths func (third f)
 paths_third func f false e h rules named = subst (KeepsPaths func) (sym (third_plain f e)) h
 paths_third func f true e h rules named =
     let now : (with_begin_name f).coroutine ≡ true = begin_named_stays f ∙ e in
+    let first = paths_named func f (first_result Intrinsic.CoroBegin f) e h (rules e) in
     let there : HasNamedTokens (renamed_by_its_own (with_begin_name f)) = subst HasNamedTokens (second_coroutine f e) named in
-    subst (λ (x : Function). KeepsPaths func (saved_function x)) (sym (second_coroutine f e)) (paths_saved func (renamed_by_its_own (with_begin_name f)) now there (paths_renamed func (with_begin_name f) now (rules e)))
+    subst (λ (x : Function). KeepsPaths func (saved_function x)) (sym (second_coroutine f e)) (paths_saved func (renamed_by_its_own (with_begin_name f)) now there (paths_renamed func (with_begin_name f) now (rules e) first))
 
 -- ---- the module
 
@@ -185,6 +202,7 @@ accepted_paths m accepted k f there =
     record {
       undefined_use = subst (IsFirstUndefined f (uses_of k f)) x.none.undefined_use x.are.undefined_use;
       outside = subst (IsFirstOutside k f) x.none.outside x.are.outside;
+      window = subst (IsFirstWindow k f) x.none.window x.are.window;
     }
 
 pub early_paths : (m : Module) → IsRefused Stage.Source m None → AreTabled m → AreLocalsNamed m → AreUsesNamed m → (k : ℕ) (g : Function) → slice_get (early_module m).functions k ≡ Some g → KeepsPaths k g
