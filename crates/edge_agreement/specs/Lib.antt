@@ -1,0 +1,4 @@
+pub mod Spots
+pub mod Labels
+pub mod Threads
+pub mod Moved
