@@ -200,7 +200,7 @@ module _ (f : Function) where
   abbrev pub own_number : ℕ → ℕ
   own_number k = number (phi_flags f) (table_of f) k (length f.names) f.blocks
 
-  length_blocks : length (with_edge_blocks f).blocks ≡ spot (length f.blocks)
+  pub length_blocks : length (with_edge_blocks f).blocks ≡ spot (length f.blocks)
   length_blocks =
       ap length (as_expansion (phi_flags f) (table_of f) (length f.names) f.blocks)
       ∙ sym (place_end (block_and_edges (phi_flags f) (table_of f)) (behind_edges (phi_flags f)) (length f.names) f.blocks)

@@ -192,6 +192,12 @@ module _ (f : Function) where
   leads_moved : (x q : Point) → Has (nexts (with_edge_blocks f) x) (moved f q) → LeadsOver (with_edge_blocks f) (moved f) x (moved f q)
   leads_moved x q h = record { first = moved f q; edge = h; is = inl refl }
 
+  pub moved_apart : (p q : Point) → moved f p ≡ moved f q → p ≡ q
+  moved_apart p q e =
+      let block = place_apart (phi_flags f) (table_of f) p.block q.block (length f.names) f.blocks (ap (λ (x : Point). x.block) e) in
+      let at = ap (λ (x : Point). x.at) e in
+      λ i. record { block = block i; at = at i }
+
   module _ (named : HasNamedLabels f) where
     forth_by : (k at : ℕ) (b : Block) → slice_get f.blocks k ≡ Some b → (s t : Bool) (q : Point) → Has (if s then record { block = k; at = at + 1 } ∷ [] else if t then map (entry_point f) (targets b.term) else []) q → (ps : List Point) → ps ≡ (if s then record { block = spot f k; at = at + 1 } ∷ [] else if t then map (entry_point (with_edge_blocks f)) (new_term k b) else []) → (x : Point) → nexts (with_edge_blocks f) x ≡ ps → LeadsOver (with_edge_blocks f) (moved f) x (moved f q)
     forth_by k at b e true t q h ps d x n =
@@ -240,12 +246,6 @@ module _ (f : Function) where
     home_in p y (Some b) e h =
         home_by p.block p.at b e (nat_lt p.at (length b.instrs)) (p.at == length b.instrs) p y (ap (nexts_in f p) e)
         (subst (λ (zs : List Point). Has zs y) (moved_nexts p b e) h)
-
-    pub moved_apart : (p q : Point) → moved f p ≡ moved f q → p ≡ q
-    moved_apart p q e =
-        let block = place_apart (phi_flags f) (table_of f) p.block q.block (length f.names) f.blocks (ap (λ (x : Point). x.block) e) in
-        let at = ap (λ (x : Point). x.at) e in
-        λ i. record { block = block i; at = at i }
 
     -- points are moved apart, and edges lead over at most an edge's block
     pub threads : AreThreads f (with_edge_blocks f) (moved f)

@@ -5,3 +5,8 @@ pub mod Edges
 pub mod Points
 pub mod Windows
 pub mod Left
+pub mod Whole
+pub mod Behind
+pub mod Tables
+pub mod Phis
+pub mod Slots

@@ -2,3 +2,4 @@ pub mod Spots
 pub mod Labels
 pub mod Threads
 pub mod Moved
+pub mod Phis

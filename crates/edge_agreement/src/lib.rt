@@ -1,13 +1,21 @@
 //! Blocks on edges: what they leave as it is of a coroutine's paths, windows and slots.
 #![tactic(auto)]
 
-ghost use Rattle.std.specs.Prelude.{◌≡◌, ◌↔◌, ◌<◌, ℕ, Bool, List, [], IsTrue, filter, length, map};
+ghost use Rattle.std.specs.Prelude.{◌≡◌, ◌↔◌, ◌<◌, ℕ, Bool, false, List, [], IsTrue, Some, filter, filter_map, length, map, slice_get, unwrap_or};
 ghost use Rattle.ir_model.specs.declared.module.Function.{Function};
 ghost use Rattle.ir_paths.specs.Paths.{Leads, entry_point, has_point, nexts};
-ghost use Rattle.edge_blocks.specs.EdgeBlocks.{with_edge_blocks};
-ghost use Rattle.edge_agreement.specs.Spots.{moved};
+ghost use Rattle.edge_blocks.specs.EdgeBlocks.{incoming_on, with_edge_blocks};
+ghost use Rattle.edge_agreement.specs.Spots.{moved, table_of};
 ghost use Rattle.edge_agreement.specs.Moved.{ArePaired, GoesTo, IsMoved};
-ghost use Rattle.edge_agreement.specs.Labels.{HasNamedLabels};
+ghost use Rattle.ir_paths.specs.Slots.{IsBehindSuspend, has_name, promise_of};
+ghost use Rattle.ir_paths.specs.Facts.{facts_of};
+ghost use Rattle.ordinary_step.specs.Step.{has_markers, incoming_from};
+ghost use Rattle.ir_model.specs.declared.instr.Incoming.{Incoming};
+ghost use Rattle.edge_blocks.specs.declared.edge.Edge.{Edge};
+ghost use Rattle.edge_agreement.specs.Phis.{AreLabelsOnce, ArePhisForEdges};
+ghost use Rattle.ir_model.specs.declared.module.Block.{Block};
+ghost use Rattle.edge_blocks.specs.Edges.{edges_at, has_phis, phi_flags};
+ghost use Rattle.edge_agreement.specs.Labels.{HasNamedLabels, IsAmong};
 ghost use Rattle.ir_paths.specs.Windows.{leaves, points_where, windows_of};
 ghost use Rattle.ir_model.specs.declared.instr.Instr.{Instr};
 ghost use Rattle.ir_paths.specs.declared.point.Point.{Point};
@@ -51,4 +59,37 @@ pub fn left_windows_are_moved()
 /// The jump of an edge's block leaves no window.
 pub fn edge_blocks_leave_no_window()
     ensures { (f : Function) → HasNamedLabels f → (q y : Point) → IsBetween (with_edge_blocks f) (moved f) (moved f q) y → filter (leaves y (moved f q)) (windows_of (with_edge_blocks f)) ≡ [] }
+{}
+
+/// Markers of slots stay.
+#[tactic(auto, using(crate::proofs::Whole::markers_split))]
+pub fn markers_stay()
+    ensures { (f : Function) (name : ℕ) → has_markers (with_edge_blocks f) name ≡ has_markers f name }
+{}
+
+/// What stands behind a suspend does so where it is then.
+#[tactic(auto, using(crate::proofs::Behind::behind_both))]
+pub fn points_stay_behind_suspends()
+    ensures { (f : Function) → HasNamedLabels f → (p : Point) → IsBehindSuspend f p ↔ IsBehindSuspend (with_edge_blocks f) (moved f p) }
+{}
+
+/// A label's block has phis exactly where the table of flags has the label.
+pub fn labels_with_phis_are_flagged()
+    ensures { (f : Function) → AreLabelsOnce f → HasNamedLabels f → (k : ℕ) (b : Block) → slice_get f.blocks k ≡ Some b → unwrap_or (slice_get (phi_flags f) b.label) false ≡ has_phis b.phis }
+{}
+
+/// The promise stays.
+#[tactic(auto, using(crate::proofs::Slots::same_promise))]
+pub fn promise_stays()
+    ensures { (f : Function) → promise_of (with_edge_blocks f) ≡ promise_of f }
+{}
+
+/// The ramp slots stay, where the phis' operands are for edges, the first one for an edge being the same as any other.
+pub fn ramp_slots_stay()
+    ensures { (f : Function) → HasNamedLabels f → AreLabelsOnce f → ArePhisForEdges f → (a : ℕ) → has_name (facts_of (with_edge_blocks f)).ramp_slots a ≡ has_name (facts_of f).ramp_slots a }
+{}
+
+/// A phi takes from an edge's block what it took from the block from which the edge comes.
+pub fn phis_take_the_same()
+    ensures { (f : Function) (label : ℕ) → label < length f.names → (incoming : List Incoming) (e : Edge) → IsAmong (edges_at (table_of f) label) e → incoming_from (filter_map (incoming_on incoming) (edges_at (table_of f) label)) e.label ≡ incoming_from incoming e.from }
 {}
