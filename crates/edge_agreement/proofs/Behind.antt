@@ -38,7 +38,7 @@ module _ (flags : List Bool) (from : ℕ) (edges : List Edge) where
   abbrev To : ℕ → ℕ → Type 0
   To t l = IsSplit flags from edges t l
 
-  case_split : (n m : ℕ) (resumes : Bool) (cases : List Case) (d e : ℕ) → To d e → AreSplit flags from edges (map (λ (k : Case). k.target) cases) (map (λ (k : Case). k.target) (split_cases flags resumes m cases)) → To (label_in n cases d) (label_in n (split_cases flags resumes m cases) e)
+  pub case_split : (n m : ℕ) (resumes : Bool) (cases : List Case) (d e : ℕ) → To d e → AreSplit flags from edges (map (λ (k : Case). k.target) cases) (map (λ (k : Case). k.target) (split_cases flags resumes m cases)) → To (label_in n cases d) (label_in n (split_cases flags resumes m cases) e)
   case_split n m resumes [] d e h k = h
   case_split n m resumes (c ∷ cases) d e h k = on (is_number n c.arg.value) (case_split n (after_edge flags resumes m c.target) resumes cases d e h k.1)
     where
@@ -47,7 +47,7 @@ module _ (flags : List Bool) (from : ℕ) (edges : List Edge) where
       on false again = again
 
 -- the label of a switch, or of none, is a name
-label_below : (n least : ℕ) (t : Terminator) → 0 < least → Each (λ l. l < least) (targets t) → label_of_term n t < least
+pub label_below : (n least : ℕ) (t : Terminator) → 0 < least → Each (λ l. l < least) (targets t) → label_of_term n t < least
 label_below n least (Terminator.Switch arg default cases) some h = in_cases cases h.0 h.1
   where
     in_cases : (cases : List Case) → default < least → Each (λ l. l < least) (map (λ (k : Case). k.target) cases) → label_in n cases default < least

@@ -44,7 +44,7 @@ module _ (f : Function) where
 
   -- ---- the block of an edge
 
-  edge_spot : (named : HasNamedLabels f) (k : ℕ) (b : Block) (i : ℕ) (e : Edge) → slice_get f.blocks k ≡ Some b → slice_get (edges_of_block k b) i ≡ Some e → slice_get (with_edge_blocks f).blocks (entry_point (with_edge_blocks f) e.label).block ≡ Some (edge_block e)
+  pub edge_spot : (named : HasNamedLabels f) (k : ℕ) (b : Block) (i : ℕ) (e : Edge) → slice_get f.blocks k ≡ Some b → slice_get (edges_of_block k b) i ≡ Some e → slice_get (with_edge_blocks f).blocks (entry_point (with_edge_blocks f) e.label).block ≡ Some (edge_block e)
   edge_spot named k b i e there got =
       ap (slice_get (with_edge_blocks f).blocks) (position_edge f named k b i e there got)
       ∙ get_edge (phi_flags f) (table_of f) k (length f.names) f.blocks b i e there got
@@ -77,7 +77,7 @@ module _ (f : Function) where
           rise (suc j) n (b ∷ bs) = let again = rise j (behind_edges (phi_flags f) n b) bs in omega (arith, again)
 
   -- the labels of a block's terminator are names
-  target_named : HasNamedLabels f → (k : ℕ) (b : Block) → slice_get f.blocks k ≡ Some b → Each (λ t. t < length f.names) (targets b.term)
+  pub target_named : HasNamedLabels f → (k : ℕ) (b : Block) → slice_get f.blocks k ≡ Some b → Each (λ t. t < length f.names) (targets b.term)
   target_named named k b there = (each_at (HasLabelsBelow (length f.names)) f.blocks k b named there).targets
 
   pub edge_between : (named : HasNamedLabels f) (k : ℕ) (b : Block) (e : Edge) → slice_get f.blocks k ≡ Some b → e.target < length f.names → IsAmong (edges_of_block k b) e → IsBetween (with_edge_blocks f) (moved f) (moved f (entry_point f e.target)) (entry_point (with_edge_blocks f) e.label)
@@ -171,19 +171,19 @@ module _ (f : Function) where
 
   -- ---- all edges
 
-  abbrev new_term : ℕ → Block → List ℕ
+  abbrev pub new_term : ℕ → Block → List ℕ
   new_term k b = targets (split_term (phi_flags f) (ends_in_suspend b.instrs) (own_number f k) b.term)
 
   legs_of_block : (k : ℕ) (b : Block) → Legs k b (targets b.term) (new_term k b)
   legs_of_block k b = term_split (phi_flags f) b.label (ends_in_suspend b.instrs) (own_number f k) b.term
 
-  abbrev nexts_by : Function → ℕ → ℕ → ℕ → List ℕ → List Point
+  abbrev pub nexts_by : Function → ℕ → ℕ → ℕ → List ℕ → List Point
   nexts_by h k at len ts =
       if nat_lt at len then record { block = k; at = at + 1 } ∷ []
       else if at == len then map (entry_point h) ts
       else []
 
-  moved_nexts : (p : Point) (b : Block) → slice_get f.blocks p.block ≡ Some b → nexts (with_edge_blocks f) (moved f p) ≡ nexts_by (with_edge_blocks f) (spot f p.block) p.at (length b.instrs) (new_term p.block b)
+  pub moved_nexts : (p : Point) (b : Block) → slice_get f.blocks p.block ≡ Some b → nexts (with_edge_blocks f) (moved f p) ≡ nexts_by (with_edge_blocks f) (spot f p.block) p.at (length b.instrs) (new_term p.block b)
   moved_nexts p b e = ap (nexts_in (with_edge_blocks f) (moved f p)) (get_block (phi_flags f) (table_of f) p.block (length f.names) f.blocks b e)
 
   none_nexts : (p : Point) → slice_get f.blocks p.block ≡ None → nexts (with_edge_blocks f) (moved f p) ≡ []

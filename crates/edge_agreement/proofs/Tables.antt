@@ -90,7 +90,7 @@ none_behind : (xs : List Edge) → xs ≡ xs ++ []
 none_behind [] = refl
 none_behind (x ∷ xs) = ap (λ (zs : List Edge). x ∷ zs) (none_behind xs)
 
-abbrev leads_to : ℕ → Edge → Bool
+abbrev pub leads_to : ℕ → Edge → Bool
 leads_to t e = e.target == t
 
 table_grows : (table : List (List Edge)) (es : List Edge) (t : ℕ) → t < length table → edges_at (with_edges table es) t ≡ edges_at table t ++ filter (leads_to t) es
