@@ -6,3 +6,6 @@ pub mod Calls
 pub mod Suspends
 pub mod Resumes
 pub mod Intrinsics
+pub mod Branches
+pub mod Actions
+pub mod Performs

@@ -8,11 +8,11 @@ ghost use Rattle.edge_agreement.specs.Spots.{moved};
 ghost use Rattle.edge_agreement.proofs.Edges.{edges_of_block};
 ghost use Rattle.edge_blocks.specs.EdgeBlocks.{with_edge_blocks};
 ghost use Rattle.edge_blocks.specs.Edges.{phi_flags};
-ghost use Rattle.edge_states.specs.MovedState.{IsOwnedBy, Keeps, edge_function, edges_split, moved_instance, moved_result, moved_state, moved_values, placed, placed_block};
+ghost use Rattle.edge_states.specs.MovedState.{AreEdgesKept, IsOwnedBy, Keeps, edge_function, edges_split, moved_instance, moved_result, moved_state, moved_values, placed, placed_block};
 ghost use Rattle.edge_states.specs.Near.{IsNear};
 ghost use Rattle.coro_base.specs.declared.outcome.Outcome.{Outcome};
-ghost use Rattle.coro_meaning.specs.Source.{continue, deallocate, enter, given, go_to, new_slot, promise, save_for};
-ghost use Rattle.coro_meaning.specs.State.{gives, own_instance, point_of};
+ghost use Rattle.coro_meaning.specs.Source.{act, context_of, continue, deallocate, enter, given, go_to, new_slot, promise, save_for};
+ghost use Rattle.coro_meaning.specs.State.{function_of, gives, own_instance, point_of, work_of};
 ghost use Rattle.coro_meaning.specs.declared.state.State.{State};
 ghost use Rattle.ir_model.specs.Names.{function_at};
 ghost use Rattle.ir_model.specs.declared.module.Frame.{Frame};
@@ -20,13 +20,14 @@ ghost use Rattle.ir_model.specs.declared.module.Module.{Module};
 ghost use Rattle.ir_paths.specs.Paths.{entry_point, has_point, nexts};
 ghost use Rattle.block_memory.specs.declared.pointer.Value.{Value};
 ghost use Rattle.coro_meaning.specs.declared.state.Instance.{Instance};
-ghost use Rattle.ordinary_step.specs.Step.{fetch};
+ghost use Rattle.ordinary_step.specs.Step.{action_of, fetch};
 ghost use Rattle.ordinary_step.specs.Values.{Env};
 ghost use Rattle.ordinary_step.specs.declared.world.Slot.{Slot};
 ghost use Rattle.ir_model.specs.declared.operand.Operand.{Operand};
 ghost use Rattle.ordinary_step.specs.Results.{and_then};
 ghost use Rattle.save_agreement.specs.Tokens.{IsNamedResult};
-ghost use Rattle.sound_states.specs.Named.{HasNamedParams, HasNamedPhis};
+ghost use Rattle.sound_states.specs.Named.{AreLocalsNamed, HasNamedParams, HasNamedPhis};
+ghost use Rattle.sound_states.specs.Sound.{IsSound};
 ghost use Rattle.edge_states.specs.Ways.{AreFetched, Enters, Goes};
 ghost use Rattle.ir_model.specs.declared.module.Block.{Block};
 ghost use Rattle.ir_model.specs.declared.module.Function.{Function};
@@ -85,4 +86,9 @@ pub fn suspended_go_on()
 /// The promise of an instance is found as it was.
 pub fn promises_are_kept()
     ensures { (m : Module) (sizes : List Frame) (answers : List ℤ) (s : State) (result : Option ℕ) → IsNamedResult (length s.top.values) result → (v : Value) (from : Operand) → and_then (promise (given (edges_split m) sizes answers) (moved_state m s) v from) (λ w. Ok (gives (moved_state m s) result w)) ≡ moved_result m (and_then (promise (given m sizes answers) s v from) (λ w. Ok (gives s result w))) }
+{}
+
+/// Each step comes to where the source's comes, or one step before it.
+pub fn steps_are_near()
+    ensures { (m : Module) (sizes : List Frame) (answers : List ℤ) → AreLocalsNamed m → AreEdgesKept m → (s : State) → IsSound m s → s.outcome ≡ Outcome.Running → IsNear m sizes answers (act (given m sizes answers) (continue (given m sizes answers)) s (action_of (context_of (given m sizes answers) s) (work_of s) (fetch (function_of (given m sizes answers) s) s.top.block s.top.at))) (act (given (edges_split m) sizes answers) (continue (given (edges_split m) sizes answers)) (moved_state m s) (action_of (context_of (given (edges_split m) sizes answers) (moved_state m s)) (work_of (moved_state m s)) (fetch (function_of (given (edges_split m) sizes answers) (moved_state m s)) (moved_state m s).top.block s.top.at))) }
 {}
