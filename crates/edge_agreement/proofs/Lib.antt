@@ -1,0 +1,12 @@
+pub mod Threads
+pub mod Legs
+pub mod Blocks
+pub mod Edges
+pub mod Points
+pub mod Windows
+pub mod Left
+pub mod Whole
+pub mod Behind
+pub mod Tables
+pub mod Phis
+pub mod Slots

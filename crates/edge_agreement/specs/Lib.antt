@@ -1,0 +1,5 @@
+pub mod Spots
+pub mod Labels
+pub mod Threads
+pub mod Moved
+pub mod Phis

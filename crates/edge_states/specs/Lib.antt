@@ -1,0 +1,3 @@
+pub mod MovedState
+pub mod Ways
+pub mod Near
