@@ -1,11 +1,14 @@
 //! That the first pass keeps the meaning of every source that breaks no rule.
 #![tactic(auto)]
 
-ghost use Rattle.std.specs.Prelude.{ℕ, ℤ, List, None};
+ghost use Rattle.std.specs.Prelude.{◌↔◌, ℕ, ℤ, Bool, List, None, Result};
 ghost use Rattle.agreement.specs.Agreements.{AgreesWithin};
 ghost use Rattle.coro_base.specs.declared.outcome.Word.{Word};
 ghost use Rattle.coro_meaning.specs.Source.{SourceAt};
+ghost use Rattle.coroutine_frames.specs.Frames.{AreLayouts};
+ghost use Rattle.coroutine_frames.specs.declared.module_frames.LayoutsError.{LayoutsError};
 ghost use Rattle.early_lower.specs.Early.{early_module};
+ghost use Rattle.frame_layout.specs.declared.layout.Layouts.{Layouts};
 ghost use Rattle.early_rules.specs.Named.{AreTabled};
 ghost use Rattle.ir_check.specs.Refused.{IsRefused};
 ghost use Rattle.ir_grammar.specs.Text.{StandsFor};
@@ -22,4 +25,9 @@ pub fn texts_have_tables()
 /// makes of it.
 pub fn accepted_sources_keep_meaning()
     ensures { (text : List ℕ) (m : Module) → StandsFor text m → IsRefused Stage.Source m None → (sizes : List Frame) (entry : ℕ) (args : List Word) (answers : List ℤ) → AgreesWithin 2 (SourceAt m sizes entry args answers) (SourceAt (early_module m) sizes entry args answers) }
+{}
+
+/// The layouts of such a source's frames are those of what the first pass makes of it.
+pub fn accepted_layouts_stay()
+    ensures { (text : List ℕ) (m : Module) → StandsFor text m → IsRefused Stage.Source m None → (share : Bool) (result : Result Layouts LayoutsError) → AreLayouts m share result ↔ AreLayouts (early_module m) share result }
 {}
