@@ -2,24 +2,24 @@
 #![tactic(auto)]
 
 ghost use Rattle.std.specs.Prelude.{◌≡◌, ◌↔◌, ◌<◌, ℕ, Bool, false, List, [], IsTrue, Some, filter, filter_map, length, map, slice_get, unwrap_or};
-ghost use Rattle.ir_model.specs.declared.module.Function.{Function};
-ghost use Rattle.ir_paths.specs.Paths.{Leads, entry_point, has_point, nexts};
-ghost use Rattle.edge_blocks.specs.EdgeBlocks.{incoming_on, with_edge_blocks};
-ghost use Rattle.edge_agreement.specs.Spots.{moved, table_of};
-ghost use Rattle.edge_agreement.specs.Moved.{ArePaired, GoesTo, IsMoved};
-ghost use Rattle.ir_paths.specs.Slots.{IsBehindSuspend, has_name, promise_of};
-ghost use Rattle.ir_paths.specs.Facts.{facts_of};
-ghost use Rattle.ordinary_step.specs.Step.{has_markers, incoming_from};
-ghost use Rattle.ir_model.specs.declared.instr.Incoming.{Incoming};
-ghost use Rattle.edge_blocks.specs.declared.edge.Edge.{Edge};
-ghost use Rattle.edge_agreement.specs.Phis.{AreLabelsOnce, ArePhisForEdges};
-ghost use Rattle.ir_model.specs.declared.module.Block.{Block};
-ghost use Rattle.edge_blocks.specs.Edges.{edges_at, has_phis, phi_flags};
 ghost use Rattle.edge_agreement.specs.Labels.{HasNamedLabels, IsAmong};
-ghost use Rattle.ir_paths.specs.Windows.{leaves, points_where, windows_of};
-ghost use Rattle.ir_model.specs.declared.instr.Instr.{Instr};
-ghost use Rattle.ir_paths.specs.declared.point.Point.{Point};
+ghost use Rattle.edge_agreement.specs.Moved.{ArePaired, GoesTo, IsMoved};
+ghost use Rattle.edge_agreement.specs.Phis.{AreLabelsOnce, ArePhisForEdges};
+ghost use Rattle.edge_agreement.specs.Spots.{moved, table_of};
 ghost use Rattle.edge_agreement.specs.Threads.{AreAvoidedToo, AreThreads, IsBetween};
+ghost use Rattle.edge_blocks.specs.EdgeBlocks.{incoming_on, with_edge_blocks};
+ghost use Rattle.edge_blocks.specs.Edges.{edges_at, has_phis, phi_flags};
+ghost use Rattle.edge_blocks.specs.declared.edge.Edge.{Edge};
+ghost use Rattle.ir_model.specs.declared.instr.Incoming.{Incoming};
+ghost use Rattle.ir_model.specs.declared.instr.Instr.{Instr};
+ghost use Rattle.ir_model.specs.declared.module.Block.{Block};
+ghost use Rattle.ir_model.specs.declared.module.Function.{Function};
+ghost use Rattle.ir_paths.specs.Facts.{facts_of};
+ghost use Rattle.ir_paths.specs.Paths.{Leads, entry_point, has_point, nexts};
+ghost use Rattle.ir_paths.specs.Slots.{IsBehindSuspend, has_name, promise_of};
+ghost use Rattle.ir_paths.specs.Windows.{leaves, points_where, windows_of};
+ghost use Rattle.ir_paths.specs.declared.point.Point.{Point};
+ghost use Rattle.ordinary_step.specs.Step.{has_markers, incoming_from};
 
 /// Where edges lead over at most one further point, paths lead where they led.
 #[tactic(auto, using(crate::proofs::Threads::paths_kept))]

@@ -1,24 +1,21 @@
 -- What an instruction does in a module, and in the module whose edges have blocks.
-use Rattle.std.proofs.Common.{◌≡◌, ℕ, ◌+◌, Bool, true, false, List, [], ◌∷◌, length, refl, sym, ap, ◌∙◌, subst, add-zero, arith}
-use Rattle.std.specs.Prelude.{ℤ, Some, None, Option, map, option_map, slice_get, ◌==◌, if◌then◌else◌}
+use Rattle.std.proofs.Common.{◌≡◌, ℕ, List, [], ◌∷◌, length, refl, sym, ap, ◌∙◌}
+use Rattle.std.specs.Prelude.{ℤ, Some, None, Option, map, option_map}
 use Rattle.coro_base.specs.declared.name.Name.{Name}
 use Rattle.coro_base.specs.declared.outcome.Event.{Event}
 use Rattle.coro_meaning.specs.Source.{context_of, given}
-use Rattle.coro_meaning.specs.State.{function_of, work_of}
+use Rattle.coro_meaning.specs.State.{work_of}
 use Rattle.coro_meaning.specs.declared.state.State.{State}
 use Rattle.ir_model.specs.Names.{declaration_named, function_at}
-use Rattle.ir_model.specs.declared.instr.Instr.{Instr}
-use Rattle.ir_model.specs.declared.module.Block.{Block}
 use Rattle.ir_model.specs.declared.module.Frame.{Frame}
 use Rattle.ir_model.specs.declared.module.Function.{Function}
 use Rattle.ir_model.specs.declared.module.Module.{Module}
 use Rattle.ir_model.specs.declared.operand.Operand.{Operand}
-use Rattle.ir_paths.specs.declared.point.Point.{Point}
-use Rattle.ordinary_step.specs.Step.{Action, Context, Coro, Deallocate, Done, Enter, Fetched, GoTo, NewSlot, Return, Stuck, Work, action_of, fetch, fetch_in, fetch_or, has_markers}
+use Rattle.ordinary_step.specs.Step.{Action, Context, Coro, Deallocate, Done, Enter, Fetched, GoTo, NewSlot, Return, Stuck, Work, action_of, has_markers}
 use Rattle.save_agreement.proofs.Environments.{grown, result_grown}
 use Rattle.save_agreement.specs.Tokens.{IsNamedResult}
 use Rattle.edge_states.proofs.Parts.{coroutine_stays, fits_moved, function_moved, markers_moved, named_moved}
-use Rattle.edge_states.specs.MovedState.{edge_count, edge_function, edges_split, moved_action, moved_state, moved_work}
+use Rattle.edge_states.specs.MovedState.{edge_count, edges_split, moved_action, moved_state, moved_work}
 use Rattle.edge_states.proofs.States.{operand_moved}
 use Rattle.step_laws.proofs.Kept.{action_kept}
 use Rattle.step_laws.specs.Changed.{Change, IsDeclaredAlike, IsKeptAt, IsLike, IsSameOperand, callee_at, changed_action, changed_event, changed_work, operands_at, result_at}

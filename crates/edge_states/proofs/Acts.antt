@@ -1,12 +1,12 @@
 -- What an action does to a state, and to that of the module whose edges have blocks.
-use Rattle.std.proofs.Common.{◌≡◌, ℕ, ◌+◌, Bool, true, false, List, [], ◌∷◌, ◌++◌, length, refl, sym, ap, ◌∙◌, add-one, arith}
-use Rattle.std.specs.Prelude.{ℤ, Some, None, Ok, Err, Option, Result, filter, not, option_map, slice_get, ◌&&◌, ◌||◌, if◌then◌else◌}
+use Rattle.std.proofs.Common.{◌≡◌, ℕ, Bool, true, false, List, [], ◌∷◌, ◌++◌, refl, sym, ap, ◌∙◌}
+use Rattle.std.specs.Prelude.{ℤ, Some, None, Ok, Err, Option, Result, filter, not, option_map, ◌&&◌, ◌||◌, if◌then◌else◌}
 use Rattle.block_memory.specs.Memory.{disown, killed}
 use Rattle.block_memory.specs.declared.block.MemoryBlock.{MemoryBlock}
 use Rattle.block_memory.specs.declared.pointer.Value.{Value}
 use Rattle.coro_base.specs.declared.cause.Cause.{Cause}
 use Rattle.coro_meaning.specs.Source.{deallocate, given, if_let_go, is_over, kill_late, let_go, may_be_freed, new_slot, with_new_slots}
-use Rattle.coro_meaning.specs.State.{instance_at, is_finished, is_suspended, next, own_instance, settled, with_instance, with_memory, with_slots, work_of}
+use Rattle.coro_meaning.specs.State.{instance_at, is_finished, is_suspended, next, own_instance, settled, with_instance, with_memory, with_slots}
 use Rattle.coro_meaning.specs.declared.state.Instance.{Instance}
 use Rattle.coro_meaning.specs.declared.state.State.{State}
 use Rattle.coro_meaning.specs.declared.state.Status.{Status}
@@ -23,7 +23,7 @@ use Rattle.ordinary_step.specs.declared.world.Slot.{Slot}
 use Rattle.edge_states.proofs.Parts.{ramp_kept}
 use Rattle.edge_states.specs.MovedState.{Keeps, edge_function, edges_split, moved_work}
 use Rattle.edge_states.proofs.States.{facts_are, facts_moved, found_moved, own_moved, with_instance_moved}
-use Rattle.edge_states.specs.MovedState.{moved_activation, moved_instance, moved_result, moved_state, moved_status}
+use Rattle.edge_states.specs.MovedState.{moved_instance, moved_result, moved_state, moved_status}
 
 module _ (m : Module) (s : State) where
   abbrev f : Function

@@ -16,7 +16,7 @@ use Rattle.ir_model.specs.declared.operand.Allocator.{Allocator}
 use Rattle.ir_model.specs.declared.operand.Arg.{Arg}
 use Rattle.ir_model.specs.declared.operand.Callee.{Callee}
 use Rattle.ir_model.specs.declared.operand.Intrinsic.{Intrinsic}
-use Rattle.ordinary_step.specs.Step.{Action, Context, Coro, Deallocate, Done, Enter, GoTo, NewSlot, Return, Stuck, Work, alloca, allocated, allocator_call, by_pred, compared, copied_bytes, done, fits_function, if_alignment, indirect_call, instr_action, intrinsic_call, is_alignment, named_call, observed, set_memory, set_value, value_at, with_length, words_of}
+use Rattle.ordinary_step.specs.Step.{Action, Context, Done, Enter, GoTo, Stuck, Work, alloca, allocated, allocator_call, by_pred, compared, copied_bytes, done, fits_function, if_alignment, indirect_call, instr_action, intrinsic_call, is_alignment, named_call, observed, set_memory, set_value, value_at, with_length, words_of}
 use Rattle.ordinary_step.specs.Values.{access_of, address, arg_value, arg_values, nth, number_at, stored, truth_value, value_in, value_of}
 
 abbrev pub IsNoBranch : Action → Type 0

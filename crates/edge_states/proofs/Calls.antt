@@ -1,5 +1,5 @@
 -- Calls and returns, where edges have blocks.
-use Rattle.std.proofs.Common.{◌≡◌, ℕ, zero, suc, ◌+◌, ◌<◌, Bool, false, List, [], ◌∷◌, ◌++◌, length, refl, sym, ap, ◌∙◌, subst, arith, length-append}
+use Rattle.std.proofs.Common.{◌≡◌, ℕ, zero, suc, ◌+◌, ◌<◌, Bool, false, List, [], ◌∷◌, length, refl, sym, ap, ◌∙◌, subst}
 use Rattle.std.proofs.lemmas.List.{replicate-append-replicate}
 use Rattle.std.specs.Prelude.{ℤ, None, Ok, Err, Option, Result, map, replicate, unwrap_or, if◌then◌else◌}
 use Rattle.block_memory.specs.declared.pointer.Value.{Value}

@@ -11,26 +11,24 @@ use Rattle.block_memory.specs.declared.pointer.Pointer.{Pointer}
 use Rattle.block_memory.specs.declared.pointer.Value.{Value}
 use Rattle.coro_base.specs.declared.cause.Cause.{Cause}
 use Rattle.coro_meaning.specs.Source.{Sleeper, after_end, begin, begin_at, begun, block_of_slot, change_own, continue, destroy, done_at, end_of, finish, frame_address, frame_of_promise, given, has_promise_at, is_live_at, is_over, new_instance, promise, promise_block, promise_of_frame, release, resume, save, save_for, sleeper_at, slots_of, suspend, with_new_slots}
-use Rattle.coro_meaning.specs.State.{frame_address_of, gives, instance_at, next, own_facts, own_frame, own_instance, point_of, with_instance, with_left, with_memory, work_of}
+use Rattle.coro_meaning.specs.State.{frame_address_of, gives, instance_at, next, own_facts, own_frame, own_instance, point_of, with_instance, with_left, with_memory}
 use Rattle.coro_meaning.specs.declared.state.Instance.{Instance}
 use Rattle.coro_meaning.specs.declared.state.Mode.{Mode}
 use Rattle.coro_meaning.specs.declared.state.State.{State}
 use Rattle.coro_meaning.specs.declared.state.Status.{Status}
 use Rattle.ir_model.specs.Names.{function_at}
-use Rattle.ir_model.specs.declared.instr.Instr.{Instr}
-use Rattle.ir_model.specs.declared.module.Block.{Block}
 use Rattle.ir_model.specs.declared.module.Frame.{Frame}
 use Rattle.ir_model.specs.declared.module.Function.{Function}
 use Rattle.ir_model.specs.declared.module.Module.{Module}
 use Rattle.ir_model.specs.declared.operand.Operand.{Operand}
 use Rattle.ir_paths.specs.Facts.{facts_of}
 use Rattle.ir_paths.specs.Slots.{promise_of}
-use Rattle.ir_paths.specs.Windows.{call_result, destroy_label, label_at, resume_label, suspend_of}
+use Rattle.ir_paths.specs.Windows.{destroy_label, label_at, resume_label, suspend_of}
 use Rattle.ir_paths.specs.declared.point.Facts.{Facts}
 use Rattle.ir_paths.specs.declared.point.Point.{Point}
 use Rattle.ordinary_step.specs.Results.{and_then, found, ok_if}
 use Rattle.ordinary_step.specs.Step.{block_of, without_slots}
-use Rattle.ordinary_step.specs.Values.{Env, integer, pointer_to, truth_value, with_result}
+use Rattle.ordinary_step.specs.Values.{Env, integer, pointer_to, truth_value}
 use Rattle.ordinary_step.specs.declared.world.Slot.{Slot}
 use Rattle.save_agreement.proofs.Environments.{result_grown}
 use Rattle.save_agreement.specs.Tokens.{IsNamedResult}
@@ -119,11 +117,11 @@ module _ (m : Module) where
         on true = after_moved s below result named s.top.mode
         on false = finish_moved
 
-  -- ---- saves and suspends that stand alone
+  -- ---- saves and suspends
 
   -- what goes on behind a save, in both
-  pub saved_then : (s : State) (save suspend : Point) (F G : State → State) → ((i : ℕ) (x : Instance) → F (moved_state m (with_left (with_instance s i x) true)) ≡ moved_state m (G (with_left (with_instance s i x) true))) → and_then (moved_result m (save_for s save suspend)) (λ (t : State). Ok (F t)) ≡ moved_result m (and_then (save_for s save suspend) (λ (t : State). Ok (G t)))
-  saved_then s save suspend F G h = on (own_instance s)
+  pub behind_save : (s : State) (save suspend : Point) (F G : State → State) → ((i : ℕ) (x : Instance) → F (moved_state m (with_left (with_instance s i x) true)) ≡ moved_state m (G (with_left (with_instance s i x) true))) → and_then (moved_result m (save_for s save suspend)) (λ (t : State). Ok (F t)) ≡ moved_result m (and_then (save_for s save suspend) (λ (t : State). Ok (G t)))
+  behind_save s save suspend F G h = on (own_instance s)
     where
       kept : Instance → Instance
       kept x = record x { status = Status.Suspended suspend s.top.values; last_save = Some (record { depth = length s.below; save = save }) }
@@ -140,13 +138,13 @@ module _ (m : Module) where
     abbrev v : Value
     v = integer 8 (negsuc 0)
 
-    bare_suspend : (result : Option ℕ) → IsNamedResult (length s.top.values) result → and_then (save_for (moved_state m s) (placed (function_at m s.top.func) (point_of s)) (placed (function_at m s.top.func) (point_of s))) (λ (t : State). Ok (gives t result v)) ≡ moved_result m (and_then (save_for s (point_of s) (point_of s)) (λ (t : State). Ok (gives t result v)))
-    bare_suspend result named =
+    saving_suspend : (result : Option ℕ) → IsNamedResult (length s.top.values) result → and_then (save_for (moved_state m s) (placed (function_at m s.top.func) (point_of s)) (placed (function_at m s.top.func) (point_of s))) (λ (t : State). Ok (gives t result v)) ≡ moved_result m (and_then (save_for s (point_of s) (point_of s)) (λ (t : State). Ok (gives t result v)))
+    saving_suspend result named =
         ap (λ (r : Result State Cause). and_then r (λ (t : State). Ok (gives t result v))) (save_for_moved m s (point_of s) (point_of s) own)
-        ∙ saved_then s (point_of s) (point_of s) (λ t. gives t result v) (λ t. gives t result v) (λ i x. gives_moved (with_left (with_instance s i x) true) result v named)
+        ∙ behind_save s (point_of s) (point_of s) (λ t. gives t result v) (λ t. gives t result v) (λ i x. gives_moved (with_left (with_instance s i x) true) result v named)
 
     pub suspend_moved : (result : Option ℕ) → IsNamedResult (length s.top.values) result → (x : Operand) → suspend (moved_state m s) result x ≡ moved_result m (suspend s result x)
-    suspend_moved result named Operand.None = bare_suspend result named
+    suspend_moved result named Operand.None = saving_suspend result named
     suspend_moved result named (Operand.Local n) = ap Ok (gives_moved s result v named)
     suspend_moved result named (Operand.Global n) = ap Ok (gives_moved s result v named)
     suspend_moved result named (Operand.Number z) = ap Ok (gives_moved s result v named)
@@ -162,7 +160,7 @@ module _ (m : Module) where
     abbrev k : Given
     k = given (edges_split m) sizes answers
 
-    -- a save that was there
+    -- a save
     pub save_moved : (s : State) → IsOwnedBy s (own_instance s) → save k (moved_state m s) ≡ moved_result m (save g s)
     save_moved s own =
         ap (λ (o : Option Point). and_then (found Cause.State o) (λ (suspend : Point). and_then (save_for (moved_state m s) (placed f (point_of s)) suspend) (λ (t : State). Ok (next t))))
@@ -176,7 +174,7 @@ module _ (m : Module) where
         on None = refl
         on (Some q) =
             ap (λ (r : Result State Cause). and_then r (λ (t : State). Ok (next t))) (save_for_moved m s (point_of s) q own)
-            ∙ saved_then s (point_of s) q next next (λ j x. next_moved (with_left (with_instance s j x) true))
+            ∙ behind_save s (point_of s) q next next (λ j x. next_moved (with_left (with_instance s j x) true))
 
     -- ---- begin
 

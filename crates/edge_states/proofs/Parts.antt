@@ -1,25 +1,22 @@
 -- What stays in a module whose coroutines' edges have blocks.
-use Rattle.std.proofs.Common.{◌≡◌, ℕ, zero, suc, ◌+◌, Bool, true, false, List, [], ◌∷◌, ◌++◌, length, refl, sym, ap, ◌∙◌, subst, arith, length-append}
+use Rattle.std.proofs.Common.{◌≡◌, ℕ, zero, suc, ◌+◌, Bool, true, false, List, [], ◌∷◌, length, refl, ap, ◌∙◌, arith, length-append}
 use Rattle.std.proofs.lemmas.Option.{slice_get-map}
 use Rattle.std.specs.List.{list_any}
-use Rattle.std.specs.Prelude.{Some, None, Option, filter, map, option_map, slice_get, unwrap_or, if◌then◌else◌, ◌||◌, ◌==◌}
+use Rattle.std.specs.Prelude.{Some, None, Option, map, option_map, slice_get, unwrap_or, if◌then◌else◌, ◌||◌}
 use Rattle.coro_base.specs.declared.name.Name.{Name}
-use Rattle.edge_agreement.proofs.Blocks.{get_block, get_none}
 use Rattle.edge_agreement.proofs.Edges.{moved_apart}
 use Rattle.edge_agreement.proofs.Points.{points_moved}
 use Rattle.edge_agreement.proofs.Slots.{same_promise, same_ramp_slots}
 use Rattle.edge_agreement.proofs.Whole.{markers_split}
 use Rattle.edge_agreement.proofs.Windows.{instr_moved, suspend_moved}
-use Rattle.edge_agreement.specs.Spots.{moved, table_of}
+use Rattle.edge_agreement.specs.Spots.{moved}
 use Rattle.edge_blocks.specs.EdgeBlocks.{edge_name, edge_names, with_edge_blocks}
 use Rattle.edge_blocks.specs.Edges.{edges_of, phi_flags}
 use Rattle.edge_states.specs.MovedState.{Keeps, edge_count, edge_function, edges_split, placed, placed_block}
 use Rattle.ir_model.specs.Names.{first_where, function_at, function_named, no_function, same_name}
 use Rattle.ir_model.specs.Ty.{Ty}
-use Rattle.ir_model.specs.declared.module.Block.{Block}
 use Rattle.ir_model.specs.declared.module.Function.{Function}
 use Rattle.ir_model.specs.declared.module.Module.{Module}
-use Rattle.ir_model.specs.declared.module.Param.{Param}
 use Rattle.ir_model.specs.declared.operand.Arg.{Arg}
 use Rattle.ir_model.specs.declared.operand.Intrinsic.{Intrinsic}
 use Rattle.ir_paths.specs.Facts.{facts_of}

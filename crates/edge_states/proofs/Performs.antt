@@ -1,11 +1,11 @@
 -- What a step does to a state, and to that of the module whose edges have blocks.
 use Rattle.std.proofs.Common.{◌≡◌, inl, ℕ, Bool, true, false, List, [], ◌∷◌, ◌++◌, length, refl, sym, ap, ◌∙◌, subst}
-use Rattle.std.specs.Prelude.{ℤ, pos, Some, None, Ok, Err, Option, Result, replicate, slice_get, if◌then◌else◌, ◌==◌}
+use Rattle.std.specs.Prelude.{ℤ, pos, Some, None, Ok, Option, Result, replicate, if◌then◌else◌, ◌==◌}
 use Rattle.block_memory.specs.declared.pointer.Value.{Value}
 use Rattle.coro_base.specs.declared.cause.Cause.{Cause}
 use Rattle.coro_base.specs.declared.outcome.Outcome.{Outcome}
 use Rattle.coro_base.specs.declared.outcome.Word.{Word}
-use Rattle.coro_meaning.specs.Source.{Sleeper, act, context_of, continue, coro, given, new_slot, return, sleeper_at}
+use Rattle.coro_meaning.specs.Source.{Sleeper, act, context_of, continue, coro, given, return, sleeper_at}
 use Rattle.coro_meaning.specs.State.{function_of, own_frame, own_instance, point_of, settled, work_of}
 use Rattle.coro_meaning.specs.declared.state.Activation.{Activation}
 use Rattle.coro_meaning.specs.declared.state.Instance.{Instance}
@@ -19,7 +19,7 @@ use Rattle.edge_states.proofs.Intrinsics.{begin_moved, destroy_near, done_moved,
 use Rattle.edge_states.proofs.Parts.{function_moved}
 use Rattle.edge_states.proofs.States.{go_to_near, near_same, operand_moved}
 use Rattle.edge_states.proofs.Ways.{fetch_kept}
-use Rattle.edge_states.specs.MovedState.{AreEdgesKept, IsNamedBelow, IsOwnedBy, edge_count, edge_function, edges_split, moved_action, moved_result, moved_state, placed, placed_block}
+use Rattle.edge_states.specs.MovedState.{AreEdgesKept, IsNamedBelow, IsOwnedBy, edge_count, edges_split, moved_action, moved_result, moved_state, placed, placed_block}
 use Rattle.edge_states.specs.Near.{IsNear}
 use Rattle.edge_states.specs.Ways.{AreFetched, Goes, TermsPaired}
 use Rattle.ir_model.specs.Names.{function_at}
@@ -32,7 +32,6 @@ use Rattle.ir_model.specs.declared.module.Function.{Function}
 use Rattle.ir_model.specs.declared.module.Module.{Module}
 use Rattle.ir_model.specs.declared.operand.Arg.{Arg}
 use Rattle.ir_model.specs.declared.operand.Intrinsic.{Intrinsic}
-use Rattle.ir_model.specs.declared.operand.Operand.{Operand}
 use Rattle.ir_paths.specs.Windows.{operand_at}
 use Rattle.ordinary_step.specs.Step.{Action, AtInstr, AtTerm, Coro, Deallocate, Done, Enter, Fetched, GoTo, NewSlot, Nowhere, Return, Stuck, action_of, branch, fetch, is_word, switch, target_of, term_action}
 use Rattle.ordinary_step.specs.Values.{Env, arg_value, arg_values, integer, nth, operand_value, truth_value}

@@ -1,6 +1,6 @@
 -- Resumes and destroys, where edges have blocks.
-use Rattle.std.proofs.Common.{◌≡◌, ℕ, List, ◌∷◌, length, refl, sym, ap, ◌∙◌, subst}
-use Rattle.std.specs.Prelude.{ℤ, Some, None, Ok, Err, Option, Result, map}
+use Rattle.std.proofs.Common.{◌≡◌, ℕ, List, length, refl, sym, ap, ◌∙◌, subst}
+use Rattle.std.specs.Prelude.{ℤ, Some, None, Ok, Err, Option, Result}
 use Rattle.block_memory.specs.declared.pointer.Value.{Value}
 use Rattle.coro_base.specs.declared.cause.Cause.{Cause}
 use Rattle.coro_meaning.specs.Source.{Sleeper, continue, enter_block, given, push, resumed, sleeper_at, sleeper_of}
@@ -21,7 +21,7 @@ use Rattle.edge_states.specs.Near.{IsNear}
 use Rattle.edge_states.specs.Ways.{Enters}
 use Rattle.edge_states.proofs.States.{enters_near, found_moved, with_instance_moved, with_number}
 use Rattle.sound_states.specs.Named.{HasNamedPhis}
-use Rattle.edge_states.specs.MovedState.{moved_activation, moved_instance, moved_state, moved_status, moved_values}
+use Rattle.edge_states.specs.MovedState.{moved_instance, moved_state, moved_status, moved_values}
 
 module _ (m : Module) (sizes : List Frame) (answers : List ℤ) where
   abbrev g : Given

@@ -10,14 +10,12 @@ use Rattle.coro_base.specs.declared.cause.Cause.{Cause}
 use Rattle.coro_base.specs.declared.outcome.Outcome.{Outcome}
 use Rattle.coro_meaning.specs.Indexes.{last_from, or_else}
 use Rattle.coro_meaning.specs.Source.{act, advance_by, branch_leaving, context_of, continue, enter_block, given, go_to, is_save, left_windows, may_leave, step}
-use Rattle.coro_meaning.specs.State.{began_at, function_of, instance_at, is_suspended, numbered, or_undefined, own_instance, point_of, with_instance, with_left, with_status, work_of}
+use Rattle.coro_meaning.specs.State.{began_at, instance_at, is_suspended, numbered, or_undefined, own_instance, point_of, with_instance, with_left, with_status, work_of}
 use Rattle.coro_meaning.specs.declared.state.Instance.{Instance}
 use Rattle.coro_meaning.specs.declared.state.Saved.{Saved}
 use Rattle.coro_meaning.specs.declared.state.State.{State}
 use Rattle.coro_meaning.specs.declared.state.Status.{Status}
-use Rattle.edge_agreement.proofs.Edges.{threads}
 use Rattle.edge_agreement.proofs.Left.{left_moved, none_left}
-use Rattle.edge_agreement.proofs.Points.{has_map}
 use Rattle.edge_agreement.specs.Moved.{ArePaired, IsMoved}
 use Rattle.edge_agreement.specs.Threads.{IsBetween}
 use Rattle.edge_blocks.specs.EdgeBlocks.{edge_block}
@@ -25,11 +23,10 @@ use Rattle.edge_blocks.specs.declared.edge.Edge.{Edge}
 use Rattle.edge_states.proofs.Parts.{by_kind, function_moved, named_moved, placed_apart}
 use Rattle.edge_states.specs.MovedState.{IsOwnedBy, Keeps, edge_count, edge_function, edges_split, moved_activation, moved_instance, moved_result, moved_save, moved_state, moved_status, placed, placed_block}
 use Rattle.edge_states.specs.Near.{IsNear}
-use Rattle.edge_states.specs.Ways.{Enters, EntersDirect, EntersOver, PhisTake, TakesSame}
+use Rattle.edge_states.specs.Ways.{Enters, PhisTake, TakesSame}
 use Rattle.ir_model.specs.Names.{declaration_named, function_at, function_named, global_named, no_function, position_of}
 use Rattle.ir_model.specs.Ty.{Ty}
 use Rattle.ir_model.specs.declared.instr.Phi.{Phi}
-use Rattle.ir_model.specs.declared.instr.Terminator.{Terminator}
 use Rattle.ir_model.specs.declared.module.Block.{Block}
 use Rattle.ir_model.specs.declared.module.Frame.{Frame}
 use Rattle.ir_model.specs.declared.module.Function.{Function}
@@ -37,13 +34,13 @@ use Rattle.ir_model.specs.declared.module.Module.{Module}
 use Rattle.ir_model.specs.declared.operand.Operand.{Operand}
 use Rattle.ir_paths.proofs.Search.{Has}
 use Rattle.ir_paths.specs.Facts.{all_facts, facts_of}
-use Rattle.ir_paths.specs.Paths.{entry_point, has_point, nexts, same_point}
+use Rattle.ir_paths.specs.Paths.{entry_point, nexts, same_point}
 use Rattle.ir_paths.specs.Windows.{leaves, windows_of}
 use Rattle.ir_paths.specs.declared.point.Facts.{Facts}
 use Rattle.ir_paths.specs.declared.point.Point.{Point}
 use Rattle.ir_paths.specs.declared.point.Window.{Window}
 use Rattle.ordinary_step.specs.Results.{and_then, found, ok_if}
-use Rattle.ordinary_step.specs.Step.{action_of, fetch, fetch_in, incoming_from, label_of, phi_values, phis_of, values_in, with_all}
+use Rattle.ordinary_step.specs.Step.{action_of, fetch_in, incoming_from, label_of, phi_values, phis_of, values_in, with_all}
 use Rattle.ordinary_step.specs.Values.{Env, address_from, operand_value}
 use Rattle.save_agreement.proofs.Apart.{same_moved}
 use Rattle.save_agreement.proofs.Environments.{all_grown, grown, value_grown}
@@ -164,13 +161,16 @@ AreLeft f g move p q y = ArePaired (IsMoved g move) (filter (leaves p q) (window
 
 same_windows : (f : Function) (ws : List Window) → ArePaired (IsMoved f (λ p. record { block = p.block; at = p.at })) ws ws
 same_windows f [] = tt
-same_windows f (w ∷ ws) = (record {
-  save = refl;
-  suspend = refl;
-  inside = λ p. refl;
-  entered = λ p q y e b h. absurd (b.apart y refl);
-  stays = λ q y b h. absurd (b.apart y refl);
-}, same_windows f ws)
+same_windows f (w ∷ ws) = (
+  record {
+    save = refl;
+    suspend = refl;
+    inside = λ p. refl;
+    entered = λ p q y e b h. absurd (b.apart y refl);
+    stays = λ q y b h. absurd (b.apart y refl);
+  },
+  same_windows f ws,
+)
 
 pub left_kept : (f : Function) → Keeps f → (p q y : Point) → Has (nexts (edge_function f) (placed f p)) y → (y ≡ placed f q) ⊎ IsBetween (edge_function f) (placed f) (placed f q) y → AreLeft f (edge_function f) (placed f) p q y
 left_kept f keeps = by_kind (λ g to n. (p q y : Point) → Has (nexts g (record { block = to p.block; at = p.at })) y → (y ≡ record { block = to q.block; at = q.at }) ⊎ IsBetween g (λ (x : Point). record { block = to x.block; at = x.at }) (record { block = to q.block; at = q.at }) y → AreLeft f g (λ (x : Point). record { block = to x.block; at = x.at }) p q y) f

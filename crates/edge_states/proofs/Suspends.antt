@@ -1,24 +1,19 @@
 -- Saves, where edges have blocks.
-use Rattle.std.proofs.Common.{◌≡◌, ℕ, ◌+◌, Bool, true, false, List, length, refl, sym, ap, ◌∙◌, add-one, arith}
+use Rattle.std.proofs.Common.{◌≡◌, ℕ, Bool, true, false, length, refl, sym, ap, ◌∙◌}
 use Rattle.std.proofs.lemmas.List.{length-map}
-use Rattle.std.specs.Prelude.{ℤ, Some, None, Ok, Option, Result, map, not, slice_get}
-use Rattle.block_memory.specs.declared.pointer.Value.{Value}
+use Rattle.std.specs.Prelude.{Some, None, Option, map, not}
 use Rattle.coro_base.specs.declared.cause.Cause.{Cause}
-use Rattle.coro_meaning.specs.Source.{given, save, save_for}
-use Rattle.coro_meaning.specs.State.{gives, next, own_instance, point_of, with_instance, with_left}
+use Rattle.coro_meaning.specs.Source.{save_for}
+use Rattle.coro_meaning.specs.State.{own_instance, with_instance, with_left}
 use Rattle.coro_meaning.specs.declared.state.Instance.{Instance}
 use Rattle.coro_meaning.specs.declared.state.State.{State}
 use Rattle.coro_meaning.specs.declared.state.Status.{Status}
 use Rattle.ir_model.specs.Names.{function_at}
-use Rattle.ir_model.specs.declared.instr.Instr.{Instr}
-use Rattle.ir_model.specs.declared.module.Frame.{Frame}
 use Rattle.ir_model.specs.declared.module.Function.{Function}
 use Rattle.ir_model.specs.declared.module.Module.{Module}
-use Rattle.ir_paths.specs.Windows.{suspend_of}
 use Rattle.ir_paths.specs.declared.point.Point.{Point}
 use Rattle.ordinary_step.specs.Results.{and_then, found, ok_if}
-use Rattle.ordinary_step.specs.Values.{Env, with_result}
-use Rattle.edge_states.specs.MovedState.{edge_count, edges_split, placed}
+use Rattle.edge_states.specs.MovedState.{placed}
 use Rattle.edge_states.proofs.States.{own_moved, with_instance_moved, with_number}
 use Rattle.edge_states.specs.MovedState.{IsOwnedBy, moved_activation, moved_instance, moved_result, moved_state, moved_values}
 
@@ -51,4 +46,3 @@ module _ (m : Module) (s : State) (save suspend : Point) where
           ∙ ap (λ (f : Function). ok_if (not y.1.freed) Cause.State (with_left (with_instance (moved_state m s) y.0 (kept_by f (length s.below) y.1)) true)) (sym (ap (function_at m) h))
           ∙ ap (λ (t : State). ok_if (not y.1.freed) Cause.State (with_left t true)) (with_instance_moved m s y.0 (kept y.1))
           ∙ tested (not y.1.freed) (with_left (with_instance s y.0 (kept y.1)) true)
-

@@ -1,5 +1,5 @@
 -- How blocks are entered, where edges have blocks.
-use Rattle.std.proofs.Common.{◌≡◌, ℕ, zero, suc, ◌+◌, ◌<◌, ◌⊎◌, inl, inr, Bool, true, false, List, [], ◌∷◌, length, refl, sym, ap, ◌∙◌, subst, arith}
+use Rattle.std.proofs.Common.{◌≡◌, ℕ, zero, suc, ◌+◌, ◌<◌, inl, inr, Bool, true, false, List, [], ◌∷◌, length, refl, sym, ap, ◌∙◌, subst, arith}
 use Rattle.std.proofs.lemmas.Option.{slice_get_past}
 use Rattle.std.specs.Prelude.{Some, None, Option, map, nat_lt, option_map, slice_get, unwrap_or, if◌then◌else◌, ◌==◌}
 use Rattle.edge_agreement.proofs.Behind.{case_split, label_below}

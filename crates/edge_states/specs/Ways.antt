@@ -1,5 +1,5 @@
 -- How a block is entered by a label, and by the label that stands there when edges have blocks.
-use Rattle.std.specs.Prelude.{ℕ, List, IsTrue, slice_get, Some, ◌≡◌, ◌⊎◌}
+use Rattle.std.specs.Prelude.{ℕ, IsTrue, slice_get, Some, ◌≡◌, ◌⊎◌}
 use Rattle.edge_agreement.specs.Moved.{ArePaired}
 use Rattle.edge_agreement.specs.Threads.{IsBetween}
 use Rattle.edge_blocks.specs.EdgeBlocks.{edge_block}

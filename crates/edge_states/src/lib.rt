@@ -1,48 +1,36 @@
 //! A state of a source run, and that of the module whose coroutines' edges have blocks.
 #![tactic(auto)]
 
-ghost use Rattle.std.specs.Prelude.{◌≡◌, ◌<◌, ℕ, ℤ, IsTrue, List, Ok, Option, Some, length, slice_get};
-ghost use Rattle.edge_agreement.specs.Labels.{HasNamedLabels, IsSplit};
-ghost use Rattle.edge_agreement.specs.Phis.{AreLabelsOnce};
-ghost use Rattle.edge_agreement.specs.Spots.{moved};
-ghost use Rattle.edge_agreement.proofs.Edges.{edges_of_block};
-ghost use Rattle.edge_blocks.specs.EdgeBlocks.{with_edge_blocks};
-ghost use Rattle.edge_blocks.specs.Edges.{phi_flags};
-ghost use Rattle.edge_states.specs.MovedState.{AreEdgesKept, IsOwnedBy, Keeps, edge_function, edges_split, moved_instance, moved_result, moved_state, moved_values, placed, placed_block};
-ghost use Rattle.edge_states.specs.Near.{IsNear};
+ghost use Rattle.std.specs.Prelude.{◌≡◌, ℕ, ℤ, IsTrue, List, Ok, Option, length};
+ghost use Rattle.block_memory.specs.declared.pointer.Value.{Value};
 ghost use Rattle.coro_base.specs.declared.outcome.Outcome.{Outcome};
 ghost use Rattle.coro_meaning.specs.Source.{act, context_of, continue, deallocate, enter, given, go_to, new_slot, promise, save_for};
 ghost use Rattle.coro_meaning.specs.State.{function_of, gives, own_instance, point_of, work_of};
+ghost use Rattle.coro_meaning.specs.declared.state.Instance.{Instance};
 ghost use Rattle.coro_meaning.specs.declared.state.State.{State};
+ghost use Rattle.edge_states.specs.MovedState.{AreEdgesKept, IsOwnedBy, Keeps, edge_function, edges_split, moved_instance, moved_result, moved_state, moved_values, placed, placed_block};
+ghost use Rattle.edge_states.specs.Near.{IsNear};
+ghost use Rattle.edge_states.specs.Ways.{AreFetched, Enters, Goes};
 ghost use Rattle.ir_model.specs.Names.{function_at};
 ghost use Rattle.ir_model.specs.declared.module.Frame.{Frame};
+ghost use Rattle.ir_model.specs.declared.module.Function.{Function};
 ghost use Rattle.ir_model.specs.declared.module.Module.{Module};
+ghost use Rattle.ir_model.specs.declared.operand.Operand.{Operand};
 ghost use Rattle.ir_paths.specs.Paths.{entry_point, has_point, nexts};
-ghost use Rattle.block_memory.specs.declared.pointer.Value.{Value};
-ghost use Rattle.coro_meaning.specs.declared.state.Instance.{Instance};
+ghost use Rattle.ir_paths.specs.declared.point.Point.{Point};
+ghost use Rattle.ordinary_step.specs.Results.{and_then};
 ghost use Rattle.ordinary_step.specs.Step.{action_of, fetch};
 ghost use Rattle.ordinary_step.specs.Values.{Env};
 ghost use Rattle.ordinary_step.specs.declared.world.Slot.{Slot};
-ghost use Rattle.ir_model.specs.declared.operand.Operand.{Operand};
-ghost use Rattle.ordinary_step.specs.Results.{and_then};
 ghost use Rattle.save_agreement.specs.Tokens.{IsNamedResult};
 ghost use Rattle.sound_states.specs.Named.{AreLocalsNamed, HasNamedParams, HasNamedPhis};
 ghost use Rattle.sound_states.specs.Sound.{IsSound};
-ghost use Rattle.edge_states.specs.Ways.{AreFetched, Enters, Goes};
-ghost use Rattle.ir_model.specs.declared.module.Block.{Block};
-ghost use Rattle.ir_model.specs.declared.module.Function.{Function};
-ghost use Rattle.ir_paths.specs.declared.point.Point.{Point};
 ghost use Rattle.source_program.specs.Given.{is_final};
 
 /// A final suspend stays final.
 #[tactic(auto, using(crate::proofs::Parts::final_kept))]
 pub fn final_suspends_stay()
     ensures { (f : Function) (p : Point) → is_final (edge_function f) (placed f p) ≡ is_final f p }
-{}
-
-/// An edge of a block is taken directly, or over its own block, and the phis behind it take the same.
-pub fn edges_enter_the_same()
-    ensures { (f : Function) → HasNamedLabels f → AreLabelsOnce f → (k : ℕ) (b : Block) (t l : ℕ) → slice_get f.blocks k ≡ Some b → t < length f.names → IsSplit (phi_flags f) b.label (edges_of_block f k b) t l → Enters f (with_edge_blocks f) (moved f) k t l }
 {}
 
 /// A block is entered directly, or over an edge's block, one step later.
