@@ -23,3 +23,5 @@ pub mod RenamedUses
 pub mod Windows
 pub mod NamedWindows
 pub mod SavedWindows
+pub mod Marked
+pub mod OtherMarked

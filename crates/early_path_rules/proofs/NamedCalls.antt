@@ -42,7 +42,7 @@ module _ (n : ℕ) where
   allocas_named (Instr.Call result must_tail ty (Callee.Intrinsic Intrinsic.CoroBegin) args ∷ is) = allocas_named is
   allocas_named (_ ∷ is) = allocas_named is
 
-  all_allocas_named : (bs : List Block) → flat_map (λ b. allocas_in b.instrs) (map (named_block n) bs) ≡ flat_map (λ b. allocas_in b.instrs) bs
+  pub all_allocas_named : (bs : List Block) → flat_map (λ b. allocas_in b.instrs) (map (named_block n) bs) ≡ flat_map (λ b. allocas_in b.instrs) bs
   all_allocas_named [] = refl
   all_allocas_named (b ∷ bs) = λ k. allocas_named b.instrs k ++ all_allocas_named bs k
 

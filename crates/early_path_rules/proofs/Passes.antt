@@ -10,9 +10,11 @@ use Rattle.early_agreement.specs.Regular.{AllKeepRules, IsRegular, KeepsRules}
 use Rattle.early_lower.specs.BeginName.{begin_named, if_unnamed, with_begin_name}
 use Rattle.early_lower.specs.Early.{early_module, renaming_of}
 use Rattle.early_meaning.proofs.Names.{named_locals, named_uses, renamed_locals, renamed_uses}
+use Rattle.early_path_rules.proofs.Marked.{marked_saved, of_marked, to_marked}
 use Rattle.early_path_rules.proofs.NamedCalls.{second_final_named, too_many_named, wrong_call_named, wrong_edge_named, wrong_promise_named}
 use Rattle.early_path_rules.proofs.NamedWindows.{alike_named}
 use Rattle.early_path_rules.proofs.Order.{breaks_none}
+use Rattle.early_path_rules.proofs.OtherMarked.{marked_named, marked_renamed}
 use Rattle.early_path_rules.proofs.Outside.{of_outside, outside_renamed, outside_saved, to_outside}
 use Rattle.early_path_rules.proofs.RenamedCalls.{second_final_renamed, too_many_renamed, wrong_call_renamed}
 use Rattle.early_path_rules.proofs.RenamedEdges.{wrong_edge_renamed}
@@ -41,7 +43,8 @@ use Rattle.save_agreement.proofs.Plain.{plain_stays}
 use Rattle.save_agreement.specs.SavesWritten.{saved_function, saves_written}
 use Rattle.save_agreement.specs.Tokens.{HasNamedTokens}
 use Rattle.save_simulation.proofs.Names.{tokens_named}
-use Rattle.sound_states.specs.Named.{AreLocalsNamed, AreUsesNamed}
+use Rattle.slot_rules.specs.Marked.{IsFirstMarked}
+use Rattle.sound_states.specs.Named.{AreLocalsNamed, AreUsesNamed, HasNamedOperands}
 use Rattle.window_rules.specs.Outside.{IsFirstOutside}
 use Rattle.window_rules.specs.Windows.{IsFirstWindow}
 
@@ -122,13 +125,14 @@ shape_third func f true e h rules named =
 -- ---- the rules on paths
 
 module _ (func : ℕ) where
-  paths_named : (f : Function) (o : Option ℕ) → f.coroutine ≡ true → KeepsPaths func f → KeepsRules func (if_unnamed o f) → KeepsPaths func (if_unnamed o f)
-  paths_named f None coroutine h rules = record {
+  paths_named : (f : Function) (o : Option ℕ) → first_result Intrinsic.CoroBegin f ≡ o → HasNamedOperands f → f.coroutine ≡ true → KeepsPaths func f → KeepsRules func (if_unnamed o f) → KeepsPaths func (if_unnamed o f)
+  paths_named f None e uses coroutine h rules = record {
     undefined_use = rules.undefined_use;
     outside = rules.outside;
     window = to_window func (begin_named f) (windows_alike f (begin_named f) (alike_named f) (of_window func f coroutine h.window));
+    marked_slot = to_marked func (begin_named f) (marked_named f uses e (of_marked func f coroutine h.marked_slot));
   }
-  paths_named f (Some n) coroutine h rules = h
+  paths_named f (Some n) e uses coroutine h rules = h
 
   paths_renamed : (f : Function) → f.coroutine ≡ true → KeepsRules func f → KeepsPaths func f → KeepsPaths func (renamed_by_its_own f)
   paths_renamed f coroutine rules h =
@@ -138,6 +142,7 @@ module _ (func : ℕ) where
         undefined_use = undefined_renamed (renaming_of f) func f ok nothing rules.params rules.undefined_use;
         outside = to_outside func (renamed_by_its_own f) (outside_renamed (renaming_of f) f nothing);
         window = to_window func (renamed_by_its_own f) (windows_alike f (renamed_by_its_own f) (alike_renamed (renaming_of f) f ok) (of_window func f coroutine h.window));
+        marked_slot = to_marked func (renamed_by_its_own f) (marked_renamed (renaming_of f) f ok (of_marked func f coroutine h.marked_slot));
       }
 
   paths_saved : (f : Function) → f.coroutine ≡ true → HasNamedTokens f → KeepsPaths func f → KeepsPaths func (saved_function f)
@@ -145,13 +150,14 @@ module _ (func : ℕ) where
     undefined_use = undefined_saved func f h.undefined_use;
     outside = to_outside func (saved_function f) (outside_saved f named (of_outside func f coroutine h.outside));
     window = to_window func (saved_function f) (windows_saved f named (of_window func f coroutine h.window));
+    marked_slot = to_marked func (saved_function f) (marked_saved f named (of_marked func f coroutine h.marked_slot));
   }
 
-paths_third : (func : ℕ) (f : Function) (b : Bool) → f.coroutine ≡ b → KeepsPaths func f → (f.coroutine ≡ true → KeepsRules func (with_begin_name f)) → HasNamedTokens (second f) → KeepsPaths func (third f)
-paths_third func f false e h rules named = subst (KeepsPaths func) (sym (third_plain f e)) h
-paths_third func f true e h rules named =
+paths_third : (func : ℕ) (f : Function) (b : Bool) → f.coroutine ≡ b → HasNamedOperands f → KeepsPaths func f → (f.coroutine ≡ true → KeepsRules func (with_begin_name f)) → HasNamedTokens (second f) → KeepsPaths func (third f)
+paths_third func f false e uses h rules named = subst (KeepsPaths func) (sym (third_plain f e)) h
+paths_third func f true e uses h rules named =
     let now : (with_begin_name f).coroutine ≡ true = begin_named_stays f ∙ e in
-    let first = paths_named func f (first_result Intrinsic.CoroBegin f) e h (rules e) in
+    let first = paths_named func f (first_result Intrinsic.CoroBegin f) refl uses e h (rules e) in
     let there : HasNamedTokens (renamed_by_its_own (with_begin_name f)) = subst HasNamedTokens (second_coroutine f e) named in
     subst (λ (x : Function). KeepsPaths func (saved_function x)) (sym (second_coroutine f e)) (paths_saved func (renamed_by_its_own (with_begin_name f)) now there (paths_renamed func (with_begin_name f) now (rules e) first))
 
@@ -164,6 +170,7 @@ pub record Becomes (m : Module) (k : ℕ) (g : Function) : Type 0 where
   pub is : g ≡ third function
   pub rules : function.coroutine ≡ true → KeepsRules k (with_begin_name function)
   pub named : HasNamedTokens (second function)
+  pub uses : HasNamedOperands function
 
 function_is : (m : Module) (k : ℕ) (f : Function) → slice_get m.functions k ≡ Some f → function_at m k ≡ f
 function_is m k f e = ap (λ (o : Option Function). unwrap_or o no_function) e
@@ -185,6 +192,7 @@ becomes m accepted tabled locals uses k g e =
       rules = λ coroutine.
           let same : function_at (named_module m) k ≡ with_begin_name f = first ∙ named_coroutine f coroutine in
           subst (KeepsRules k) same (all k (ap (λ (x : Function). x.coroutine) same ∙ begin_named_stays f ∙ coroutine));
+      uses = subst HasNamedOperands (function_is m k f a.1.0) (uses k).operands;
       named = subst HasNamedTokens two (tokens_named (renamed_module (named_module m)) (renamed_locals (named_module m) (named_locals m locals)) (renamed_uses (named_module m) all (named_uses m uses)) k);
     }
 
@@ -203,9 +211,10 @@ accepted_paths m accepted k f there =
       undefined_use = subst (IsFirstUndefined f (uses_of k f)) x.none.undefined_use x.are.undefined_use;
       outside = subst (IsFirstOutside k f) x.none.outside x.are.outside;
       window = subst (IsFirstWindow k f) x.none.window x.are.window;
+      marked_slot = subst (IsFirstMarked k f) x.none.marked_slot x.are.marked_slot;
     }
 
 pub early_paths : (m : Module) → IsRefused Stage.Source m None → AreTabled m → AreLocalsNamed m → AreUsesNamed m → (k : ℕ) (g : Function) → slice_get (early_module m).functions k ≡ Some g → KeepsPaths k g
 early_paths m accepted tabled locals uses k g e =
     let x = becomes m accepted tabled locals uses k g e in
-    subst (KeepsPaths k) (sym x.is) (paths_third k x.function x.function.coroutine refl (accepted_paths m accepted k x.function x.there) x.rules x.named)
+    subst (KeepsPaths k) (sym x.is) (paths_third k x.function x.function.coroutine refl x.uses (accepted_paths m accepted k x.function x.there) x.rules x.named)

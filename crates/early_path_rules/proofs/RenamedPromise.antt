@@ -80,7 +80,7 @@ module _ (r : Renaming) (func : ℕ) (f : Function) (ok : IsRegular f r) where
       on k j i v e result other true renamed = let t : true ≡ false = sym (ok.frame_calls (record { block = k; at = j }) i v e result renamed) ∙ other in absurd (cc)
       on k j i v e result other false renamed = refl
 
-  allocas_same : (bs : List Block) → flat_map (λ b. allocas_in b.instrs) (map (renamed_block r) bs) ≡ flat_map (λ b. allocas_in b.instrs) bs
+  pub allocas_same : (bs : List Block) → flat_map (λ b. allocas_in b.instrs) (map (renamed_block r) bs) ≡ flat_map (λ b. allocas_in b.instrs) bs
   allocas_same [] = refl
   allocas_same (b ∷ bs) = λ k. allocas_renamed r b.instrs k ++ allocas_same bs k
 

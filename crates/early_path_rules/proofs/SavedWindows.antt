@@ -190,7 +190,7 @@ module _ (f : Function) (named : HasNamedTokens f) where
         on (inl same) = absurd (other (sym (back_back f t q same)))
         on (inr x) = x
 
-    inside_home : (z q : Point) → IsOf f z q → IsInWindow late (front_of f p) (back_of f t) z → IsInWindow f p t q
+    pub inside_home : (z q : Point) → IsOf f z q → IsInWindow late (front_of f p) (back_of f t) z → IsInWindow f p t q
     inside_home z q at w =
         let other = not_suspend z q at w.is_not_suspend in
         record {
@@ -325,7 +325,7 @@ module _ (f : Function) (named : HasNamedTokens f) where
     )
 
     -- nothing stands between
-    none_between : (z : Point) → IsInWindow late (front_of f p) (back_of f p) z → ⊥
+    pub none_between : (z : Point) → IsInWindow late (front_of f p) (back_of f p) z → ⊥
     none_between z w = on w.from_save.between w.from_save.is_path
       where
         on : (between : List Point) → IsPath late around (front_of f p) between z → ⊥
@@ -406,7 +406,7 @@ module _ (f : Function) (named : HasNamedTokens f) where
   no_save : (name : ℕ) (i : Instr) → is_bare f.coroutine i ≡ true → is_save (saved name i) ≡ false
   no_save name i e = let is = bare_is f.coroutine i e in ap (λ (x : Instr). is_save (saved name x)) is.is
 
-  lone_token : (v : Option ℕ) (i : Instr) → is_suspend_of v i ≡ true → is_bare f.coroutine i ≡ false
+  pub lone_token : (v : Option ℕ) (i : Instr) → is_suspend_of v i ≡ true → is_bare f.coroutine i ≡ false
   lone_token None i e = absurd (cc)
   lone_token (Some v) i e = on (is_bare f.coroutine i) refl
     where
