@@ -1,0 +1,58 @@
+-- What stays of elidable callees and of sites under the first pass.
+use Rattle.std.proofs.Common.{◌≡◌, ℕ, Bool, true, false, List, Some, None, Option, refl, sym, ap, ◌∙◌, subst, ◌↔◌}
+use Rattle.std.specs.Prelude.{if◌then◌else◌}
+use Rattle.coro_base.specs.declared.outcome.Place.{Place}
+use Rattle.early_agreement.specs.Passes.{named_function, named_module}
+use Rattle.early_elision.proofs.Modules.{IsPlainChange, callees_stay, sites_stay}
+use Rattle.early_elision.proofs.Named.{named_elidable}
+use Rattle.early_lower.specs.BeginName.{if_unnamed, with_begin_name}
+use Rattle.escape_flow.specs.Elidable.{AreElidable, IsElidable}
+use Rattle.escape_flow.specs.Sites.{AreSites}
+use Rattle.ir_model.specs.Calls.{first_result}
+use Rattle.ir_model.specs.Names.{function_at}
+use Rattle.ir_model.specs.declared.module.Function.{Function}
+use Rattle.ir_model.specs.declared.module.Module.{Module}
+use Rattle.ir_model.specs.declared.operand.Intrinsic.{Intrinsic}
+use Rattle.sound_states.specs.Named.{AreLocalsNamed, AreUsesNamed, HasNamedEnds, HasNamedLocals}
+
+-- what the name of a function is, and the like, stays where begins get names
+of_named : {X : Type 0} (part : Function → X) → ((f : Function) (o : Option ℕ) → part (if_unnamed o f) ≡ part f) → (f : Function) → part (named_function f) ≡ part f
+of_named part h f = on f.coroutine
+  where
+    on : (b : Bool) → part (if b then with_begin_name f else f) ≡ part f
+    on true = h f (first_result Intrinsic.CoroBegin f)
+    on false = refl
+
+named_change : IsPlainChange named_function
+named_change = record {
+  mild = record { name = of_named (λ f. f.name) name; result = of_named (λ f. f.result) result; params = of_named (λ f. f.params) params };
+  coroutine = of_named (λ f. f.coroutine) coroutine;
+  plain = λ f e. ap (λ (b : Bool). if b then with_begin_name f else f) e;
+}
+  where
+    name : (f : Function) (o : Option ℕ) → (if_unnamed o f).name ≡ f.name
+    name f None = refl
+    name f (Some n) = refl
+
+    result : (f : Function) (o : Option ℕ) → (if_unnamed o f).result ≡ f.result
+    result f None = refl
+    result f (Some n) = refl
+
+    params : (f : Function) (o : Option ℕ) → (if_unnamed o f).params ≡ f.params
+    params f None = refl
+    params f (Some n) = refl
+
+    coroutine : (f : Function) (o : Option ℕ) → (if_unnamed o f).coroutine ≡ f.coroutine
+    coroutine f None = refl
+    coroutine f (Some n) = refl
+
+named_one : (m : Module) → AreLocalsNamed m → AreUsesNamed m → (g : ℕ) (f : Function) → function_at m g ≡ f → f.coroutine ≡ true → IsElidable f ↔ IsElidable (named_function f)
+named_one m locals uses g f e c =
+    subst (λ (b : Bool). IsElidable f ↔ IsElidable (if b then with_begin_name f else f)) (sym c)
+    (named_elidable f (subst HasNamedLocals e (locals g)) (subst HasNamedEnds e (uses g).ends))
+
+pub callees_named : (m : Module) → AreLocalsNamed m → AreUsesNamed m → (all : List ℕ) → AreElidable m all ↔ AreElidable (named_module m) all
+callees_named m locals uses all = callees_stay named_function named_change m (named_one m locals uses) all
+
+pub sites_named : (m : Module) → AreLocalsNamed m → AreUsesNamed m → (all : List Place) → AreSites m all ↔ AreSites (named_module m) all
+sites_named m locals uses all = sites_stay named_function named_change m (named_one m locals uses) all

@@ -1,0 +1,20 @@
+//! That the first pass leaves elidable callees, and the sites of their calls, as they are.
+#![tactic(auto)]
+
+ghost use Rattle.std.specs.Prelude.{◌↔◌, ℕ, List};
+ghost use Rattle.coro_base.specs.declared.outcome.Place.{Place};
+ghost use Rattle.early_agreement.specs.Passes.{named_module};
+ghost use Rattle.escape_flow.specs.Elidable.{AreElidable};
+ghost use Rattle.escape_flow.specs.Sites.{AreSites};
+ghost use Rattle.ir_model.specs.declared.module.Module.{Module};
+ghost use Rattle.sound_states.specs.Named.{AreLocalsNamed, AreUsesNamed};
+
+/// The elidable callees stay where begin's value gets a name.
+pub fn elidable_callees_stay_named()
+    ensures { (m : Module) → AreLocalsNamed m → AreUsesNamed m → (all : List ℕ) → AreElidable m all ↔ AreElidable (named_module m) all }
+{}
+
+/// So do the sites.
+pub fn sites_stay_named()
+    ensures { (m : Module) → AreLocalsNamed m → AreUsesNamed m → (all : List Place) → AreSites m all ↔ AreSites (named_module m) all }
+{}
