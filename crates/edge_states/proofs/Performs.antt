@@ -106,9 +106,6 @@ module _ (m : Module) (sizes : List Frame) (answers : List ℤ) (names : AreLoca
       subst (λ (n : ℕ). IsNamedResult n result) (sym h.top.values)
       (subst (IsNamedResult (length f.names)) (sym e) (result_named f (names s.top.func).results s.top.block s.top.at))
 
-  abbrev Kept : Intrinsic → List Arg → List Value → Option ℕ → Type 0
-  Kept j args vs result = coro k (continue k) (moved_state m s) j args vs result ≡ moved_result m (coro g (continue g) s j args vs result)
-
   coro_near : (j : Intrinsic) (args : List Arg) (vs : List Value) (result : Option ℕ) → calls_at j here ≡ true → result ≡ result_at here → Near (coro g (continue g) s j args vs result) (coro k (continue k) (moved_state m s) j args vs result)
   coro_near Intrinsic.CoroResume args vs result is e = resume_near m sizes answers names keeps s running (kept_room m s h) (nth vs 0) (asleep m s h (nth vs 0))
   coro_near Intrinsic.CoroDestroy args vs result is e = destroy_near m sizes answers names keeps s running (kept_room m s h) (nth vs 0) (asleep m s h (nth vs 0))
@@ -144,9 +141,6 @@ module _ (m : Module) (sizes : List Frame) (answers : List ℤ) (names : AreLoca
   act_near (Stuck cause) none fit = refl
 
   -- ---- terminators
-
-  abbrev h2 : Function
-  h2 = function_at (edges_split m) s.top.func
 
   abbrev W : ℕ → ℕ → Type 0
   W t l = Goes f (function_at (edges_split m) s.top.func) (placed f) (point_of s) t l

@@ -70,9 +70,6 @@ module _ (f : Function) (named : HasNamedLabels f) (once : AreLabelsOnce f) wher
   abbrev g : Function
   g = with_edge_blocks f
 
-  abbrev entered : Option Block → List Phi
-  entered o = phis_of o
-
   -- the block at a label's position then
   none_then : (t : ℕ) → t < length f.names → slice_get f.blocks (position_of f t) ≡ None → slice_get (with_edge_blocks f).blocks (position_of (with_edge_blocks f) t) ≡ None
   none_then t lt e = ap (slice_get (with_edge_blocks f).blocks) (position_moved f t lt) ∙ get_none (phi_flags f) (table_of f) (position_of f t) (length f.names) f.blocks e
@@ -131,9 +128,6 @@ module _ (f : Function) (named : HasNamedLabels f) (once : AreLabelsOnce f) wher
           (among_filter (leads_to t) (edges_of (phi_flags f) f) d (eq_itself t) (edge_among (phi_flags f) (table_of f) k (length f.names) f.blocks b d e a))
 
   -- ---- the labels of terminators
-
-  abbrev HasNext : Point → ℕ → Type 0
-  HasNext p l = Has (nexts (with_edge_blocks f) (moved f p)) (entry_point (with_edge_blocks f) l)
 
   abbrev GoesNow : Point → ℕ → ℕ → Type 0
   GoesNow p t l = Goes f (with_edge_blocks f) (moved f) p t l
