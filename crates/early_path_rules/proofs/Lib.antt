@@ -25,3 +25,4 @@ pub mod NamedWindows
 pub mod SavedWindows
 pub mod Marked
 pub mod OtherMarked
+pub mod SavedEarly
