@@ -26,3 +26,5 @@ pub mod SavedWindows
 pub mod Marked
 pub mod OtherMarked
 pub mod SavedEarly
+pub mod OtherEarly
+pub mod NamedEarly
