@@ -1,7 +1,7 @@
 //! That what the first pass makes of a source that breaks no rule breaks none of those on edges, on the calls of coroutines and on paths.
 #![tactic(auto)]
 
-ghost use Rattle.std.specs.Prelude.{◌≡◌, ℕ, true, None, Some, slice_get};
+ghost use Rattle.std.specs.Prelude.{◌≡◌, ℕ, None, Some, slice_get};
 ghost use Rattle.early_lower.specs.Early.{early_module};
 ghost use Rattle.early_path_rules.specs.Paths.{KeepsPaths};
 ghost use Rattle.early_path_rules.specs.Shape.{KeepsShape};
@@ -10,11 +10,7 @@ ghost use Rattle.ir_check.specs.Refused.{IsRefused};
 ghost use Rattle.ir_model.specs.declared.module.Function.{Function};
 ghost use Rattle.ir_model.specs.declared.module.Module.{Module};
 ghost use Rattle.name_rules.specs.declared.stage.Stage.{Stage};
-ghost use Rattle.save_agreement.specs.SavesWritten.{saved_function};
-ghost use Rattle.save_agreement.specs.Tokens.{HasNamedTokens};
-ghost use Rattle.slot_rules.specs.Early.{IsFirstEarly};
 ghost use Rattle.sound_states.specs.Named.{AreLocalsNamed, AreUsesNamed};
-ghost use Rattle.window_rules.specs.Outside.{IsFirstOutside};
 
 /// The functions of a source that breaks no rule have no fault of F1, K2, K3, K4, K10 and K11.
 pub fn accepted_functions_keep_shape()
@@ -34,9 +30,4 @@ pub fn accepted_functions_keep_paths()
 /// Nor have those that the first pass makes of them.
 pub fn early_functions_keep_paths()
     ensures { (m : Module) → IsRefused Stage.Source m None → AreTabled m → AreLocalsNamed m → AreUsesNamed m → (k : ℕ) (g : Function) → slice_get (early_module m).functions k ≡ Some g → KeepsPaths k g }
-{}
-
-/// Where saves are written out in a coroutine that has no fault of K5 and K9, it has none of K9.
-pub fn written_saves_keep_addresses()
-    ensures { (k : ℕ) (f : Function) → f.coroutine ≡ true → HasNamedTokens f → IsFirstOutside k f None → IsFirstEarly k f None → IsFirstEarly k (saved_function f) None }
 {}
