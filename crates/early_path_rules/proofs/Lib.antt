@@ -25,3 +25,6 @@ pub mod NamedWindows
 pub mod SavedWindows
 pub mod Marked
 pub mod OtherMarked
+pub mod SavedEarly
+pub mod OtherEarly
+pub mod NamedEarly

@@ -248,7 +248,7 @@ module _ (f : Function) (named : HasNamedTokens f) where
   instr_saved h y j (Written p name i e bare le front same) x = h.instrs p i e (outside_home y p i j (inl front) (λ k. bare_ends i bare) (λ k. bare_needs i bare) x)
 
   -- the end of a block is the back of its end
-  end_back : (k : ℕ) (d : Block) (x : IsSavedBlock f k d) → end_at k d ≡ back_of f (end_at k x.block)
+  pub end_back : (k : ℕ) (d : Block) (x : IsSavedBlock f k d) → end_at k d ≡ back_of f (end_at k x.block)
   end_back k d x =
       let number = number_of_block f.coroutine k (length f.names) f.blocks in
       let end = back_end f.coroutine (length x.block.instrs) number x.block.instrs refl in

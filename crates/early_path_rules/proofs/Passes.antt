@@ -12,8 +12,10 @@ use Rattle.early_lower.specs.Early.{early_module, renaming_of}
 use Rattle.early_meaning.proofs.Names.{named_locals, named_uses, renamed_locals, renamed_uses}
 use Rattle.early_path_rules.proofs.Marked.{marked_saved, of_marked, to_marked}
 use Rattle.early_path_rules.proofs.NamedCalls.{second_final_named, too_many_named, wrong_call_named, wrong_edge_named, wrong_promise_named}
+use Rattle.early_path_rules.proofs.NamedEarly.{early_named_too}
 use Rattle.early_path_rules.proofs.NamedWindows.{alike_named}
 use Rattle.early_path_rules.proofs.Order.{breaks_none}
+use Rattle.early_path_rules.proofs.OtherEarly.{early_renamed}
 use Rattle.early_path_rules.proofs.OtherMarked.{marked_named, marked_renamed}
 use Rattle.early_path_rules.proofs.Outside.{of_outside, outside_renamed, outside_saved, to_outside}
 use Rattle.early_path_rules.proofs.RenamedCalls.{second_final_renamed, too_many_renamed, wrong_call_renamed}
@@ -23,6 +25,7 @@ use Rattle.early_path_rules.proofs.RenamedPromise.{wrong_promise_renamed}
 use Rattle.early_path_rules.proofs.RenamedSwitches.{wrong_switch_renamed}
 use Rattle.early_path_rules.proofs.RenamedUses.{undefined_renamed}
 use Rattle.early_path_rules.proofs.SavedCalls.{second_final_saved, too_many_saved, wrong_call_saved, wrong_promise_saved}
+use Rattle.early_path_rules.proofs.SavedEarly.{first_early_saved, of_early, to_early}
 use Rattle.early_path_rules.proofs.SavedEdges.{wrong_edge_saved}
 use Rattle.early_path_rules.proofs.SavedSwitches.{wrong_switch_saved}
 use Rattle.early_path_rules.proofs.SavedUses.{undefined_saved}
@@ -43,6 +46,7 @@ use Rattle.save_agreement.proofs.Plain.{plain_stays}
 use Rattle.save_agreement.specs.SavesWritten.{saved_function, saves_written}
 use Rattle.save_agreement.specs.Tokens.{HasNamedTokens}
 use Rattle.save_simulation.proofs.Names.{tokens_named}
+use Rattle.slot_rules.specs.Early.{IsFirstEarly}
 use Rattle.slot_rules.specs.Marked.{IsFirstMarked}
 use Rattle.sound_states.specs.Named.{AreLocalsNamed, AreUsesNamed, HasNamedOperands}
 use Rattle.window_rules.specs.Outside.{IsFirstOutside}
@@ -131,6 +135,7 @@ module _ (func : ℕ) where
     outside = rules.outside;
     window = to_window func (begin_named f) (windows_alike f (begin_named f) (alike_named f) (of_window func f coroutine h.window));
     marked_slot = to_marked func (begin_named f) (marked_named f uses e (of_marked func f coroutine h.marked_slot));
+    early_address = to_early func (begin_named f) (early_named_too f uses e (of_early func f coroutine h.early_address));
   }
   paths_named f (Some n) e uses coroutine h rules = h
 
@@ -143,6 +148,7 @@ module _ (func : ℕ) where
         outside = to_outside func (renamed_by_its_own f) (outside_renamed (renaming_of f) f nothing);
         window = to_window func (renamed_by_its_own f) (windows_alike f (renamed_by_its_own f) (alike_renamed (renaming_of f) f ok) (of_window func f coroutine h.window));
         marked_slot = to_marked func (renamed_by_its_own f) (marked_renamed (renaming_of f) f ok (of_marked func f coroutine h.marked_slot));
+        early_address = to_early func (renamed_by_its_own f) (early_renamed (renaming_of f) f ok (of_early func f coroutine h.early_address));
       }
 
   paths_saved : (f : Function) → f.coroutine ≡ true → HasNamedTokens f → KeepsPaths func f → KeepsPaths func (saved_function f)
@@ -151,6 +157,7 @@ module _ (func : ℕ) where
     outside = to_outside func (saved_function f) (outside_saved f named (of_outside func f coroutine h.outside));
     window = to_window func (saved_function f) (windows_saved f named (of_window func f coroutine h.window));
     marked_slot = to_marked func (saved_function f) (marked_saved f named (of_marked func f coroutine h.marked_slot));
+    early_address = first_early_saved func f coroutine named h.outside h.early_address;
   }
 
 paths_third : (func : ℕ) (f : Function) (b : Bool) → f.coroutine ≡ b → HasNamedOperands f → KeepsPaths func f → (f.coroutine ≡ true → KeepsRules func (with_begin_name f)) → HasNamedTokens (second f) → KeepsPaths func (third f)
@@ -212,6 +219,7 @@ accepted_paths m accepted k f there =
       outside = subst (IsFirstOutside k f) x.none.outside x.are.outside;
       window = subst (IsFirstWindow k f) x.none.window x.are.window;
       marked_slot = subst (IsFirstMarked k f) x.none.marked_slot x.are.marked_slot;
+      early_address = subst (IsFirstEarly k f) x.none.early_address x.are.early_address;
     }
 
 pub early_paths : (m : Module) → IsRefused Stage.Source m None → AreTabled m → AreLocalsNamed m → AreUsesNamed m → (k : ℕ) (g : Function) → slice_get (early_module m).functions k ≡ Some g → KeepsPaths k g

@@ -87,7 +87,7 @@ module _ (f g : Function) (alike : IsAlike f g) where
   path_now avoided [] p q h = ap (λ (ps : List Point). has_point ps q) (alike.nexts p) ∙ h
   path_now avoided (v ∷ between) p q h = (ap (λ (ps : List Point). has_point ps v) (alike.nexts p) ∙ h.0, h.1, path_now avoided between v q h.2)
 
-  leads_back : (avoided : List Point) (p q : Point) → Leads g avoided p q → Leads f avoided p q
+  pub leads_back : (avoided : List Point) (p q : Point) → Leads g avoided p q → Leads f avoided p q
   leads_back avoided p q l = record { between = l.between; is_path = path_back avoided l.between p q l.is_path }
 
   leads_now : (avoided : List Point) (p q : Point) → Leads f avoided p q → Leads g avoided p q

@@ -3,13 +3,15 @@ use Rattle.std.specs.Prelude.{ℕ, None}
 use Rattle.definite_use.specs.Undefined.{IsFirstUndefined}
 use Rattle.definite_use.specs.Uses.{uses_of}
 use Rattle.ir_model.specs.declared.module.Function.{Function}
+use Rattle.slot_rules.specs.Early.{IsFirstEarly}
 use Rattle.slot_rules.specs.Marked.{IsFirstMarked}
 use Rattle.window_rules.specs.Outside.{IsFirstOutside}
 use Rattle.window_rules.specs.Windows.{IsFirstWindow}
 
--- F2, K5, K6 and K8 have no fault in the function
+-- F2, K5, K6, K8 and K9 have no fault in the function
 pub record KeepsPaths (func : ℕ) (f : Function) : Type 0 where
   pub undefined_use : IsFirstUndefined f (uses_of func f) None
   pub outside : IsFirstOutside func f None
   pub window : IsFirstWindow func f None
   pub marked_slot : IsFirstMarked func f None
+  pub early_address : IsFirstEarly func f None
