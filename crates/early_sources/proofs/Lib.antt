@@ -1,3 +1,4 @@
 pub mod Tables
 pub mod Accepted
 pub mod Laid
+pub mod Kept

@@ -7,7 +7,7 @@ ghost use Rattle.spill_reload.specs.Framed.{IsFramedForm};
 
 use coro_cleanup::clean;
 use coro_split::split;
-use early_lower::early;
+use early_sources::early_kept;
 use frame_layout::Layouts;
 use ir_model::Module;
 use spill_reload::frame_up;
@@ -21,7 +21,7 @@ pub fn framed_module(
 ) -> Result<Module, AllocError>
     ensures { IfOk result (λ framed. IsFramedForm layouts.now (early_module source.now) framed) }
 {
-    let early = early(alloc, source)?;
+    let early = early_kept(alloc, source)?;
     frame_up(alloc, &early, layouts)
 }
 
