@@ -1,10 +1,16 @@
 -- What stays of elidable callees and of sites under the first pass.
+use Rattle.early_elision.proofs.Renamed.{renamed_elidable, renamed_forth}
 use Rattle.std.proofs.Common.{◌≡◌, ℕ, Bool, true, false, List, Some, None, Option, refl, sym, ap, ◌∙◌, subst, ◌↔◌}
 use Rattle.std.specs.Prelude.{if◌then◌else◌}
 use Rattle.coro_base.specs.declared.outcome.Place.{Place}
-use Rattle.early_agreement.specs.Passes.{named_function, named_module}
+use Rattle.early_agreement.proofs.Modules.{function_there}
+use Rattle.early_agreement.proofs.Rules.{all_regular}
+use Rattle.early_agreement.specs.Passes.{named_function, named_module, renamed_by_its_own, renamed_function, renamed_module}
+use Rattle.early_agreement.specs.Regular.{AllKeepRules, IsRegular}
 use Rattle.early_elision.proofs.Modules.{IsPlainChange, callees_stay, sites_stay}
 use Rattle.early_elision.proofs.Named.{named_elidable}
+use Rattle.early_elision.specs.Apart.{ArePhisApart, HasPhisApart}
+use Rattle.early_lower.specs.Early.{renaming_of}
 use Rattle.early_lower.specs.BeginName.{if_unnamed, with_begin_name}
 use Rattle.escape_flow.specs.Elidable.{AreElidable, IsElidable}
 use Rattle.escape_flow.specs.Sites.{AreSites}
@@ -56,3 +62,45 @@ callees_named m locals uses all = callees_stay named_function named_change m (na
 
 pub sites_named : (m : Module) → AreLocalsNamed m → AreUsesNamed m → (all : List Place) → AreSites m all ↔ AreSites (named_module m) all
 sites_named m locals uses all = sites_stay named_function named_change m (named_one m locals uses) all
+
+-- ---- uses of coro.frame become uses of begin's value
+
+of_renamed : {X : Type 0} (part : Function → X) → ((f : Function) → part (renamed_by_its_own f) ≡ part f) → (f : Function) → part (renamed_function f) ≡ part f
+of_renamed part h f = on f.coroutine
+  where
+    on : (b : Bool) → part (if b then renamed_by_its_own f else f) ≡ part f
+    on true = h f
+    on false = refl
+
+renamed_change : IsPlainChange renamed_function
+renamed_change = record {
+  mild = record { name = of_renamed (λ f. f.name) (λ f. refl); result = of_renamed (λ f. f.result) (λ f. refl); params = of_renamed (λ f. f.params) (λ f. refl) };
+  coroutine = of_renamed (λ f. f.coroutine) (λ f. refl);
+  plain = λ f e. ap (λ (b : Bool). if b then renamed_by_its_own f else f) e;
+}
+
+module _ (m : Module) (rules : AllKeepRules m) where
+  regular_there : (g : ℕ) (f : Function) → function_at m g ≡ f → f.coroutine ≡ true → IsRegular f (renaming_of f)
+  regular_there g f e c = subst (λ (h : Function). IsRegular h (renaming_of h)) e (all_regular m rules g (ap (λ (h : Function). h.coroutine) e ∙ c))
+
+  renamed_one : ArePhisApart m → (g : ℕ) (f : Function) → function_at m g ≡ f → f.coroutine ≡ true → IsElidable f ↔ IsElidable (renamed_function f)
+  renamed_one apart g f e c =
+      subst (λ (b : Bool). IsElidable f ↔ IsElidable (if b then renamed_by_its_own f else f)) (sym c)
+      (renamed_elidable f (regular_there g f e c) (subst (λ (h : Function). HasPhisApart (renaming_of h) h) e (apart g (ap (λ (h : Function). h.coroutine) e ∙ c))))
+
+  pub callees_renamed : ArePhisApart m → (all : List ℕ) → AreElidable m all ↔ AreElidable (renamed_module m) all
+  callees_renamed apart all = callees_stay renamed_function renamed_change m (renamed_one apart) all
+
+  pub sites_renamed : ArePhisApart m → (all : List Place) → AreSites m all ↔ AreSites (renamed_module m) all
+  sites_renamed apart all = sites_stay renamed_function renamed_change m (renamed_one apart) all
+
+  forth_at : (f : Function) → (f.coroutine ≡ true → IsRegular f (renaming_of f)) → IsElidable f → IsElidable (renamed_function f)
+  forth_at f ok h = on f.coroutine refl
+    where
+      on : (b : Bool) → f.coroutine ≡ b → IsElidable (if b then renamed_by_its_own f else f)
+      on true c = renamed_forth f (ok c) h
+      on false c = h
+
+  pub callee_renamed : (g : ℕ) → IsElidable (function_at m g) → IsElidable (function_at (renamed_module m) g)
+  callee_renamed g h =
+      subst IsElidable (sym (function_there renamed_function renamed_change.mild m refl g)) (forth_at (function_at m g) (regular_there g (function_at m g) refl) h)

@@ -2,5 +2,6 @@ pub mod Alike
 pub mod Lists
 pub mod Mapped
 pub mod Named
+pub mod Renamed
 pub mod Modules
 pub mod Laws
