@@ -1,4 +1,5 @@
 -- What stays of elidable callees and of sites under the first pass.
+use Rattle.early_elision.proofs.Saved.{saved_elidable}
 use Rattle.early_elision.proofs.Renamed.{renamed_elidable, renamed_forth}
 use Rattle.std.proofs.Common.{◌≡◌, ℕ, Bool, true, false, List, Some, None, Option, refl, sym, ap, ◌∙◌, subst, ◌↔◌}
 use Rattle.std.specs.Prelude.{if◌then◌else◌}
@@ -6,6 +7,11 @@ use Rattle.coro_base.specs.declared.outcome.Place.{Place}
 use Rattle.early_agreement.proofs.Modules.{function_there}
 use Rattle.early_agreement.proofs.Rules.{all_regular}
 use Rattle.early_agreement.specs.Passes.{named_function, named_module, renamed_by_its_own, renamed_function, renamed_module}
+use Rattle.early_agreement.proofs.Composition.{early_in_turn}
+use Rattle.early_lower.specs.Early.{early_module}
+use Rattle.early_meaning.proofs.Names.{named_locals, named_uses, renamed_locals, renamed_uses}
+use Rattle.save_agreement.proofs.Plain.{plain_stays}
+use Rattle.save_agreement.specs.SavesWritten.{saved_function, saves_written}
 use Rattle.early_agreement.specs.Regular.{AllKeepRules, IsRegular}
 use Rattle.early_elision.proofs.Modules.{IsPlainChange, callees_stay, sites_stay}
 use Rattle.early_elision.proofs.Named.{named_elidable}
@@ -104,3 +110,43 @@ module _ (m : Module) (rules : AllKeepRules m) where
   pub callee_renamed : (g : ℕ) → IsElidable (function_at m g) → IsElidable (function_at (renamed_module m) g)
   callee_renamed g h =
       subst IsElidable (sym (function_there renamed_function renamed_change.mild m refl g)) (forth_at (function_at m g) (regular_there g (function_at m g) refl) h)
+
+-- ---- saves are written out
+
+saved_change : IsPlainChange saved_function
+saved_change = record {
+  mild = record { name = λ f. refl; result = λ f. refl; params = λ f. refl };
+  coroutine = λ f. refl;
+  plain = plain_stays;
+}
+
+saved_one : (m : Module) → AreLocalsNamed m → (g : ℕ) (f : Function) → function_at m g ≡ f → f.coroutine ≡ true → IsElidable f ↔ IsElidable (saved_function f)
+saved_one m locals g f e coroutine = saved_elidable f (subst HasNamedLocals e (locals g))
+
+pub callees_saved : (m : Module) → AreLocalsNamed m → (all : List ℕ) → AreElidable m all ↔ AreElidable (saves_written m) all
+callees_saved m locals all = callees_stay saved_function saved_change m (saved_one m locals) all
+
+pub sites_saved : (m : Module) → AreLocalsNamed m → (all : List Place) → AreSites m all ↔ AreSites (saves_written m) all
+sites_saved m locals all = sites_stay saved_function saved_change m (saved_one m locals) all
+
+-- ---- the whole pass
+
+in_row : (A B C D : Type 0) → A ↔ B → B ↔ C → C ↔ D → A ↔ D
+in_row A B C D x y z = ((λ a. z.0 (y.0 (x.0 a))), (λ d. x.1 (y.1 (z.1 d))))
+
+module _ (m : Module) (locals : AreLocalsNamed m) (uses : AreUsesNamed m) (rules : AllKeepRules (named_module m)) (apart : ArePhisApart (named_module m)) where
+  pub callees_early : (all : List ℕ) → AreElidable m all ↔ AreElidable (early_module m) all
+  callees_early all =
+      subst (λ (k : Module). AreElidable m all ↔ AreElidable k all) (sym (early_in_turn m))
+      (in_row (AreElidable m all) (AreElidable (named_module m) all) (AreElidable (renamed_module (named_module m)) all) (AreElidable (saves_written (renamed_module (named_module m))) all)
+      (callees_named m locals uses all)
+      (callees_renamed (named_module m) rules apart all)
+      (callees_saved (renamed_module (named_module m)) (renamed_locals (named_module m) (named_locals m locals)) all))
+
+  pub sites_early : (all : List Place) → AreSites m all ↔ AreSites (early_module m) all
+  sites_early all =
+      subst (λ (k : Module). AreSites m all ↔ AreSites k all) (sym (early_in_turn m))
+      (in_row (AreSites m all) (AreSites (named_module m) all) (AreSites (renamed_module (named_module m)) all) (AreSites (saves_written (renamed_module (named_module m))) all)
+      (sites_named m locals uses all)
+      (sites_renamed (named_module m) rules apart all)
+      (sites_saved (renamed_module (named_module m)) (renamed_locals (named_module m) (named_locals m locals)) all))

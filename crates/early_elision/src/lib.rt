@@ -6,10 +6,12 @@ ghost use Rattle.coro_base.specs.declared.outcome.Place.{Place};
 ghost use Rattle.early_agreement.specs.Passes.{named_module, renamed_module};
 ghost use Rattle.early_agreement.specs.Regular.{AllKeepRules};
 ghost use Rattle.early_elision.specs.Apart.{ArePhisApart};
+ghost use Rattle.early_lower.specs.Early.{early_module};
 ghost use Rattle.escape_flow.specs.Elidable.{AreElidable, IsElidable};
 ghost use Rattle.escape_flow.specs.Sites.{AreSites};
 ghost use Rattle.ir_model.specs.Names.{function_at};
 ghost use Rattle.ir_model.specs.declared.module.Module.{Module};
+ghost use Rattle.save_agreement.specs.SavesWritten.{saves_written};
 ghost use Rattle.sound_states.specs.Named.{AreLocalsNamed, AreUsesNamed};
 
 /// The elidable callees stay where begin's value gets a name.
@@ -35,4 +37,24 @@ pub fn elidable_callees_stay_renamed()
 /// So do the sites.
 pub fn sites_stay_renamed()
     ensures { (m : Module) → AllKeepRules m → ArePhisApart m → (all : List Place) → AreSites m all ↔ AreSites (renamed_module m) all }
+{}
+
+/// The elidable callees stay where saves are written out.
+pub fn elidable_callees_stay_saved()
+    ensures { (m : Module) → AreLocalsNamed m → (all : List ℕ) → AreElidable m all ↔ AreElidable (saves_written m) all }
+{}
+
+/// So do the sites.
+pub fn sites_stay_saved()
+    ensures { (m : Module) → AreLocalsNamed m → (all : List Place) → AreSites m all ↔ AreSites (saves_written m) all }
+{}
+
+/// So the elidable callees of a module whose phis stay apart are those of what the first pass makes of it.
+pub fn elidable_callees_stay()
+    ensures { (m : Module) → AreLocalsNamed m → AreUsesNamed m → AllKeepRules (named_module m) → ArePhisApart (named_module m) → (all : List ℕ) → AreElidable m all ↔ AreElidable (early_module m) all }
+{}
+
+/// And so are its sites.
+pub fn sites_stay()
+    ensures { (m : Module) → AreLocalsNamed m → AreUsesNamed m → AllKeepRules (named_module m) → ArePhisApart (named_module m) → (all : List Place) → AreSites m all ↔ AreSites (early_module m) all }
 {}
