@@ -1,22 +1,15 @@
 -- Suspends whose saves are written out.
-use Rattle.std.proofs.Common.{◌≡◌, ℕ, zero, suc, ◌+◌, ◌<◌, ◌≤◌, Bool, true, false, List, [], ◌∷◌, ◌++◌, length, refl, sym, ap, ◌∙◌, arith}
-use Rattle.std.proofs.lemmas.Option.{slice_get-map}
-use Rattle.std.specs.Prelude.{Some, None, Option, option_map, slice_get, ◌&&◌, ◌==◌, if◌then◌else◌}
-use Rattle.early_lower.specs.Early.{is_none, is_unsaved, save_call, saved}
-use Rattle.ir_model.specs.Names.{is_local}
+use Rattle.std.proofs.Common.{◌≡◌, ℕ, Bool, true, List, [], ◌∷◌, refl}
+use Rattle.std.specs.Prelude.{Option}
+use Rattle.early_lower.specs.Early.{is_none, is_unsaved}
 use Rattle.ir_model.specs.Ty.{Ty}
 use Rattle.ir_model.specs.declared.instr.Instr.{Instr}
-use Rattle.ir_model.specs.declared.module.Block.{Block}
 use Rattle.ir_model.specs.declared.operand.Arg.{Arg}
 use Rattle.ir_model.specs.declared.operand.Callee.{Callee}
 use Rattle.ir_model.specs.declared.operand.Intrinsic.{Intrinsic}
 use Rattle.ir_model.specs.declared.operand.Operand.{Operand}
-use Rattle.ir_paths.proofs.Search.{both, eq_from, eq_itself}
-use Rattle.ir_paths.specs.Windows.{call_operand, is_call_of, is_suspend_of, points_from, points_in}
-use Rattle.ir_paths.specs.declared.point.Point.{Point}
-use Rattle.save_agreement.specs.SavesWritten.{behind_save, behind_saves, is_bare, saved_blocks, with_save, with_saves}
-use Rattle.save_agreement.specs.Spots.{instrs_in, number_of_block, place_in}
-use Rattle.save_agreement.specs.Tokens.{HasNamedToken, IsNamed, IsNamedResult}
+use Rattle.ir_paths.proofs.Search.{both}
+use Rattle.save_agreement.specs.SavesWritten.{is_bare}
 
 -- ---- a suspend whose save isn't written
 

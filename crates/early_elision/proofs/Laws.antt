@@ -9,17 +9,22 @@ use Rattle.early_agreement.proofs.Rules.{all_regular}
 use Rattle.early_agreement.specs.Passes.{named_function, named_module, renamed_by_its_own, renamed_function, renamed_module}
 use Rattle.early_agreement.proofs.Composition.{early_in_turn}
 use Rattle.early_lower.specs.Early.{early_module}
-use Rattle.early_meaning.proofs.Names.{named_locals, named_uses, renamed_locals, renamed_uses}
+use Rattle.early_rules.specs.Named.{AreTabled}
+use Rattle.early_rules.proofs.Accepted.{all_named_keep}
+use Rattle.ir_check.specs.Refused.{IsRefused}
+use Rattle.name_rules.specs.declared.stage.Stage.{Stage}
+use Rattle.early_meaning.proofs.Names.{named_locals, renamed_locals}
 use Rattle.save_agreement.proofs.Plain.{plain_stays}
 use Rattle.save_agreement.specs.SavesWritten.{saved_function, saves_written}
 use Rattle.early_agreement.specs.Regular.{AllKeepRules, IsRegular}
-use Rattle.early_elision.proofs.Modules.{IsPlainChange, callees_stay, sites_stay}
+use Rattle.early_elision.proofs.Modules.{IsPlainChange, callees_same, callees_stay, each_same, site_over, sites_stay}
 use Rattle.early_elision.proofs.Named.{named_elidable}
 use Rattle.early_elision.specs.Apart.{ArePhisApart, HasPhisApart}
 use Rattle.early_lower.specs.Early.{renaming_of}
 use Rattle.early_lower.specs.BeginName.{if_unnamed, with_begin_name}
 use Rattle.escape_flow.specs.Elidable.{AreElidable, IsElidable}
-use Rattle.escape_flow.specs.Sites.{AreSites}
+use Rattle.escape_flow.specs.Sites.{AreSites, IsSite, callee_in}
+use Rattle.ir_model.specs.declared.instr.Instr.{Instr}
 use Rattle.ir_model.specs.Calls.{first_result}
 use Rattle.ir_model.specs.Names.{function_at}
 use Rattle.ir_model.specs.declared.module.Function.{Function}
@@ -150,3 +155,45 @@ module _ (m : Module) (locals : AreLocalsNamed m) (uses : AreUsesNamed m) (rules
       (sites_named m locals uses all)
       (sites_renamed (named_module m) rules apart all)
       (sites_saved (renamed_module (named_module m)) (renamed_locals (named_module m) (named_locals m locals)) all))
+
+-- ---- what stays with no premise on phis
+
+module _ (m : Module) (locals : AreLocalsNamed m) (uses : AreUsesNamed m) (rules : AllKeepRules (named_module m)) where
+  pub callee_early : (g : ℕ) → IsElidable (function_at m g) → IsElidable (function_at (early_module m) g)
+  callee_early g h =
+      subst (λ (k : Module). IsElidable (function_at k g)) (sym (early_in_turn m))
+      ((each_same saved_function saved_change (renamed_module (named_module m)) (saved_one (renamed_module (named_module m)) (renamed_locals (named_module m) (named_locals m locals))) g).0
+      (callee_renamed (named_module m) rules g
+      ((each_same named_function named_change m (named_one m locals uses) g).0 h)))
+
+  called_early : (o : Option Instr) → callee_in (early_module m) o ≡ callee_in m o
+  called_early o =
+      ap (λ (k : Module). callee_in k o) (early_in_turn m)
+      ∙ callees_same saved_function saved_change (renamed_module (named_module m)) (saved_one (renamed_module (named_module m)) (renamed_locals (named_module m) (named_locals m locals))) o
+      ∙ called_renamed o
+      ∙ callees_same named_function named_change m (named_one m locals uses) o
+    where
+      called_renamed : (o : Option Instr) → callee_in (renamed_module (named_module m)) o ≡ callee_in (named_module m) o
+      called_renamed (Some (Instr.Call result must_tail ty (Rattle.ir_model.specs.declared.operand.Callee.Callee.Named n) args)) = Rattle.early_agreement.proofs.Modules.named_there renamed_function renamed_change.mild (named_module m) n
+      called_renamed _ = refl
+
+  pub site_early : (f : Function) (p : Place) → IsSite m f p → IsSite (early_module m) f p
+  site_early f p h = site_over m (early_module m) called_early callee_early f p h
+
+-- ---- sources that break no rule
+
+module _ (m : Module) (accepted : IsRefused Stage.Source m None) (tabled : AreTabled m) (locals : AreLocalsNamed m) (uses : AreUsesNamed m) where
+  rules_kept : AllKeepRules (named_module m)
+  rules_kept = all_named_keep m accepted tabled
+
+  pub callee_of_source : (g : ℕ) → IsElidable (function_at m g) → IsElidable (function_at (early_module m) g)
+  callee_of_source = callee_early m locals uses rules_kept
+
+  pub site_of_source : (f : Function) (p : Place) → IsSite m f p → IsSite (early_module m) f p
+  site_of_source = site_early m locals uses rules_kept
+
+  pub callees_of_source : ArePhisApart (named_module m) → (all : List ℕ) → AreElidable m all ↔ AreElidable (early_module m) all
+  callees_of_source apart = callees_early m locals uses rules_kept apart
+
+  pub sites_of_source : ArePhisApart (named_module m) → (all : List Place) → AreSites m all ↔ AreSites (early_module m) all
+  sites_of_source apart = sites_early m locals uses rules_kept apart

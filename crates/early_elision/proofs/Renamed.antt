@@ -1,9 +1,9 @@
 -- Elidable coroutines in which uses of coro.frame become uses of begin's value.
-use Rattle.std.proofs.Common.{◌≡◌, ℕ, zero, suc, ◌+◌, ◌<◌, Bool, true, false, cond, List, [], ◌∷◌, ◌++◌, length, Some, None, Option, refl, sym, ap, ◌∙◌, subst, ◌↔◌, inl, inr}
+use Rattle.std.proofs.Common.{◌≡◌, ℕ, zero, suc, ◌+◌, Bool, true, false, cond, List, [], ◌∷◌, ◌++◌, length, Some, None, Option, refl, sym, ap, ◌∙◌, subst, ◌↔◌, inl, inr}
 use Rattle.std.proofs.lemmas.Option.{slice_get-map}
 use Rattle.std.specs.List.{list_all, list_any}
 use Rattle.std.specs.Prelude.{count_by, find, flat_map, map, option_and_then, option_map, slice_get, ◌-◌, ◌&&◌, ◌||◌, ◌==◌, if◌then◌else◌}
-use Rattle.block_paths.specs.Kinds.{is_value, kind_at, kind_of_ending, suspended}
+use Rattle.block_paths.specs.Kinds.{kind_at, kind_of_ending, suspended}
 use Rattle.block_paths.specs.declared.kinds.EdgeKind.{EdgeKind}
 use Rattle.coro_calls.specs.Calls.{is_null}
 use Rattle.coro_shape.specs.Uses.{phi_operands, uses_of}
@@ -13,26 +13,26 @@ use Rattle.early_agreement.proofs.Parts.{call_of_same, call_operand_same, local_
 use Rattle.early_agreement.proofs.Slots.{plain_result}
 use Rattle.early_agreement.specs.Passes.{renamed_block, renamed_coroutine}
 use Rattle.early_agreement.specs.Regular.{IsPlain, IsRegular}
-use Rattle.early_elision.proofs.Alike.{Follows, IsKept, IsPhiAlike, Same, elidable_forth, elidable_same}
+use Rattle.early_elision.proofs.Alike.{Follows, IsPhiAlike, Same, elidable_forth, elidable_same}
 use Rattle.early_elision.proofs.Lists.{count_changed, count_cons, find_changed, found}
 use Rattle.early_elision.proofs.Mapped.{IsChange, change_alike}
 use Rattle.early_elision.proofs.Named.{any_both, call_made, each_at}
 use Rattle.early_elision.specs.Apart.{HasPhisApart, StaysApart}
 use Rattle.early_lower.specs.Early.{renaming_of, renaming_to}
-use Rattle.early_lower.specs.Renaming.{is_renamed, renamed, renamed_arg, renamed_callee, renamed_incoming, renamed_instr, renamed_phi, renamed_term, renamed_value}
+use Rattle.early_lower.specs.Renaming.{is_renamed, renamed, renamed_arg, renamed_incoming, renamed_instr, renamed_phi, renamed_term, renamed_value}
 use Rattle.early_lower.specs.declared.renaming.Renaming.{Renaming}
-use Rattle.early_rules.proofs.Makers.{HasBegin, HasFrame, begin_of, renamed_frame}
+use Rattle.early_rules.proofs.Makers.{begin_of, renamed_frame}
 use Rattle.edge_rules.specs.Operands.{same_operand}
 use Rattle.elidable_shape.specs.Calls.{deals_by, gives_size, is_size_call, is_size_value, is_the_result}
 use Rattle.elidable_shape.specs.Edges.{jumps_to, ways_on}
-use Rattle.elidable_shape.specs.Frames.{all_from, frame_value, frame_values, is_frame, is_frame_call, local_if, rets_give_frame, returns_frame}
+use Rattle.elidable_shape.specs.Frames.{all_from, frame_value, frame_values, is_frame, is_frame_call, local_if, returns_frame}
 use Rattle.elidable_shape.specs.Frees.{is_null_test, not_null_first, sides_of}
 use Rattle.elidable_shape.specs.Guard.{is_memory_phi}
 use Rattle.elidable_shape.specs.Phis.{given, gives_same, is_given, same_given}
 use Rattle.elidable_shape.specs.declared.calls.Dealing.{Dealing}
 use Rattle.escape_flow.specs.Elidable.{IsElidable}
 use Rattle.flow_solver.specs.Paths.{IsListed}
-use Rattle.function_parts.specs.Contents.{arg_operands, callee_operands, ending_operands, instr_operands}
+use Rattle.function_parts.specs.Contents.{arg_operands, ending_operands, instr_operands}
 use Rattle.ir_model.specs.Calls.{first_result, result_of_call}
 use Rattle.ir_model.specs.Names.{is_local, position_of}
 use Rattle.ir_model.specs.declared.instr.Incoming.{Incoming}
@@ -45,7 +45,7 @@ use Rattle.ir_model.specs.declared.operand.Arg.{Arg}
 use Rattle.ir_model.specs.declared.operand.Callee.{Callee}
 use Rattle.ir_model.specs.declared.operand.Intrinsic.{Intrinsic}
 use Rattle.ir_model.specs.declared.operand.Operand.{Operand}
-use Rattle.ir_paths.specs.Windows.{call_operand, call_result, instr_at, instr_in, is_call_of}
+use Rattle.ir_paths.specs.Windows.{call_operand, instr_at, instr_in, is_call_of}
 use Rattle.ir_paths.specs.declared.point.Point.{Point}
 use Rattle.save_agreement.specs.Tokens.{Each}
 use Rattle.step_laws.specs.Changed.{result_of}

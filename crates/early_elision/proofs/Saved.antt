@@ -1,29 +1,29 @@
 -- Elidable coroutines whose saves are written out.
-use Rattle.std.proofs.Common.{◌≡◌, ℕ, zero, suc, ◌+◌, ◌<◌, ◌≤◌, Bool, true, false, cond, List, [], ◌∷◌, ◌++◌, length, Some, None, Option, refl, sym, ap, ◌∙◌, subst, ◌↔◌, arith, ⊎_elim, inl, inr}
+use Rattle.std.proofs.Common.{◌≡◌, ℕ, zero, suc, ◌+◌, ◌<◌, ◌≤◌, Bool, true, false, cond, List, [], ◌∷◌, ◌++◌, length, Some, None, Option, refl, sym, ap, ◌∙◌, subst, ◌↔◌, arith, ⊎_elim}
 use Rattle.std.proofs.lemmas.Bool.{cases_lt, eqb-false, eqb-true}
-use Rattle.std.proofs.lemmas.Option.{slice_get_past, slice_get_within}
+use Rattle.std.proofs.lemmas.Option.{slice_get_within}
 use Rattle.std.specs.List.{list_all, list_any}
-use Rattle.std.specs.Prelude.{count_by, find, flat_map, map, not, option_and_then, option_map, slice_get, ◌-◌, ◌&&◌, ◌||◌, ◌==◌, if◌then◌else◌}
+use Rattle.std.specs.Prelude.{count_by, find, flat_map, map, option_and_then, option_map, slice_get, ◌-◌, ◌&&◌, ◌||◌, ◌==◌, if◌then◌else◌}
 use Rattle.block_paths.specs.Kinds.{kind_in, kind_of, kind_of_ending, suspended}
 use Rattle.coro_calls.specs.Calls.{is_null}
 use Rattle.coro_shape.specs.Uses.{block_operands, phi_operands, uses_of}
 use Rattle.early_agreement.proofs.Lists.{itself}
 use Rattle.early_elision.proofs.Alike.{AreAlike, AreBlocksAlike, AreNextAlike, IsBlockAlike, IsCallAlike, IsFreeAlike, IsNextAlike, IsPhiAlike, Same, elidable_same, last_sides}
 use Rattle.early_elision.proofs.Lists.{count_both, count_cons, each_where, found, map_none}
-use Rattle.early_elision.proofs.Named.{any_both, call_made, each_at, each_by, made_named}
+use Rattle.early_elision.proofs.Named.{call_made, each_at, each_by, made_named}
 use Rattle.early_lower.specs.Early.{save_call, saved}
-use Rattle.elidable_shape.specs.Calls.{deals_by, gives_size, is_other, is_size_value, is_without_phis, one_other, only_call, passing, value_at}
+use Rattle.elidable_shape.specs.Calls.{deals_by, gives_size, is_other, is_size_value, is_without_phis, one_other, only_call, passing}
 use Rattle.elidable_shape.specs.Edges.{edges_by, edges_of, edges_out, jumps_to, ways_on}
-use Rattle.elidable_shape.specs.Frames.{all_from, frame_value, frame_values, is_frame, rets_give_frame, returns_frame}
-use Rattle.elidable_shape.specs.Frees.{frees_of, is_null_test, not_null_first, releases, sides_of}
-use Rattle.elidable_shape.specs.Guard.{is_memory_phi, takes_second, value_if_sized}
-use Rattle.elidable_shape.specs.Phis.{given, gives_same, is_given, same_given}
+use Rattle.elidable_shape.specs.Frames.{all_from, frame_value, is_frame, returns_frame}
+use Rattle.elidable_shape.specs.Frees.{is_null_test, not_null_first, releases, sides_of}
+use Rattle.elidable_shape.specs.Guard.{takes_second, value_if_sized}
+use Rattle.elidable_shape.specs.Phis.{given, is_given, same_given}
 use Rattle.elidable_shape.specs.declared.calls.Dealing.{Dealing}
 use Rattle.escape_flow.specs.Destroyed.{has_at, has_in, is_free, is_stop}
 use Rattle.escape_flow.specs.Elidable.{IsElidable}
 use Rattle.function_parts.specs.Contents.{ending_operands, instr_operands}
 use Rattle.ir_model.specs.Calls.{result_of_call}
-use Rattle.ir_model.specs.Names.{is_local, position_of}
+use Rattle.ir_model.specs.Names.{is_local}
 use Rattle.ir_model.specs.declared.instr.Instr.{Instr}
 use Rattle.ir_model.specs.declared.instr.Phi.{Phi}
 use Rattle.ir_model.specs.declared.instr.Terminator.{Terminator}
@@ -32,7 +32,7 @@ use Rattle.ir_model.specs.declared.module.Function.{Function}
 use Rattle.ir_model.specs.declared.operand.Intrinsic.{Intrinsic}
 use Rattle.ir_model.specs.declared.operand.Operand.{Operand}
 use Rattle.ir_paths.specs.Paths.{targets}
-use Rattle.ir_paths.specs.Windows.{call_operand, call_result, end_block, instr_at, instr_in, is_call_of, points_where}
+use Rattle.ir_paths.specs.Windows.{call_operand, call_result, instr_at, instr_in, is_call_of, points_where}
 use Rattle.ir_paths.specs.declared.point.Point.{Point}
 use Rattle.save_agreement.proofs.Behind.{any_saved, end_saved}
 use Rattle.save_agreement.proofs.Blocks.{get_block, position_saved}
