@@ -16,7 +16,6 @@ use Rattle.escape_flow.specs.Destroyed.IsLed.{Start, Step}
 use Rattle.escape_flow.specs.Elidable.{IsElidable}
 use Rattle.escape_flow.specs.declared.destroyed.Way.{Way}
 use Rattle.ir_model.specs.Names.{position_of}
-use Rattle.ir_model.specs.declared.instr.Instr.{Instr}
 use Rattle.ir_model.specs.declared.instr.Phi.{Phi}
 use Rattle.ir_model.specs.declared.module.Block.{Block}
 use Rattle.ir_model.specs.declared.module.Function.{Function}

@@ -1,8 +1,8 @@
 -- Lists that are counted, searched and changed one by one.
-use Rattle.std.proofs.Common.{◌≡◌, ℕ, zero, suc, ◌+◌, Bool, true, false, cond, List, [], ◌∷◌, ◌++◌, length, Some, None, Option, refl, sym, ap, ◌∙◌}
+use Rattle.std.proofs.Common.{◌≡◌, ℕ, suc, ◌+◌, Bool, true, false, cond, List, [], ◌∷◌, ◌++◌, Some, None, Option, refl, sym, ap, ◌∙◌}
 use Rattle.std.proofs.lemmas.List.Sums.{sum_by-append, sum_by-cons}
-use Rattle.std.specs.List.{list_all, list_any}
-use Rattle.std.specs.Prelude.{count_by, find, flat_map, map, option_map, slice_get, ◌&&◌, ◌||◌}
+use Rattle.std.specs.List.{list_all}
+use Rattle.std.specs.Prelude.{count_by, find, flat_map, map, option_map, slice_get, ◌&&◌}
 use Rattle.early_agreement.proofs.Outside.{where_pass}
 use Rattle.early_agreement.specs.Regular.{passes}
 use Rattle.ir_model.specs.declared.instr.Instr.{Instr}

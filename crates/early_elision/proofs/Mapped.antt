@@ -1,22 +1,21 @@
 -- Functions whose instructions, phis and terminators are changed one by one, each at its place.
-use Rattle.std.proofs.Common.{◌≡◌, ℕ, zero, suc, ◌+◌, Bool, true, false, List, [], ◌∷◌, ◌++◌, length, Some, None, Option, refl, sym, ap, ◌∙◌, subst}
+use Rattle.std.proofs.Common.{◌≡◌, ℕ, suc, ◌+◌, Bool, true, false, List, [], ◌∷◌, ◌++◌, Some, None, Option, refl, sym, ap, ◌∙◌, subst}
 use Rattle.std.proofs.lemmas.Option.{slice_get-map}
-use Rattle.std.specs.List.{list_all, list_any}
+use Rattle.std.specs.List.{list_any}
 use Rattle.std.specs.Prelude.{count_by, find, flat_map, map, not, option_and_then, option_map, slice_get, unwrap_or, ◌&&◌, ◌||◌, ◌==◌, if◌then◌else◌}
 use Rattle.block_paths.specs.Kinds.{kind_in, kind_of, kind_of_ending, suspended}
 use Rattle.coro_base.specs.declared.name.Name as names
 use Rattle.coro_shape.specs.Uses.{block_operands, phi_operands, uses_of}
 use Rattle.early_agreement.proofs.Lists.{any_same, equal_numbers}
 use Rattle.early_agreement.proofs.Modules.{first_same, length_same}
-use Rattle.early_elision.proofs.Alike.{AreAlike, AreBlocksAlike, AreNextAlike, IsBlockAlike, IsCallAlike, IsFreeAlike, IsNextAlike, IsPhiAlike, last_sides}
-use Rattle.early_elision.proofs.Lists.{all_changed, count_both, count_changed, count_given, each_where, find_changed, found, map_none}
-use Rattle.elidable_shape.specs.Calls.{deals_by, gives_size, is_other, is_size_call, is_size_value, is_the_result, is_without_phis, one_other, only_call, passing, value_at}
+use Rattle.early_elision.proofs.Alike.{AreAlike, AreBlocksAlike, AreNextAlike, IsBlockAlike, IsCallAlike, IsFreeAlike, IsPhiAlike}
+use Rattle.early_elision.proofs.Lists.{count_both, count_changed, count_given, each_where, find_changed, found, map_none}
+use Rattle.elidable_shape.specs.Calls.{deals_by, gives_size, is_other, is_size_value, is_without_phis, one_other, only_call, passing}
 use Rattle.elidable_shape.specs.Edges.{edges_by, edges_of, edges_out, jumps_to, ways_on}
-use Rattle.elidable_shape.specs.Frames.{rets_give_frame, returns_frame}
-use Rattle.elidable_shape.specs.Frees.{frees_of, releases, sides_of}
+use Rattle.elidable_shape.specs.Frames.{rets_give_frame}
+use Rattle.elidable_shape.specs.Frees.{releases, sides_of}
 use Rattle.elidable_shape.specs.Guard.{takes_second, value_if_sized}
 use Rattle.elidable_shape.specs.declared.calls.Dealing.{Dealing}
-use Rattle.elidable_shape.specs.declared.edges.Edge.{Edge}
 use Rattle.escape_flow.specs.Destroyed.{has_at, has_in, is_free, is_stop}
 use Rattle.function_parts.specs.Contents.{ending_operands, instr_operands}
 use Rattle.ir_model.specs.Names.{intrinsic_number, is_local, position_of, same_intrinsic}
@@ -25,7 +24,6 @@ use Rattle.ir_model.specs.declared.instr.Phi.{Phi}
 use Rattle.ir_model.specs.declared.instr.Terminator.{Terminator}
 use Rattle.ir_model.specs.declared.module.Block.{Block}
 use Rattle.ir_model.specs.declared.module.Function.{Function}
-use Rattle.ir_model.specs.declared.operand.Allocator.{Allocator}
 use Rattle.ir_model.specs.declared.operand.Callee.{Callee}
 use Rattle.ir_model.specs.declared.operand.Intrinsic.{Intrinsic}
 use Rattle.ir_model.specs.declared.operand.Operand.{Operand}

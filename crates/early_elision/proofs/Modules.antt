@@ -1,5 +1,5 @@
 -- Elidable callees and sites of modules whose functions are changed.
-use Rattle.std.proofs.Common.{◌≡◌, ℕ, zero, suc, ◌+◌, Bool, true, false, List, [], ◌∷◌, ◌++◌, length, Some, None, Option, refl, sym, ap, ◌∙◌, subst, ◌↔◌, arith}
+use Rattle.std.proofs.Common.{◌≡◌, ℕ, suc, Bool, true, false, List, [], ◌∷◌, ◌++◌, length, Some, None, Option, refl, sym, ap, ◌∙◌, subst, ◌↔◌, arith}
 use Rattle.std.proofs.lemmas.Option.{slice_get-map}
 use Rattle.std.specs.Prelude.{map, option_map, slice_get, unwrap_or, if◌then◌else◌}
 use Rattle.coro_base.specs.declared.outcome.Place.{Place}
@@ -9,7 +9,7 @@ use Rattle.early_agreement.specs.Passes.{with_functions}
 use Rattle.escape_flow.specs.Chosen.{AreChosen, up_to}
 use Rattle.escape_flow.specs.Chosen.AreChosen.{LeftOut, Nothing, Taken}
 use Rattle.escape_flow.specs.Elidable.{AreElidable, IsElidable}
-use Rattle.escape_flow.specs.Sites.{AreSites, AreSitesOf, CallsElidable, IsSite, callee_in, is_named_call, plain_calls}
+use Rattle.escape_flow.specs.Sites.{AreSites, AreSitesOf, IsSite, callee_in, is_named_call, plain_calls}
 use Rattle.escape_flow.specs.Sites.AreSitesOf.{More, NoFunction}
 use Rattle.ir_model.specs.Names.{function_at, no_function}
 use Rattle.ir_model.specs.declared.instr.Instr.{Instr}
@@ -68,7 +68,7 @@ one_more (x ∷ fs) f (g ∷ gs) h =
 -- ---- sites
 
 module _ (m k : Module) (callees : (i : Option Instr) → callee_in k i ≡ callee_in m i) (elidable : (g : ℕ) → IsElidable (function_at m g) → IsElidable (function_at k g)) where
-  site_over : (f : Function) (p : Place) → IsSite m f p → IsSite k f p
+  pub site_over : (f : Function) (p : Place) → IsSite m f p → IsSite k f p
   site_over f p h = record {
     calls = record {
       callee = h.calls.callee;
@@ -127,14 +127,14 @@ module _ (change : Function → Function) (is : IsPlainChange change) (m : Modul
       on None = sym (is.plain no_function refl)
       on (Some f) = refl
 
-  each_same : (g : ℕ) → IsElidable (function_at m g) ↔ IsElidable (function_at k g)
+  pub each_same : (g : ℕ) → IsElidable (function_at m g) ↔ IsElidable (function_at k g)
   each_same g = subst (λ (h : Function). IsElidable (function_at m g) ↔ IsElidable h) (sym (there g)) (on (function_at m g).coroutine refl)
     where
       on : (b : Bool) → (function_at m g).coroutine ≡ b → IsElidable (function_at m g) ↔ IsElidable (change (function_at m g))
       on true e = one g (function_at m g) refl e
       on false e = subst (λ (h : Function). IsElidable (function_at m g) ↔ IsElidable h) (sym (is.plain (function_at m g) e)) ((λ h. h), (λ h. h))
 
-  callees_same : (o : Option Instr) → callee_in k o ≡ callee_in m o
+  pub callees_same : (o : Option Instr) → callee_in k o ≡ callee_in m o
   callees_same (Some (Instr.Call result must_tail ty (Callee.Named n) args)) = named_there change is.mild m n
   callees_same _ = refl
 

@@ -8,18 +8,16 @@ use Rattle.begin_naming.proofs.NamedParts.{call_of_same, same_but_begin, with_be
 use Rattle.block_paths.specs.Kinds.{kind_of_ending, suspended}
 use Rattle.coro_calls.specs.Calls.{is_null}
 use Rattle.coro_shape.specs.Uses.{phi_operands, uses_of}
-use Rattle.early_agreement.proofs.Lists.{at_each}
 use Rattle.early_agreement.proofs.Modules.{length_same}
 use Rattle.early_elision.proofs.Alike.{IsPhiAlike, Same, elidable_same}
 use Rattle.early_elision.proofs.Lists.{map_none}
 use Rattle.early_elision.proofs.Mapped.{IsChange, change_alike}
 use Rattle.early_lower.specs.BeginName.{begin_name, if_unnamed, named_block, named_instr, with_begin_name}
 use Rattle.elidable_shape.specs.Calls.{deals_by, gives_size, is_size_value}
-use Rattle.elidable_shape.specs.Frames.{all_from, frame_value, frame_values, is_frame, rets_give_frame, returns_frame}
-use Rattle.elidable_shape.specs.Frees.{is_null_test, not_null_first, sides_if, sides_of}
+use Rattle.elidable_shape.specs.Frames.{all_from, frame_value, is_frame, returns_frame}
+use Rattle.elidable_shape.specs.Frees.{is_null_test, not_null_first, sides_of}
 use Rattle.elidable_shape.specs.Edges.{ways_on}
-use Rattle.elidable_shape.specs.Guard.{is_memory_phi}
-use Rattle.elidable_shape.specs.Phis.{given, gives_same, is_given, same_given}
+use Rattle.elidable_shape.specs.Phis.{given, is_given, same_given}
 use Rattle.escape_flow.specs.Elidable.{IsElidable}
 use Rattle.function_parts.specs.Contents.{instr_operands}
 use Rattle.ir_model.specs.Calls.{first_result, first_result_by, first_result_in, or_else, result_of_call}
