@@ -32,7 +32,7 @@ use Rattle.save_agreement.specs.Tokens.{Each}
 
 -- ---- tests
 
-both_true : (a b : Bool) → (a && b) ≡ true → (a ≡ true) × (b ≡ true)
+pub both_true : (a b : Bool) → (a && b) ≡ true → (a ≡ true) × (b ≡ true)
 both_true true true e = (refl, refl)
 both_true true false e = absurd (cc)
 both_true false b e = absurd (cc)
@@ -41,7 +41,7 @@ neither : (a b : Bool) → (a || b) ≡ false → (a ≡ false) × (b ≡ false)
 neither true b e = absurd (cc)
 neither false b e = (refl, e)
 
-holds : (b : Bool) → not b ≡ false → b ≡ true
+pub holds : (b : Bool) → not b ≡ false → b ≡ true
 holds true e = refl
 holds false e = absurd (cc)
 
@@ -60,7 +60,7 @@ module _ {A : Type 0} where
   none_at t (y ∷ xs) zero x h e = let same : y ≡ x = cc in subst (λ z. t z ≡ false) same (neither (t y) (list_any t xs) h).0
   none_at t (y ∷ xs) (suc n) x h e = none_at t xs n x (neither (t y) (list_any t xs) h).1 e
 
-  each_there : (P : A → Type 0) (xs : List A) → ((n : ℕ) (x : A) → slice_get xs n ≡ Some x → P x) → Each P xs
+  pub each_there : (P : A → Type 0) (xs : List A) → ((n : ℕ) (x : A) → slice_get xs n ≡ Some x → P x) → Each P xs
   each_there P [] h = tt
   each_there P (x ∷ xs) h = (h 0 x refl, each_there P xs (λ n y e. h (suc n) y e))
 
@@ -121,7 +121,7 @@ source_in label from (b ∷ bs) h = on (leads label b) refl h (source_in label f
     on true k l rest = either k (b.label == from) refl l rest
     on false k l rest = later (rest l)
 
-labels_spelt : (t : Terminator) → ending_labels t ≡ targets t
+pub labels_spelt : (t : Terminator) → ending_labels t ≡ targets t
 labels_spelt (Terminator.Jump label) = refl
 labels_spelt (Terminator.Branch x a b) = refl
 labels_spelt (Terminator.Switch arg default cases) = refl
