@@ -25,6 +25,9 @@ pub mod NamedWindows
 pub mod SavedWindows
 pub mod Marked
 pub mod OtherMarked
+pub mod KeptValues
+pub mod MappedKept
+pub mod SavedKept
 pub mod SavedEarly
 pub mod OtherEarly
 pub mod NamedEarly

@@ -149,7 +149,7 @@ module _ (f : Function) (named : HasNamedTokens f) where
   name_of p = name_at f.coroutine p.at (number_of_block f.coroutine p.block (length f.names) f.blocks) (instrs_in (slice_get f.blocks p.block))
 
   -- where the edges of a suspend lead
-  label_saved : (n : ℕ) (s : Point) → label_at n (slice_get late.blocks s.block) ≡ label_at n (slice_get f.blocks s.block)
+  pub label_saved : (n : ℕ) (s : Point) → label_at n (slice_get late.blocks s.block) ≡ label_at n (slice_get f.blocks s.block)
   label_saved n s = ap (label_at n) (get_block f.coroutine s.block (length f.names) f.blocks) ∙ on (slice_get f.blocks s.block)
     where
       on : (o : Option Block) → label_at n (option_map (saved_block f.coroutine (number_of_block f.coroutine s.block (length f.names) f.blocks)) o) ≡ label_at n o
@@ -305,7 +305,7 @@ module _ (f : Function) (named : HasNamedTokens f) where
     next_only : nexts late (front_of f p) ≡ back_of f p ∷ []
     next_only = save_leads f p i (here_is p i there) bare
 
-    not_same : front_of f p ≡ back_of f p → ⊥
+    pub not_same : front_of f p ≡ back_of f p → ⊥
     not_same e =
         let own : own_saves f.coroutine (slice_get (instrs_in (slice_get f.blocks p.block)) p.at) ≡ 1 = ap (own_saves f.coroutine) (here_is p i there) ∙ ap (λ (t : Bool). if t then 1 else 0) bare in
         let at : (front_of f p).at ≡ (back_of f p).at = ap (λ (x : Point). x.at) e in
