@@ -3,8 +3,6 @@ pub mod Origins
 pub mod Seconds
 pub mod Unsaved
 pub mod SavedCalls
-pub mod Strands
-pub mod Ways
 pub mod SavedEdges
 pub mod SavedSwitches
 pub mod RenamedOperands

@@ -8,7 +8,6 @@ use Rattle.early_path_rules.proofs.Moved.{front_same, led_home, same_source}
 use Rattle.early_path_rules.proofs.Origins.{HasOrigin, Kept, Suspended, Written, origin}
 use Rattle.early_path_rules.proofs.SavedUses.{block_edges_saved, uses_move, values_within}
 use Rattle.early_path_rules.proofs.SavedWindows.{inside_home, label_saved, lone_token, none_between, not_same}
-use Rattle.early_path_rules.proofs.Strands.{AreAvoided}
 use Rattle.early_path_rules.proofs.Unsaved.{bare_is}
 use Rattle.early_path_rules.proofs.Where.{where_has}
 use Rattle.early_path_rules.proofs.Windows.{NoWrongWindow, got_has, is_save, passing_is}
@@ -25,6 +24,7 @@ use Rattle.save_agreement.proofs.Apart.{front_back}
 use Rattle.save_agreement.proofs.Behind.{end_saved}
 use Rattle.save_agreement.proofs.Blocks.{get_block, position_saved}
 use Rattle.save_agreement.proofs.Saves.{each_here}
+use Rattle.save_agreement.proofs.Strands.{AreAvoided}
 use Rattle.save_agreement.proofs.Windows.{are_avoided as window_avoided}
 use Rattle.save_agreement.proofs.Windows.{instr_at_is, suspend_bare, suspend_lone}
 use Rattle.save_agreement.specs.SavesWritten.{is_bare, saved_block, saved_function}

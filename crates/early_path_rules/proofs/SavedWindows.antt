@@ -6,9 +6,7 @@ use Rattle.early_agreement.proofs.Outside.{where_pass}
 use Rattle.early_lower.specs.Early.{save_call, saved}
 use Rattle.early_path_rules.proofs.Moved.{IsOf, back_saved, back_stays, front_home, front_same, led_home, none_front}
 use Rattle.early_path_rules.proofs.Origins.{HasOrigin, Kept, Suspended, Written, origin}
-use Rattle.early_path_rules.proofs.Strands.{AreAvoided, IsLedTo, IsOnlyNext, from_front, leads_forth, leads_home}
 use Rattle.early_path_rules.proofs.Unsaved.{bare_is}
-use Rattle.early_path_rules.proofs.Ways.{IsMovedFrom, map_has, save_leads, strands, within}
 use Rattle.early_path_rules.proofs.Windows.{NoWrongWindow, got_has, is_save, passing_is}
 use Rattle.ir_model.specs.Names.{is_local}
 use Rattle.ir_model.specs.declared.instr.Instr.{Instr}
@@ -25,6 +23,8 @@ use Rattle.save_agreement.proofs.Behind.{entry_saved}
 use Rattle.save_agreement.proofs.Blocks.{get_block}
 use Rattle.save_agreement.proofs.Instrs.{name_at}
 use Rattle.save_agreement.proofs.Saves.{each_here}
+use Rattle.save_agreement.proofs.Strands.{AreAvoided, IsLedTo, IsOnlyNext, from_front, leads_forth, leads_home}
+use Rattle.save_agreement.proofs.Ways.{IsMovedFrom, map_has, save_leads, strands, within}
 use Rattle.save_agreement.proofs.Windows.{instr_at_is, suspend_bare, suspends_saved}
 use Rattle.save_agreement.proofs.Windows.{are_avoided as window_avoided}
 use Rattle.save_agreement.specs.SavesWritten.{behind_save, behind_saves, is_bare, saved_block, saved_blocks, saved_function, with_saves}
