@@ -3,8 +3,6 @@ pub mod Origins
 pub mod Seconds
 pub mod Unsaved
 pub mod SavedCalls
-pub mod Strands
-pub mod Ways
 pub mod SavedEdges
 pub mod SavedSwitches
 pub mod RenamedOperands
@@ -25,6 +23,9 @@ pub mod NamedWindows
 pub mod SavedWindows
 pub mod Marked
 pub mod OtherMarked
+pub mod KeptValues
+pub mod MappedKept
+pub mod SavedKept
 pub mod SavedEarly
 pub mod OtherEarly
 pub mod NamedEarly

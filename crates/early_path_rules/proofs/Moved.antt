@@ -4,8 +4,6 @@ use Rattle.std.specs.Prelude.{Some, None, Option, slice_get, if◌then◌else◌
 use Rattle.early_agreement.specs.Regular.{passes}
 use Rattle.early_lower.specs.Early.{save_call, saved}
 use Rattle.early_path_rules.proofs.SavedCalls.{IsOwn}
-use Rattle.early_path_rules.proofs.Strands.{AreAvoided, IsLedTo, IsOnlyNext, ahead_home, leads_home}
-use Rattle.early_path_rules.proofs.Ways.{strands, within}
 use Rattle.early_path_rules.proofs.Where.{has_where}
 use Rattle.ir_model.specs.declared.instr.Instr.{Instr}
 use Rattle.ir_model.specs.declared.module.Function.{Function}
@@ -16,6 +14,8 @@ use Rattle.save_agreement.proofs.Apart.{back_back, front_back, front_front}
 use Rattle.save_agreement.proofs.Instrs.{name_at}
 use Rattle.save_agreement.proofs.Parts.{at_back}
 use Rattle.save_agreement.proofs.Saves.{lone_front}
+use Rattle.save_agreement.proofs.Strands.{AreAvoided, IsLedTo, IsOnlyNext, ahead_home, leads_home}
+use Rattle.save_agreement.proofs.Ways.{strands, within}
 use Rattle.save_agreement.proofs.Windows.{front_bare, front_lone, instr_at_is}
 use Rattle.save_agreement.specs.SavesWritten.{is_bare, saved_function}
 use Rattle.save_agreement.specs.Spots.{back_of, front_of, instrs_in, number_of_block, own_saves}

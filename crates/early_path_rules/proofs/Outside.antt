@@ -13,7 +13,6 @@ use Rattle.early_path_rules.proofs.Moved.{IsOf, are_avoided, front_home, led_hom
 use Rattle.early_path_rules.proofs.Origins.{HasOrigin, IsSavedBlock, Kept, Suspended, Written, block_from, origin}
 use Rattle.early_path_rules.proofs.RenamedOperands.{map_was}
 use Rattle.early_path_rules.proofs.SavedCalls.{IsOwn, own_call}
-use Rattle.early_path_rules.proofs.Strands.{AreAvoided}
 use Rattle.early_path_rules.proofs.Unsaved.{bare_is}
 use Rattle.early_path_rules.proofs.Where.{has_where}
 use Rattle.early_agreement.specs.Regular.{passes}
@@ -29,6 +28,7 @@ use Rattle.ir_paths.specs.Windows.{instr_at, instr_in, is_call_of, points_where}
 use Rattle.ir_paths.specs.declared.point.Point.{Point}
 use Rattle.point_graph.specs.Reached.{IsReached}
 use Rattle.save_agreement.proofs.Instrs.{back_end}
+use Rattle.save_agreement.proofs.Strands.{AreAvoided}
 use Rattle.save_agreement.specs.SavesWritten.{is_bare, saved_function}
 use Rattle.save_agreement.specs.Spots.{back_of, front_of, instrs_in, number_of_block, own_saves, place_in}
 use Rattle.save_agreement.specs.Tokens.{HasNamedTokens}

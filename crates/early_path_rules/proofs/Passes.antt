@@ -10,6 +10,8 @@ use Rattle.early_agreement.specs.Regular.{AllKeepRules, IsRegular, KeepsRules}
 use Rattle.early_lower.specs.BeginName.{begin_named, if_unnamed, with_begin_name}
 use Rattle.early_lower.specs.Early.{early_module, renaming_of}
 use Rattle.early_meaning.proofs.Names.{named_locals, named_uses, renamed_locals, renamed_uses}
+use Rattle.early_path_rules.proofs.KeptValues.{of_kept, to_kept}
+use Rattle.early_path_rules.proofs.MappedKept.{kept_named, kept_renamed}
 use Rattle.early_path_rules.proofs.Marked.{marked_saved, of_marked, to_marked}
 use Rattle.early_path_rules.proofs.NamedCalls.{second_final_named, too_many_named, wrong_call_named, wrong_edge_named, wrong_promise_named}
 use Rattle.early_path_rules.proofs.NamedEarly.{early_named_too}
@@ -27,6 +29,7 @@ use Rattle.early_path_rules.proofs.RenamedUses.{undefined_renamed}
 use Rattle.early_path_rules.proofs.SavedCalls.{second_final_saved, too_many_saved, wrong_call_saved, wrong_promise_saved}
 use Rattle.early_path_rules.proofs.SavedEarly.{first_early_saved, of_early, to_early}
 use Rattle.early_path_rules.proofs.SavedEdges.{wrong_edge_saved}
+use Rattle.early_path_rules.proofs.SavedKept.{kept_saved}
 use Rattle.early_path_rules.proofs.SavedSwitches.{wrong_switch_saved}
 use Rattle.early_path_rules.proofs.SavedUses.{undefined_saved}
 use Rattle.early_path_rules.proofs.SavedWindows.{windows_saved}
@@ -51,6 +54,7 @@ use Rattle.slot_rules.specs.Marked.{IsFirstMarked}
 use Rattle.sound_states.specs.Named.{AreLocalsNamed, AreUsesNamed, HasNamedOperands}
 use Rattle.window_rules.specs.Outside.{IsFirstOutside}
 use Rattle.window_rules.specs.Windows.{IsFirstWindow}
+use Rattle.window_values.specs.Kept.{IsFirstKept}
 
 -- ---- one function
 
@@ -134,6 +138,7 @@ module _ (func : ℕ) where
     undefined_use = rules.undefined_use;
     outside = rules.outside;
     window = to_window func (begin_named f) (windows_alike f (begin_named f) (alike_named f) (of_window func f coroutine h.window));
+    kept_value = to_kept func (begin_named f) (kept_named func f e (of_window func f coroutine h.window) (of_kept func f coroutine h.kept_value));
     marked_slot = to_marked func (begin_named f) (marked_named f uses e (of_marked func f coroutine h.marked_slot));
     early_address = to_early func (begin_named f) (early_named_too f uses e (of_early func f coroutine h.early_address));
   }
@@ -147,6 +152,7 @@ module _ (func : ℕ) where
         undefined_use = undefined_renamed (renaming_of f) func f ok nothing rules.params rules.undefined_use;
         outside = to_outside func (renamed_by_its_own f) (outside_renamed (renaming_of f) f nothing);
         window = to_window func (renamed_by_its_own f) (windows_alike f (renamed_by_its_own f) (alike_renamed (renaming_of f) f ok) (of_window func f coroutine h.window));
+        kept_value = to_kept func (renamed_by_its_own f) (kept_renamed (renaming_of f) func f ok (of_window func f coroutine h.window) (of_kept func f coroutine h.kept_value));
         marked_slot = to_marked func (renamed_by_its_own f) (marked_renamed (renaming_of f) f ok (of_marked func f coroutine h.marked_slot));
         early_address = to_early func (renamed_by_its_own f) (early_renamed (renaming_of f) f ok (of_early func f coroutine h.early_address));
       }
@@ -156,6 +162,7 @@ module _ (func : ℕ) where
     undefined_use = undefined_saved func f h.undefined_use;
     outside = to_outside func (saved_function f) (outside_saved f named (of_outside func f coroutine h.outside));
     window = to_window func (saved_function f) (windows_saved f named (of_window func f coroutine h.window));
+    kept_value = to_kept func (saved_function f) (kept_saved f named func (of_window func f coroutine h.window) (of_kept func f coroutine h.kept_value));
     marked_slot = to_marked func (saved_function f) (marked_saved f named (of_marked func f coroutine h.marked_slot));
     early_address = first_early_saved func f coroutine named h.outside h.early_address;
   }
@@ -218,6 +225,7 @@ accepted_paths m accepted k f there =
       undefined_use = subst (IsFirstUndefined f (uses_of k f)) x.none.undefined_use x.are.undefined_use;
       outside = subst (IsFirstOutside k f) x.none.outside x.are.outside;
       window = subst (IsFirstWindow k f) x.none.window x.are.window;
+      kept_value = subst (IsFirstKept k f) x.none.kept_value x.are.kept_value;
       marked_slot = subst (IsFirstMarked k f) x.none.marked_slot x.are.marked_slot;
       early_address = subst (IsFirstEarly k f) x.none.early_address x.are.early_address;
     }

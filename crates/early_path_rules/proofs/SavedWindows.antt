@@ -6,9 +6,7 @@ use Rattle.early_agreement.proofs.Outside.{where_pass}
 use Rattle.early_lower.specs.Early.{save_call, saved}
 use Rattle.early_path_rules.proofs.Moved.{IsOf, back_saved, back_stays, front_home, front_same, led_home, none_front}
 use Rattle.early_path_rules.proofs.Origins.{HasOrigin, Kept, Suspended, Written, origin}
-use Rattle.early_path_rules.proofs.Strands.{AreAvoided, IsLedTo, IsOnlyNext, from_front, leads_forth, leads_home}
 use Rattle.early_path_rules.proofs.Unsaved.{bare_is}
-use Rattle.early_path_rules.proofs.Ways.{IsMovedFrom, map_has, save_leads, strands, within}
 use Rattle.early_path_rules.proofs.Windows.{NoWrongWindow, got_has, is_save, passing_is}
 use Rattle.ir_model.specs.Names.{is_local}
 use Rattle.ir_model.specs.declared.instr.Instr.{Instr}
@@ -25,6 +23,8 @@ use Rattle.save_agreement.proofs.Behind.{entry_saved}
 use Rattle.save_agreement.proofs.Blocks.{get_block}
 use Rattle.save_agreement.proofs.Instrs.{name_at}
 use Rattle.save_agreement.proofs.Saves.{each_here}
+use Rattle.save_agreement.proofs.Strands.{AreAvoided, IsLedTo, IsOnlyNext, from_front, leads_forth, leads_home}
+use Rattle.save_agreement.proofs.Ways.{IsMovedFrom, map_has, save_leads, strands, within}
 use Rattle.save_agreement.proofs.Windows.{instr_at_is, suspend_bare, suspends_saved}
 use Rattle.save_agreement.proofs.Windows.{are_avoided as window_avoided}
 use Rattle.save_agreement.specs.SavesWritten.{behind_save, behind_saves, is_bare, saved_block, saved_blocks, saved_function, with_saves}
@@ -149,7 +149,7 @@ module _ (f : Function) (named : HasNamedTokens f) where
   name_of p = name_at f.coroutine p.at (number_of_block f.coroutine p.block (length f.names) f.blocks) (instrs_in (slice_get f.blocks p.block))
 
   -- where the edges of a suspend lead
-  label_saved : (n : ℕ) (s : Point) → label_at n (slice_get late.blocks s.block) ≡ label_at n (slice_get f.blocks s.block)
+  pub label_saved : (n : ℕ) (s : Point) → label_at n (slice_get late.blocks s.block) ≡ label_at n (slice_get f.blocks s.block)
   label_saved n s = ap (label_at n) (get_block f.coroutine s.block (length f.names) f.blocks) ∙ on (slice_get f.blocks s.block)
     where
       on : (o : Option Block) → label_at n (option_map (saved_block f.coroutine (number_of_block f.coroutine s.block (length f.names) f.blocks)) o) ≡ label_at n o
@@ -305,7 +305,7 @@ module _ (f : Function) (named : HasNamedTokens f) where
     next_only : nexts late (front_of f p) ≡ back_of f p ∷ []
     next_only = save_leads f p i (here_is p i there) bare
 
-    not_same : front_of f p ≡ back_of f p → ⊥
+    pub not_same : front_of f p ≡ back_of f p → ⊥
     not_same e =
         let own : own_saves f.coroutine (slice_get (instrs_in (slice_get f.blocks p.block)) p.at) ≡ 1 = ap (own_saves f.coroutine) (here_is p i there) ∙ ap (λ (t : Bool). if t then 1 else 0) bare in
         let at : (front_of f p).at ≡ (back_of f p).at = ap (λ (x : Point). x.at) e in

@@ -7,11 +7,13 @@ use Rattle.slot_rules.specs.Early.{IsFirstEarly}
 use Rattle.slot_rules.specs.Marked.{IsFirstMarked}
 use Rattle.window_rules.specs.Outside.{IsFirstOutside}
 use Rattle.window_rules.specs.Windows.{IsFirstWindow}
+use Rattle.window_values.specs.Kept.{IsFirstKept}
 
--- F2, K5, K6, K8 and K9 have no fault in the function
+-- F2, K5, K6, K7, K8 and K9 have no fault in the function
 pub record KeepsPaths (func : ℕ) (f : Function) : Type 0 where
   pub undefined_use : IsFirstUndefined f (uses_of func f) None
   pub outside : IsFirstOutside func f None
   pub window : IsFirstWindow func f None
+  pub kept_value : IsFirstKept func f None
   pub marked_slot : IsFirstMarked func f None
   pub early_address : IsFirstEarly func f None

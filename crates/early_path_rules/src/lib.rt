@@ -22,7 +22,7 @@ pub fn early_functions_keep_shape()
     ensures { (m : Module) → IsRefused Stage.Source m None → AreTabled m → AreLocalsNamed m → AreUsesNamed m → (k : ℕ) (g : Function) → slice_get (early_module m).functions k ≡ Some g → KeepsShape k g }
 {}
 
-/// The functions of a source that breaks no rule have no fault of F2, K5, K6, K8 and K9.
+/// The functions of a source that breaks no rule have no fault of F2, K5, K6, K7, K8 and K9.
 pub fn accepted_functions_keep_paths()
     ensures { (m : Module) → IsRefused Stage.Source m None → (k : ℕ) (f : Function) → slice_get m.functions k ≡ Some f → KeepsPaths k f }
 {}

@@ -1,9 +1,9 @@
 -- Values with further names at their end, which have no value.
-use Rattle.std.proofs.Common.{◌≡◌, ℕ, zero, suc, ◌+◌, ◌<◌, ◌≤◌, List, [], ◌∷◌, ◌++◌, length, refl, sym, ap, ◌∙◌, subst, arith}
-use Rattle.std.specs.Prelude.{Some, None, Option, replicate, slice_get, slice_set}
+use Rattle.std.proofs.Common.{◌≡◌, ℕ, zero, suc, ◌<◌, List, [], ◌∷◌, ◌++◌, length, refl, sym, ap, ◌∙◌, subst, arith}
+use Rattle.std.specs.Prelude.{Some, None, Option, replicate, slice_get}
 use Rattle.block_memory.specs.declared.pointer.Value.{Value}
 use Rattle.ir_model.specs.declared.module.Param.{Param}
-use Rattle.ordinary_step.specs.Step.{entry_values, with_all, with_params}
+use Rattle.ordinary_step.specs.Step.{with_all, with_params}
 use Rattle.ordinary_step.specs.Values.{Env, value_in, value_or_poison, with_result, with_value}
 use Rattle.save_agreement.specs.Tokens.{Each, IsNamedResult}
 

@@ -1,10 +1,10 @@
 pub mod Expansion
-mod Strands
+pub mod Strands
 pub mod Instrs
 pub mod Blocks
-mod Ways
-mod Points
-mod Tokens
+pub mod Ways
+pub mod Points
+pub mod Tokens
 pub mod Apart
 pub mod Windows
 pub mod Saves
