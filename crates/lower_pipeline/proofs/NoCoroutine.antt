@@ -7,7 +7,7 @@ use Rattle.coro_cleanup.proofs.Freed.{module_freed}
 use Rattle.coro_cleanup.specs.Cleanup.{clean_function, is_kept_instr}
 use Rattle.coro_cleanup.specs.Free.{calls_id_alone, is_free}
 use Rattle.coro_split.specs.Parts.{allocas_of, back_blocks, done_block, entry_instrs, head_blocks, is_alloca, later_part, layouts_after, first_layout, origins_for, part_blocks, parts_of, plain_of, plain_shape, ramp_of, split_function, split_functions, split_module}
-use Rattle.coro_split.specs.Pieces.{all_pieces, first_piecing, pass_block, piece, pieced, pieces_of, piecing_of, redirected_term, stop_label, with_instr, with_instrs}
+use Rattle.coro_split.specs.Pieces.{all_pieces, begins_again, first_piecing, next_piecing, pass_block, piece, pieced, pieces_of, piecing_of, redirected_term, stop_label, stopped, with_instr, with_instrs}
 use Rattle.coro_split.specs.Reached.{is_flagged, kept_block, kept_blocks, pruned, reached}
 use Rattle.coro_split.specs.declared.origin.Origin.{Origin}
 use Rattle.coro_split.specs.declared.piecing.Piecing.{Piecing}
@@ -181,11 +181,18 @@ one_fine : (b : Bool) (p q : Piecing) → Fine p → Fine q → Fine (if b then 
 one_fine true p q h k = h
 one_fine false p q h k = k
 
+stopped_fine : (p : Piecing) → Fine p → Fine (stopped p)
+stopped_fine p h = record { whole = ended p p.label p.phis p.instrs Terminator.Unreachable h h.instrs; instrs = refl }
+
+next_fine : (s : Shape) (part : Part) (term : Terminator) (p : Piecing) (i : Instr) (after : List Instr) → Fine p → Fine (next_piecing s part term p i after)
+next_fine s part term p i after h =
+    one_fine (begins_again part i) (stopped p) (pieced s p i term (cut_at s part i after)) (stopped_fine p h) (pieced_fine s p i term (cut_at s part i after) h)
+
 with_instrs_fine : (s : Shape) (part : Part) (term : Terminator) (p : Piecing) (is : List Instr) → Fine p → Fine (with_instrs s part term p is)
 with_instrs_fine s part term p [] h = h
 with_instrs_fine s part term p (i ∷ after) h =
     with_instrs_fine s part term (with_instr s part term p i after) after
-    (one_fine p.ended p (pieced s p i term (cut_at s part i after)) h (pieced_fine s p i term (cut_at s part i after) h))
+    (one_fine p.ended p (next_piecing s part term p i after) h (next_fine s part term p i after h))
 
 all_pieces_fine : (s : Shape) (p : Piecing) (term : Terminator) → Fine p → list_all is_fine_block (all_pieces s p term) ≡ true
 all_pieces_fine s p term h = on p.ended
