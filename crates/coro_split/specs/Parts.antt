@@ -38,6 +38,23 @@ abbrev pub allocas_of : List Block → List Instr
 allocas_of [] = []
 allocas_of (b ∷ bs) = filter is_alloca b.instrs
 
+abbrev pub is_no_alloca : Instr → Bool
+is_no_alloca i = if is_alloca i then false else true
+
+-- a block with its allocas in front
+abbrev pub allocas_first : Block → Block
+allocas_first b =
+    record { label = b.label; phis = b.phis; instrs = filter is_alloca b.instrs ++ filter is_no_alloca b.instrs; term = b.term }
+
+-- the allocas of the entry block stand before begin and the saves, at which it is cut
+abbrev pub with_allocas_first : List Block → List Block
+with_allocas_first [] = []
+with_allocas_first (b ∷ bs) = allocas_first b ∷ bs
+
+abbrev pub ramp_source : Function → Function
+ramp_source f =
+    record { name = f.name; result = f.result; params = f.params; coroutine = f.coroutine; blocks = with_allocas_first f.blocks; names = f.names }
+
 -- the final suspend is no place to resume at
 abbrev pub is_entered : Part → SuspendPoint → Bool
 is_entered Part.Resume p = if p.is_final then false else true
@@ -184,7 +201,7 @@ later_part s part name f =
 
 abbrev pub parts_of : Shape → Function → List Function
 parts_of s f =
-    pruned (ramp_of s f)
+    pruned (ramp_of s (ramp_source f))
     ∷ pruned (later_part s Part.Resume s.resume_name f)
     ∷ pruned (later_part s Part.Destroy s.destroy_name f)
     ∷ []

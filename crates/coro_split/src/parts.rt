@@ -4,7 +4,7 @@ ghost use Rattle.std.specs.Prelude.{◌≡◌, ◌+◌, ◌-◌, IfOk, OnOk, ◌
 ghost use Rattle.coro_base.specs.declared.name.Name.{Name as TheName};
 ghost use Rattle.ir_model.specs.Names.{numbered};
 ghost use Rattle.coro_split.specs.Pieces.{next_after, pieces_of, piecing_of, first_piecing, all_pieces};
-ghost use Rattle.coro_split.specs.Parts.{is_alloca, allocas_of, is_entered, case_of, cases_from, entry_instrs, entry_term, entry_block, none_block, back_block, back_blocks, done_block, head_blocks, saved_name, back_name, pass_name, names_of_suspend, begun_mark, done_mark, entry_mark, none_mark, slot_mark, index_mark, frame_mark, label_names, suspend_names, instr_names, mark_names, names_of, origins_for, part_blocks, part_names, ramp_of, later_part, parts_of, plain_shape, plain_of};
+ghost use Rattle.coro_split.specs.Parts.{is_alloca, is_no_alloca, allocas_first, with_allocas_first, ramp_source, allocas_of, is_entered, case_of, cases_from, entry_instrs, entry_term, entry_block, none_block, back_block, back_blocks, done_block, head_blocks, saved_name, back_name, pass_name, names_of_suspend, begun_mark, done_mark, entry_mark, none_mark, slot_mark, index_mark, frame_mark, label_names, suspend_names, instr_names, mark_names, names_of, origins_for, part_blocks, part_names, ramp_of, later_part, parts_of, plain_shape, plain_of};
 
 use crate::origin::Origin;
 use crate::origins::set_origins;
@@ -47,6 +47,66 @@ fn allocas_of(alloc: Global, blocks: &[Block]) -> Result<Items<Instr>, AllocErro
         push_allocas(alloc, &mut all, entry.instrs.as_slice())?;
     }
     Ok(all)
+}
+
+fn push_others(alloc: Global, all: &mut Items<Instr>, instrs: &[Instr]) -> Result<(), AllocError>
+    ensures { OnOk result (all.new ≡ all.old ++ filter is_no_alloca instrs.now) }
+{
+    for instr in instrs {
+        if !is_alloca(instr) {
+            all.push(instr.copied(alloc)?)?;
+        }
+    }
+    Ok(())
+}
+
+/// The block with its allocas in front.
+fn allocas_first(alloc: Global, block: &Block) -> Result<Block, AllocError>
+    ensures { IfOk result (λ b. b ≡ allocas_first block.now) }
+{
+    let mut instrs = Items::new(alloc);
+    push_allocas(alloc, &mut instrs, block.instrs.as_slice())?;
+    push_others(alloc, &mut instrs, block.instrs.as_slice())?;
+    Ok(Block {
+        label: block.label,
+        phis: block.phis.copied(alloc)?,
+        instrs,
+        term: block.term.copied(alloc)?,
+    })
+}
+
+fn push_copies(alloc: Global, all: &mut Items<Block>, blocks: &[Block]) -> Result<(), AllocError>
+    ensures { OnOk result (all.new ≡ all.old ++ blocks.now) }
+{
+    for block in blocks {
+        all.push(block.copied(alloc)?)?;
+    }
+    Ok(())
+}
+
+fn with_allocas_first(alloc: Global, blocks: &[Block]) -> Result<Items<Block>, AllocError>
+    ensures { IfOk result (λ x. x ≡ with_allocas_first blocks.now) }
+{
+    let mut all = Items::new(alloc);
+    if let [entry, others @ ..] = blocks {
+        all.push(allocas_first(alloc, entry)?)?;
+        push_copies(alloc, &mut all, others)?;
+    }
+    Ok(all)
+}
+
+/// The coroutine with the allocas of its entry block in front.
+fn ramp_source(alloc: Global, function: &Function) -> Result<Function, AllocError>
+    ensures { IfOk result (λ f. f ≡ ramp_source function.now) }
+{
+    Ok(Function {
+        name: function.name.copied(alloc)?,
+        result: Data::copied(&function.result, alloc)?,
+        params: function.params.copied(alloc)?,
+        coroutine: function.coroutine,
+        blocks: with_allocas_first(alloc, function.blocks.as_slice())?,
+        names: function.names.copied(alloc)?,
+    })
 }
 
 fn is_entered(part: Part, point: &SuspendPoint) -> bool
@@ -516,7 +576,8 @@ pub fn push_parts(
 ) -> Result<(), AllocError>
     ensures { OnOk result (all.new ≡ all.old ++ parts_of shape.now function.now) }
 {
-    let ramp = pruned(alloc, ramp_of(alloc, shape, function)?)?;
+    let source = ramp_source(alloc, function)?;
+    let ramp = pruned(alloc, ramp_of(alloc, shape, &source)?)?;
     let resume = later_part(alloc, shape, Part::Resume, &shape.resume_name, function)?;
     let resume = pruned(alloc, resume)?;
     let destroy = later_part(alloc, shape, Part::Destroy, &shape.destroy_name, function)?;
