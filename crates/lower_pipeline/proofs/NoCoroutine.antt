@@ -238,17 +238,17 @@ backs_fine : (s : Shape) (part : Part) (j : ℕ) (ps : List SuspendPoint) → li
 backs_fine s part j [] = refl
 backs_fine s part j (p ∷ ps) = backs_fine s part (j + 1) ps
 
-head_fine : (s : Shape) (part : Part) (bs : List Block) → list_all is_fine_block (head_blocks s part bs) ≡ true
-head_fine s Part.Ramp bs = refl
-head_fine s Part.Resume bs = both _ _ (entry_fine s bs) (backs_fine s Part.Resume 0 s.suspends)
-head_fine s Part.Destroy bs = both _ _ (entry_fine s bs) (backs_fine s Part.Destroy 0 s.suspends)
+head_fine : (s : Shape) (part : Part) (f : Function) → list_all is_fine_block (head_blocks s part f) ≡ true
+head_fine s Part.Ramp f = refl
+head_fine s Part.Resume f = both _ _ (entry_fine s f.blocks) (backs_fine s Part.Resume 0 s.suspends)
+head_fine s Part.Destroy f = both _ _ (entry_fine s f.blocks) (backs_fine s Part.Destroy 0 s.suspends)
 
 part_fine : (s : Shape) (part : Part) (f : Function) (origins : List Origin) → list_all is_fine_block (part_blocks s part f origins) ≡ true
 part_fine s part f origins =
-    let head = head_blocks s part f.blocks in
+    let head = head_blocks s part f in
     let pieces = pieces_of s part origins (first_name s) f.blocks in
     all_joined is_fine_block (head ++ pieces) (done_block s ∷ [])
-    (all_joined is_fine_block head pieces (head_fine s part f.blocks) (pieces_fine s part origins (first_name s) f.blocks)) refl
+    (all_joined is_fine_block head pieces (head_fine s part f) (pieces_fine s part origins (first_name s) f.blocks)) refl
 
 kept_fine : (flags : List Bool) (bs : List Block) → list_all is_fine_block bs ≡ true → list_all is_fine_block (kept_blocks flags bs) ≡ true
 kept_fine flags bs h =
