@@ -20,7 +20,7 @@ use Rattle.ir_model.specs.declared.ir_type.IntWidth.{IntWidth}
 use Rattle.intrinsic_lowering.specs.Lowered.{address, number_arg}
 use Rattle.intrinsic_lowering.specs.Cuts.{goes_on}
 use Rattle.coro_split.specs.Pieces.{going_on, next_after, origins_of, pieces_of, redirected}
-use Rattle.coro_split.specs.Reached.{pruned}
+use Rattle.coro_split.specs.Reached.{is_flagged, pruned, reached}
 use Rattle.intrinsic_lowering.specs.Shapes.{back_label, done_label, entry_label, first_name, index_bytes, index_name, none_label, shape_of, slot_name}
 use Rattle.coro_split.specs.declared.origin.Origin.{Origin}
 use Rattle.intrinsic_lowering.specs.declared.shape.Part.{Part}
@@ -38,18 +38,39 @@ abbrev pub allocas_of : List Block → List Instr
 allocas_of [] = []
 allocas_of (b ∷ bs) = filter is_alloca b.instrs
 
+abbrev pub is_no_alloca : Instr → Bool
+is_no_alloca i = if is_alloca i then false else true
+
+-- a block with its allocas in front
+abbrev pub allocas_first : Block → Block
+allocas_first b =
+    record { label = b.label; phis = b.phis; instrs = filter is_alloca b.instrs ++ filter is_no_alloca b.instrs; term = b.term }
+
+-- the allocas of the entry block stand before begin and the saves, at which it is cut
+abbrev pub with_allocas_first : List Block → List Block
+with_allocas_first [] = []
+with_allocas_first (b ∷ bs) = allocas_first b ∷ bs
+
+abbrev pub ramp_source : Function → Function
+ramp_source f =
+    record { name = f.name; result = f.result; params = f.params; coroutine = f.coroutine; blocks = with_allocas_first f.blocks; names = f.names }
+
 -- the final suspend is no place to resume at
-abbrev pub is_entered : Part → SuspendPoint → Bool
-is_entered Part.Resume p = if p.is_final then false else true
-is_entered _ p = true
+abbrev pub goes_on_at : Part → SuspendPoint → Bool
+goes_on_at Part.Resume p = if p.is_final then false else true
+goes_on_at _ p = true
+
+-- nor is a suspend in a block that the entry of the coroutine doesn't reach
+abbrev pub is_entered : List Bool → Part → SuspendPoint → Bool
+is_entered flags part p = if is_flagged flags p.block then goes_on_at part p else false
 
 abbrev pub case_of : Shape → ℕ → Case
 case_of s j = record { arg = number_arg (bits_of s.width) (pos j); target = back_label s j }
 
 -- the suspends from the j-th on at which a part may go on
-abbrev pub cases_from : Shape → Part → ℕ → List SuspendPoint → List Case
-cases_from s part j [] = []
-cases_from s part j (p ∷ ps) = (if is_entered part p then case_of s j ∷ [] else []) ++ cases_from s part (j + 1) ps
+abbrev pub cases_from : Shape → List Bool → Part → ℕ → List SuspendPoint → List Case
+cases_from s flags part j [] = []
+cases_from s flags part j (p ∷ ps) = (if is_entered flags part p then case_of s j ∷ [] else []) ++ cases_from s flags part (j + 1) ps
 
 -- the allocas again, and the index
 abbrev pub entry_instrs : Shape → List Block → List Instr
@@ -60,12 +81,12 @@ entry_instrs s blocks =
     ∷ []
 
 -- the index leads to where the part goes on
-abbrev pub entry_term : Shape → Part → Terminator
-entry_term s part =
-    Terminator.Switch (record { ty = int (bits_of s.width); value = Operand.Local (index_name s) }) (none_label s) (cases_from s part 0 s.suspends)
+abbrev pub entry_term : Shape → List Bool → Part → Terminator
+entry_term s flags part =
+    Terminator.Switch (record { ty = int (bits_of s.width); value = Operand.Local (index_name s) }) (none_label s) (cases_from s flags part 0 s.suspends)
 
-abbrev pub entry_block : Shape → Part → List Block → Block
-entry_block s part blocks = record { label = entry_label s; phis = []; instrs = entry_instrs s blocks; term = entry_term s part }
+abbrev pub entry_block : Shape → List Bool → Part → List Block → Block
+entry_block s flags part blocks = record { label = entry_label s; phis = []; instrs = entry_instrs s blocks; term = entry_term s flags part }
 
 abbrev pub none_block : Shape → Block
 none_block s = record { label = none_label s; phis = []; instrs = []; term = Terminator.Unreachable }
@@ -85,11 +106,11 @@ back_blocks s part j (p ∷ ps) = back_block s part j p ∷ back_blocks s part (
 abbrev pub done_block : Shape → Block
 done_block s = record { label = done_label s; phis = []; instrs = []; term = Terminator.Jump s.end }
 
-abbrev pub later_head : Shape → Part → List Block → List Block
-later_head s part blocks = entry_block s part blocks ∷ none_block s ∷ back_blocks s part 0 s.suspends
+abbrev pub later_head : Shape → List Bool → Part → List Block → List Block
+later_head s flags part blocks = entry_block s flags part blocks ∷ none_block s ∷ back_blocks s part 0 s.suspends
 
-abbrev pub head_blocks : Shape → Part → List Block → List Block
-head_blocks s part blocks = if goes_on part then later_head s part blocks else []
+abbrev pub head_blocks : Shape → Part → Function → List Block
+head_blocks s part f = if goes_on part then later_head s (reached f) part f.blocks else []
 
 -- ---- names
 
@@ -152,7 +173,7 @@ origins_for s part f = origins_of s part (replicate (length f.names) Origin.Nowh
 
 -- the pieces of blocks, and the next new name behind them
 abbrev pub part_blocks : Shape → Part → Function → List Origin → List Block
-part_blocks s part f origins = head_blocks s part f.blocks ++ pieces_of s part origins (first_name s) f.blocks ++ done_block s ∷ []
+part_blocks s part f origins = head_blocks s part f ++ pieces_of s part origins (first_name s) f.blocks ++ done_block s ∷ []
 
 abbrev pub part_names : Shape → Part → Function → List Origin → List Name
 part_names s part f origins = names_of s f.names (next_after s part origins (first_name s) f.blocks - first_name s)
@@ -184,7 +205,7 @@ later_part s part name f =
 
 abbrev pub parts_of : Shape → Function → List Function
 parts_of s f =
-    pruned (ramp_of s f)
+    pruned (ramp_of s (ramp_source f))
     ∷ pruned (later_part s Part.Resume s.resume_name f)
     ∷ pruned (later_part s Part.Destroy s.destroy_name f)
     ∷ []

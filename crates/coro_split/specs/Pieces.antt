@@ -1,4 +1,4 @@
--- The pieces of a block: it is cut at begin and at each save, and ends at its suspend; where the part goes on behind a suspend, it also ends at the end.
+-- The pieces of a block: it is cut at begin and at each save, and ends at its suspend; where the part goes on behind a suspend, it also ends at the end, and before begin.
 use Rattle.std.specs.Prelude.{ℕ, Bool, true, false, List, [], map, filter_map, slice_get, slice_set, Some, None, Option, option_map, ◌+◌, ◌∷◌, ◌++◌, if◌then◌else◌, ◌==◌}
 use Rattle.ir_model.specs.declared.instr.Case.{Case}
 use Rattle.ir_model.specs.declared.instr.Incoming.{Incoming}
@@ -6,7 +6,9 @@ use Rattle.ir_model.specs.declared.instr.Instr.{Instr}
 use Rattle.ir_model.specs.declared.instr.Phi.{Phi}
 use Rattle.ir_model.specs.declared.instr.Terminator.{Terminator}
 use Rattle.ir_model.specs.declared.module.Block.{Block}
-use Rattle.intrinsic_lowering.specs.Cuts.{cut_at}
+use Rattle.ir_model.specs.declared.operand.Callee.{Callee}
+use Rattle.ir_model.specs.declared.operand.Intrinsic.{Intrinsic}
+use Rattle.intrinsic_lowering.specs.Cuts.{cut_at, goes_on}
 use Rattle.intrinsic_lowering.specs.Lowered.{lowered, names_taken}
 use Rattle.intrinsic_lowering.specs.Shapes.{back_label, done_label, pass_label}
 use Rattle.intrinsic_lowering.specs.declared.cuts.Cut.{Cut}
@@ -58,9 +60,24 @@ pieced s p i term (Cut.Transfers j) =
     (piece p p.instrs (Terminator.Jump (pass_label s j)) ∷ pass_block (pass_label s j) (lowered s p.next i) ∷ [])
     (p.next + names_taken i)
 
+abbrev pub is_begin : Instr → Bool
+is_begin (Instr.Call result must_tail ty (Callee.Intrinsic Intrinsic.CoroBegin) args) = true
+is_begin _ = false
+
+-- a begin in a part that goes on behind a suspend, which has begun
+abbrev pub begins_again : Part → Instr → Bool
+begins_again part i = if goes_on part then is_begin i else false
+
+-- the block ends before such a begin
+abbrev pub stopped : Piecing → Piecing
+stopped p = ended_with p (piece p p.instrs Terminator.Unreachable ∷ []) p.next
+
+abbrev pub next_piecing : Shape → Part → Terminator → Piecing → Instr → List Instr → Piecing
+next_piecing s part term p i after = if begins_again part i then stopped p else pieced s p i term (cut_at s part i after)
+
 -- one instruction more, with those behind it
 abbrev pub with_instr : Shape → Part → Terminator → Piecing → Instr → List Instr → Piecing
-with_instr s part term p i after = if p.ended then p else pieced s p i term (cut_at s part i after)
+with_instr s part term p i after = if p.ended then p else next_piecing s part term p i after
 
 abbrev pub with_instrs : Shape → Part → Terminator → Piecing → List Instr → Piecing
 with_instrs s part term p [] = p
@@ -147,8 +164,12 @@ abbrev pub is_nowhere : Origin → Bool
 is_nowhere Origin.Nowhere = true
 is_nowhere _ = false
 
+-- no edge leaves a block that ends before a begin
+abbrev pub next_origin : Shape → Part → Origin → Instr → Origin
+next_origin s part o i = if begins_again part i then Origin.Nowhere else after_cut o (cut_at s part i [])
+
 abbrev pub origin_after : Shape → Part → Origin → Instr → Origin
-origin_after s part o i = if is_nowhere o then o else after_cut o (cut_at s part i [])
+origin_after s part o i = if is_nowhere o then o else next_origin s part o i
 
 abbrev pub origin_in : Shape → Part → Origin → List Instr → Origin
 origin_in s part o [] = o

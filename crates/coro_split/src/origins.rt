@@ -1,9 +1,10 @@
 //! From where the edges of each block come.
 
 ghost use Rattle.std.specs.Prelude.{◌≡◌, IfOk, OnOk, []};
-ghost use Rattle.coro_split.specs.Pieces.{after_cut, is_nowhere, origin_after, origin_in, origins_by, suspend_origins, origins_of};
+ghost use Rattle.coro_split.specs.Pieces.{after_cut, is_nowhere, next_origin, origin_after, origin_in, origins_by, suspend_origins, origins_of};
 
 use crate::origin::Origin;
+use crate::pieces::begins_again;
 use coro_base::Items;
 use intrinsic_lowering::{Cut, Part, Shape, SuspendPoint, cut_at, later};
 use ir_model::{Block, Instr};
@@ -28,6 +29,21 @@ fn is_nowhere(origin: Origin) -> bool
     }
 }
 
+fn next_origin(
+    shape: &Shape,
+    part: Part,
+    origin: Origin,
+    instr: &Instr,
+) -> Result<Origin, AllocError>
+    ensures { IfOk result (λ o. o ≡ next_origin shape.now part origin instr.now) }
+{
+    if begins_again(part, instr) {
+        return Ok(Origin::Nowhere);
+    }
+    let cut = cut_at(shape, part, instr, &[])?;
+    Ok(after_cut(origin, cut))
+}
+
 fn origin_after(
     shape: &Shape,
     part: Part,
@@ -39,8 +55,7 @@ fn origin_after(
     if is_nowhere(origin) {
         return Ok(origin);
     }
-    let cut = cut_at(shape, part, instr, &[])?;
-    Ok(after_cut(origin, cut))
+    next_origin(shape, part, origin, instr)
 }
 
 fn origin_in(

@@ -4,14 +4,14 @@ ghost use Rattle.std.specs.Prelude.{◌≡◌, ◌+◌, ◌-◌, IfOk, OnOk, ◌
 ghost use Rattle.coro_base.specs.declared.name.Name.{Name as TheName};
 ghost use Rattle.ir_model.specs.Names.{numbered};
 ghost use Rattle.coro_split.specs.Pieces.{next_after, pieces_of, piecing_of, first_piecing, all_pieces};
-ghost use Rattle.coro_split.specs.Parts.{is_alloca, allocas_of, is_entered, case_of, cases_from, entry_instrs, entry_term, entry_block, none_block, back_block, back_blocks, done_block, head_blocks, saved_name, back_name, pass_name, names_of_suspend, begun_mark, done_mark, entry_mark, none_mark, slot_mark, index_mark, frame_mark, label_names, suspend_names, instr_names, mark_names, names_of, origins_for, part_blocks, part_names, ramp_of, later_part, parts_of, plain_shape, plain_of};
+ghost use Rattle.coro_split.specs.Parts.{is_alloca, is_no_alloca, allocas_first, with_allocas_first, ramp_source, allocas_of, goes_on_at, is_entered, case_of, cases_from, entry_instrs, entry_term, entry_block, none_block, back_block, back_blocks, done_block, later_head, head_blocks, saved_name, back_name, pass_name, names_of_suspend, begun_mark, done_mark, entry_mark, none_mark, slot_mark, index_mark, frame_mark, label_names, suspend_names, instr_names, mark_names, names_of, origins_for, part_blocks, part_names, ramp_of, later_part, parts_of, plain_shape, plain_of};
 
 use crate::origin::Origin;
 use crate::origins::set_origins;
 use crate::phis::{going_on, pieced_phis};
 use crate::pieces::{all_pieces, redirected, with_instrs};
 use crate::piecing::Piecing;
-use crate::reached::pruned;
+use crate::reached::{is_flagged, pruned, reached};
 use coro_base::{Data, Items, Name, SuspendId, Text, ValueId};
 use intrinsic_lowering::{
     Part, Shape, SuspendPoint, address, goes_on, index_bytes, later, number_arg,
@@ -49,12 +49,82 @@ fn allocas_of(alloc: Global, blocks: &[Block]) -> Result<Items<Instr>, AllocErro
     Ok(all)
 }
 
-fn is_entered(part: Part, point: &SuspendPoint) -> bool
-    ensures { result ≡ is_entered part point.now }
+fn push_others(alloc: Global, all: &mut Items<Instr>, instrs: &[Instr]) -> Result<(), AllocError>
+    ensures { OnOk result (all.new ≡ all.old ++ filter is_no_alloca instrs.now) }
+{
+    for instr in instrs {
+        if !is_alloca(instr) {
+            all.push(instr.copied(alloc)?)?;
+        }
+    }
+    Ok(())
+}
+
+/// The block with its allocas in front.
+fn allocas_first(alloc: Global, block: &Block) -> Result<Block, AllocError>
+    ensures { IfOk result (λ b. b ≡ allocas_first block.now) }
+{
+    let mut instrs = Items::new(alloc);
+    push_allocas(alloc, &mut instrs, block.instrs.as_slice())?;
+    push_others(alloc, &mut instrs, block.instrs.as_slice())?;
+    Ok(Block {
+        label: block.label,
+        phis: block.phis.copied(alloc)?,
+        instrs,
+        term: block.term.copied(alloc)?,
+    })
+}
+
+fn push_copies(alloc: Global, all: &mut Items<Block>, blocks: &[Block]) -> Result<(), AllocError>
+    ensures { OnOk result (all.new ≡ all.old ++ blocks.now) }
+{
+    for block in blocks {
+        all.push(block.copied(alloc)?)?;
+    }
+    Ok(())
+}
+
+fn with_allocas_first(alloc: Global, blocks: &[Block]) -> Result<Items<Block>, AllocError>
+    ensures { IfOk result (λ x. x ≡ with_allocas_first blocks.now) }
+{
+    let mut all = Items::new(alloc);
+    if let [entry, others @ ..] = blocks {
+        all.push(allocas_first(alloc, entry)?)?;
+        push_copies(alloc, &mut all, others)?;
+    }
+    Ok(all)
+}
+
+/// The coroutine with the allocas of its entry block in front.
+fn ramp_source(alloc: Global, function: &Function) -> Result<Function, AllocError>
+    ensures { IfOk result (λ f. f ≡ ramp_source function.now) }
+{
+    Ok(Function {
+        name: function.name.copied(alloc)?,
+        result: Data::copied(&function.result, alloc)?,
+        params: function.params.copied(alloc)?,
+        coroutine: function.coroutine,
+        blocks: with_allocas_first(alloc, function.blocks.as_slice())?,
+        names: function.names.copied(alloc)?,
+    })
+}
+
+fn goes_on_at(part: Part, point: &SuspendPoint) -> bool
+    ensures { result ≡ goes_on_at part point.now }
 {
     match part {
         Part::Resume => !point.is_final,
         Part::Ramp | Part::Destroy => true,
+    }
+}
+
+fn is_entered(flags: &Items<bool>, part: Part, point: &SuspendPoint) -> bool
+    ensures { result ≡ is_entered flags.now part point.now }
+{
+    if is_flagged(flags, point.block) {
+        goes_on_at(part, point)
+    } else {
+        false
     }
 }
 
@@ -70,15 +140,16 @@ fn case_of(shape: &Shape, suspend: SuspendId) -> Result<Case, AllocError>
 fn cases_of(
     alloc: Global,
     shape: &Shape,
+    flags: &Items<bool>,
     part: Part,
     suspends: &[SuspendPoint],
 ) -> Result<Items<Case>, AllocError>
-    ensures { IfOk result (λ x. x ≡ cases_from shape.now part 0 suspends.now) }
+    ensures { IfOk result (λ x. x ≡ cases_from shape.now flags.now part 0 suspends.now) }
 {
     let mut all = Items::new(alloc);
     let mut number = 0;
     for point in suspends {
-        if is_entered(part, point) {
+        if is_entered(flags, part, point) {
             all.push(case_of(shape, number)?)?;
         }
         number = later(number, 1)?;
@@ -105,10 +176,11 @@ fn entry_instrs(alloc: Global, shape: &Shape, blocks: &[Block]) -> Result<Items<
 fn entry_block(
     alloc: Global,
     shape: &Shape,
+    flags: &Items<bool>,
     part: Part,
     blocks: &[Block],
 ) -> Result<Block, AllocError>
-    ensures { IfOk result (λ b. b ≡ entry_block shape.now part blocks.now) }
+    ensures { IfOk result (λ b. b ≡ entry_block shape.now flags.now part blocks.now) }
 {
     Ok(Block {
         label: shape.entry_label()?,
@@ -120,7 +192,7 @@ fn entry_block(
                 value: Operand::Local(shape.index_name()?),
             },
             default: shape.none_label()?,
-            cases: cases_of(alloc, shape, part, shape.suspends.as_slice())?,
+            cases: cases_of(alloc, shape, flags, part, shape.suspends.as_slice())?,
         },
     })
 }
@@ -174,21 +246,35 @@ fn push_back_blocks(
     Ok(())
 }
 
+fn later_head(
+    alloc: Global,
+    shape: &Shape,
+    flags: &Items<bool>,
+    part: Part,
+    blocks: &[Block],
+) -> Result<Items<Block>, AllocError>
+    ensures { IfOk result (λ x. x ≡ later_head shape.now flags.now part blocks.now) }
+{
+    let mut all = Items::new(alloc);
+    all.push(entry_block(alloc, shape, flags, part, blocks)?)?;
+    all.push(none_block(alloc, shape)?)?;
+    push_back_blocks(alloc, &mut all, shape, part, shape.suspends.as_slice())?;
+    Ok(all)
+}
+
 fn head_blocks(
     alloc: Global,
     shape: &Shape,
     part: Part,
-    blocks: &[Block],
+    function: &Function,
 ) -> Result<Items<Block>, AllocError>
-    ensures { IfOk result (λ x. x ≡ head_blocks shape.now part blocks.now) }
+    ensures { IfOk result (λ x. x ≡ head_blocks shape.now part function.now) }
 {
-    let mut all = Items::new(alloc);
-    if goes_on(part) {
-        all.push(entry_block(alloc, shape, part, blocks)?)?;
-        all.push(none_block(alloc, shape)?)?;
-        push_back_blocks(alloc, &mut all, shape, part, shape.suspends.as_slice())?;
+    if !goes_on(part) {
+        return Ok(Items::new(alloc));
     }
-    Ok(all)
+    let flags = reached(alloc, function)?;
+    later_head(alloc, shape, &flags, part, function.blocks.as_slice())
 }
 
 fn done_block(alloc: Global, shape: &Shape) -> Result<Block, AllocError>
@@ -453,7 +539,7 @@ fn body_of(
     let origins = origins_for(alloc, shape, part, function)?;
     let first = shape.first_name()?;
     let source = function.blocks.as_slice();
-    let mut blocks = head_blocks(alloc, shape, part, source)?;
+    let mut blocks = head_blocks(alloc, shape, part, function)?;
     let next = push_pieces(
         alloc,
         &mut blocks,
@@ -516,7 +602,8 @@ pub fn push_parts(
 ) -> Result<(), AllocError>
     ensures { OnOk result (all.new ≡ all.old ++ parts_of shape.now function.now) }
 {
-    let ramp = pruned(alloc, ramp_of(alloc, shape, function)?)?;
+    let source = ramp_source(alloc, function)?;
+    let ramp = pruned(alloc, ramp_of(alloc, shape, &source)?)?;
     let resume = later_part(alloc, shape, Part::Resume, &shape.resume_name, function)?;
     let resume = pruned(alloc, resume)?;
     let destroy = later_part(alloc, shape, Part::Destroy, &shape.destroy_name, function)?;

@@ -2,12 +2,12 @@
 
 ghost use Rattle.std.specs.Prelude.{◌≡◌, IfOk, OnOk, ◌++◌, ◌∷◌, [], map};
 ghost use Rattle.intrinsic_lowering.specs.declared.cuts.Cut.TheVariants as cuts;
-ghost use Rattle.coro_split.specs.Pieces.{ended_with, piece, stop_label, pieced, with_instr, with_instrs, redirected, redirected_case, redirected_term, all_pieces};
+ghost use Rattle.coro_split.specs.Pieces.{ended_with, piece, stop_label, pieced, is_begin, begins_again, next_piecing, with_instr, with_instrs, redirected, redirected_case, redirected_term, all_pieces};
 
 use crate::piecing::Piecing;
 use coro_base::{Data, Items, SuspendId, ValueId};
-use intrinsic_lowering::{Cut, Part, Shape, cut_at, later, names_taken, push_lowered};
-use ir_model::{Block, Case, Instr, Terminator};
+use intrinsic_lowering::{Cut, Part, Shape, cut_at, goes_on, later, names_taken, push_lowered};
+use ir_model::{Block, Callee, Case, Instr, Intrinsic, Terminator};
 use std::alloc::{AllocError, Global};
 
 fn stop_label(term: &Terminator) -> ValueId
@@ -162,6 +162,50 @@ fn pieced(
     }
 }
 
+fn is_begin(instr: &Instr) -> bool
+    ensures { result ≡ is_begin instr.now }
+{
+    matches!(
+        instr,
+        Instr::Call {
+            result: _,
+            must_tail: _,
+            ty: _,
+            callee: Callee::Intrinsic(Intrinsic::CoroBegin),
+            args: _,
+        }
+    )
+}
+
+/// Whether an instruction is a begin in a part that goes on behind a suspend.
+pub fn begins_again(part: Part, instr: &Instr) -> bool
+    ensures { result ≡ begins_again part instr.now }
+{
+    if goes_on(part) {
+        is_begin(instr)
+    } else {
+        false
+    }
+}
+
+fn next_piecing(
+    alloc: Global,
+    shape: &Shape,
+    part: Part,
+    term: &Terminator,
+    piecing: Piecing,
+    instr: &Instr,
+    after: &[Instr],
+) -> Result<Piecing, AllocError>
+    ensures { IfOk result (λ p. p ≡ next_piecing shape.now part term.now piecing instr.now after.now) }
+{
+    if begins_again(part, instr) {
+        return ending(alloc, piecing, Terminator::Unreachable);
+    }
+    let cut = cut_at(shape, part, instr, after)?;
+    pieced(alloc, shape, piecing, instr, term, cut)
+}
+
 fn with_instr(
     alloc: Global,
     shape: &Shape,
@@ -176,8 +220,7 @@ fn with_instr(
     if piecing.ended {
         return Ok(piecing);
     }
-    let cut = cut_at(shape, part, instr, after)?;
-    pieced(alloc, shape, piecing, instr, term, cut)
+    next_piecing(alloc, shape, part, term, piecing, instr, after)
 }
 
 /// The block with these instructions more.

@@ -11,7 +11,7 @@ use ordinary_step::{Stack, position, positions_of};
 use std::alloc::{AllocError, Global};
 
 /// Whether a label is flagged.
-fn is_flagged(flags: &Items<bool>, label: ValueId) -> bool
+pub fn is_flagged(flags: &Items<bool>, label: ValueId) -> bool
     ensures { result ≡ is_flagged flags.now label }
 {
     match flags.get(label) {
@@ -142,7 +142,7 @@ fn flag_within(
 }
 
 /// For each label whether the entry reaches it.
-fn reached(alloc: Global, function: &Function) -> Result<Items<bool>, AllocError>
+pub fn reached(alloc: Global, function: &Function) -> Result<Items<bool>, AllocError>
     ensures { IfOk result (λ x. x ≡ reached function.now) }
 {
     let positions = positions_of(alloc, function)?;

@@ -6,8 +6,8 @@ use Rattle.coro_base.specs.declared.status.Options.{Options}
 use Rattle.coro_cleanup.proofs.Freed.{module_freed}
 use Rattle.coro_cleanup.specs.Cleanup.{clean_function, is_kept_instr}
 use Rattle.coro_cleanup.specs.Free.{calls_id_alone, is_free}
-use Rattle.coro_split.specs.Parts.{allocas_of, back_blocks, done_block, entry_instrs, head_blocks, is_alloca, later_part, layouts_after, first_layout, origins_for, part_blocks, parts_of, plain_of, plain_shape, ramp_of, split_function, split_functions, split_module}
-use Rattle.coro_split.specs.Pieces.{all_pieces, first_piecing, pass_block, piece, pieced, pieces_of, piecing_of, redirected_term, stop_label, with_instr, with_instrs}
+use Rattle.coro_split.specs.Parts.{allocas_of, back_blocks, done_block, entry_instrs, head_blocks, is_alloca, later_part, layouts_after, first_layout, origins_for, part_blocks, parts_of, plain_of, plain_shape, ramp_of, ramp_source, split_function, split_functions, split_module}
+use Rattle.coro_split.specs.Pieces.{all_pieces, begins_again, first_piecing, next_piecing, pass_block, piece, pieced, pieces_of, piecing_of, redirected_term, stop_label, stopped, with_instr, with_instrs}
 use Rattle.coro_split.specs.Reached.{is_flagged, kept_block, kept_blocks, pruned, reached}
 use Rattle.coro_split.specs.declared.origin.Origin.{Origin}
 use Rattle.coro_split.specs.declared.piecing.Piecing.{Piecing}
@@ -181,11 +181,18 @@ one_fine : (b : Bool) (p q : Piecing) → Fine p → Fine q → Fine (if b then 
 one_fine true p q h k = h
 one_fine false p q h k = k
 
+stopped_fine : (p : Piecing) → Fine p → Fine (stopped p)
+stopped_fine p h = record { whole = ended p p.label p.phis p.instrs Terminator.Unreachable h h.instrs; instrs = refl }
+
+next_fine : (s : Shape) (part : Part) (term : Terminator) (p : Piecing) (i : Instr) (after : List Instr) → Fine p → Fine (next_piecing s part term p i after)
+next_fine s part term p i after h =
+    one_fine (begins_again part i) (stopped p) (pieced s p i term (cut_at s part i after)) (stopped_fine p h) (pieced_fine s p i term (cut_at s part i after) h)
+
 with_instrs_fine : (s : Shape) (part : Part) (term : Terminator) (p : Piecing) (is : List Instr) → Fine p → Fine (with_instrs s part term p is)
 with_instrs_fine s part term p [] h = h
 with_instrs_fine s part term p (i ∷ after) h =
     with_instrs_fine s part term (with_instr s part term p i after) after
-    (one_fine p.ended p (pieced s p i term (cut_at s part i after)) h (pieced_fine s p i term (cut_at s part i after) h))
+    (one_fine p.ended p (next_piecing s part term p i after) h (next_fine s part term p i after h))
 
 all_pieces_fine : (s : Shape) (p : Piecing) (term : Terminator) → Fine p → list_all is_fine_block (all_pieces s p term) ≡ true
 all_pieces_fine s p term h = on p.ended
@@ -231,17 +238,17 @@ backs_fine : (s : Shape) (part : Part) (j : ℕ) (ps : List SuspendPoint) → li
 backs_fine s part j [] = refl
 backs_fine s part j (p ∷ ps) = backs_fine s part (j + 1) ps
 
-head_fine : (s : Shape) (part : Part) (bs : List Block) → list_all is_fine_block (head_blocks s part bs) ≡ true
-head_fine s Part.Ramp bs = refl
-head_fine s Part.Resume bs = both _ _ (entry_fine s bs) (backs_fine s Part.Resume 0 s.suspends)
-head_fine s Part.Destroy bs = both _ _ (entry_fine s bs) (backs_fine s Part.Destroy 0 s.suspends)
+head_fine : (s : Shape) (part : Part) (f : Function) → list_all is_fine_block (head_blocks s part f) ≡ true
+head_fine s Part.Ramp f = refl
+head_fine s Part.Resume f = both _ _ (entry_fine s f.blocks) (backs_fine s Part.Resume 0 s.suspends)
+head_fine s Part.Destroy f = both _ _ (entry_fine s f.blocks) (backs_fine s Part.Destroy 0 s.suspends)
 
 part_fine : (s : Shape) (part : Part) (f : Function) (origins : List Origin) → list_all is_fine_block (part_blocks s part f origins) ≡ true
 part_fine s part f origins =
-    let head = head_blocks s part f.blocks in
+    let head = head_blocks s part f in
     let pieces = pieces_of s part origins (first_name s) f.blocks in
     all_joined is_fine_block (head ++ pieces) (done_block s ∷ [])
-    (all_joined is_fine_block head pieces (head_fine s part f.blocks) (pieces_fine s part origins (first_name s) f.blocks)) refl
+    (all_joined is_fine_block head pieces (head_fine s part f) (pieces_fine s part origins (first_name s) f.blocks)) refl
 
 kept_fine : (flags : List Bool) (bs : List Block) → list_all is_fine_block bs ≡ true → list_all is_fine_block (kept_blocks flags bs) ≡ true
 kept_fine flags bs h =
@@ -259,7 +266,7 @@ is_split f = not f.coroutine && is_fine f
 
 parts_fine : (s : Shape) (f : Function) → list_all is_split (parts_of s f) ≡ true
 parts_fine s f =
-    both _ _ (pruned_fine (ramp_of s f) (part_fine s Part.Ramp f (origins_for s Part.Ramp f)))
+    both _ _ (pruned_fine (ramp_of s (ramp_source f)) (part_fine s Part.Ramp (ramp_source f) (origins_for s Part.Ramp (ramp_source f))))
     (both _ _ (pruned_fine (later_part s Part.Resume s.resume_name f) (part_fine s Part.Resume f (origins_for s Part.Resume f)))
     (both _ _ (pruned_fine (later_part s Part.Destroy s.destroy_name f) (part_fine s Part.Destroy f (origins_for s Part.Destroy f))) refl))
 

@@ -3,4 +3,4 @@ use Rattle.coro_split.specs.Parts.{cases_from}
 use Rattle.coro_split.proofs.parts.cases_of.Given as goal
 
 abbrev pub invariant-loop-point : goal.invariant-loop-point
-invariant-loop-point l = l.all ++ cases_from l.shape l.part l.number (drop l.point-index l.suspends) ≡ cases_from l.shape l.part 0 l.suspends
+invariant-loop-point l = l.all ++ cases_from l.shape l.flags l.part l.number (drop l.point-index l.suspends) ≡ cases_from l.shape l.flags l.part 0 l.suspends
