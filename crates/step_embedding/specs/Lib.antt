@@ -1,1 +1,3 @@
 pub mod Related
+pub mod Making
+pub mod Marks

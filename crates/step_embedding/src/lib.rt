@@ -1,15 +1,30 @@
 //! Ordinary steps over a source memory and over a target memory in which it stands.
 #![tactic(auto)]
 
-ghost use Rattle.std.specs.Prelude.{ℕ, List};
+ghost use Rattle.std.specs.Prelude.{ℕ, List, length, ◌≡◌};
 ghost use Rattle.memory_embedding.specs.Pointers.{Home};
 ghost use Rattle.memory_embedding.specs.Standing.{AreByteRights};
 ghost use Rattle.ordinary_step.specs.Step.{Context, Fetched, Work, action_of};
-ghost use Rattle.step_embedding.specs.Related.{AreAlike, AreWorks, GoesAlike, IsCarried};
+ghost use Rattle.step_embedding.specs.Making.{GoesAnew, MakesBlock};
+ghost use Rattle.step_embedding.specs.Marks.{MarksBlock};
+ghost use Rattle.step_embedding.specs.Related.{AreAlike, AreWorks, GoesAlike, IsCarried, IsOperand};
+ghost use Rattle.step_laws.specs.Changed.{Each, operands_at};
 
 /// An ordinary step of the source that isn't undefined is made by the target in the same way, with what stands for the
 /// source's values, and the source's memory stands in the target's afterwards: of every instruction but those that make,
 /// mark or allocate blocks.
 pub fn step_is_carried()
     ensures { (homes : List Home) (moves : ℕ → ℕ) (c d : Context) (w x : Work) (here : Fetched) → AreByteRights c.rights → AreByteRights d.rights → AreAlike c d → AreWorks c.rights d.rights homes moves w x → IsCarried homes moves c d w.values x.values here → GoesAlike c.rights d.rights homes moves (action_of c w here) (action_of d x here) }
+{}
+
+/// An alloca or a call of an allocator that isn't undefined in the source makes a block in both: the new one of the target is
+/// the home of the source's, pointers to it may be about, and the source's memory stands in the target's afterwards.
+pub fn new_blocks_are_carried()
+    ensures { (homes : List Home) (moves : ℕ → ℕ) (c d : Context) (w x : Work) (here : Fetched) → AreAlike c d → AreWorks c.rights d.rights homes moves w x → length homes ≡ length w.world.memory → Each (IsOperand homes c d w.values x.values) (operands_at here) → MakesBlock c d w.values here → GoesAnew c.rights d.rights homes moves (length x.world.memory) (action_of c w here) (action_of d x here) }
+{}
+
+/// A lifetime marker of a block that stands alone in its home marks the home too, and the source's memory stands in the
+/// target's afterwards.
+pub fn markers_are_carried()
+    ensures { (homes : List Home) (moves : ℕ → ℕ) (c d : Context) (w x : Work) (here : Fetched) → AreByteRights c.rights → AreByteRights d.rights → AreWorks c.rights d.rights homes moves w x → Each (IsOperand homes c d w.values x.values) (operands_at here) → MarksBlock homes c d w x here → GoesAlike c.rights d.rights homes moves (action_of c w here) (action_of d x here) }
 {}
