@@ -5,3 +5,4 @@ pub mod NewBlocks
 pub mod Made
 pub mod Mirrors
 pub mod Marked
+pub mod Deallocated

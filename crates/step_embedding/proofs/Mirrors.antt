@@ -85,7 +85,7 @@ killed_dead Life.Live e = absurd (false≢true e)
 killed_dead Life.Ended e = refl
 killed_dead Life.Killed e = refl
 
-ended_dead : (x : MemoryBlock) → is_live (ended x).life ≡ false
+pub ended_dead : (x : MemoryBlock) → is_live (ended x).life ≡ false
 ended_dead x = on (is_killed x.life) refl
   where
     on : (t : Bool) → is_killed x.life ≡ t → is_live (if t then x else record x { life = Life.Ended }).life ≡ false
@@ -99,11 +99,15 @@ ended_size x = on (is_killed x.life)
     on true = refl
     on false = refl
 
--- a pointer to an ended block may be compared with null
-pub ended_compares : (target : Rights) (k : ℕ) (n : List MemoryBlock) (b : ℕ) (o : Offset) → may_compare_at target k (slice_get (with_block n b ended) b) o ≡ true
-ended_compares target k [] b o = refl
-ended_compares target k (y ∷ n) zero o = ap (λ (t : Bool). not t || target.is_comparable k (ended y) o.bits) (ended_dead y)
-ended_compares target k (y ∷ n) (suc b) o = ended_compares target k n b o
+-- changes after which no block lives
+abbrev pub Ends : (MemoryBlock → MemoryBlock) → Type 0
+Ends f = (x : MemoryBlock) → is_live (f x).life ≡ false
+
+-- a pointer to a dead block may be compared with null
+pub dead_compares : (target : Rights) (f : MemoryBlock → MemoryBlock) → Ends f → (k : ℕ) (n : List MemoryBlock) (b : ℕ) (o : Offset) → may_compare_at target k (slice_get (with_block n b f) b) o ≡ true
+dead_compares target f dead k [] b o = refl
+dead_compares target f dead k (y ∷ n) zero o = ap (λ (t : Bool). not t || target.is_comparable k (f y) o.bits) (dead y)
+dead_compares target f dead k (y ∷ n) (suc b) o = dead_compares target f dead k n b o
 
 -- ---- blocks that live again
 
@@ -126,11 +130,12 @@ started_unkilled x live = on (is_killed x.life) refl live
     on false e l = refl
 
 module _ (rights target : Rights) (law : AreByteRights rights) (law' : AreByteRights target) (homes : List Home) (m n : List MemoryBlock) (b : ℕ) (em : Embeds rights target homes m n) (alone : IsAlone homes m b) where
-  pub ends_embedded : Embeds rights target homes (with_block m b ended) (with_block n (home_of homes b).block ended)
-  ends_embedded = mirrored rights target law law' homes m n b ended ended em alone.live
+  pub dies_embedded : (f g : MemoryBlock → MemoryBlock) → Ends f → Embeds rights target homes (with_block m b f) (with_block n (home_of homes b).block g)
+  dies_embedded f g dead =
+      mirrored rights target law law' homes m n b f g em alone.live
       (λ x is live.
-      let h = before m b ended x is in
-      absurd (false≢true (sym (ended_dead h.block) ∙ ap (λ (y : MemoryBlock). is_live y.life) h.is ∙ live)))
+      let h = before m b f x is in
+      absurd (false≢true (sym (dead h.block) ∙ ap (λ (y : MemoryBlock). is_live y.life) h.is ∙ live)))
 
   module _ (bounds : AreBoundsKept homes m n) (seen : (home_of homes b).is_seen ≡ true) (may : MayStart rights target homes m n b) where
     room_again : (x : MemoryBlock) → slice_get m b ≡ Some x → is_killed x.life ≡ false → HasRoom rights target (with_block n (home_of homes b).block started) (home_of homes b) b (anew x)

@@ -2,9 +2,12 @@
 #![tactic(auto)]
 
 ghost use Rattle.std.specs.Prelude.{ℕ, List, length, ◌≡◌};
-ghost use Rattle.memory_embedding.specs.Pointers.{Home};
+ghost use Rattle.block_memory.specs.Memory.{Rights};
+ghost use Rattle.block_memory.specs.declared.pointer.Value.{Value as TheValue};
+ghost use Rattle.memory_embedding.specs.Pointers.{Home, IsValue};
 ghost use Rattle.memory_embedding.specs.Standing.{AreByteRights};
-ghost use Rattle.ordinary_step.specs.Step.{Context, Fetched, Work, action_of};
+ghost use Rattle.ordinary_step.specs.Step.{Context, Fetched, Work, action_of, deallocated};
+ghost use Rattle.step_embedding.specs.Deaths.{IsDeallocated, MayDie};
 ghost use Rattle.step_embedding.specs.Making.{GoesAnew, MakesBlock};
 ghost use Rattle.step_embedding.specs.Marks.{MarksBlock};
 ghost use Rattle.step_embedding.specs.Related.{AreAlike, AreWorks, GoesAlike, IsCarried, IsOperand};
@@ -27,4 +30,10 @@ pub fn new_blocks_are_carried()
 /// target's afterwards.
 pub fn markers_are_carried()
     ensures { (homes : List Home) (moves : ℕ → ℕ) (c d : Context) (w x : Work) (here : Fetched) → AreByteRights c.rights → AreByteRights d.rights → AreWorks c.rights d.rights homes moves w x → Each (IsOperand homes c d w.values x.values) (operands_at here) → MarksBlock homes c d w x here → GoesAlike c.rights d.rights homes moves (action_of c w here) (action_of d x here) }
+{}
+
+/// A deallocation that isn't undefined in the source, of a block that stands alone from the start of its home on, kills the
+/// home too, and the source's memory stands in the target's afterwards.
+pub fn deallocations_are_carried()
+    ensures { (rights target : Rights) (homes : List Home) (moves : ℕ → ℕ) (w x : Work) (p q : TheValue) → AreByteRights rights → AreByteRights target → AreWorks rights target homes moves w x → IsValue homes p q → MayDie homes w.world.memory x.world.memory p → IsDeallocated rights target homes moves w x (deallocated w.world.memory p) (deallocated x.world.memory q) }
 {}
