@@ -15,8 +15,10 @@ use Rattle.memory_embedding.specs.Standing.{AreByteRights}
 use Rattle.ordinary_step.specs.Step.{Work, deallocated, set_memory}
 use Rattle.step_embedding.proofs.Mirrors.{bounds_changed, dead_compares, dies_embedded, nulls_changed}
 use Rattle.step_embedding.specs.Deaths.{DiesToo, IsDeallocated, MayDie}
+use Rattle.step_embedding.specs.Marks.{IsAlone}
 use Rattle.step_embedding.specs.Related.{AreWorks}
 
+-- both hold
 and_first : (a b : Bool) → (a && b) ≡ true → a ≡ true
 and_first true b e = refl
 and_first false b e = absurd (cc)
@@ -24,10 +26,6 @@ and_first false b e = absurd (cc)
 and_second : (a b : Bool) → (a && b) ≡ true → b ≡ true
 and_second true b e = e
 and_second false b e = absurd (cc)
-
-unnot : (a : Bool) → not a ≡ false → a ≡ true
-unnot true e = refl
-unnot false e = absurd (cc)
 
 -- the start of a block stands for its home's start
 start_moved : (o h : ℕ) → (o == 0) ≡ true → h ≡ 0 → ((o + h) % 2 ^ 64 == 0) ≡ true
@@ -46,24 +44,25 @@ module _ (rights target : Rights) (homes : List Home) (moves : ℕ → ℕ) (w x
   abbrev killed_at : (start owned : Bool) → List MemoryBlock → ℕ → Result (List MemoryBlock) Cause
   killed_at start owned k b = if not start then Err Cause.Free else if owned then Err Cause.Owned else Ok (killed k b)
 
-  module _ (b : ℕ) (dies : DiesToo homes m n b) where
-    killed_works : AreWorks rights target homes moves (set_memory w (killed m b)) (set_memory x (killed n (home_of homes b).block))
-    killed_works = record {
-      world = record {
-        memory = dies_embedded rights target law law' homes m n b works.world.memory dies.alone killed_block killed_block (λ y. refl);
-        nulls = nulls_changed rights target homes m n b killed_block killed_block dies.alone (λ o e. dead_compares target killed_block (λ y. refl) (home_of homes b).block n (home_of homes b).block (moved o (home_of homes b).offset)) works.world.nulls;
-        bounds = bounds_changed homes m n b (home_of homes b).block killed_block killed_block (λ y. refl) (λ y. refl) works.world.bounds;
-        events = works.world.events;
-        answers = works.world.answers;
-        allocs = works.world.allocs;
-      };
-      values = works.values;
-    }
+  -- a block that stands alone is killed, and its home is
+  pub kills_carried : (b : ℕ) → IsAlone homes m b → AreWorks rights target homes moves (set_memory w (killed m b)) (set_memory x (killed n (home_of homes b).block))
+  kills_carried b alone = record {
+    world = record {
+      memory = dies_embedded rights target law law' homes m n b works.world.memory alone killed_block killed_block (λ y. refl);
+      nulls = nulls_changed rights target homes m n b killed_block killed_block alone (λ o e. dead_compares target killed_block (λ y. refl) (home_of homes b).block n (home_of homes b).block (moved o (home_of homes b).offset)) works.world.nulls;
+      bounds = bounds_changed homes m n b (home_of homes b).block killed_block killed_block (λ y. refl) (λ y. refl) works.world.bounds;
+      events = works.world.events;
+      answers = works.world.answers;
+      allocs = works.world.allocs;
+    };
+    values = works.values;
+  }
 
+  module _ (b : ℕ) (dies : DiesToo homes m n b) where
     killed_alike : (start owned start' owned' : Bool) → (start ≡ true → start' ≡ true) → (owned ≡ false → owned' ≡ false) → Gone (killed_at start owned m b) (killed_at start' owned' n (home_of homes b).block)
     killed_alike false owned start' owned' h k = tt
     killed_alike true true start' owned' h k = tt
-    killed_alike true false start' owned' h k = (killed n (home_of homes b).block, (λ i. killed_at (h refl i) (k refl i) n (home_of homes b).block), killed_works)
+    killed_alike true false start' owned' h k = (killed n (home_of homes b).block, (λ i. killed_at (h refl i) (k refl i) n (home_of homes b).block), kills_carried b dies.alone)
 
     at_alike : (o : Offset) → Gone (deallocated m (Value.Ptr (Pointer.At b o))) (deallocated n (Value.Ptr (Pointer.At (home_of homes b).block (moved o (home_of homes b).offset))))
     at_alike o =

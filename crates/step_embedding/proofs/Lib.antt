@@ -6,3 +6,5 @@ pub mod Made
 pub mod Mirrors
 pub mod Marked
 pub mod Deallocated
+pub mod SlotDeaths
+pub mod Owners

@@ -8,6 +8,7 @@ use Rattle.block_memory.specs.declared.pointer.Value.{Value}
 use Rattle.coro_base.specs.declared.cause.Cause.{Cause}
 use Rattle.memory_embedding.specs.Pointers.{Home, home_of}
 use Rattle.ordinary_step.specs.Step.{Work, set_memory}
+use Rattle.ordinary_step.specs.declared.world.Slot.{Slot}
 use Rattle.step_embedding.specs.Marks.{IsAlone}
 use Rattle.step_embedding.specs.Related.{AreWorks}
 
@@ -26,3 +27,7 @@ MayDie homes m n _ = Unit {0}
 abbrev pub IsDeallocated : Rights → Rights → List Home → (ℕ → ℕ) → Work → Work → Result (List MemoryBlock) Cause → Result (List MemoryBlock) Cause → Type 0
 IsDeallocated rights target homes moves w x (Err cause) r = Unit {0}
 IsDeallocated rights target homes moves w x (Ok m) r = (n : List MemoryBlock) × (r ≡ Ok n) × AreWorks rights target homes moves (set_memory w m) (set_memory x n)
+
+-- the slot of the target for a slot of the source
+abbrev pub moved_slot : List Home → Slot → Slot
+moved_slot homes s = record { alloca = s.alloca; block = (home_of homes s.block).block }

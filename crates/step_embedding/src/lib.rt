@@ -1,15 +1,17 @@
 //! Ordinary steps over a source memory and over a target memory in which it stands.
 #![tactic(auto)]
 
-ghost use Rattle.std.specs.Prelude.{ℕ, List, length, ◌≡◌};
-ghost use Rattle.block_memory.specs.Memory.{Rights};
+ghost use Rattle.std.specs.Prelude.{ℕ, List, length, map, ◌≡◌};
+ghost use Rattle.block_memory.specs.Memory.{Rights, owner_rights};
 ghost use Rattle.block_memory.specs.declared.pointer.Value.{Value as TheValue};
+ghost use Rattle.block_memory.specs.declared.block.Kind.{Kind as TheKind};
 ghost use Rattle.memory_embedding.specs.Pointers.{Home, IsValue};
 ghost use Rattle.memory_embedding.specs.Standing.{AreByteRights};
-ghost use Rattle.ordinary_step.specs.Step.{Context, Fetched, Work, action_of, deallocated};
-ghost use Rattle.step_embedding.specs.Deaths.{IsDeallocated, MayDie};
-ghost use Rattle.step_embedding.specs.Making.{GoesAnew, MakesBlock};
-ghost use Rattle.step_embedding.specs.Marks.{MarksBlock};
+ghost use Rattle.ordinary_step.specs.Step.{Context, Fetched, Work, action_of, deallocated, set_memory, without_slots};
+ghost use Rattle.ordinary_step.specs.declared.world.Slot.{Slot as TheSlot};
+ghost use Rattle.step_embedding.specs.Deaths.{IsDeallocated, MayDie, moved_slot};
+ghost use Rattle.step_embedding.specs.Making.{AreNewRights, GoesAnew, MakesBlock};
+ghost use Rattle.step_embedding.specs.Marks.{IsAlone, MarksBlock};
 ghost use Rattle.step_embedding.specs.Related.{AreAlike, AreWorks, GoesAlike, IsCarried, IsOperand};
 ghost use Rattle.step_laws.specs.Changed.{Each, operands_at};
 
@@ -36,4 +38,15 @@ pub fn markers_are_carried()
 /// home too, and the source's memory stands in the target's afterwards.
 pub fn deallocations_are_carried()
     ensures { (rights target : Rights) (homes : List Home) (moves : ℕ → ℕ) (w x : Work) (p q : TheValue) → AreByteRights rights → AreByteRights target → AreWorks rights target homes moves w x → IsValue homes p q → MayDie homes w.world.memory x.world.memory p → IsDeallocated rights target homes moves w x (deallocated w.world.memory p) (deallocated x.world.memory q) }
+{}
+
+/// The slots of an activation die, each of which stands alone, and their homes do.
+pub fn slot_deaths_are_carried()
+    ensures { (rights target : Rights) (homes : List Home) (moves : ℕ → ℕ) (w x : Work) (slots : List TheSlot) → AreByteRights rights → AreByteRights target → AreWorks rights target homes moves w x → Each (λ (s : TheSlot). IsAlone homes w.world.memory s.block) slots → AreWorks rights target homes moves (set_memory w (without_slots w.world.memory slots)) (set_memory x (without_slots x.world.memory (map (moved_slot homes) slots))) }
+{}
+
+/// The rights of owners serve new blocks of any kinds.
+#[tactic(auto, using(crate::proofs::Owners::owners_serve))]
+pub fn owner_rights_serve_new_blocks()
+    ensures { (kind other : TheKind) → AreNewRights owner_rights owner_rights kind other }
 {}
