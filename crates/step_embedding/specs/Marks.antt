@@ -39,6 +39,16 @@ pub record MayStart (rights target : Rights) (homes : List Home) (m n : List Mem
   pub again : (x : MemoryBlock) → slice_get m b ≡ Some x → is_killed x.life ≡ false → LivesAgain rights target homes n b x
   pub nulls : (o : Offset) → may_compare_at rights b (slice_get (start m b) b) o ≡ true → may_compare_at target (home_of homes b).block (slice_get (start n (home_of homes b).block) (home_of homes b).block) (moved o (home_of homes b).offset) ≡ true
 
+-- a block of the target that is as the source's, from its start on, and that nobody owns
+pub record IsTwin (n : List MemoryBlock) (h : Home) (x : MemoryBlock) : Type 0 where
+  pub block : MemoryBlock
+  pub there : slice_get n h.block ≡ Some block
+  pub start : h.offset ≡ 0
+  pub unkilled : is_killed x.life ≡ false → is_killed block.life ≡ false
+  pub owner : block.owned ≡ None
+  pub align : block.align ≡ x.align
+  pub writable : same_kind x.kind Kind.Constant ≡ false → same_kind block.kind Kind.Constant ≡ false
+
 -- the pointers of two markers; where the one is poison the other marks nothing
 abbrev pub IsStart : Rights → Rights → List Home → List MemoryBlock → List MemoryBlock → Value → Value → Type 0
 IsStart rights target homes m n (Value.Ptr (Pointer.At b o)) u = IsAlone homes m b × MayStart rights target homes m n b

@@ -1,17 +1,18 @@
 //! Ordinary steps over a source memory and over a target memory in which it stands.
 #![tactic(auto)]
 
-ghost use Rattle.std.specs.Prelude.{ℕ, List, length, map, ◌≡◌};
+ghost use Rattle.std.specs.Prelude.{ℕ, List, Some, length, map, slice_get, ◌≡◌};
 ghost use Rattle.block_memory.specs.Memory.{Rights, owner_rights};
+ghost use Rattle.block_memory.specs.declared.block.MemoryBlock.{MemoryBlock as Block};
 ghost use Rattle.block_memory.specs.declared.pointer.Value.{Value as TheValue};
 ghost use Rattle.block_memory.specs.declared.block.Kind.{Kind as TheKind};
-ghost use Rattle.memory_embedding.specs.Pointers.{Home, IsValue};
+ghost use Rattle.memory_embedding.specs.Pointers.{Home, IsValue, home_of};
 ghost use Rattle.memory_embedding.specs.Standing.{AreByteRights};
 ghost use Rattle.ordinary_step.specs.Step.{Context, Fetched, Work, action_of, deallocated, set_memory, without_slots};
 ghost use Rattle.ordinary_step.specs.declared.world.Slot.{Slot as TheSlot};
 ghost use Rattle.step_embedding.specs.Deaths.{IsDeallocated, MayDie, moved_slot};
 ghost use Rattle.step_embedding.specs.Making.{AreNewRights, GoesAnew, MakesBlock};
-ghost use Rattle.step_embedding.specs.Marks.{IsAlone, MarksBlock};
+ghost use Rattle.step_embedding.specs.Marks.{IsAlone, IsTwin, MarksBlock, MayStart};
 ghost use Rattle.step_embedding.specs.Related.{AreAlike, AreWorks, GoesAlike, IsCarried, IsOperand};
 ghost use Rattle.step_laws.specs.Changed.{Each, operands_at};
 
@@ -49,4 +50,9 @@ pub fn slot_deaths_are_carried()
 #[tactic(auto, using(crate::proofs::Owners::owners_serve))]
 pub fn owner_rights_serve_new_blocks()
     ensures { (kind other : TheKind) → AreNewRights owner_rights owner_rights kind other }
+{}
+
+/// The rights of owners serve slots that live again: a block that nobody owns may be started where the source's is.
+pub fn owner_rights_serve_markers()
+    ensures { (homes : List Home) (m n : List Block) (b : ℕ) (x : Block) → slice_get m b ≡ Some x → IsTwin n (home_of homes b) x → MayStart owner_rights owner_rights homes m n b }
 {}
