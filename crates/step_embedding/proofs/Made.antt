@@ -55,7 +55,7 @@ module _ (homes : List Home) (moves : ℕ → ℕ) (c d : Context) (w x : Work) 
   more = homes ++ whole_home (length x.world.memory) ∷ []
 
   abbrev Anew : Action → Action → Type 0
-  Anew a b = GoesAnew c.rights d.rights homes moves (length x.world.memory) a b
+  Anew a b = GoesAnew c.rights d.rights homes moves w.world.memory (length x.world.memory) a b
 
   -- the target's new pointer stands for the source's
   new_pointer : IsValue more (pointer_to (length w.world.memory)) (pointer_to (length x.world.memory))
@@ -85,12 +85,13 @@ module _ (homes : List Home) (moves : ℕ → ℕ) (c d : Context) (w x : Work) 
         values = env_set more w.values x.values name (pointer_to (length w.world.memory)) (pointer_to (length x.world.memory)) (envs_on homes (whole_home (length x.world.memory) ∷ []) w.values x.values works.values) new_pointer;
       };
       known = made.known;
+      new = made.new;
     },
   )
     where
-      made : IsMade c.rights d.rights more (slots c w size align (has_markers c.function name)) (slots d x size align (has_markers d.function name))
+      made : IsMade c.rights d.rights homes w.world.memory (length x.world.memory) (slots c w size align (has_markers c.function name)) (slots d x size align (has_markers d.function name))
       made =
-          subst (λ (t : Bool). IsMade c.rights d.rights more (slots c w size align (has_markers c.function name)) (slots d x size align t)) (sym same)
+          subst (λ (t : Bool). IsMade c.rights d.rights homes w.world.memory (length x.world.memory) (slots c w size align (has_markers c.function name)) (slots d x size align t)) (sym same)
           (slot_made c.rights d.rights homes w.world.memory x.world.memory known works.world.memory works.world.nulls works.world.bounds size align (alloca_kind c.function) (alloca_kind d.function) small new (λ e. slot_writable d.function) (has_markers c.function name))
 
   -- ---- allocators
@@ -110,10 +111,11 @@ module _ (homes : List Home) (moves : ℕ → ℕ) (c d : Context) (w x : Work) 
         values = env_result more w.values x.values result (pointer_to (length w.world.memory)) (pointer_to (length x.world.memory)) (envs_on homes (whole_home (length x.world.memory) ∷ []) w.values x.values works.values) new_pointer;
       };
       known = made.known;
+      new = made.new;
     },
   )
     where
-      made : IsMade c.rights d.rights more (fresh w.world.memory size 16 Kind.Allocator) (fresh x.world.memory size 16 Kind.Allocator)
+      made : IsMade c.rights d.rights homes w.world.memory (length x.world.memory) (fresh w.world.memory size 16 Kind.Allocator) (fresh x.world.memory size 16 Kind.Allocator)
       made = fresh_made c.rights d.rights homes w.world.memory x.world.memory known works.world.memory works.world.nulls works.world.bounds size 16 Kind.Allocator Kind.Allocator small new (λ e. e)
 
   allocation_anew : (result : Option ℕ) (args : List Arg) → Each (IsOperand homes c d w.values x.values) (values_of args) → IsSmall (nth (arg_values c.code w.values args) 0) → AreNewRights c.rights d.rights Kind.Allocator Kind.Allocator → Anew (with_length (nth (arg_values c.code w.values args) 0) (λ n. Done (allocated w result n))) (with_length (nth (arg_values d.code x.values args) 0) (λ n. Done (allocated x result n)))
@@ -144,5 +146,5 @@ module _ (homes : List Home) (moves : ℕ → ℕ) (c d : Context) (w x : Work) 
   here_anew (AtInstr i) h k = instr_anew i h k
   here_anew (AtTerm t) h k = absurd k
 
-pub made_carried : (homes : List Home) (moves : ℕ → ℕ) (c d : Context) (w x : Work) (here : Fetched) → AreAlike c d → AreWorks c.rights d.rights homes moves w x → length homes ≡ length w.world.memory → Each (IsOperand homes c d w.values x.values) (operands_at here) → MakesBlock c d w.values here → GoesAnew c.rights d.rights homes moves (length x.world.memory) (action_of c w here) (action_of d x here)
+pub made_carried : (homes : List Home) (moves : ℕ → ℕ) (c d : Context) (w x : Work) (here : Fetched) → AreAlike c d → AreWorks c.rights d.rights homes moves w x → length homes ≡ length w.world.memory → Each (IsOperand homes c d w.values x.values) (operands_at here) → MakesBlock c d w.values here → GoesAnew c.rights d.rights homes moves w.world.memory (length x.world.memory) (action_of c w here) (action_of d x here)
 made_carried homes moves c d w x here alike works known h k = here_anew homes moves c d w x alike works known here h k

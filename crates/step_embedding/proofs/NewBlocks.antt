@@ -15,7 +15,8 @@ use Rattle.memory_embedding.proofs.Homes.{append_extends, seen_within}
 use Rattle.memory_embedding.proofs.Written.{same_some}
 use Rattle.memory_embedding.specs.Pointers.{Home, home_of, nowhere}
 use Rattle.memory_embedding.specs.Standing.{AreBoundsKept, AreNullsKept, Embeds, HasBounds, Stands, blank_block}
-use Rattle.step_embedding.specs.Making.{AreNewRights, whole_home}
+use Rattle.step_embedding.specs.Making.{AreNewRights, IsNewHome, whole_home}
+use Rattle.step_embedding.specs.Marks.{IsAlone, IsTwin}
 
 last_get : (m : List MemoryBlock) (x : MemoryBlock) → slice_get (m ++ x ∷ []) (length m) ≡ Some x
 last_get [] x = refl
@@ -130,12 +131,59 @@ module _ (rights target : Rights) (homes : List Home) (m n : List MemoryBlock) (
       here : HasBounds after q x.size
       here = record { block = y; there = last_get n y; fits = omega (arith, fits); small = small }
 
+  own_first : (home_of more (length homes)).block ≡ length n
+  own_first = ap (λ (h : Home). h.block) (get_or_at homes q [] nowhere (length homes) refl)
+
+  home_same : (c : ℕ) → c ≢ length m → (home_of homes c).block ≡ (home_of more c).block
+  home_same c ne = ap (λ (h : Home). h.block) (sym (other c ne))
+
+  pub alone_new : Embeds rights target homes m n → AreBoundsKept homes m n → IsAlone more (m ++ x ∷ []) (length homes)
+  alone_new em bounds = record {
+    live = λ c z ne at live e.
+        let nm : c ≢ length m = λ i. ne (i ∙ sym len) in
+        let st = em.each c z (sym (other_get m x c nm) ∙ at) live in
+        let there : slice_get n (length n) ≡ Some st.block = ap (slice_get n) (sym (home_same c nm ∙ e ∙ own_first)) ∙ st.there in
+        let gone : slice_get n (length n) ≡ None = slice_get_past n (length n) (omega arith) in
+        absurd (cc);
+    seen = λ c ne seen e.
+        let nm : c ≢ length m = λ i. ne (i ∙ sym len) in
+        home_there bounds c (ap (λ (h : Home). h.is_seen) (sym (other c nm)) ∙ seen) (home_same c nm ∙ e ∙ own_first);
+  }
+
+  pub alone_others : AreBoundsKept homes m n → (b : ℕ) → (home_of homes b).is_seen ≡ true → IsAlone homes m b → IsAlone more (m ++ x ∷ []) b
+  alone_others bounds b seen alone = record {
+    live = λ c z ne at live e. ⊎_elim
+        (λ is. far c is e)
+        (λ nc. alone.live c z ne (sym (other_get m x c nc) ∙ at) live (home_same c nc ∙ e ∙ sym (home_same b nb)))
+        (cases_eq c (length m));
+    seen = λ c ne there e. ⊎_elim
+        (λ is. far c is e)
+        (λ nc. alone.seen c ne (ap (λ (h : Home). h.is_seen) (sym (other c nc)) ∙ there) (home_same c nc ∙ e ∙ sym (home_same b nb)))
+        (cases_eq c (length m));
+  }
+    where
+      nb : b ≢ length m
+      nb is = let l = seen_within homes b seen in absurd (omega (arith, len, is))
+
+      far : (c : ℕ) → c ≡ length m → (home_of more c).block ≡ (home_of more b).block → ⊥
+      far c is e = home_there bounds b seen (home_same b nb ∙ sym e ∙ ap (λ (h : Home). h.block) (ap (home_of more) is ∙ own))
+
+  pub new_home : Embeds rights target homes m n → AreBoundsKept homes m n → IsTwin after q x → IsNewHome homes (length n) m (m ++ x ∷ []) after
+  new_home em bounds twin = record {
+    alone = alone_new em bounds;
+    others = alone_others bounds;
+    twin = λ z at.
+        let same : x ≡ z = same_some x z (sym (last_get m x) ∙ ap (slice_get (m ++ x ∷ [])) (sym len) ∙ at) in
+        subst (λ (u : MemoryBlock). IsTwin after q u) same twin;
+  }
+
 -- a memory that stands in another, with all that a work asks of it
-pub record IsMade (rights target : Rights) (homes : List Home) (m n : List MemoryBlock) : Type 0 where
-  pub memory : Embeds rights target homes m n
-  pub nulls : AreNullsKept rights target homes m n
-  pub bounds : AreBoundsKept homes m n
-  pub known : length homes ≡ length m
+pub record IsMade (rights target : Rights) (homes : List Home) (old : List MemoryBlock) (k : ℕ) (m n : List MemoryBlock) : Type 0 where
+  pub memory : Embeds rights target (homes ++ whole_home k ∷ []) m n
+  pub nulls : AreNullsKept rights target (homes ++ whole_home k ∷ []) m n
+  pub bounds : AreBoundsKept (homes ++ whole_home k ∷ []) m n
+  pub known : length (homes ++ whole_home k ∷ []) ≡ length m
+  pub new : IsNewHome homes k old m n
 
 module _ (rights target : Rights) (homes : List Home) (m n : List MemoryBlock) (known : length homes ≡ length m) (em : Embeds rights target homes m n) (nulls : AreNullsKept rights target homes m n) (bounds : AreBoundsKept homes m n) (size align : ℕ) (kind other : Kind) (small : size < 2 ^ 64) (new : AreNewRights rights target kind other) (writable : same_kind kind Kind.Constant ≡ false → same_kind other Kind.Constant ≡ false) where
   abbrev source : MemoryBlock
@@ -164,23 +212,25 @@ module _ (rights target : Rights) (homes : List Home) (m n : List MemoryBlock) (
       blank_stands rights target longer (fresh n size align other) (length m) source (omega (arith, known, length-append homes (whole_home (length n) ∷ []))) refl
       (subst (λ (h : Home). HasRoom rights target (fresh n size align other) h (length m) source) (sym (own rights target homes m n source made known)) fresh_room)
 
-  pub fresh_made : IsMade rights target longer (fresh m size align kind) (fresh n size align other)
+  pub fresh_made : IsMade rights target homes m (length n) (fresh m size align kind) (fresh n size align other)
   fresh_made = record {
     memory = embeds_grown rights target homes m n source made known em (λ live. fresh_stands);
     nulls = nulls_grown rights target homes m n source made known nulls bounds (λ o e. new.nulls (length m) (length n) size align o e);
     bounds = bounds_grown rights target homes m n source made known bounds (omega arith) small;
     known = more_known rights target homes m n source made known;
+    new = new_home rights target homes m n source made known em bounds (record { block = made; there = last_get n made; start = refl; unkilled = λ e. refl; owner = refl; align = refl; writable = writable });
   }
 
-  ended_made : IsMade rights target longer (m ++ ended source ∷ []) (n ++ ended made ∷ [])
+  ended_made : IsMade rights target homes m (length n) (m ++ ended source ∷ []) (n ++ ended made ∷ [])
   ended_made = record {
     memory = embeds_grown rights target homes m n (ended source) (ended made) known em (λ live. absurd (false≢true live));
     nulls = nulls_grown rights target homes m n (ended source) (ended made) known nulls bounds (λ o e. refl);
     bounds = bounds_grown rights target homes m n (ended source) (ended made) known bounds (omega arith) small;
     known = more_known rights target homes m n (ended source) (ended made) known;
+    new = new_home rights target homes m n (ended source) (ended made) known em bounds (record { block = ended made; there = last_get n (ended made); start = refl; unkilled = λ e. refl; owner = refl; align = refl; writable = writable });
   }
 
   -- with markers, and without
-  pub slot_made : (t : Bool) → IsMade rights target longer (if t then end (fresh m size align kind) (length m) else fresh m size align kind) (if t then end (fresh n size align other) (length n) else fresh n size align other)
-  slot_made true = subst (λ (p : List MemoryBlock × List MemoryBlock). IsMade rights target longer p.0 p.1) (λ i. (sym (end_last m source) i, sym (end_last n made) i)) ended_made
+  pub slot_made : (t : Bool) → IsMade rights target homes m (length n) (if t then end (fresh m size align kind) (length m) else fresh m size align kind) (if t then end (fresh n size align other) (length n) else fresh n size align other)
+  slot_made true = subst (λ (p : List MemoryBlock × List MemoryBlock). IsMade rights target homes m (length n) p.0 p.1) (λ i. (sym (end_last m source) i, sym (end_last n made) i)) ended_made
   slot_made false = fresh_made

@@ -1,4 +1,4 @@
 pub mod Related
-pub mod Making
 pub mod Marks
+pub mod Making
 pub mod Deaths

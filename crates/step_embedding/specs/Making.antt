@@ -1,8 +1,9 @@
 -- Instructions that make a block, over a source memory and over a target memory in which it stands.
-use Rattle.std.specs.Prelude.{ℕ, true, List, [], ◌∷◌, ◌++◌, length, ◌≡◌, ◌<◌, ◌^◌}
+use Rattle.std.specs.Prelude.{ℕ, true, List, [], ◌∷◌, ◌++◌, length, slice_get, Some, ◌≡◌, ◌<◌, ◌^◌}
 use Rattle.block_memory.specs.Memory.{Rights}
 use Rattle.block_memory.specs.Pointers.{moved}
 use Rattle.block_memory.specs.declared.block.Kind.{Kind}
+use Rattle.block_memory.specs.declared.block.MemoryBlock.{MemoryBlock}
 use Rattle.block_memory.specs.declared.pointer.Offset.{Offset}
 use Rattle.block_memory.specs.declared.pointer.Value.{Value}
 use Rattle.coro_base.specs.declared.outcome.Word.{Word}
@@ -10,10 +11,11 @@ use Rattle.ir_model.specs.Layout.{size_of}
 use Rattle.ir_model.specs.declared.instr.Instr.{Instr}
 use Rattle.ir_model.specs.declared.operand.Allocator.{Allocator}
 use Rattle.ir_model.specs.declared.operand.Callee.{Callee}
-use Rattle.memory_embedding.specs.Pointers.{Home}
+use Rattle.memory_embedding.specs.Pointers.{Home, home_of}
 use Rattle.memory_embedding.specs.Standing.{HasRights, blank_block}
 use Rattle.ordinary_step.specs.Step.{Action, AtInstr, Context, Done, Fetched, NewSlot, Stuck, Work, alloca_kind, has_markers}
 use Rattle.ordinary_step.specs.Values.{Env, arg_values, nth}
+use Rattle.step_embedding.specs.Marks.{IsAlone, IsTwin}
 use Rattle.step_embedding.specs.Related.{AreWorks}
 
 -- the home that is the whole of a block, into which pointers may be about
@@ -39,15 +41,22 @@ MakesBlock c d env (AtInstr (Instr.Call result must_tail ty (Callee.Allocator Al
     IsSmall (nth (arg_values c.code env args) 0) × AreNewRights c.rights d.rights Kind.Allocator Kind.Allocator
 MakesBlock c d env _ = ⊥
 
--- the works over one home more, which is that of the source's last block
-pub record AreGrown (rights target : Rights) (homes : List Home) (moves : ℕ → ℕ) (w x : Work) : Type 0 where
-  pub works : AreWorks rights target homes moves w x
-  pub known : length homes ≡ length w.world.memory
+-- the new block stands alone in its home, which is as it is and nobody owns; blocks that stood alone still do
+pub record IsNewHome (homes : List Home) (k : ℕ) (m after n : List MemoryBlock) : Type 0 where
+  pub alone : IsAlone (homes ++ whole_home k ∷ []) after (length homes)
+  pub others : (b : ℕ) → (home_of homes b).is_seen ≡ true → IsAlone homes m b → IsAlone (homes ++ whole_home k ∷ []) after b
+  pub twin : (z : MemoryBlock) → slice_get after (length homes) ≡ Some z → IsTwin n (whole_home k) z
+
+-- the works over one home more, which is that of the source's last block; the source's memory was m before
+pub record AreGrown (rights target : Rights) (homes : List Home) (moves : ℕ → ℕ) (m : List MemoryBlock) (k : ℕ) (w x : Work) : Type 0 where
+  pub works : AreWorks rights target (homes ++ whole_home k ∷ []) moves w x
+  pub known : length (homes ++ whole_home k ∷ []) ≡ length w.world.memory
+  pub new : IsNewHome homes k m w.world.memory x.world.memory
 
 -- the target makes a block of its own for the source's, which stands there from now on; its number is given
-abbrev pub GoesAnew : Rights → Rights → List Home → (ℕ → ℕ) → ℕ → Action → Action → Type 0
-GoesAnew rights target homes moves k (Done w) b = (x : Work) × (b ≡ Done x) × AreGrown rights target (homes ++ whole_home k ∷ []) moves w x
-GoesAnew rights target homes moves k (NewSlot w slot) b =
-    (x : Work) × (b ≡ NewSlot x (record { alloca = slot.alloca; block = k })) × (slot.block ≡ length homes) × AreGrown rights target (homes ++ whole_home k ∷ []) moves w x
-GoesAnew rights target homes moves k (Stuck cause) b = Unit {0}
-GoesAnew rights target homes moves k _ b = ⊥
+abbrev pub GoesAnew : Rights → Rights → List Home → (ℕ → ℕ) → List MemoryBlock → ℕ → Action → Action → Type 0
+GoesAnew rights target homes moves m k (Done w) b = (x : Work) × (b ≡ Done x) × AreGrown rights target homes moves m k w x
+GoesAnew rights target homes moves m k (NewSlot w slot) b =
+    (x : Work) × (b ≡ NewSlot x (record { alloca = slot.alloca; block = k })) × (slot.block ≡ length homes) × AreGrown rights target homes moves m k w x
+GoesAnew rights target homes moves m k (Stuck cause) b = Unit {0}
+GoesAnew rights target homes moves m k _ b = ⊥

@@ -24,9 +24,10 @@ pub fn step_is_carried()
 {}
 
 /// An alloca or a call of an allocator that isn't undefined in the source makes a block in both: the new one of the target is
-/// the home of the source's, pointers to it may be about, and the source's memory stands in the target's afterwards.
+/// the home of the source's, which stands alone there, pointers to it may be about, and the source's memory stands in the
+/// target's afterwards.
 pub fn new_blocks_are_carried()
-    ensures { (homes : List Home) (moves : ℕ → ℕ) (c d : Context) (w x : Work) (here : Fetched) → AreAlike c d → AreWorks c.rights d.rights homes moves w x → length homes ≡ length w.world.memory → Each (IsOperand homes c d w.values x.values) (operands_at here) → MakesBlock c d w.values here → GoesAnew c.rights d.rights homes moves (length x.world.memory) (action_of c w here) (action_of d x here) }
+    ensures { (homes : List Home) (moves : ℕ → ℕ) (c d : Context) (w x : Work) (here : Fetched) → AreAlike c d → AreWorks c.rights d.rights homes moves w x → length homes ≡ length w.world.memory → Each (IsOperand homes c d w.values x.values) (operands_at here) → MakesBlock c d w.values here → GoesAnew c.rights d.rights homes moves w.world.memory (length x.world.memory) (action_of c w here) (action_of d x here) }
 {}
 
 /// A lifetime marker of a block that stands alone in its home marks the home too, and the source's memory stands in the
