@@ -33,8 +33,9 @@ use Rattle.memory_embedding.specs.Pointers.{Home, IsValue}
 use Rattle.memory_embedding.specs.Standing.{AreByteRights, Embeds}
 use Rattle.ordinary_step.specs.Step.{Action, AtInstr, AtTerm, Context, Deallocate, Enter, Fetched, GoTo, Nowhere, Stuck, Work, action_of, allocator_call, answer, branch, by_pred, compared, copied_bytes, done, fits_function, if_alignment, indirect_call, instr_action, intrinsic_call, is_alignment, is_word, named_call, observed, risen, set_memory, set_value, switch, target_of, term_action, with_event, with_length, words_of}
 use Rattle.ordinary_step.specs.Values.{Env, access_of, address, arg_value, arg_values, distance, element, indices_of, literal, nth, truth_value, value_of, with_result}
-use Rattle.step_embedding.proofs.Memories.{AreRefilled, bounds_kept, copy_refills, element_kept, nulls_kept, store_refills}
+use Rattle.step_embedding.proofs.Memories.{bounds_kept, copy_refills, element_kept, nulls_kept, store_refills}
 use Rattle.step_embedding.proofs.Values.{IsNum, address_kept, alignment_is, binary_kept, cast_to_kept, chosen_kept, env_result, env_set, icmp_kept, nth_kept, number_kept, stored_kept, value_of_kept, width_kept, words_kept}
+use Rattle.step_embedding.specs.Refilled.{AreRefilled}
 use Rattle.step_embedding.specs.Related.{AreAlike, AreEnvs, AreValues, AreWorks, GoesAlike, HasNoSlot, IsCarried, IsOperand, IsSameDistance, moved_event}
 use Rattle.step_laws.specs.Changed.{Each, values_of}
 

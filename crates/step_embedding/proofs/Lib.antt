@@ -8,3 +8,4 @@ pub mod Marked
 pub mod Deallocated
 pub mod SlotDeaths
 pub mod Owners
+pub mod Refills

@@ -1,10 +1,11 @@
 //! Ordinary steps over a source memory and over a target memory in which it stands.
 #![tactic(auto)]
 
-ghost use Rattle.std.specs.Prelude.{ℕ, List, Some, length, map, slice_get, ◌≡◌};
-ghost use Rattle.block_memory.specs.Memory.{Rights, owner_rights};
+ghost use Rattle.std.specs.Prelude.{ℕ, true, List, Some, length, map, slice_get, ◌≡◌};
+ghost use Rattle.block_memory.specs.Memory.{Rights, owner_rights, with_block};
 ghost use Rattle.block_memory.specs.declared.block.MemoryBlock.{MemoryBlock as Block};
 ghost use Rattle.block_memory.specs.declared.pointer.Value.{Value as TheValue};
+ghost use Rattle.block_memory.specs.declared.block.Byte.{Byte as TheByte};
 ghost use Rattle.block_memory.specs.declared.block.Kind.{Kind as TheKind};
 ghost use Rattle.memory_embedding.specs.Pointers.{Home, IsValue, home_of};
 ghost use Rattle.memory_embedding.specs.Standing.{AreByteRights};
@@ -13,7 +14,8 @@ ghost use Rattle.ordinary_step.specs.declared.world.Slot.{Slot as TheSlot};
 ghost use Rattle.step_embedding.specs.Deaths.{IsDeallocated, MayDie, moved_slot};
 ghost use Rattle.step_embedding.specs.Making.{AreNewRights, GoesAnew, MakesBlock};
 ghost use Rattle.step_embedding.specs.Marks.{IsAlone, IsTwin, MarksBlock, MayStart};
-ghost use Rattle.step_embedding.specs.Related.{AreAlike, AreWorks, GoesAlike, IsCarried, IsOperand};
+ghost use Rattle.step_embedding.specs.Refilled.{AreRefilled, OnlyRefills};
+ghost use Rattle.step_embedding.specs.Related.{AreAlike, AreWorks, GoesAlike, HasNoSlot, IsCarried, IsOperand};
 ghost use Rattle.step_laws.specs.Changed.{Each, operands_at};
 
 /// An ordinary step of the source that isn't undefined is made by the target in the same way, with what stands for the
@@ -56,4 +58,17 @@ pub fn owner_rights_serve_new_blocks()
 /// The rights of owners serve slots that live again: a block that nobody owns may be started where the source's is.
 pub fn owner_rights_serve_markers()
     ensures { (homes : List Home) (m n : List Block) (b : ℕ) (x : Block) → slice_get m b ≡ Some x → IsTwin n (home_of homes b) x → MayStart owner_rights owner_rights homes m n b }
+{}
+
+/// An ordinary step that makes, marks and allocates no block changes no more of the memory than what bytes hold.
+pub fn other_steps_refill()
+    ensures { (c : Context) (w : Work) (here : Fetched) → HasNoSlot here → OnlyRefills w.world.memory (action_of c w here) }
+{}
+
+/// A block stays alone in its home where bytes are written, and where blocks into which pointers may be about are marked or
+/// die; and its home stays as it is where bytes are written.
+pub fn blocks_stay_alone()
+    ensures refilled { (homes : List Home) (m k : List Block) (b : ℕ) → AreRefilled m k → IsAlone homes m b → IsAlone homes k b }
+    ensures changed { (homes : List Home) (m : List Block) (b k : ℕ) (f : Block → Block) → (home_of homes k).is_seen ≡ true → IsAlone homes m b → IsAlone homes (with_block m k f) b }
+    ensures twins { (n k : List Block) (h : Home) (x : Block) (bytes : List TheByte) → AreRefilled n k → IsTwin n h x → IsTwin k h (record x { bytes = bytes }) }
 {}
