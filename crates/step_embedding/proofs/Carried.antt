@@ -20,6 +20,7 @@ use Rattle.ir_model.specs.Ty.{Ty, array, int, named, ptr, structure, token}
 use Rattle.ir_model.specs.declared.instr.Case.{Case}
 use Rattle.ir_model.specs.declared.instr.Instr.{Instr}
 use Rattle.ir_model.specs.declared.instr.Terminator.{Terminator}
+use Rattle.ir_model.specs.declared.operand.Allocator.{Allocator}
 use Rattle.ir_model.specs.declared.operand.Arg.{Arg}
 use Rattle.ir_model.specs.declared.operand.Callee.{Callee}
 use Rattle.ir_model.specs.declared.operand.Intrinsic.{Intrinsic}
@@ -30,10 +31,11 @@ use Rattle.memory_embedding.proofs.Loads.{loads_kept}
 use Rattle.memory_embedding.proofs.Stores.{stores_kept}
 use Rattle.memory_embedding.specs.Pointers.{Home, IsValue}
 use Rattle.memory_embedding.specs.Standing.{AreByteRights, Embeds}
-use Rattle.ordinary_step.specs.Step.{Action, AtInstr, AtTerm, Context, Enter, Fetched, GoTo, Nowhere, Stuck, Work, action_of, answer, branch, by_pred, compared, copied_bytes, done, fits_function, if_alignment, indirect_call, instr_action, intrinsic_call, is_alignment, is_word, named_call, observed, risen, set_memory, set_value, switch, target_of, term_action, with_event, with_length, words_of}
+use Rattle.ordinary_step.specs.Step.{Action, AtInstr, AtTerm, Context, Deallocate, Enter, Fetched, GoTo, Nowhere, Stuck, Work, action_of, allocator_call, answer, branch, by_pred, compared, copied_bytes, done, fits_function, if_alignment, indirect_call, instr_action, intrinsic_call, is_alignment, is_word, named_call, observed, risen, set_memory, set_value, switch, target_of, term_action, with_event, with_length, words_of}
 use Rattle.ordinary_step.specs.Values.{Env, access_of, address, arg_value, arg_values, distance, element, indices_of, literal, nth, truth_value, value_of, with_result}
-use Rattle.step_embedding.proofs.Memories.{AreRefilled, bounds_kept, copy_refills, element_kept, nulls_kept, store_refills}
+use Rattle.step_embedding.proofs.Memories.{bounds_kept, copy_refills, element_kept, nulls_kept, store_refills}
 use Rattle.step_embedding.proofs.Values.{IsNum, address_kept, alignment_is, binary_kept, cast_to_kept, chosen_kept, env_result, env_set, icmp_kept, nth_kept, number_kept, stored_kept, value_of_kept, width_kept, words_kept}
+use Rattle.step_embedding.specs.Refilled.{AreRefilled}
 use Rattle.step_embedding.specs.Related.{AreAlike, AreEnvs, AreValues, AreWorks, GoesAlike, HasNoSlot, IsCarried, IsOperand, IsSameDistance, moved_event}
 use Rattle.step_laws.specs.Changed.{Each, values_of}
 
@@ -212,11 +214,21 @@ module _ (homes : List Home) (moves : ℕ → ℕ) (c d : Context) (w x : Work) 
   intrinsic_alike Intrinsic.MemcpyI32 result must_tail ty args vs us s h = copied_alike vs us h
   intrinsic_alike _ result must_tail ty args vs us s h = refl
 
+  deallocator_alike : (vs us : List Value) → AreValues homes vs us → Alike (Deallocate (address (nth vs 0))) (Deallocate (address (nth us 0)))
+  deallocator_alike vs us h = (address (nth us 0), refl, address_kept homes _ _ (nth_kept homes vs us 0 h))
+
+  allocator_alike : (a : Allocator) (result : Option ℕ) (must_tail : Bool) (ty : Option Ty) (args : List Arg) (vs us : List Value) → HasNoSlot (AtInstr (Instr.Call result must_tail ty (Callee.Allocator a) args)) → AreValues homes vs us → Alike (allocator_call a w result vs) (allocator_call a x result us)
+  allocator_alike Allocator.Malloc result must_tail ty args vs us s h = absurd s
+  allocator_alike Allocator.Znwm result must_tail ty args vs us s h = absurd s
+  allocator_alike Allocator.Free result must_tail ty args vs us s h = deallocator_alike vs us h
+  allocator_alike Allocator.ZdlPv result must_tail ty args vs us s h = deallocator_alike vs us h
+  allocator_alike Allocator.ZdlPvm result must_tail ty args vs us s h = deallocator_alike vs us h
+
   call_alike : (result : Option ℕ) (must_tail : Bool) (ty : Option Ty) (callee : Callee) (args : List Arg) → IsCarried homes moves c d w.values x.values (AtInstr (Instr.Call result must_tail ty callee args)) → Alike (instr_action c w (Instr.Call result must_tail ty callee args)) (instr_action d x (Instr.Call result must_tail ty callee args))
   call_alike result must_tail ty (Callee.Named n) args k =
       subst (λ (p : Option ℕ × Option ℕ). Alike (named_call c w (function_named c.code n) (declaration_named c.code n) ty result must_tail (arg_values c.code w.values args)) (named_call d x p.0 p.1 ty result must_tail (arg_values d.code x.values args))) (λ i. (sym (alike.functions n) i, sym k.callee i))
       (named_alike (function_named c.code n) (declaration_named c.code n) ty result must_tail _ _ (args_alike args k.operands))
-  call_alike result must_tail ty (Callee.Allocator a) args k = absurd k.no_slot
+  call_alike result must_tail ty (Callee.Allocator a) args k = allocator_alike a result must_tail ty args _ _ k.no_slot (args_alike args k.operands)
   call_alike result must_tail ty (Callee.Intrinsic i) args k = intrinsic_alike i result must_tail ty args _ _ k.no_slot (args_alike args k.operands)
   call_alike result must_tail ty (Callee.Local name) args k = indirect_alike _ _ ty result must_tail args _ _ (k.operands.0.here ptr) (args_alike args k.operands.1)
 

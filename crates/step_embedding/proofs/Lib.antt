@@ -1,3 +1,11 @@
 pub mod Values
 pub mod Memories
 pub mod Carried
+pub mod NewBlocks
+pub mod Made
+pub mod Mirrors
+pub mod Marked
+pub mod Deallocated
+pub mod SlotDeaths
+pub mod Owners
+pub mod Refills

@@ -16,18 +16,9 @@ use Rattle.coro_base.specs.declared.cause.Cause.{Cause}
 use Rattle.memory_embedding.specs.Pointers.{Home, IsValue, home_of, moved_pointer}
 use Rattle.memory_embedding.specs.Standing.{AreBoundsKept, AreByteRights, AreNullsKept}
 use Rattle.ordinary_step.specs.Values.{element, is_in_bounds, moved_by}
+use Rattle.step_embedding.specs.Refilled.{AreRefilled, IsRefilled}
 
 -- ---- memories that differ in what bytes hold
-
-abbrev pub IsRefilled : Option MemoryBlock → Option MemoryBlock → Type 0
-IsRefilled None None = Unit {0}
-IsRefilled None (Some y) = ⊥
-IsRefilled (Some x) None = ⊥
-IsRefilled (Some x) (Some y) = y ≡ record x { bytes = y.bytes }
-
--- block by block
-pub record AreRefilled (m k : List MemoryBlock) : Type 0 where
-  pub each : (b : ℕ) → IsRefilled (slice_get m b) (slice_get k b)
 
 refilled_itself : (o : Option MemoryBlock) → IsRefilled o o
 refilled_itself None = tt
@@ -43,7 +34,7 @@ refilled_block (x ∷ m) (suc k) (suc b) o xs = refilled_block m k b o xs
 written_refills : (m : List MemoryBlock) (s : Spot) (xs : List Byte) → AreRefilled m (write m s xs)
 written_refills m s xs = record { each = λ b. refilled_block m s.block b s.offset xs }
 
-same_refills : (m : List MemoryBlock) → AreRefilled m m
+pub same_refills : (m : List MemoryBlock) → AreRefilled m m
 same_refills m = record { each = λ b. refilled_itself (slice_get m b) }
 
 if_refills : (m k n : List MemoryBlock) (c : Bool) → AreRefilled m k → (if c then Err Cause.Constant else Ok k) ≡ Ok n → AreRefilled m n

@@ -1,1 +1,5 @@
 pub mod Related
+pub mod Marks
+pub mod Making
+pub mod Deaths
+pub mod Refilled

@@ -7,6 +7,7 @@ use Rattle.coro_base.specs.declared.outcome.Event.{Event}
 use Rattle.ir_model.specs.Names.{declaration_named, function_named}
 use Rattle.ir_model.specs.Ty.{Ty}
 use Rattle.ir_model.specs.declared.instr.Instr.{Instr}
+use Rattle.ir_model.specs.declared.operand.Allocator.{Allocator}
 use Rattle.ir_model.specs.declared.operand.Arg.{Arg}
 use Rattle.ir_model.specs.declared.operand.Callee.{Callee}
 use Rattle.ir_model.specs.declared.operand.Intrinsic.{Intrinsic}
@@ -68,7 +69,8 @@ IsDeclared moves c d (Some n) = declaration_named d.code n ≡ option_map moves 
 -- slots are made and marked by each pass in its own way, and blocks are allocated in their own
 abbrev pub HasNoSlot : Fetched → Type 0
 HasNoSlot (AtInstr (Instr.Alloca name ty align)) = ⊥
-HasNoSlot (AtInstr (Instr.Call result must_tail ty (Callee.Allocator a) args)) = ⊥
+HasNoSlot (AtInstr (Instr.Call result must_tail ty (Callee.Allocator Allocator.Malloc) args)) = ⊥
+HasNoSlot (AtInstr (Instr.Call result must_tail ty (Callee.Allocator Allocator.Znwm) args)) = ⊥
 HasNoSlot (AtInstr (Instr.Call result must_tail ty (Callee.Intrinsic Intrinsic.LifetimeStart) args)) = ⊥
 HasNoSlot (AtInstr (Instr.Call result must_tail ty (Callee.Intrinsic Intrinsic.LifetimeEnd) args)) = ⊥
 HasNoSlot _ = Unit {0}

@@ -1,15 +1,74 @@
 //! Ordinary steps over a source memory and over a target memory in which it stands.
 #![tactic(auto)]
 
-ghost use Rattle.std.specs.Prelude.{ℕ, List};
-ghost use Rattle.memory_embedding.specs.Pointers.{Home};
+ghost use Rattle.std.specs.Prelude.{ℕ, true, List, Some, length, map, slice_get, ◌≡◌};
+ghost use Rattle.block_memory.specs.Memory.{Rights, owner_rights, with_block};
+ghost use Rattle.block_memory.specs.declared.block.MemoryBlock.{MemoryBlock as Block};
+ghost use Rattle.block_memory.specs.declared.pointer.Value.{Value as TheValue};
+ghost use Rattle.block_memory.specs.declared.block.Byte.{Byte as TheByte};
+ghost use Rattle.block_memory.specs.declared.block.Kind.{Kind as TheKind};
+ghost use Rattle.memory_embedding.specs.Pointers.{Home, IsValue, home_of};
 ghost use Rattle.memory_embedding.specs.Standing.{AreByteRights};
-ghost use Rattle.ordinary_step.specs.Step.{Context, Fetched, Work, action_of};
-ghost use Rattle.step_embedding.specs.Related.{AreAlike, AreWorks, GoesAlike, IsCarried};
+ghost use Rattle.ordinary_step.specs.Step.{Context, Fetched, Work, action_of, deallocated, set_memory, without_slots};
+ghost use Rattle.ordinary_step.specs.declared.world.Slot.{Slot as TheSlot};
+ghost use Rattle.step_embedding.specs.Deaths.{IsDeallocated, MayDie, moved_slot};
+ghost use Rattle.step_embedding.specs.Making.{AreNewRights, GoesAnew, MakesBlock};
+ghost use Rattle.step_embedding.specs.Marks.{IsAlone, IsTwin, MarksBlock, MayStart};
+ghost use Rattle.step_embedding.specs.Refilled.{AreRefilled, OnlyRefills};
+ghost use Rattle.step_embedding.specs.Related.{AreAlike, AreWorks, GoesAlike, HasNoSlot, IsCarried, IsOperand};
+ghost use Rattle.step_laws.specs.Changed.{Each, operands_at};
 
 /// An ordinary step of the source that isn't undefined is made by the target in the same way, with what stands for the
 /// source's values, and the source's memory stands in the target's afterwards: of every instruction but those that make,
 /// mark or allocate blocks.
 pub fn step_is_carried()
     ensures { (homes : List Home) (moves : ℕ → ℕ) (c d : Context) (w x : Work) (here : Fetched) → AreByteRights c.rights → AreByteRights d.rights → AreAlike c d → AreWorks c.rights d.rights homes moves w x → IsCarried homes moves c d w.values x.values here → GoesAlike c.rights d.rights homes moves (action_of c w here) (action_of d x here) }
+{}
+
+/// An alloca or a call of an allocator that isn't undefined in the source makes a block in both: the new one of the target is
+/// the home of the source's, which stands alone there, pointers to it may be about, and the source's memory stands in the
+/// target's afterwards.
+pub fn new_blocks_are_carried()
+    ensures { (homes : List Home) (moves : ℕ → ℕ) (c d : Context) (w x : Work) (here : Fetched) → AreAlike c d → AreWorks c.rights d.rights homes moves w x → length homes ≡ length w.world.memory → Each (IsOperand homes c d w.values x.values) (operands_at here) → MakesBlock c d w.values here → GoesAnew c.rights d.rights homes moves w.world.memory (length x.world.memory) (action_of c w here) (action_of d x here) }
+{}
+
+/// A lifetime marker of a block that stands alone in its home marks the home too, and the source's memory stands in the
+/// target's afterwards.
+pub fn markers_are_carried()
+    ensures { (homes : List Home) (moves : ℕ → ℕ) (c d : Context) (w x : Work) (here : Fetched) → AreByteRights c.rights → AreByteRights d.rights → AreWorks c.rights d.rights homes moves w x → Each (IsOperand homes c d w.values x.values) (operands_at here) → MarksBlock homes c d w x here → GoesAlike c.rights d.rights homes moves (action_of c w here) (action_of d x here) }
+{}
+
+/// A deallocation that isn't undefined in the source, of a block that stands alone from the start of its home on, kills the
+/// home too, and the source's memory stands in the target's afterwards.
+pub fn deallocations_are_carried()
+    ensures { (rights target : Rights) (homes : List Home) (moves : ℕ → ℕ) (w x : Work) (p q : TheValue) → AreByteRights rights → AreByteRights target → AreWorks rights target homes moves w x → IsValue homes p q → MayDie homes w.world.memory x.world.memory p → IsDeallocated rights target homes moves w x (deallocated w.world.memory p) (deallocated x.world.memory q) }
+{}
+
+/// The slots of an activation die, each of which stands alone, and their homes do.
+pub fn slot_deaths_are_carried()
+    ensures { (rights target : Rights) (homes : List Home) (moves : ℕ → ℕ) (w x : Work) (slots : List TheSlot) → AreByteRights rights → AreByteRights target → AreWorks rights target homes moves w x → Each (λ (s : TheSlot). IsAlone homes w.world.memory s.block) slots → AreWorks rights target homes moves (set_memory w (without_slots w.world.memory slots)) (set_memory x (without_slots x.world.memory (map (moved_slot homes) slots))) }
+{}
+
+/// The rights of owners serve new blocks of any kinds.
+#[tactic(auto, using(crate::proofs::Owners::owners_serve))]
+pub fn owner_rights_serve_new_blocks()
+    ensures { (kind other : TheKind) → AreNewRights owner_rights owner_rights kind other }
+{}
+
+/// The rights of owners serve slots that live again: a block that nobody owns may be started where the source's is.
+pub fn owner_rights_serve_markers()
+    ensures { (homes : List Home) (m n : List Block) (b : ℕ) (x : Block) → slice_get m b ≡ Some x → IsTwin n (home_of homes b) x → MayStart owner_rights owner_rights homes m n b }
+{}
+
+/// An ordinary step that makes, marks and allocates no block changes no more of the memory than what bytes hold.
+pub fn other_steps_refill()
+    ensures { (c : Context) (w : Work) (here : Fetched) → HasNoSlot here → OnlyRefills w.world.memory (action_of c w here) }
+{}
+
+/// A block stays alone in its home where bytes are written, and where blocks into which pointers may be about are marked or
+/// die; and its home stays as it is where bytes are written.
+pub fn blocks_stay_alone()
+    ensures refilled { (homes : List Home) (m k : List Block) (b : ℕ) → AreRefilled m k → IsAlone homes m b → IsAlone homes k b }
+    ensures changed { (homes : List Home) (m : List Block) (b k : ℕ) (f : Block → Block) → (home_of homes k).is_seen ≡ true → IsAlone homes m b → IsAlone homes (with_block m k f) b }
+    ensures twins { (n k : List Block) (h : Home) (x : Block) (bytes : List TheByte) → AreRefilled n k → IsTwin n h x → IsTwin k h (record x { bytes = bytes }) }
 {}
