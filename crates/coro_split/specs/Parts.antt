@@ -26,6 +26,7 @@ use Rattle.coro_split.specs.declared.origin.Origin.{Origin}
 use Rattle.intrinsic_lowering.specs.declared.shape.Part.{Part}
 use Rattle.intrinsic_lowering.specs.declared.shape.Shape.{Shape}
 use Rattle.intrinsic_lowering.specs.declared.shape.SuspendPoint.{SuspendPoint}
+use Rattle.window_exits.specs.ExitBlocks.{with_exit_blocks}
 
 -- ---- the entry of the parts that go on behind a suspend
 
@@ -243,8 +244,12 @@ plain_of s f =
 
 -- ---- the module
 
+-- the parts of a coroutine whose edges that leave a window have blocks with marks
+abbrev pub marked_parts : Layout → Function → List Function
+marked_parts l f = parts_of (shape_of f l) f
+
 abbrev pub split_function : Layout → Function → List Function
-split_function l f = if f.coroutine then parts_of (shape_of f l) f else plain_of (plain_shape f) f ∷ []
+split_function l f = if f.coroutine then marked_parts l (with_exit_blocks f) else plain_of (plain_shape f) f ∷ []
 
 -- the first of the layouts, that of a frame of an index alone where there is none
 abbrev pub first_layout : List Layout → Layout

@@ -1,8 +1,8 @@
 //! The pass over the module.
 
 ghost use Rattle.std.specs.Prelude.{◌≡◌, IfOk, OnOk, ◌++◌};
-ghost use Rattle.intrinsic_lowering.specs.Shapes.{shape_of};
-ghost use Rattle.coro_split.specs.Parts.{parts_of, split_function, first_layout, other_layouts, layouts_after, split_functions, split_module};
+ghost use Rattle.window_exits.specs.ExitBlocks.{with_exit_blocks};
+ghost use Rattle.coro_split.specs.Parts.{marked_parts, split_function, first_layout, other_layouts, layouts_after, split_functions, split_module};
 
 use crate::parts::{plain_of, push_parts};
 use coro_base::{Data, Items};
@@ -10,6 +10,7 @@ use frame_layout::{Layout, Layouts, index_alone};
 use intrinsic_lowering::shape_of;
 use ir_model::{Function, Module};
 use std::alloc::{AllocError, Global};
+use window_exits::with_exit_blocks;
 
 /// Adds what a function becomes, by the first of these layouts where it is a coroutine.
 fn push_function(
@@ -30,16 +31,29 @@ fn push_function(
     }
 }
 
+/// Adds the parts of a coroutine whose edges that leave a window have blocks with marks.
+fn push_marked(
+    alloc: Global,
+    all: &mut Items<Function>,
+    layout: &Layout,
+    function: &Function,
+) -> Result<(), AllocError>
+    ensures { OnOk result (all.new ≡ all.old ++ marked_parts layout.now function.now) }
+{
+    let shape = shape_of(alloc, function, layout)?;
+    push_parts(alloc, all, &shape, function)
+}
+
 fn push_coroutine(
     alloc: Global,
     all: &mut Items<Function>,
     layout: &Layout,
     function: &Function,
 ) -> Result<(), AllocError>
-    ensures { OnOk result (all.new ≡ all.old ++ parts_of (shape_of function.now layout.now) function.now) }
+    ensures { OnOk result (all.new ≡ all.old ++ marked_parts layout.now (with_exit_blocks function.now)) }
 {
-    let shape = shape_of(alloc, function, layout)?;
-    push_parts(alloc, all, &shape, function)
+    let marked = with_exit_blocks(alloc, function)?;
+    push_marked(alloc, all, layout, &marked)
 }
 
 /// The layouts that are left behind a function.

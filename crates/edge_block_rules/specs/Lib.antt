@@ -1,0 +1,2 @@
+pub mod Phis
+pub mod Returns

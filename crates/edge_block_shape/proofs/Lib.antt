@@ -1,0 +1,4 @@
+pub mod Unsplit
+pub mod Uses
+pub mod Tokens
+pub mod Kept

@@ -1,0 +1,3 @@
+mod BesideBlocks
+mod LeftWindows
+mod Marks

@@ -1,0 +1,5 @@
+pub mod Exits
+pub mod ExitBlocks
+pub mod Regions
+pub mod Rows
+pub mod Leaving
