@@ -1,6 +1,5 @@
 -- The edges of a function lead between its blocks, or to the place behind the last.
-use Rattle.std.proofs.Common.{◌≡◌, ℕ, ◌+◌, ◌<◌, List, [], ◌∷◌, ◌++◌, length, map, refl, sym, ap, ◌∙◌, subst, ⊎_elim, arith}
-use Rattle.std.specs.Prelude.{Some, slice_get, flat_map}
+use Rattle.std.proofs.Common.{◌≡◌, ℕ, ◌+◌, ◌<◌, List, [], ◌∷◌, length, sym, ap, subst, ⊎_elim, arith}
 use Rattle.block_paths.proofs.Bounds.{position_bounded}
 use Rattle.block_paths.proofs.Elements.{listed_append}
 use Rattle.elidable_shape.specs.Edges.{edges_by, edges_of, edges_out}

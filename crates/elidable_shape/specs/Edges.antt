@@ -1,5 +1,5 @@
 -- The edges of a function, with their kinds.
-use Rattle.std.specs.Prelude.{ℕ, Bool, List, [], count_by, Some, None, Option, slice_get, ◌+◌, ◌∷◌, ◌++◌, ◌==◌}
+use Rattle.std.specs.Prelude.{ℕ, Bool, List, [], count_by, Some, None, Option, ◌+◌, ◌∷◌, ◌++◌, ◌==◌}
 use Rattle.block_paths.specs.Kinds.{kind_of}
 use Rattle.coro_calls.specs.Calls.{is_value}
 use Rattle.elidable_shape.specs.declared.edges.Edge.{Edge}
@@ -7,7 +7,6 @@ use Rattle.ir_model.specs.Names.{position_of}
 use Rattle.ir_model.specs.declared.instr.Terminator.{Terminator}
 use Rattle.ir_model.specs.declared.module.Block.{Block}
 use Rattle.ir_model.specs.declared.module.Function.{Function}
-use Rattle.ir_model.specs.declared.operand.Operand.{Operand}
 use Rattle.ir_paths.specs.Paths.{targets}
 use Rattle.std.specs.Prelude.{if◌then◌else◌, false}
 

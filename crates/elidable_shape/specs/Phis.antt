@@ -1,6 +1,7 @@
 -- What phis give from blocks.
-use Rattle.std.specs.Prelude.{ℕ, Bool, false, List, [], find, Some, None, Option, option_map, slice_get, ◌∷◌, ◌==◌}
+use Rattle.std.specs.Prelude.{ℕ, Bool, false, List, [], find, Some, None, Option, option_map, ◌&&◌, ◌||◌, ◌==◌}
 use Rattle.edge_rules.specs.Operands.{same_operand}
+use Rattle.elidable_shape.specs.Frames.{is_frame}
 use Rattle.ir_model.specs.Names.{position_of}
 use Rattle.ir_model.specs.declared.instr.Phi.{Phi}
 use Rattle.ir_model.specs.declared.module.Block.{Block}
@@ -15,13 +16,17 @@ abbrev pub is_given : (Operand → Bool) → Option Operand → Bool
 is_given test None = false
 is_given test (Some x) = test x
 
-abbrev pub same_given : Option Operand → Option Operand → Bool
-same_given (Some x) (Some y) = same_operand x y
-same_given _ _ = false
+-- the operands are the same, or each is begin's value or a coro.frame's, which are one value
+abbrev pub same_value : Function → Operand → Operand → Bool
+same_value f x y = same_operand x y || (is_frame f x && is_frame f y)
+
+abbrev pub same_given : Function → Option Operand → Option Operand → Bool
+same_given f (Some x) (Some y) = same_value f x y
+same_given f _ _ = false
 
 -- the phi has equal operands from both blocks
 abbrev pub gives_same : Function → ℕ → ℕ → Phi → Bool
-gives_same f a d p = same_given (given f a p) (given f d p)
+gives_same f a d p = same_given f (given f a p) (given f d p)
 
 abbrev pub phis_of : Option Block → List Phi
 phis_of None = []

@@ -8,7 +8,7 @@ ghost use Rattle.coro_shape.specs.Uses.{counted_all, operands_of, phi_operands, 
 ghost use Rattle.edge_rules.specs.Operands.{same_operand};
 ghost use Rattle.elidable_shape.specs.Edges.{edges_into, edges_of as edges_of_function, jumps_to as jumps_to_block};
 ghost use Rattle.elidable_shape.specs.Frames.{all_from, frame_value, is_frame as is_frame_of, returns_frame as returns_frame_of, rets_give_frame};
-ghost use Rattle.elidable_shape.specs.Phis.{given as given_by, same_given, gives_same as gives_same_by};
+ghost use Rattle.elidable_shape.specs.Phis.{given as given_by, same_given, same_value, gives_same as gives_same_by};
 ghost use Rattle.ir_model.specs.Names.{is_local, position_of};
 ghost use Rattle.ir_model.specs.declared.operand.Operand.{Operand as TheOperand};
 ghost use Rattle.ordinary_step.specs.Tables.{HasPositions};
@@ -65,15 +65,6 @@ fn is_same_operand(a: &Operand, b: &Operand) -> bool
     ensures { result ≡ same_operand a.now b.now }
 {
     a.is_same(b)
-}
-
-fn is_same_given(a: Option<&Operand>, b: Option<&Operand>) -> bool
-    ensures { result ≡ same_given (option_copied a.entry) (option_copied b.entry) }
-{
-    match (a, b) {
-        (Some(x), Some(y)) => is_same_operand(x, y),
-        _ => false,
-    }
 }
 
 impl Facts<'_> {
@@ -167,21 +158,37 @@ impl Facts<'_> {
         }
     }
 
-    fn gives_same(&self, a: BlockId, d: BlockId, phi: &Phi) -> bool
-        ensures { result ≡ gives_same_by self.now.function.now a d phi.now }
+    /// Whether the operands are the same, or each is begin's value or a coro.frame's.
+    fn is_same_value(&self, a: &Operand, b: &Operand) -> Result<bool, AllocError>
+        ensures { IfOk result (λ same. same ≡ same_value self.now.function.now a.now b.now) }
     {
-        is_same_given(self.given(a, phi), self.given(d, phi))
+        Ok(is_same_operand(a, b) || (self.is_frame(a)? && self.is_frame(b)?))
     }
 
-    /// Whether the phis have equal operands from both blocks.
-    pub fn give_same(&self, a: BlockId, d: BlockId, phis: &[Phi]) -> bool
-        ensures { result ≡ list_all (gives_same_by self.now.function.now a d) phis.now }
+    fn is_same_given(&self, a: Option<&Operand>, b: Option<&Operand>) -> Result<bool, AllocError>
+        ensures { IfOk result (λ same. same ≡ same_given self.now.function.now (option_copied a.entry) (option_copied b.entry)) }
+    {
+        match (a, b) {
+            (Some(x), Some(y)) => self.is_same_value(x, y),
+            _ => Ok(false),
+        }
+    }
+
+    fn gives_same(&self, a: BlockId, d: BlockId, phi: &Phi) -> Result<bool, AllocError>
+        ensures { IfOk result (λ same. same ≡ gives_same_by self.now.function.now a d phi.now) }
+    {
+        self.is_same_given(self.given(a, phi), self.given(d, phi))
+    }
+
+    /// Whether the phis have equal operands from both blocks, where begin's value and a coro.frame's are one value.
+    pub fn give_same(&self, a: BlockId, d: BlockId, phis: &[Phi]) -> Result<bool, AllocError>
+        ensures { IfOk result (λ same. same ≡ list_all (gives_same_by self.now.function.now a d) phis.now) }
     {
         for phi in phis {
-            if !self.gives_same(a, d, phi) {
-                return false;
+            if !self.gives_same(a, d, phi)? {
+                return Ok(false);
             }
         }
-        true
+        Ok(true)
     }
 }

@@ -100,11 +100,16 @@ impl Facts<'_> {
         }
     }
 
-    fn phis_give_same(&self, from: BlockId, side: BlockId, block: Option<&Block>) -> bool
-        ensures { result ≡ list_all (gives_same self.now.function.now from side) (phis_of (option_copied block.entry)) }
+    fn phis_give_same(
+        &self,
+        from: BlockId,
+        side: BlockId,
+        block: Option<&Block>,
+    ) -> Result<bool, AllocError>
+        ensures { IfOk result (λ same. same ≡ list_all (gives_same self.now.function.now from side) (phis_of (option_copied block.entry))) }
     {
         match block {
-            None => true,
+            None => Ok(true),
             Some(block) => self.give_same(from, side, block.phis.as_slice()),
         }
     }
@@ -122,7 +127,7 @@ impl Facts<'_> {
         Ok(
             self.edges_into(side)? == 1
                 && (self.is_release_block(value, null_side, blocks.get(side))
-                    && self.phis_give_same(from, side, blocks.get(null_side))),
+                    && self.phis_give_same(from, side, blocks.get(null_side))?),
         )
     }
 

@@ -139,7 +139,7 @@ impl Facts<'_> {
     {
         Ok(
             self.is_memory_phi(a, d, memory, first)?
-                && (self.give_same(a, d, rest) && self.begins_with(first.result, block)?),
+                && (self.give_same(a, d, rest)? && self.begins_with(first.result, block)?),
         )
     }
 

@@ -19,7 +19,7 @@ use std::alloc::{AllocError, Global};
 fn made_words(alloc: Global, closed: BlockId, rows: &[Items<Pass>]) -> Result<Vec<u64>, AllocError>
     ensures { IfOk result (λ words. words.items ≡ each_from (made_of closed) 0 rows.now) }
 {
-    let mut words = Vec::new(alloc);
+    let mut words = Vec::with_capacity(alloc, rows.len())?;
     let mut at = 0;
     for row in rows {
         words.push(out_word(shut_word(closed, at), 0, row.as_slice()))?;
@@ -32,7 +32,7 @@ fn made_words(alloc: Global, closed: BlockId, rows: &[Items<Pass>]) -> Result<Ve
 fn stop_words(alloc: Global, closed: BlockId, rows: &[Items<Pass>]) -> Result<Vec<u64>, AllocError>
     ensures { IfOk result (λ words. words.items ≡ each_from (stops_of closed) 0 rows.now) }
 {
-    let mut words = Vec::new(alloc);
+    let mut words = Vec::with_capacity(alloc, rows.len())?;
     let mut at = 0;
     for row in rows {
         words.push(stops_word(shut_word(closed, at), row.as_slice()))?;
@@ -49,7 +49,7 @@ fn kept_words(
 ) -> Result<Vec<u64>, AllocError>
     ensures { IfOk result (λ words. words.items ≡ map (word_kept stops.now) edges.now) }
 {
-    let mut words = Vec::new(alloc);
+    let mut words = Vec::with_capacity(alloc, edges.len())?;
     for (from, _) in edges {
         words.push(word_at(stops, *from) ^ u64::MAX)?;
     }
@@ -99,7 +99,7 @@ fn all_words(
 ) -> Result<Items<Items<u64>>, AllocError>
     ensures { IfOk result (λ all. all ≡ each_from (words_of closed words.now) 0 rows.now) }
 {
-    let mut all = Items::new(alloc);
+    let mut all = Vec::with_capacity(alloc, rows.len())?;
     let mut at = 0;
     for row in rows {
         let here = row_words(
@@ -111,7 +111,7 @@ fn all_words(
         all.push(here)?;
         at = next(at)?;
     }
-    Ok(all)
+    Ok(Items::from_vec(all))
 }
 
 /// For each point of a function, a word in the row of its block, with the bit of each question of which a path leads there: the

@@ -70,11 +70,11 @@ pub fn row_words(
 ) -> Result<Items<u64>, AllocError>
     ensures { IfOk result (λ words. words ≡ words_in_row shut first row.now) }
 {
-    let mut words = Items::new(alloc);
+    let mut words = Vec::with_capacity(alloc, row.len())?;
     let mut word = first;
     for pass in row {
         words.push(word)?;
         word = stepped(shut, *pass, word);
     }
-    Ok(words)
+    Ok(Items::from_vec(words))
 }

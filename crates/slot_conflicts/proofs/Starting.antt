@@ -1,37 +1,29 @@
 -- Where slots are started, by the words of their markers.
-use Rattle.std.proofs.Common.{◌≡◌, ℕ, zero, suc, ◌+◌, ◌<◌, ◌≤◌, ◌⊎◌, Bool, true, false, List, [], ◌∷◌, ◌++◌, length, map, Some, None, Option, refl, sym, ap, ◌∙◌, subst, ⊎_elim, inl, inr, arith}
+use Rattle.std.proofs.Common.{◌≡◌, ℕ, ◌<◌, ◌⊎◌, true, false, List, [], length, Some, sym, ap, ◌∙◌, subst, ⊎_elim, inl, inr, arith}
 use Rattle.std.specs.Prelude.{slice_get}
 use Rattle.std.proofs.lemmas.Bool.{false≢true}
 use Rattle.std.proofs.lemmas.Option.{slice_get_within}
 use Rattle.bit_reach.specs.Bits.{HasBit}
 use Rattle.flow_solver.specs.Paths.{IsListed}
-use Rattle.ir_model.specs.declared.instr.Terminator.{Terminator}
 use Rattle.ir_model.specs.declared.module.Function.{Function}
 use Rattle.ir_model.specs.declared.operand.Intrinsic.{Intrinsic}
 use Rattle.ir_paths.proofs.Search.{has_append, has_left, has_right}
-use Rattle.ir_paths.specs.Paths.{Leads, has_point}
+use Rattle.ir_paths.specs.Paths.{has_point}
 use Rattle.ir_paths.specs.declared.point.Point.{Point}
 use Rattle.point_reach.proofs.Avoiding.{leads_reached, reached_from}
 use Rattle.point_reach.proofs.Bits.{no_bit}
-use Rattle.point_reach.proofs.Each.{HasRow, row_of_block}
-use Rattle.point_reach.specs.Reached.{AreAvoided, AreReachedAt, HaveShape, IsFrom, IsPointOf, IsReached, begins_at, stops_at, word_at_point}
+use Rattle.point_reach.specs.Reached.{AreAvoided, AreReachedAt, HaveShape, IsFrom, IsReached, begins_at, stops_at, word_at_point}
 use Rattle.point_reach.specs.Reached.IsFrom.{FromBegin, FromFront}
-use Rattle.point_reach.specs.Rows.{each_from}
 use Rattle.point_reach.specs.declared.question.Pass.{Pass}
 use Rattle.point_reach.specs.declared.question.Passes.{Passes}
 use Rattle.slot_conflicts.proofs.Places.{none_has}
-use Rattle.slot_conflicts.proofs.Rows.{HasAt, begins_are, first_rows, in_rows, of_rows, passes_long, rows_long, stops_are}
-use Rattle.slot_conflicts.specs.Started.{AreStarted, HaveMarkers, IsStarted, pass_row, rows_word}
+use Rattle.slot_conflicts.proofs.Rows.{HasAt, begins_are, in_rows, of_rows, passes_long, stops_are}
+use Rattle.slot_conflicts.specs.Started.{AreStarted, HaveMarkers, IsStarted, pass_rows, rows_word}
 use Rattle.slot_lifetime.specs.Alive.{markers_of}
 use Rattle.slot_uses.proofs.Telling.{marker_told}
 use Rattle.slot_uses.specs.Told.{AreSlotWords}
 use Rattle.slot_uses.specs.Uses.{ends_of, starts_of}
-use Rattle.slot_uses.specs.Words.{marked, marker_rows}
-
-place_in : {X : Type 0} (xs : List X) (k : ℕ) → k < length xs → (x : X) × (slice_get xs k ≡ Some x)
-place_in [] k lt = absurd (omega arith)
-place_in (x ∷ xs) zero lt = (x, refl)
-place_in (x ∷ xs) (suc k) lt = place_in xs k (omega arith)
+use Rattle.slot_uses.specs.Words.{marker_rows}
 
 module _ (f : Function) (slots words : List ℕ) (known : AreSlotWords slots words) where
   abbrev starts : List (List ℕ)
@@ -40,56 +32,49 @@ module _ (f : Function) (slots words : List ℕ) (known : AreSlotWords slots wor
   abbrev ends : List (List ℕ)
   ends = marker_rows Intrinsic.LifetimeEnd words f
 
-  pub starts_long : HaveShape f starts
-  starts_long = rows_long (marked Intrinsic.LifetimeStart words) (λ (t : Terminator). 0) f.blocks
+  abbrev passes_of : List (List Pass)
+  passes_of = pass_rows words f
 
   -- ---- markers
 
-  pub have_markers : HaveMarkers f slots (rows_word (rows_word 0 starts) ends)
+  pub have_markers : HaveMarkers f slots (rows_word 0 passes_of)
   have_markers = record { marked = some_marker; unmarked = no_marker }
     where
-      some_marker : (c slot : ℕ) → c < 64 → slice_get slots c ≡ Some slot → HasBit (rows_word (rows_word 0 starts) ends) c → markers_of f slot ≡ [] → ⊥
+      some_marker : (c slot : ℕ) → c < 64 → slice_get slots c ≡ Some slot → HasBit (rows_word 0 passes_of) c → markers_of f slot ≡ [] → ⊥
       some_marker c slot lt is h none = ⊎_elim
-          (λ first. ⊎_elim
           (λ never. no_bit c never)
-          (λ (x : HasAt starts c).
+          (λ (x : HasAt passes_of c).
           let p : Point = record { block = x.block; at = x.at } in
-          has_none p (has_left (starts_of f slot) (ends_of f slot) p ((marker_told Intrinsic.LifetimeStart f slots words known c slot lt is p).0 x.has)))
-          (of_rows starts 0 c first))
-          (λ (x : HasAt ends c).
-          let p : Point = record { block = x.block; at = x.at } in
-          has_none p (has_right (starts_of f slot) (ends_of f slot) p ((marker_told Intrinsic.LifetimeEnd f slots words known c slot lt is p).0 x.has)))
-          (of_rows ends (rows_word 0 starts) c h)
+          ⊎_elim
+          (λ stop. has_none p (has_right (starts_of f slot) (ends_of f slot) p ((marker_told Intrinsic.LifetimeEnd f slots words known c slot lt is p).0 (subst (λ (w : ℕ). HasBit w c) (stops_are words f p) stop))))
+          (λ begin. has_none p (has_left (starts_of f slot) (ends_of f slot) p ((marker_told Intrinsic.LifetimeStart f slots words known c slot lt is p).0 (subst (λ (w : ℕ). HasBit w c) (begins_are words f p) begin))))
+          x.has)
+          (of_rows passes_of 0 c h)
         where
           has_none : (p : Point) → has_point (markers_of f slot) p ≡ true → ⊥
           has_none p has = false≢true (sym (ap (λ (l : List Point). has_point l p) none) ∙ has)
 
-      no_marker : (c slot : ℕ) → c < 64 → slice_get slots c ≡ Some slot → (HasBit (rows_word (rows_word 0 starts) ends) c → ⊥) → markers_of f slot ≡ []
-      no_marker c slot lt is never = none_has (markers_of f slot) (λ p has. ⊎_elim
-          (λ s. never (first_rows ends (rows_word 0 starts) c (in_rows starts 0 p.block p.at c ((marker_told Intrinsic.LifetimeStart f slots words known c slot lt is p).1 s))))
-          (λ e. never (in_rows ends (rows_word 0 starts) p.block p.at c ((marker_told Intrinsic.LifetimeEnd f slots words known c slot lt is p).1 e)))
-          (has_append (starts_of f slot) (ends_of f slot) p has))
+      no_marker : (c slot : ℕ) → c < 64 → slice_get slots c ≡ Some slot → (HasBit (rows_word 0 passes_of) c → ⊥) → markers_of f slot ≡ []
+      no_marker c slot lt is never = none_has (markers_of f slot) (λ p has. never (in_rows passes_of 0 p.block p.at c (⊎_elim
+          (λ s. inr (subst (λ (w : ℕ). HasBit w c) (sym (begins_are words f p)) ((marker_told Intrinsic.LifetimeStart f slots words known c slot lt is p).1 s)))
+          (λ e. inl (subst (λ (w : ℕ). HasBit w c) (sym (stops_are words f p)) ((marker_told Intrinsic.LifetimeEnd f slots words known c slot lt is p).1 e)))
+          (has_append (starts_of f slot) (ends_of f slot) p has))))
 
   -- ---- paths
 
-  module _ (passes : Passes) (rows_are : passes.rows ≡ each_from (pass_row ends) 0 starts) (no_fronts : passes.fronts ≡ []) (none_closed : passes.closed ≡ length f.blocks) (c slot : ℕ) (lt : c < 64) (is : slice_get slots c ≡ Some slot) where
-    stops_at_point : (p : Point) → IsPointOf f p → stops_at passes.rows p ≡ word_at_point ends p
-    stops_at_point p at =
-        let r : HasRow starts p.block (length at.block.instrs) = row_of_block starts f.blocks starts_long p.block at.block at.is_block in
-        let le = at.within in
-        let long = r.is_long in
-        let w : (x : ℕ) × (slice_get r.row p.at ≡ Some x) = place_in r.row p.at (omega (arith, le, long)) in
-        ap (λ l. stops_at l p) rows_are ∙ stops_are starts ends p r.row w.0 r.is_row w.1
+  module _ (passes : Passes) (rows_are : passes.rows ≡ passes_of) (no_fronts : passes.fronts ≡ []) (none_closed : passes.closed ≡ length f.blocks) (c slot : ℕ) (lt : c < 64) (is : slice_get slots c ≡ Some slot) where
+    stops_at_point : (p : Point) → stops_at passes.rows p ≡ word_at_point ends p
+    stops_at_point p = ap (λ l. stops_at l p) rows_are ∙ stops_are words f p
 
     begins_at_point : (p : Point) → begins_at passes.rows p ≡ word_at_point starts p
-    begins_at_point p = ap (λ l. begins_at l p) rows_are ∙ begins_are starts ends p
+    begins_at_point p = ap (λ l. begins_at l p) rows_are ∙ begins_are words f p
 
     are_avoided : AreAvoided f passes c (ends_of f slot)
     are_avoided = record {
       each = λ p at. (
-        λ has. inl (subst (λ (w : ℕ). HasBit w c) (sym (stops_at_point p at)) ((marker_told Intrinsic.LifetimeEnd f slots words known c slot lt is p).1 has)),
+        λ has. inl (subst (λ (w : ℕ). HasBit w c) (sym (stops_at_point p)) ((marker_told Intrinsic.LifetimeEnd f slots words known c slot lt is p).1 has)),
         λ stops. ⊎_elim
-            (λ h. (marker_told Intrinsic.LifetimeEnd f slots words known c slot lt is p).0 (subst (λ (w : ℕ). HasBit w c) (stops_at_point p at) h))
+            (λ h. (marker_told Intrinsic.LifetimeEnd f slots words known c slot lt is p).0 (subst (λ (w : ℕ). HasBit w c) (stops_at_point p) h))
             (λ e. let within = slice_get_within f.blocks p.block at.block at.is_block in absurd (omega (arith, within, e, none_closed)))
             stops,
       );
@@ -112,7 +97,7 @@ module _ (f : Function) (slots words : List ℕ) (known : AreSlotWords slots wor
         (subst (λ (w : ℕ). HasBit w c) (sym (begins_at_point s.start)) ((marker_told Intrinsic.LifetimeStart f slots words known c slot lt is s.start).1 s.is_start))
         s.leads
 
-  pub are_started : (passes : Passes) (rows : List (List ℕ)) → passes.rows ≡ each_from (pass_row ends) 0 starts → passes.fronts ≡ [] → passes.closed ≡ length f.blocks → AreReachedAt f passes rows → AreStarted f slots rows
+  pub are_started : (passes : Passes) (rows : List (List ℕ)) → passes.rows ≡ passes_of → passes.fronts ≡ [] → passes.closed ≡ length f.blocks → AreReachedAt f passes rows → AreStarted f slots rows
   are_started passes rows rows_are no_fronts none_closed r = record {
     each = λ p c slot at lt is. (
       λ h. reached_started passes rows_are no_fronts none_closed c slot lt is p ((r.each p c at lt).0 h),
@@ -120,20 +105,5 @@ module _ (f : Function) (slots words : List ℕ) (known : AreSlotWords slots wor
     );
   }
 
-  pub passes_shape : (passes : Passes) → passes.rows ≡ each_from (pass_row ends) 0 starts → HaveShape f passes.rows
-  passes_shape passes rows_are = subst (HaveShape f) (sym rows_are) (passes_long f starts ends starts_long)
-
-pub rows_made : (f : Function) (words names : List ℕ) (first last marks : List (List ℕ)) (pass : List (List Pass)) → names ≡ words → first ≡ marker_rows Intrinsic.LifetimeStart names f → last ≡ marker_rows Intrinsic.LifetimeEnd names f → marks ≡ first → pass ≡ each_from (pass_row last) 0 marks →
-    pass ≡ each_from (pass_row (marker_rows Intrinsic.LifetimeEnd words f)) 0 (marker_rows Intrinsic.LifetimeStart words f)
-rows_made f words names first last marks pass names_are first_is last_is marks_are is =
-    is
-    ∙ ap (each_from (pass_row last) 0) (marks_are ∙ first_is ∙ ap (λ (w : List ℕ). marker_rows Intrinsic.LifetimeStart w f) names_are)
-    ∙ ap (λ (l : List (List ℕ)). each_from (pass_row l) 0 (marker_rows Intrinsic.LifetimeStart words f)) (last_is ∙ ap (λ (w : List ℕ). marker_rows Intrinsic.LifetimeEnd w f) names_are)
-
-pub marked_made : (f : Function) (slots words names : List ℕ) (first last marks stops : List (List ℕ)) (before word : ℕ) → AreSlotWords slots words → names ≡ words → first ≡ marker_rows Intrinsic.LifetimeStart names f → last ≡ marker_rows Intrinsic.LifetimeEnd names f → marks ≡ first → stops ≡ last →
-    before ≡ rows_word 0 marks → word ≡ rows_word before stops → HaveMarkers f slots word
-marked_made f slots words names first last marks stops before word known names_are first_is last_is marks_are stops_are before_is is =
-    subst (HaveMarkers f slots)
-    (sym (is ∙ ap (λ (w : ℕ). rows_word w stops) (before_is ∙ ap (rows_word 0) (marks_are ∙ first_is ∙ ap (λ (w : List ℕ). marker_rows Intrinsic.LifetimeStart w f) names_are))
-    ∙ ap (rows_word (rows_word 0 (marker_rows Intrinsic.LifetimeStart words f))) (stops_are ∙ last_is ∙ ap (λ (w : List ℕ). marker_rows Intrinsic.LifetimeEnd w f) names_are)))
-    (have_markers f slots words known)
+  pub passes_shape : (passes : Passes) → passes.rows ≡ passes_of → HaveShape f passes.rows
+  passes_shape passes rows_are = subst (HaveShape f) (sym rows_are) (passes_long words f)

@@ -1,15 +1,17 @@
 -- Where a slot may be alive from a start of it on, by words.
-use Rattle.std.specs.Prelude.{◌≡◌, ◌↔◌, ◌<◌, ℕ, List, [], ◌∷◌, bit_or, slice_get, Some, IsTrue}
+use Rattle.std.specs.Prelude.{◌≡◌, ◌↔◌, ◌<◌, ◌++◌, ℕ, List, [], ◌∷◌, bit_or, map, slice_get, Some, IsTrue}
 use Rattle.bit_reach.specs.Bits.{HasBit}
-use Rattle.block_paths.specs.Words.{word_at}
+use Rattle.ir_model.specs.declared.instr.Instr.{Instr}
+use Rattle.ir_model.specs.declared.module.Block.{Block}
 use Rattle.ir_model.specs.declared.module.Function.{Function}
+use Rattle.ir_model.specs.declared.operand.Intrinsic.{Intrinsic}
 use Rattle.ir_paths.specs.Paths.{Leads, has_point}
 use Rattle.ir_paths.specs.declared.point.Point.{Point}
-use Rattle.point_reach.specs.Reached.{HaveShape, IsPointOf, row_of, word_at_point}
-use Rattle.point_reach.specs.Rows.{each_from}
+use Rattle.point_reach.specs.Reached.{IsPointOf, word_at_point}
 use Rattle.point_reach.specs.declared.question.Pass.{Pass}
 use Rattle.slot_lifetime.specs.Alive.{markers_of}
 use Rattle.slot_uses.specs.Uses.{ends_of, starts_of}
+use Rattle.slot_uses.specs.Words.{marked}
 
 -- a path leads to the point from a start of the slot without an end of it between
 pub record IsStarted (f : Function) (slot : ℕ) (p : Point) : Type 0 where
@@ -26,20 +28,28 @@ pub record HaveMarkers (f : Function) (slots : List ℕ) (word : ℕ) : Type 0 w
   pub marked : (c slot : ℕ) → c < 64 → slice_get slots c ≡ Some slot → HasBit word c → markers_of f slot ≡ [] → ⊥
   pub unmarked : (c slot : ℕ) → c < 64 → slice_get slots c ≡ Some slot → (HasBit word c → ⊥) → markers_of f slot ≡ []
 
--- ---- words
-
--- the bits of all words of a row, and others
-abbrev pub row_word : ℕ → List ℕ → ℕ
-row_word word [] = word
-row_word word (w ∷ ws) = row_word (bit_or word w) ws
-
-abbrev pub rows_word : ℕ → List (List ℕ) → ℕ
-rows_word word [] = word
-rows_word word (row ∷ rows) = rows_word (row_word word row) rows
+-- ---- passes
 
 -- a slot's paths begin behind its starts and end at its ends
-abbrev pub pass_of : List ℕ → ℕ → ℕ → Pass
-pass_of ends at starts = record { stops = word_at ends at; begins = starts }
+abbrev pub pass_of : List ℕ → Instr → Pass
+pass_of names i = record { stops = marked Intrinsic.LifetimeEnd names i; begins = marked Intrinsic.LifetimeStart names i }
 
-abbrev pub pass_row : List (List ℕ) → ℕ → List ℕ → List Pass
-pass_row ends at starts = each_from (pass_of (row_of ends at)) 0 starts
+abbrev pub no_pass : Pass
+no_pass = record { stops = 0; begins = 0 }
+
+abbrev pub pass_row : List ℕ → Block → List Pass
+pass_row names b = map (pass_of names) b.instrs ++ no_pass ∷ []
+
+abbrev pub pass_rows : List ℕ → Function → List (List Pass)
+pass_rows names f = map (pass_row names) f.blocks
+
+-- ---- words
+
+-- the bits of all words of a row of passes, and others
+abbrev pub row_word : ℕ → List Pass → ℕ
+row_word word [] = word
+row_word word (x ∷ xs) = row_word (bit_or word (bit_or x.stops x.begins)) xs
+
+abbrev pub rows_word : ℕ → List (List Pass) → ℕ
+rows_word word [] = word
+rows_word word (row ∷ rows) = rows_word (row_word word row) rows

@@ -8,10 +8,10 @@ use Rattle.ir_model.specs.declared.module.Function.{Function}
 use Rattle.ir_model.specs.declared.operand.Intrinsic.{Intrinsic}
 use Rattle.ir_paths.specs.Windows.{label_of_term}
 use Rattle.point_reach.specs.Reached.{AreBlocks, HaveShape}
-use Rattle.slot_lifetime.proofs.Shapes.{shape_of_text, shape_of_zip}
-use Rattle.slot_lifetime.specs.Rows.{call_rows, call_word, pass_by, passes_by, word_in}
+use Rattle.slot_lifetime.proofs.Shapes.{shape_of_kept, shape_of_text, shape_of_zip}
+use Rattle.slot_lifetime.specs.Rows.{all_bits, call_rows, call_word, kept_rows, others, pass_by, passes_by, word_in}
 use Rattle.slot_lifetime.specs.Ways.{LeadToBlocks, edge_fronts, fronts_from, way_of, ways_of}
-use Rattle.slot_lifetime.specs.Words.{IsChunkBy}
+use Rattle.slot_lifetime.specs.Words.{IsChunkBy, none_rows, parting_rows}
 use Rattle.slot_lifetime.specs.declared.chunk.Chunk.{Chunk}
 use Rattle.slot_uses.proofs.Spotting.{edges_within}
 use Rattle.slot_uses.specs.Words.{marked, marker_rows, use_rows, used, with_term}
@@ -19,8 +19,8 @@ use Rattle.slot_uses.specs.declared.edge.EdgeWord.{EdgeWord}
 
 -- ---- shapes
 
-pub shape_of_passes : (f : Function) (stops begins : List (List ℕ)) → HaveShape f stops → HaveShape f (passes_by stops begins)
-shape_of_passes f stops begins shape = shape_of_zip f pass_by stops begins shape
+pub shape_of_passes : (f : Function) (mask : ℕ) (stops begins : List (List ℕ)) → HaveShape f stops → HaveShape f (passes_by (kept_rows mask stops) begins)
+shape_of_passes f mask stops begins shape = shape_of_zip f pass_by (kept_rows mask stops) begins (shape_of_kept f mask stops shape)
 
 pub shape_of_calls : (i : Intrinsic) (word : ℕ) (f : Function) → HaveShape f (call_rows i word f)
 shape_of_calls i word f = shape_of_text (call_word i word) (λ t. 0) f
@@ -31,14 +31,14 @@ shape_of_markers m words f = shape_of_text (marked m words) (λ t. 0) f
 pub shape_of_uses : (words : List ℕ) (f : Function) → HaveShape f (use_rows words f)
 shape_of_uses words f = shape_of_text (used words) (with_term words 0) f
 
-pub shape_of_ends : (f : Function) (c : Chunk) → IsChunkBy f c → HaveShape f c.ends
-shape_of_ends f c by = subst (HaveShape f) (sym by.is_chunk.ends) (shape_of_markers Intrinsic.LifetimeEnd c.own f)
-
 pub shape_of_starts : (f : Function) (c : Chunk) → IsChunkBy f c → HaveShape f c.starts
 shape_of_starts f c by = subst (HaveShape f) (sym by.is_chunk.starts) (shape_of_markers Intrinsic.LifetimeStart c.own f)
 
-pub shape_of_parting : (f : Function) (c : Chunk) → IsChunkBy f c → HaveShape f c.parting
-shape_of_parting f c by = subst (HaveShape f) (sym by.is_chunk.parting) (shape_of_markers Intrinsic.LifetimeStart _ f)
+pub shape_of_parting : (f : Function) (c : Chunk) → IsChunkBy f c → HaveShape f (parting_rows c)
+shape_of_parting f c by = shape_of_kept f (others c.escaped) c.starts (shape_of_starts f c by)
+
+pub shape_of_none : (f : Function) → HaveShape f (none_rows f)
+shape_of_none f = shape_of_kept f 0 (call_rows Intrinsic.CoroSuspend all_bits f) (shape_of_calls Intrinsic.CoroSuspend all_bits f)
 
 -- ---- fronts
 

@@ -14,15 +14,16 @@ use Rattle.slot_lifetime.proofs.Coming.{Avoids, SpotLeads, coming_complete, comi
 use Rattle.slot_lifetime.proofs.Flips.{all_bit}
 use Rattle.slot_lifetime.proofs.Gathers.{HasSpot, any_complete, any_sound, spots_complete, spots_sound}
 use Rattle.slot_lifetime.proofs.Late.{late_complete, late_sound}
-use Rattle.slot_lifetime.proofs.Passing.{shape_of_calls}
+use Rattle.slot_lifetime.proofs.Passing.{shape_of_calls, shape_of_none}
 use Rattle.slot_lifetime.proofs.Places.{call_complete, call_sound, set_told}
 use Rattle.slot_lifetime.proofs.Shapes.{bit_point, point_inside, shape_of_zip}
-use Rattle.slot_lifetime.proofs.Slots.{avoids_ends, avoids_parting, ends_shape, escaped_complete, escaped_sound, start_complete, start_sound, starts_shape, touch_complete, touch_point, touch_sound, unmarked_complete, unmarked_sound, use_complete, use_point, use_sound, uses_shape}
-use Rattle.slot_lifetime.proofs.Zips.{common_complete, common_sound, joined_left, joined_right, joined_sound}
+use Rattle.slot_lifetime.proofs.Slots.{alive_stops_shape, avoids_ends, avoids_parting, escaped_complete, escaped_sound, start_complete, start_sound, starts_shape, touch_complete, touch_point, touch_sound, unmarked_complete, unmarked_sound, use_complete, use_point, use_sound, uses_shape}
+use Rattle.slot_lifetime.proofs.Zips.{common_complete, common_sound, joined_left, joined_right, joined_sound, kept_sound}
 use Rattle.slot_lifetime.specs.Alive.{MayBeAlive, markers_of}
 use Rattle.slot_lifetime.specs.Classes.{IsAliveAcross, IsUsedAcross, IsUsedAway, NeedsFrame, parting, suspends}
-use Rattle.slot_lifetime.specs.Rows.{all_bits, block_words, call_rows, common, joined, rows_word, set_rows}
-use Rattle.slot_lifetime.specs.Words.{AreAliveRows, AreBehindRows, AreComing, IsAcrossWord, IsAliveWord, IsChunkOf, IsFrameWord, IsPlanOf, away_word, birth_rows, late_word, promise_word, spots_word, unmarked_word}
+use Rattle.slot_lifetime.specs.Rows.{all_bits, block_words, call_rows, common, joined, kept_rows, rows_word, set_rows}
+use Rattle.slot_lifetime.specs.Words.{AreAliveRows, AreBehindRows, AreComing, IsAcrossWord, IsAliveWord, IsChunkOf, IsFrameWord, IsMetWord, IsPlanOf, away_word, birth_rows, end_rows, late_word, none_rows, parting_rows, promise_word, spots_word, touch_rows, unmarked_word}
+use Rattle.slot_lifetime.specs.Words.IsAliveWord.{NoneEscapes, SomeEscape}
 use Rattle.slot_lifetime.specs.declared.chunk.Chunk.{Chunk}
 use Rattle.slot_lifetime.specs.declared.plan.Plan.{Plan}
 use Rattle.slot_rules.specs.Closed.{IsClosed}
@@ -36,8 +37,8 @@ use Rattle.window_rules.specs.Sets.{IsAfterEnd}
 -- ---- a function's rows
 
 module _ (f : Function) (p : Plan) (plan : IsPlanOf f p) (c : ℕ) (lt : c < 64) where
-  avoids_none : Avoids f (call_rows Intrinsic.CoroEnd 0 f) c []
-  avoids_none = record { each = λ q q_is. (λ h. absurd (false≢true h), λ h. absurd (no_bit c (call_sound Intrinsic.CoroEnd 0 f q c h).1)) }
+  avoids_none : Avoids f (none_rows f) c []
+  avoids_none = record { each = λ q q_is. (λ h. absurd (false≢true h), λ h. absurd (no_bit c (kept_sound 0 (call_rows Intrinsic.CoroSuspend all_bits f) q c h).1)) }
 
   same_rows : (a b : List (List ℕ)) (q : Point) → a ≡ b → HasBit (word_at_point a q) c → HasBit (word_at_point b q) c
   same_rows a b q e h = subst (λ (r : List (List ℕ)). HasBit (word_at_point r q) c) e h
@@ -53,7 +54,7 @@ module _ (f : Function) (p : Plan) (plan : IsPlanOf f p) (c : ℕ) (lt : c < 64)
 
   -- after the end
   pub after_sound : (q : Point) → HasBit (word_at_point p.after q) c → IsAfterEnd f q
-  after_sound q h = by (coming_sound f c lt (call_rows Intrinsic.CoroEnd all_bits f) [] (call_rows Intrinsic.CoroEnd 0 f) p.after [] plan.after avoids_none q h)
+  after_sound q h = by (coming_sound f c lt (call_rows Intrinsic.CoroEnd all_bits f) [] (none_rows f) p.after [] plan.after avoids_none q h)
     where
       from_spot : (spot : Spot) → HasSpot (call_rows Intrinsic.CoroEnd all_bits f) [] c spot → LeadsFrom f [] spot q → IsAfterEnd f q
       from_spot (At e) has leads = record { start = e; is_start = (call_sound Intrinsic.CoroEnd all_bits f e c has).0; path = leads }
@@ -64,8 +65,8 @@ module _ (f : Function) (p : Plan) (plan : IsPlanOf f p) (c : ℕ) (lt : c < 64)
 
   pub after_complete : (q : Point) → IsPointOf f q → IsAfterEnd f q → HasBit (word_at_point p.after q) c
   after_complete q is a =
-      coming_complete f c lt (call_rows Intrinsic.CoroEnd all_bits f) [] (call_rows Intrinsic.CoroEnd 0 f) p.after [] plan.after avoids_none
-      (shape_of_calls Intrinsic.CoroEnd all_bits f) (shape_of_calls Intrinsic.CoroEnd 0 f) q is (At a.start) (call_complete Intrinsic.CoroEnd all_bits f a.start c a.is_start (all_bit c lt)) a.path
+      coming_complete f c lt (call_rows Intrinsic.CoroEnd all_bits f) [] (none_rows f) p.after [] plan.after avoids_none
+      (shape_of_calls Intrinsic.CoroEnd all_bits f) (shape_of_none f) q is (At a.start) (call_complete Intrinsic.CoroEnd all_bits f a.start c a.is_start (all_bit c lt)) a.path
 
   -- after the end and in windows
   closed_rows : List (List ℕ)
@@ -100,22 +101,20 @@ module _ (f : Function) (p : Plan) (plan : IsPlanOf f p) (slots : List ℕ) (ch 
 
   -- ---- used away
 
-  away_behind : AreBehindRows f (block_words p.suspends) (call_rows Intrinsic.CoroEnd 0 f) p.behind
-  away_behind =
-      subst (λ (s : List (List ℕ)). AreBehindRows f (block_words p.suspends) s p.behind) plan.none
-      (subst (λ (o : List ℕ). AreBehindRows f o p.none p.behind) plan.own plan.behind)
+  away_behind : AreBehindRows f (block_words p.suspends) (none_rows f) p.behind
+  away_behind = subst (λ (o : List ℕ). AreBehindRows f o (none_rows f) p.behind) plan.own plan.behind
 
-  late_is : HasBit (late_word f ch.touches ch.edges p.own p.behind) c → HasBit (late_word f ch.touches ch.edges (block_words p.suspends) p.behind) c
-  late_is h = subst (λ (o : List ℕ). HasBit (late_word f ch.touches ch.edges o p.behind) c) plan.own h
+  late_is : HasBit (late_word f (touch_rows ch) ch.edges p.own p.behind) c → HasBit (late_word f (touch_rows ch) ch.edges (block_words p.suspends) p.behind) c
+  late_is h = subst (λ (o : List ℕ). HasBit (late_word f (touch_rows ch) ch.edges o p.behind) c) plan.own h
 
-  is_late : HasBit (late_word f ch.touches ch.edges (block_words p.suspends) p.behind) c → HasBit (late_word f ch.touches ch.edges p.own p.behind) c
-  is_late h = subst (λ (o : List ℕ). HasBit (late_word f ch.touches ch.edges o p.behind) c) (sym plan.own) h
+  is_late : HasBit (late_word f (touch_rows ch) ch.edges (block_words p.suspends) p.behind) c → HasBit (late_word f (touch_rows ch) ch.edges p.own p.behind) c
+  is_late h = subst (λ (o : List ℕ). HasBit (late_word f (touch_rows ch) ch.edges o p.behind) c) (sym plan.own) h
 
   pub away_sound : HasBit (away_word f p ch) c → IsUsedAway f slot
   away_sound h =
-      let two = both_bits (spots_word f ch.uses ch.edges p.closed) (late_word f ch.touches ch.edges p.own p.behind) c h in
+      let two = both_bits (spots_word f ch.uses ch.edges p.closed) (late_word f (touch_rows ch) ch.edges p.own p.behind) c h in
       let early = spots_sound f ch.uses ch.edges p.closed c two.0 in
-      let late = late_sound f c lt ch.touches ch.edges p.suspends [] (call_rows Intrinsic.CoroEnd 0 f) p.behind away_behind (avoids_none f p plan c lt) (late_is two.1) in
+      let late = late_sound f c lt (touch_rows ch) ch.edges p.suspends [] (none_rows f) p.behind away_behind (avoids_none f p plan c lt) (late_is two.1) in
       record {
         early = early.spot;
         is_use = use_sound f slots ch is c slot lt at early.spot early.has;
@@ -129,11 +128,11 @@ module _ (f : Function) (p : Plan) (plan : IsPlanOf f p) (slots : List ℕ) (ch 
 
   pub away_complete : IsUsedAway f slot → HasBit (away_word f p ch) c
   away_complete a =
-      common_bit (spots_word f ch.uses ch.edges p.closed) (late_word f ch.touches ch.edges p.own p.behind) c
+      common_bit (spots_word f ch.uses ch.edges p.closed) (late_word f (touch_rows ch) ch.edges p.own p.behind) c
       (spots_complete f ch.uses ch.edges p.closed c a.early (use_complete f slots ch is c slot lt at a.early a.is_use)
       (closed_complete f p plan c lt (point_at f a.early) (use_point f slots ch is c slot lt at a.early a.is_use) a.is_away))
       (is_late
-      (late_complete f c lt ch.touches ch.edges p.suspends [] (call_rows Intrinsic.CoroEnd 0 f) p.behind away_behind (avoids_none f p plan c lt)
+      (late_complete f c lt (touch_rows ch) ch.edges p.suspends [] (none_rows f) p.behind away_behind (avoids_none f p plan c lt)
       a.suspend (suspend_point f p plan c lt a.suspend a.is_suspend) (suspend_complete f p plan c lt a.suspend a.is_suspend)
       a.late (touch_point f slots ch is c slot lt at a.late a.touches) a.is_behind (touch_complete f slots ch is c slot lt at a.late a.touches)))
 
@@ -149,7 +148,7 @@ module _ (f : Function) (p : Plan) (plan : IsPlanOf f p) (slots : List ℕ) (ch 
     pub comes_sound : (s : Point) → HasBit (word_at_point rows s) c → ComesTo s
     comes_sound s h =
         let two = common_sound p.suspends are.reached s c (same_rows f p plan c lt rows (common p.suspends are.reached) s are.is h) in
-        let r = coming_sound f c lt ch.uses ch.edges ch.parting are.reached stops_of are.are_reached (avoids_parting f slots ch is c slot lt at) s two.1 in
+        let r = coming_sound f c lt ch.uses ch.edges (parting_rows ch) are.reached stops_of are.are_reached (avoids_parting f slots ch is c slot lt at) s two.1 in
         record {
           is_suspend = suspend_sound f p plan c lt s two.0;
           early = r.spot;
@@ -157,16 +156,16 @@ module _ (f : Function) (p : Plan) (plan : IsPlanOf f p) (slots : List ℕ) (ch 
           comes = r.leads;
         }
 
-    pub comes_complete : HaveShape f ch.parting → (s : Point) → has_point (suspends f) s ≡ true → (early : Spot) → IsUse f slot early → LeadsFrom f stops_of early s → HasBit (word_at_point rows s) c
+    pub comes_complete : HaveShape f (parting_rows ch) → (s : Point) → has_point (suspends f) s ≡ true → (early : Spot) → IsUse f slot early → LeadsFrom f stops_of early s → HasBit (word_at_point rows s) c
     comes_complete shape s is_suspend early is_use leads =
         same_rows f p plan c lt (common p.suspends are.reached) rows s (sym are.is)
         (common_complete p.suspends are.reached s c (suspend_complete f p plan c lt s is_suspend)
-        (coming_complete f c lt ch.uses ch.edges ch.parting are.reached stops_of are.are_reached (avoids_parting f slots ch is c slot lt at)
+        (coming_complete f c lt ch.uses ch.edges (parting_rows ch) are.reached stops_of are.are_reached (avoids_parting f slots ch is c slot lt at)
         (uses_shape f slots ch is c slot lt at) shape s (suspend_point f p plan c lt s is_suspend) early (use_complete f slots ch is c slot lt at early is_use) leads))
 
   pub across_sound : (rows : List (List ℕ)) → AreComing f p ch rows → (word : ℕ) → IsAcrossWord f ch rows word → HasBit word c → IsUsedAcross f slot
   across_sound rows are word across h =
-      let late = late_sound f c lt ch.touches ch.edges rows stops_of ch.parting across.behind across.are_behind (avoids_parting f slots ch is c slot lt at) (subst (λ (w : ℕ). HasBit w c) across.is h) in
+      let late = late_sound f c lt (touch_rows ch) ch.edges rows stops_of (parting_rows ch) across.behind across.are_behind (avoids_parting f slots ch is c slot lt at) (subst (λ (w : ℕ). HasBit w c) across.is h) in
       let first = comes_sound rows are late.suspend late.comes in
       record {
         early = first.early;
@@ -179,10 +178,10 @@ module _ (f : Function) (p : Plan) (plan : IsPlanOf f p) (slots : List ℕ) (ch 
         is_behind = late.behind;
       }
 
-  pub across_complete : (rows : List (List ℕ)) → AreComing f p ch rows → (word : ℕ) → IsAcrossWord f ch rows word → HaveShape f ch.parting → IsUsedAcross f slot → HasBit word c
+  pub across_complete : (rows : List (List ℕ)) → AreComing f p ch rows → (word : ℕ) → IsAcrossWord f ch rows word → HaveShape f (parting_rows ch) → IsUsedAcross f slot → HasBit word c
   across_complete rows are word across shape a =
       subst (λ (w : ℕ). HasBit w c) (sym across.is)
-      (late_complete f c lt ch.touches ch.edges rows stops_of ch.parting across.behind across.are_behind (avoids_parting f slots ch is c slot lt at)
+      (late_complete f c lt (touch_rows ch) ch.edges rows stops_of (parting_rows ch) across.behind across.are_behind (avoids_parting f slots ch is c slot lt at)
       a.suspend (suspend_point f p plan c lt a.suspend a.is_suspend) (comes_complete rows are shape a.suspend a.is_suspend a.early a.is_use a.comes)
       a.late (touch_point f slots ch is c slot lt at a.late a.touches) a.is_behind (touch_complete f slots ch is c slot lt at a.late a.touches))
 
@@ -195,34 +194,34 @@ module _ (f : Function) (p : Plan) (plan : IsPlanOf f p) (slots : List ℕ) (ch 
   no_ends : markers_of f slot ≡ [] → ends_of f slot ≡ []
   no_ends e = empty_right (starts_of f slot) (ends_of f slot) e
 
-  pub alive_sound : (alive : List (List ℕ)) → AreAliveRows f ch alive → (q : Point) → HasBit (word_at_point alive q) c → MayBeAlive f slot q
-  alive_sound alive are q h = by (coming_sound f c lt (birth_rows f ch) [] ch.ends alive (ends_of f slot) are (avoids_ends f slots ch is c slot lt at) q h)
+  pub alive_sound : is_escaped f slot ≡ true → (alive : List (List ℕ)) → AreAliveRows f ch alive → (q : Point) → HasBit (word_at_point alive q) c → MayBeAlive f slot q
+  alive_sound e alive are q h = by (coming_sound f c lt (birth_rows f ch) [] (kept_rows ch.escaped (end_rows f ch)) alive (ends_of f slot) are (avoids_ends f slots ch is c slot lt at e) q h)
     where
       from_spot : (spot : Spot) → HasSpot (birth_rows f ch) [] c spot → LeadsFrom f (ends_of f slot) spot q → MayBeAlive f slot q
       from_spot (At b) has leads = ⊎_elim
           (λ start. MayBeAlive.Started b (start_sound f slots ch is c slot lt at b start) leads)
           (λ begin.
-          let two = call_sound Intrinsic.CoroBegin (unmarked_word ch) f b c begin in
+          let two = call_sound Intrinsic.CoroBegin (unmarked_word f ch) f b c begin in
           let none = unmarked_sound f slots ch is c slot lt at two.1 in
           MayBeAlive.Unmarked b none two.0 (subst (λ (l : List Point). Leads f l b q) (no_ends none) leads))
-          (joined_sound ch.starts (call_rows Intrinsic.CoroBegin (unmarked_word ch) f) b c has)
+          (joined_sound ch.starts (call_rows Intrinsic.CoroBegin (unmarked_word f ch) f) b c has)
       from_spot (On from to) has leads = absurd has.is_listed
 
       by : SpotLeads f (birth_rows f ch) [] c (ends_of f slot) q → MayBeAlive f slot q
       by s = from_spot s.spot s.has s.leads
 
   birth_shape : HaveShape f (birth_rows f ch)
-  birth_shape = shape_of_zip f bit_or ch.starts (call_rows Intrinsic.CoroBegin (unmarked_word ch) f) (starts_shape f slots ch is c slot lt at)
+  birth_shape = shape_of_zip f bit_or ch.starts (call_rows Intrinsic.CoroBegin (unmarked_word f ch) f) (starts_shape f slots ch is c slot lt at)
 
-  pub alive_complete : (alive : List (List ℕ)) → AreAliveRows f ch alive → (q : Point) → IsPointOf f q → MayBeAlive f slot q → HasBit (word_at_point alive q) c
-  alive_complete alive are q q_is (MayBeAlive.Started start is_start leads) =
-      coming_complete f c lt (birth_rows f ch) [] ch.ends alive (ends_of f slot) are (avoids_ends f slots ch is c slot lt at) birth_shape (ends_shape f slots ch is c slot lt at) q q_is (At start)
-      (joined_left ch.starts (call_rows Intrinsic.CoroBegin (unmarked_word ch) f) start c (start_complete f slots ch is c slot lt at start is_start)) leads
-  alive_complete alive are q q_is (MayBeAlive.Unmarked begin none is_begin leads) =
-      let has = call_complete Intrinsic.CoroBegin (unmarked_word ch) f begin c is_begin (unmarked_complete f slots ch is c slot lt at none) in
-      let inside = point_inside f ch.starts (starts_shape f slots ch is c slot lt at) begin (bit_point f (call_rows Intrinsic.CoroBegin (unmarked_word ch) f) (shape_of_calls Intrinsic.CoroBegin (unmarked_word ch) f) begin c has) in
-      coming_complete f c lt (birth_rows f ch) [] ch.ends alive (ends_of f slot) are (avoids_ends f slots ch is c slot lt at) birth_shape (ends_shape f slots ch is c slot lt at) q q_is (At begin)
-      (joined_right ch.starts (call_rows Intrinsic.CoroBegin (unmarked_word ch) f) begin c inside.0 inside.1 has)
+  pub alive_complete : is_escaped f slot ≡ true → (alive : List (List ℕ)) → AreAliveRows f ch alive → (q : Point) → IsPointOf f q → MayBeAlive f slot q → HasBit (word_at_point alive q) c
+  alive_complete e alive are q q_is (MayBeAlive.Started start is_start leads) =
+      coming_complete f c lt (birth_rows f ch) [] (kept_rows ch.escaped (end_rows f ch)) alive (ends_of f slot) are (avoids_ends f slots ch is c slot lt at e) birth_shape (alive_stops_shape f slots ch is c slot lt at) q q_is (At start)
+      (joined_left ch.starts (call_rows Intrinsic.CoroBegin (unmarked_word f ch) f) start c (start_complete f slots ch is c slot lt at start is_start)) leads
+  alive_complete e alive are q q_is (MayBeAlive.Unmarked begin none is_begin leads) =
+      let has = call_complete Intrinsic.CoroBegin (unmarked_word f ch) f begin c is_begin (unmarked_complete f slots ch is c slot lt at none) in
+      let inside = point_inside f ch.starts (starts_shape f slots ch is c slot lt at) begin (bit_point f (call_rows Intrinsic.CoroBegin (unmarked_word f ch) f) (shape_of_calls Intrinsic.CoroBegin (unmarked_word f ch) f) begin c has) in
+      coming_complete f c lt (birth_rows f ch) [] (kept_rows ch.escaped (end_rows f ch)) alive (ends_of f slot) are (avoids_ends f slots ch is c slot lt at e) birth_shape (alive_stops_shape f slots ch is c slot lt at) q q_is (At begin)
+      (joined_right ch.starts (call_rows Intrinsic.CoroBegin (unmarked_word f ch) f) begin c inside.0 inside.1 has)
       (subst (λ (l : List Point). Leads f l begin q) (sym (no_ends none)) leads)
 
   none_parts : is_escaped f slot ≡ true → stops_of ≡ []
@@ -234,8 +233,8 @@ module _ (f : Function) (p : Plan) (plan : IsPlanOf f p) (slots : List ℕ) (ch 
   abbrev after_word : List (List ℕ) → ℕ
   after_word alive = bit_and (spots_word f ch.uses ch.edges p.after) (rows_word 0 (common p.suspends alive))
 
-  pub across_alive_sound : (rows : List (List ℕ)) → AreComing f p ch rows → (word : ℕ) → IsAliveWord f p ch rows word → HasBit word c → IsAliveAcross f slot
-  across_alive_sound rows are word known h =
+  pub met_sound : (rows : List (List ℕ)) → AreComing f p ch rows → (word : ℕ) → IsMetWord f p ch rows word → HasBit word c → IsAliveAcross f slot
+  met_sound rows are word known h =
       let two = both_bits ch.escaped (bit_or (met_rows rows known.alive) (after_word known.alive)) c (subst (λ (w : ℕ). HasBit w c) known.is h) in
       let e = escaped_sound f slots ch is c slot lt at two.0 in
       ⊎_elim (λ met. by_use e (any_sound 0 (common rows known.alive) c met)) (λ after. by_end e after) (one_bit (met_rows rows known.alive) (after_word known.alive) c two.1)
@@ -249,7 +248,7 @@ module _ (f : Function) (p : Plan) (plan : IsPlanOf f p) (slots : List ℕ) (ch 
             is_escaped = e;
             suspend = found.0;
             is_suspend = first.is_suspend;
-            is_alive = alive_sound known.alive known.are_alive found.0 two.1;
+            is_alive = alive_sound e known.alive known.are_alive found.0 two.1;
             spot = first.early;
             is_use = first.is_use;
             meets = inl (subst (λ (l : List Point). LeadsFrom f l first.early found.0) (none_parts e) first.comes);
@@ -263,7 +262,7 @@ module _ (f : Function) (p : Plan) (plan : IsPlanOf f p) (slots : List ℕ) (ch 
             is_escaped = e;
             suspend = found.0;
             is_suspend = suspend_sound f p plan c lt found.0 two.0;
-            is_alive = alive_sound known.alive known.are_alive found.0 two.1;
+            is_alive = alive_sound e known.alive known.are_alive found.0 two.1;
             spot = spot;
             is_use = u;
             meets = inr a;
@@ -275,10 +274,10 @@ module _ (f : Function) (p : Plan) (plan : IsPlanOf f p) (slots : List ℕ) (ch 
           let m = spots_sound f ch.uses ch.edges p.after c two.0 in
           at_suspend e m.spot (use_sound f slots ch is c slot lt at m.spot m.has) (after_sound f p plan c lt (point_at f m.spot) m.met) (any_sound 0 (common p.suspends known.alive) c two.1)
 
-  pub across_alive_complete : (rows : List (List ℕ)) → AreComing f p ch rows → (word : ℕ) → IsAliveWord f p ch rows word → HaveShape f ch.parting → IsAliveAcross f slot → HasBit word c
-  across_alive_complete rows are word known shape a =
+  pub met_complete : (rows : List (List ℕ)) → AreComing f p ch rows → (word : ℕ) → IsMetWord f p ch rows word → HaveShape f (parting_rows ch) → IsAliveAcross f slot → HasBit word c
+  met_complete rows are word known shape a =
       let s_is = suspend_point f p plan c lt a.suspend a.is_suspend in
-      let alive = alive_complete known.alive known.are_alive a.suspend s_is a.is_alive in
+      let alive = alive_complete a.is_escaped known.alive known.are_alive a.suspend s_is a.is_alive in
       subst (λ (w : ℕ). HasBit w c) (sym known.is)
       (common_bit ch.escaped (bit_or (met_rows rows known.alive) (after_word known.alive)) c (escaped_complete f slots ch is c slot lt at a.is_escaped)
       (⊎_elim
@@ -292,6 +291,14 @@ module _ (f : Function) (p : Plan) (plan : IsPlanOf f p) (slots : List ℕ) (ch 
       (spots_complete f ch.uses ch.edges p.after c a.spot (use_complete f slots ch is c slot lt at a.spot a.is_use) (after_complete f p plan c lt (point_at f a.spot) (use_point f slots ch is c slot lt at a.spot a.is_use) after))
       (any_complete 0 (common p.suspends known.alive) c a.suspend (common_complete p.suspends known.alive a.suspend c (suspend_complete f p plan c lt a.suspend a.is_suspend) alive))))
       a.meets))
+
+  pub across_alive_sound : (rows : List (List ℕ)) → AreComing f p ch rows → (word : ℕ) → IsAliveWord f p ch rows word → HasBit word c → IsAliveAcross f slot
+  across_alive_sound rows are word (NoneEscapes none is_zero) h = absurd (no_bit c (subst (λ (w : ℕ). HasBit w c) is_zero h))
+  across_alive_sound rows are word (SomeEscape met) h = met_sound rows are word met h
+
+  pub across_alive_complete : (rows : List (List ℕ)) → AreComing f p ch rows → (word : ℕ) → IsAliveWord f p ch rows word → HaveShape f (parting_rows ch) → IsAliveAcross f slot → HasBit word c
+  across_alive_complete rows are word (NoneEscapes none is_zero) shape a = absurd (no_bit c (subst (λ (w : ℕ). HasBit w c) none (escaped_complete f slots ch is c slot lt at a.is_escaped)))
+  across_alive_complete rows are word (SomeEscape met) shape a = met_complete rows are word met shape a
 
   -- ---- the promise
 
@@ -328,7 +335,7 @@ module _ (f : Function) (p : Plan) (plan : IsPlanOf f p) (slots : List ℕ) (ch 
       (one_bit (away_word f p ch) (bit_or w.across w.alive) c rest))
       (one_bit (promise_word p.promise ch.own) (rest_of w.across w.alive) c (subst (λ (x : ℕ). HasBit x c) w.is h))
 
-  pub frame_complete : HaveShape f ch.parting → (word : ℕ) → IsFrameWord f p ch word → NeedsFrame f slot → HasBit word c
+  pub frame_complete : HaveShape f (parting_rows ch) → (word : ℕ) → IsFrameWord f p ch word → NeedsFrame f slot → HasBit word c
   frame_complete shape word w (NeedsFrame.Promise e) =
       subst (λ (x : ℕ). HasBit x c) (sym w.is)
       (left_bit (promise_word p.promise ch.own) (rest_of w.across w.alive) c (subst (λ (o : Option ℕ). HasBit (promise_word o ch.own) c) (sym plan.promise) (promise_complete (promise_of f) e)))

@@ -10,7 +10,7 @@ use Rattle.ir_model.specs.declared.module.Function.{Function}
 use Rattle.ir_paths.specs.declared.point.Point.{Point}
 use Rattle.point_reach.specs.Reached.{HaveShape, IsPointOf}
 use Rattle.slot_lifetime.proofs.Zips.{at_point, bit_inside}
-use Rattle.slot_lifetime.specs.Rows.{zipped, zipped_rows}
+use Rattle.slot_lifetime.specs.Rows.{kept_of, kept_rows, zipped, zipped_rows}
 use Rattle.slot_uses.specs.Words.{row_with, word_at_point}
 
 -- ---- shapes
@@ -40,6 +40,18 @@ zipped_shape make n (row ∷ rows) others =
 -- rows made of two rows
 pub shape_of_zip : {X : Type 0} (f : Function) (make : ℕ → ℕ → X) (rows others : List (List ℕ)) → HaveShape f rows → HaveShape f (zipped_rows make 0 rows others)
 shape_of_zip f make rows others shape = zipped_shape make 0 rows others ∙ shape
+
+kept_length : (mask : ℕ) (row : List ℕ) → length (kept_of mask row) ≡ length row
+kept_length mask [] = refl
+kept_length mask (w ∷ row) = ap suc (kept_length mask row)
+
+kept_shape : (mask : ℕ) (rows : List (List ℕ)) → map length (kept_rows mask rows) ≡ map length rows
+kept_shape mask [] = refl
+kept_shape mask (row ∷ rows) = ap (λ (n : ℕ). n ∷ map length (kept_rows mask rows)) (kept_length mask row) ∙ ap (λ (l : List ℕ). length row ∷ l) (kept_shape mask rows)
+
+-- rows of which some questions are kept
+pub shape_of_kept : (f : Function) (mask : ℕ) (rows : List (List ℕ)) → HaveShape f rows → HaveShape f (kept_rows mask rows)
+shape_of_kept f mask rows shape = kept_shape mask rows ∙ shape
 
 -- ---- points
 

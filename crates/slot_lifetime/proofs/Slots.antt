@@ -1,8 +1,7 @@
 -- What the words of a chunk say of one of its slots.
-use Rattle.std.proofs.Common.{◌≡◌, ℕ, zero, suc, ◌<◌, Bool, true, false, List, [], ◌∷◌, ◌++◌, length, Option, Some, None, refl, sym, ap, ◌∙◌, subst, ⊎_elim, inl, inr, arith}
-use Rattle.std.specs.Prelude.{◌↔◌, IsTrue, bit_and, option_map, slice_get, unwrap_or}
+use Rattle.std.proofs.Common.{◌≡◌, ℕ, zero, suc, ◌<◌, Bool, true, false, List, [], ◌∷◌, ◌++◌, length, Some, refl, sym, ap, ◌∙◌, subst, ⊎_elim, inl, inr, arith}
+use Rattle.std.specs.Prelude.{◌↔◌, IsTrue, slice_get}
 use Rattle.std.proofs.lemmas.Bool.{false≢true}
-use Rattle.std.proofs.lemmas.Option.{slice_get-map}
 use Rattle.bit_reach.specs.Bits.{HasBit}
 use Rattle.ir_model.specs.declared.module.Block.{Block}
 use Rattle.ir_model.specs.declared.module.Function.{Function}
@@ -16,38 +15,24 @@ use Rattle.slot_lifetime.proofs.Coming.{Avoids}
 use Rattle.slot_lifetime.proofs.Flips.{no_other, other_bit}
 use Rattle.slot_lifetime.proofs.Gathers.{HasSpot, any_complete, any_sound, rows_before}
 use Rattle.slot_lifetime.proofs.Passing.{shape_of_markers, shape_of_uses}
-use Rattle.slot_lifetime.proofs.Shapes.{bit_point, point_inside}
-use Rattle.slot_lifetime.proofs.Zips.{joined_left, joined_right, joined_sound}
+use Rattle.slot_lifetime.proofs.Shapes.{bit_point, point_inside, shape_of_kept}
+use Rattle.slot_lifetime.proofs.Zips.{kept_complete, kept_sound, touching_left, touching_right, touching_sound}
 use Rattle.slot_lifetime.specs.Alive.{markers_of}
 use Rattle.slot_lifetime.specs.Classes.{Touches, parting}
-use Rattle.slot_lifetime.specs.Rows.{joined, kept_of, others, rows_word}
-use Rattle.slot_lifetime.specs.Words.{IsChunkOf, unmarked_word}
+use Rattle.slot_lifetime.specs.Rows.{kept_rows, others, rows_word}
+use Rattle.slot_lifetime.specs.Words.{IsChunkOf, end_rows, parting_rows, touch_rows, unmarked_word}
 use Rattle.slot_lifetime.specs.declared.chunk.Chunk.{Chunk}
 use Rattle.slot_rules.specs.Early.{instr_count}
-use Rattle.slot_uses.proofs.Bits.{both_bits, common_bit, no_bit}
+use Rattle.slot_uses.proofs.Bits.{no_bit}
 use Rattle.slot_uses.proofs.Spotting.{HasEdge, edge_told, use_told}
-use Rattle.slot_uses.proofs.Telling.{escaped_told, marker_complete, marker_name, marker_sound, marker_told, slot_only}
+use Rattle.slot_uses.proofs.Telling.{escaped_told, marker_told}
 use Rattle.slot_uses.specs.Spots.{IsStart, IsUse, Spot, point_at}
 use Rattle.slot_uses.specs.Spots.Spot.{At, On}
 use Rattle.slot_uses.specs.Uses.{ends_of, starts_of}
-use Rattle.slot_uses.specs.Words.{marker_rows, name_word, use_rows, word_at_point}
+use Rattle.slot_uses.specs.Words.{marker_rows, use_rows, word_at_point}
 use Rattle.slot_uses.specs.declared.edge.EdgeWord.{EdgeWord}
 
--- ---- words of names, of which some questions are kept
-
-kept_word : (mask : ℕ) (words : List ℕ) (v : ℕ) (c : ℕ) → HasBit (name_word (kept_of mask words) v) c → HasBit (name_word words v) c × HasBit mask c
-kept_word mask words v c h = by (slice_get words v) refl (subst (λ (o : Option ℕ). HasBit (unwrap_or o 0) c) (slice_get-map (λ (w : ℕ). bit_and w mask) words v) h)
-  where
-    by : (o : Option ℕ) → slice_get words v ≡ o → HasBit (unwrap_or (option_map (λ (w : ℕ). bit_and w mask) o) 0) c → HasBit (name_word words v) c × HasBit mask c
-    by None e h = absurd (no_bit c h)
-    by (Some w) e h = let two = both_bits w mask c h in (subst (λ (o : Option ℕ). HasBit (unwrap_or o 0) c) (sym e) two.0, two.1)
-
-word_kept : (mask : ℕ) (words : List ℕ) (v : ℕ) (c : ℕ) → HasBit (name_word words v) c → HasBit mask c → HasBit (name_word (kept_of mask words) v) c
-word_kept mask words v c h k = subst (λ (o : Option ℕ). HasBit (unwrap_or o 0) c) (sym (slice_get-map (λ (w : ℕ). bit_and w mask) words v)) (by (slice_get words v) h)
-  where
-    by : (o : Option ℕ) → HasBit (unwrap_or o 0) c → HasBit (unwrap_or (option_map (λ (w : ℕ). bit_and w mask) o) 0) c
-    by None h = absurd (no_bit c h)
-    by (Some w) h = common_bit w mask c h k
+-- ---- lists of points
 
 no_points : (ps : List Point) → ((p : Point) → has_point ps p ≡ true → ⊥) → ps ≡ []
 no_points [] n = refl
@@ -78,16 +63,6 @@ module _ (f : Function) (slots : List ℕ) (ch : Chunk) (is : IsChunkOf f slots 
   pub escaped_complete : is_escaped f slot ≡ true → HasBit ch.escaped c
   escaped_complete e = subst (λ (w : ℕ). HasBit w c) (sym is.escaped) ((escaped_told f slots ch.addresses is.addresses c slot lt at).1 e)
 
-  -- starts of some slots
-  some_sound : (mask : ℕ) (p : Point) → HasBit (word_at_point (marker_rows Intrinsic.LifetimeStart (kept_of mask ch.own) f) p) c → has_point (starts_of f slot) p ≡ true
-  some_sound mask p h = marker_sound Intrinsic.LifetimeStart f (kept_of mask ch.own) c slot (λ v k. slot_only slots ch.own is.own c slot lt at v (kept_word mask ch.own v c k).0) p h
-
-  some_mask : (mask : ℕ) (p : Point) → HasBit (word_at_point (marker_rows Intrinsic.LifetimeStart (kept_of mask ch.own) f) p) c → HasBit mask c
-  some_mask mask p h = let n = marker_name Intrinsic.LifetimeStart f (kept_of mask ch.own) c p h in (kept_word mask ch.own n.0 c n.1).1
-
-  some_complete : (mask : ℕ) (p : Point) → HasBit mask c → has_point (starts_of f slot) p ≡ true → HasBit (word_at_point (marker_rows Intrinsic.LifetimeStart (kept_of mask ch.own) f) p) c
-  some_complete mask p k h = marker_complete Intrinsic.LifetimeStart f (kept_of mask ch.own) c slot (word_kept mask ch.own slot c ((is.own.each slot c lt).1 at) k) p h
-
   -- markers
   pub start_sound : (p : Point) → HasBit (word_at_point ch.starts p) c → has_point (starts_of f slot) p ≡ true
   start_sound p h = (marker_told Intrinsic.LifetimeStart f slots ch.own is.own c slot lt at p).0 (same_rows ch.starts (marker_rows Intrinsic.LifetimeStart ch.own f) p is.starts h)
@@ -95,34 +70,39 @@ module _ (f : Function) (slots : List ℕ) (ch : Chunk) (is : IsChunkOf f slots 
   pub start_complete : (p : Point) → has_point (starts_of f slot) p ≡ true → HasBit (word_at_point ch.starts p) c
   start_complete p h = same_rows (marker_rows Intrinsic.LifetimeStart ch.own f) ch.starts p (sym is.starts) ((marker_told Intrinsic.LifetimeStart f slots ch.own is.own c slot lt at p).1 h)
 
-  pub end_sound : (p : Point) → HasBit (word_at_point ch.ends p) c → has_point (ends_of f slot) p ≡ true
-  end_sound p h = (marker_told Intrinsic.LifetimeEnd f slots ch.own is.own c slot lt at p).0 (same_rows ch.ends (marker_rows Intrinsic.LifetimeEnd ch.own f) p is.ends h)
+  pub end_sound : (p : Point) → HasBit (word_at_point (end_rows f ch) p) c → has_point (ends_of f slot) p ≡ true
+  end_sound p h = (marker_told Intrinsic.LifetimeEnd f slots ch.own is.own c slot lt at p).0 h
 
-  pub end_complete : (p : Point) → has_point (ends_of f slot) p ≡ true → HasBit (word_at_point ch.ends p) c
-  end_complete p h = same_rows (marker_rows Intrinsic.LifetimeEnd ch.own f) ch.ends p (sym is.ends) ((marker_told Intrinsic.LifetimeEnd f slots ch.own is.own c slot lt at p).1 h)
+  pub end_complete : (p : Point) → has_point (ends_of f slot) p ≡ true → HasBit (word_at_point (end_rows f ch) p) c
+  end_complete p h = (marker_told Intrinsic.LifetimeEnd f slots ch.own is.own c slot lt at p).1 h
 
   pub starts_shape : HaveShape f ch.starts
   starts_shape = subst (HaveShape f) (sym is.starts) (shape_of_markers Intrinsic.LifetimeStart ch.own f)
 
-  pub ends_shape : HaveShape f ch.ends
-  ends_shape = subst (HaveShape f) (sym is.ends) (shape_of_markers Intrinsic.LifetimeEnd ch.own f)
+  -- the ends of a slot that is escaped
+  pub alive_stops_shape : HaveShape f (kept_rows ch.escaped (end_rows f ch))
+  alive_stops_shape = shape_of_kept f ch.escaped (end_rows f ch) (shape_of_markers Intrinsic.LifetimeEnd ch.own f)
 
-  pub avoids_ends : Avoids f ch.ends c (ends_of f slot)
-  avoids_ends = record { each = λ p p_is. (end_complete p, end_sound p) }
+  pub avoids_ends : is_escaped f slot ≡ true → Avoids f (kept_rows ch.escaped (end_rows f ch)) c (ends_of f slot)
+  avoids_ends e = record {
+    each = λ p p_is. (
+      λ h. kept_complete ch.escaped (end_rows f ch) p c (end_complete p h) (escaped_complete e),
+      λ h. end_sound p (kept_sound ch.escaped (end_rows f ch) p c h).0,
+    );
+  }
 
   -- the starts that part uses
-  pub avoids_parting : Avoids f ch.parting c (parting (is_escaped f slot) f slot)
+  pub avoids_parting : Avoids f (parting_rows ch) c (parting (is_escaped f slot) f slot)
   avoids_parting = record { each = λ p p_is. by (is_escaped f slot) refl p }
     where
-      by : (b : Bool) → is_escaped f slot ≡ b → (p : Point) → IsTrue (has_point (parting b f slot) p) ↔ HasBit (word_at_point ch.parting p) c
+      by : (b : Bool) → is_escaped f slot ≡ b → (p : Point) → IsTrue (has_point (parting b f slot) p) ↔ HasBit (word_at_point (parting_rows ch) p) c
       by true e p = (
         λ h. absurd (false≢true h),
-        λ h. absurd (no_other ch.escaped c lt (some_mask (others ch.escaped) p (same_rows ch.parting (marker_rows Intrinsic.LifetimeStart (kept_of (others ch.escaped) ch.own) f) p is.parting h)) (escaped_complete e)),
+        λ h. absurd (no_other ch.escaped c lt (kept_sound (others ch.escaped) ch.starts p c h).1 (escaped_complete e)),
       )
       by false e p = (
-        λ h. same_rows (marker_rows Intrinsic.LifetimeStart (kept_of (others ch.escaped) ch.own) f) ch.parting p (sym is.parting)
-            (some_complete (others ch.escaped) p (other_bit ch.escaped c lt (λ k. false≢true (sym e ∙ escaped_sound k))) h),
-        λ h. some_sound (others ch.escaped) p (same_rows ch.parting (marker_rows Intrinsic.LifetimeStart (kept_of (others ch.escaped) ch.own) f) p is.parting h),
+        λ h. kept_complete (others ch.escaped) ch.starts p c (start_complete p h) (other_bit ch.escaped c lt (λ k. false≢true (sym e ∙ escaped_sound k))),
+        λ h. start_sound p (kept_sound (others ch.escaped) ch.starts p c h).0,
       )
 
   -- touches
@@ -132,24 +112,21 @@ module _ (f : Function) (slots : List ℕ) (ch : Chunk) (is : IsChunkOf f slots 
   never_on : (spot : Spot) → IsStart f slot spot → (from to : ℕ) → spot ≡ On from to → ⊥
   never_on _ (IsStart.Marked q h) from to e = cc
 
-  pub touch_sound : (spot : Spot) → HasSpot ch.touches ch.edges c spot → Touches f slot spot
+  pub touch_sound : (spot : Spot) → HasSpot (touch_rows ch) ch.edges c spot → Touches f slot spot
   touch_sound (At p) h = ⊎_elim
       (λ used. inl (use_sound (At p) used))
-      (λ started. inr (escaped_sound (some_mask ch.escaped p started), IsStart.Marked p (some_sound ch.escaped p started)))
-      (joined_sound ch.uses (marker_rows Intrinsic.LifetimeStart (kept_of ch.escaped ch.own) f) p c (same_rows ch.touches (joined ch.uses (marker_rows Intrinsic.LifetimeStart (kept_of ch.escaped ch.own) f)) p is.touches h))
+      (λ started. inr (escaped_sound started.1, IsStart.Marked p (start_sound p started.0)))
+      (touching_sound ch.escaped ch.uses ch.starts p c h)
   touch_sound (On from to) h = inl (use_sound (On from to) h)
 
-  pub touch_complete : (spot : Spot) → Touches f slot spot → HasSpot ch.touches ch.edges c spot
-  touch_complete (At p) t =
-      let rows = marker_rows Intrinsic.LifetimeStart (kept_of ch.escaped ch.own) f in
-      same_rows (joined ch.uses rows) ch.touches p (sym is.touches)
-      (⊎_elim
-      (λ u. joined_left ch.uses rows p c (use_complete (At p) u))
+  pub touch_complete : (spot : Spot) → Touches f slot spot → HasSpot (touch_rows ch) ch.edges c spot
+  touch_complete (At p) t = ⊎_elim
+      (λ u. touching_left ch.escaped ch.uses ch.starts p c (use_complete (At p) u))
       (λ s.
-      let started = some_complete ch.escaped p (escaped_complete s.0) (start_at (At p) s.1 p refl) in
-      let inside = point_inside f ch.uses uses_shape p (bit_point f rows (shape_of_markers Intrinsic.LifetimeStart (kept_of ch.escaped ch.own) f) p c started) in
-      joined_right ch.uses rows p c inside.0 inside.1 started)
-      t)
+      let started = start_complete p (start_at (At p) s.1 p refl) in
+      let inside = point_inside f ch.uses uses_shape p (bit_point f ch.starts starts_shape p c started) in
+      touching_right ch.escaped ch.uses ch.starts p c inside.0 inside.1 started (escaped_complete s.0))
+      t
   touch_complete (On from to) t = ⊎_elim (λ u. use_complete (On from to) u) (λ s. absurd (never_on (On from to) s.1 from to refl)) t
 
   -- ---- points
@@ -178,24 +155,24 @@ module _ (f : Function) (slots : List ℕ) (ch : Chunk) (is : IsChunkOf f slots 
   both_empty : (xs ys : List Point) → xs ≡ [] → ys ≡ [] → xs ++ ys ≡ []
   both_empty xs ys e k = ap (λ (l : List Point). l ++ ys) e ∙ k
 
-  no_bits : markers_of f slot ≡ [] → HasBit (rows_word (rows_word 0 ch.starts) ch.ends) c → ⊥
+  no_bits : markers_of f slot ≡ [] → HasBit (rows_word (rows_word 0 ch.starts) (end_rows f ch)) c → ⊥
   no_bits e h = ⊎_elim
       (λ first. ⊎_elim
       (λ none. no_bit c none)
       (λ s. none_there s.0 (has_left (starts_of f slot) (ends_of f slot) s.0 (start_sound s.0 s.1)))
       (any_sound 0 ch.starts c first))
       (λ s. none_there s.0 (has_right (starts_of f slot) (ends_of f slot) s.0 (end_sound s.0 s.1)))
-      (any_sound (rows_word 0 ch.starts) ch.ends c h)
+      (any_sound (rows_word 0 ch.starts) (end_rows f ch) c h)
     where
       none_there : (p : Point) → has_point (markers_of f slot) p ≡ true → ⊥
       none_there p k = false≢true (ap (λ (l : List Point). has_point l p) (sym e) ∙ k)
 
-  pub unmarked_sound : HasBit (unmarked_word ch) c → markers_of f slot ≡ []
+  pub unmarked_sound : HasBit (unmarked_word f ch) c → markers_of f slot ≡ []
   unmarked_sound h =
-      let never = no_other (rows_word (rows_word 0 ch.starts) ch.ends) c lt h in
+      let never = no_other (rows_word (rows_word 0 ch.starts) (end_rows f ch)) c lt h in
       both_empty (starts_of f slot) (ends_of f slot)
-      (no_points (starts_of f slot) (λ p k. never (rows_before (rows_word 0 ch.starts) ch.ends c (any_complete 0 ch.starts c p (start_complete p k)))))
-      (no_points (ends_of f slot) (λ p k. never (any_complete (rows_word 0 ch.starts) ch.ends c p (end_complete p k))))
+      (no_points (starts_of f slot) (λ p k. never (rows_before (rows_word 0 ch.starts) (end_rows f ch) c (any_complete 0 ch.starts c p (start_complete p k)))))
+      (no_points (ends_of f slot) (λ p k. never (any_complete (rows_word 0 ch.starts) (end_rows f ch) c p (end_complete p k))))
 
-  pub unmarked_complete : markers_of f slot ≡ [] → HasBit (unmarked_word ch) c
-  unmarked_complete e = other_bit (rows_word (rows_word 0 ch.starts) ch.ends) c lt (no_bits e)
+  pub unmarked_complete : markers_of f slot ≡ [] → HasBit (unmarked_word f ch) c
+  unmarked_complete e = other_bit (rows_word (rows_word 0 ch.starts) (end_rows f ch)) c lt (no_bits e)

@@ -1,11 +1,12 @@
 -- Rows made of two rows.
 use Rattle.std.proofs.Common.{◌≡◌, ℕ, zero, suc, ◌+◌, List, [], ◌∷◌, Option, Some, None, refl, sym, ap, ◌∙◌, subst, ⊎_elim, inl, inr, arith}
 use Rattle.std.specs.Prelude.{◌↔◌, ◌⊎◌, bit_and, bit_or, option_map, slice_get, unwrap_or}
+use Rattle.std.proofs.lemmas.Option.{slice_get-map}
 use Rattle.bit_reach.specs.Bits.{HasBit}
 use Rattle.ir_paths.specs.declared.point.Point.{Point}
 use Rattle.point_reach.specs.Reached.{begins_at, pass_at, stops_at}
 use Rattle.point_reach.specs.declared.question.Pass.{Pass}
-use Rattle.slot_lifetime.specs.Rows.{common, joined, pass_by, passes_by, row_at, word_in, zipped, zipped_rows}
+use Rattle.slot_lifetime.specs.Rows.{common, joined, kept_of, kept_rows, pass_by, passes_by, row_at, touching, touching_rows, word_in, zipped, zipped_rows}
 use Rattle.slot_uses.proofs.Bits.{both_bits, common_bit, left_bit, no_bit, one_bit, right_bit}
 use Rattle.slot_uses.specs.Words.{word_at_point}
 
@@ -91,6 +92,54 @@ joined_left a b p c h =
 
 pub joined_right : (a b : List (List ℕ)) (p : Point) (c w : ℕ) → at_point a p ≡ Some w → HasBit (word_at_point b p) c → HasBit (word_at_point (joined a b) p) c
 joined_right a b p c w e h = subst (λ (x : ℕ). HasBit x c) (sym (joined_is a b p w e)) (right_bit w (word_at_point b p) c h)
+
+-- ---- what is touched
+
+touching_is : (mask : ℕ) (a b : List (List ℕ)) (p : Point) (w : ℕ) → at_point a p ≡ Some w → word_at_point (touching_rows mask a b) p ≡ bit_or w (bit_and (word_at_point b p) mask)
+touching_is mask a b p w e = ap (λ (o : Option ℕ). unwrap_or o 0) (zip_at (touching mask) a b p ∙ ap (option_map (λ w. touching mask w (word_at_point b p))) e)
+
+pub touching_sound : (mask : ℕ) (a b : List (List ℕ)) (p : Point) (c : ℕ) → HasBit (word_at_point (touching_rows mask a b) p) c → HasBit (word_at_point a p) c ⊎ (HasBit (word_at_point b p) c × HasBit mask c)
+touching_sound mask a b p c h = by (at_point a p) refl (subst (λ (o : Option ℕ). HasBit (unwrap_or o 0) c) (zip_at (touching mask) a b p) h)
+  where
+    by : (o : Option ℕ) → at_point a p ≡ o → HasBit (unwrap_or (option_map (λ w. touching mask w (word_at_point b p)) o) 0) c → HasBit (word_at_point a p) c ⊎ (HasBit (word_at_point b p) c × HasBit mask c)
+    by None e h = absurd (no_bit c h)
+    by (Some w) e h = ⊎_elim
+        (λ l. inl (subst (λ (x : ℕ). HasBit x c) (sym (word_of (at_point a p) w e)) l))
+        (λ r. inr (both_bits (word_at_point b p) mask c r))
+        (one_bit w (bit_and (word_at_point b p) mask) c h)
+
+pub touching_left : (mask : ℕ) (a b : List (List ℕ)) (p : Point) (c : ℕ) → HasBit (word_at_point a p) c → HasBit (word_at_point (touching_rows mask a b) p) c
+touching_left mask a b p c h =
+    let i = bit_inside a p c h in
+    subst (λ (x : ℕ). HasBit x c) (sym (touching_is mask a b p i.0 i.1))
+    (left_bit i.0 (bit_and (word_at_point b p) mask) c (subst (λ (x : ℕ). HasBit x c) (word_of (at_point a p) i.0 i.1) h))
+
+pub touching_right : (mask : ℕ) (a b : List (List ℕ)) (p : Point) (c w : ℕ) → at_point a p ≡ Some w → HasBit (word_at_point b p) c → HasBit mask c → HasBit (word_at_point (touching_rows mask a b) p) c
+touching_right mask a b p c w e h k =
+    subst (λ (x : ℕ). HasBit x c) (sym (touching_is mask a b p w e)) (right_bit w (bit_and (word_at_point b p) mask) c (common_bit (word_at_point b p) mask c h k))
+
+-- ---- rows of which some questions are kept
+
+kept_at : (mask : ℕ) (rows : List (List ℕ)) (p : Point) → at_point (kept_rows mask rows) p ≡ option_map (λ w. bit_and w mask) (at_point rows p)
+kept_at mask rows p = ap (λ (o : Option (List ℕ)). slice_get (unwrap_or o []) p.at) (slice_get-map (kept_of mask) rows p.block) ∙ by (slice_get rows p.block)
+  where
+    by : (o : Option (List ℕ)) → slice_get (unwrap_or (option_map (kept_of mask) o) []) p.at ≡ option_map (λ w. bit_and w mask) (slice_get (unwrap_or o []) p.at)
+    by None = refl
+    by (Some row) = slice_get-map (λ (w : ℕ). bit_and w mask) row p.at
+
+pub kept_sound : (mask : ℕ) (rows : List (List ℕ)) (p : Point) (c : ℕ) → HasBit (word_at_point (kept_rows mask rows) p) c → HasBit (word_at_point rows p) c × HasBit mask c
+kept_sound mask rows p c h = by (at_point rows p) refl (subst (λ (o : Option ℕ). HasBit (unwrap_or o 0) c) (kept_at mask rows p) h)
+  where
+    by : (o : Option ℕ) → at_point rows p ≡ o → HasBit (unwrap_or (option_map (λ w. bit_and w mask) o) 0) c → HasBit (word_at_point rows p) c × HasBit mask c
+    by None e h = absurd (no_bit c h)
+    by (Some w) e h = let two = both_bits w mask c h in (subst (λ (x : ℕ). HasBit x c) (sym (word_of (at_point rows p) w e)) two.0, two.1)
+
+pub kept_complete : (mask : ℕ) (rows : List (List ℕ)) (p : Point) (c : ℕ) → HasBit (word_at_point rows p) c → HasBit mask c → HasBit (word_at_point (kept_rows mask rows) p) c
+kept_complete mask rows p c h k = subst (λ (o : Option ℕ). HasBit (unwrap_or o 0) c) (sym (kept_at mask rows p)) (by (at_point rows p) h)
+  where
+    by : (o : Option ℕ) → HasBit (unwrap_or o 0) c → HasBit (unwrap_or (option_map (λ w. bit_and w mask) o) 0) c
+    by None h = absurd (no_bit c h)
+    by (Some w) h = common_bit w mask c h k
 
 -- ---- passes
 

@@ -35,6 +35,13 @@ joined rows others = zipped_rows bit_or 0 rows others
 abbrev pub common : List (List ℕ) → List (List ℕ) → List (List ℕ)
 common rows others = zipped_rows bit_and 0 rows others
 
+-- a word and those questions of another that are among some
+abbrev pub touching : ℕ → ℕ → ℕ → ℕ
+touching mask word other = bit_or word (bit_and other mask)
+
+abbrev pub touching_rows : ℕ → List (List ℕ) → List (List ℕ) → List (List ℕ)
+touching_rows mask rows others = zipped_rows (touching mask) 0 rows others
+
 abbrev pub pass_by : ℕ → ℕ → Pass
 pass_by stops begins = record { stops = stops; begins = begins }
 
@@ -84,9 +91,12 @@ set_rows set block (b ∷ blocks) = set_row set block 0 b.instrs ∷ set_rows se
 abbrev pub cleared : List (List ℕ) → ℕ → List (List ℕ)
 cleared rows block = slice_set rows block []
 
--- the words of names, of which only these questions are kept
+-- words of which only the questions among some are kept
 abbrev pub kept_of : ℕ → List ℕ → List ℕ
 kept_of mask words = map (λ w. bit_and w mask) words
+
+abbrev pub kept_rows : ℕ → List (List ℕ) → List (List ℕ)
+kept_rows mask rows = map (kept_of mask) rows
 
 abbrev pub others : ℕ → ℕ
 others word = bit_xor word all_bits

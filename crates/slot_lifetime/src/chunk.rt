@@ -1,13 +1,10 @@
 //! What is found of a chunk of at most 64 slots.
 
-ghost use Rattle.std.specs.Prelude.{◌≡◌, ◌≤◌, IfOk, length};
-ghost use Rattle.ir_model.specs.declared.operand.Intrinsic.{Intrinsic as TheIntrinsic};
-ghost use Rattle.slot_lifetime.specs.Rows.{kept_of};
+ghost use Rattle.std.specs.Prelude.{◌≤◌, IfOk, length};
 ghost use Rattle.slot_lifetime.specs.Words.{IsChunkOf, IsPlanOf};
-ghost use Rattle.slot_uses.specs.Words.{marker_rows as marker_rows_of};
 
 use crate::plan::Plan;
-use crate::rows::{Rows, joined, kept_words, others};
+use crate::rows::Rows;
 use coro_base::{Items, ValueId};
 use ir_model::{Function, Intrinsic};
 use slot_uses::{
@@ -30,25 +27,6 @@ pub struct Chunk {
     pub escaped: u64,
     /// The slots that start at each point.
     pub starts: Rows,
-    /// The slots that end at each point.
-    pub ends: Rows,
-    /// The slots that start at each point and don't escape.
-    pub parting: Rows,
-    /// The slots that are used at each point, or start there and escape.
-    pub touches: Rows,
-}
-
-/// The starts at each point of those of the slots that have a bit of a word.
-fn kept_starts(
-    alloc: Global,
-    function: &Function,
-    own: &[u64],
-    mask: u64,
-) -> Result<Rows, AllocError>
-    ensures { IfOk result (λ rows. rows ≡ marker_rows_of TheIntrinsic.LifetimeStart (kept_of mask own.now) function.now) }
-{
-    let words = kept_words(alloc, mask, own)?;
-    marker_rows(alloc, Intrinsic::LifetimeStart, function, words.as_slice())
 }
 
 /// What is found of a chunk of at most 64 slots.
@@ -68,10 +46,6 @@ pub fn chunk_words(
     let edges = edge_words(alloc, addresses.as_slice(), plan.phis.as_slice())?;
     let escaped = escaped_word(function, addresses.as_slice());
     let starts = marker_rows(alloc, Intrinsic::LifetimeStart, function, own.as_slice())?;
-    let ends = marker_rows(alloc, Intrinsic::LifetimeEnd, function, own.as_slice())?;
-    let parting = kept_starts(alloc, function, own.as_slice(), others(escaped))?;
-    let again = kept_starts(alloc, function, own.as_slice(), escaped)?;
-    let touches = joined(alloc, &uses, &again)?;
     Ok(Chunk {
         own: Items::from_vec(own),
         addresses: Items::from_vec(addresses),
@@ -79,8 +53,5 @@ pub fn chunk_words(
         edges,
         escaped,
         starts,
-        ends,
-        parting,
-        touches,
     })
 }

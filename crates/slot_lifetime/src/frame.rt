@@ -2,20 +2,21 @@
 
 ghost use Rattle.std.specs.Prelude.{◌≡◌, IfOk};
 ghost use Rattle.ir_model.specs.declared.operand.Intrinsic.{Intrinsic as TheIntrinsic};
-ghost use Rattle.slot_lifetime.specs.Words.{AreAliveRows, AreComing, IsAcrossWord, IsAliveWord, IsChunkBy, IsFrameWord, IsPlanOf, away_word as word_of_away, birth_rows as rows_of_births, late_word as word_of_late, promise_word as word_of_promise, spots_word as word_of_spots, unmarked_word as word_of_unmarked};
+ghost use Rattle.slot_lifetime.specs.Words.{AreAliveRows, AreComing, IsAcrossWord, IsAliveWord, IsChunkBy, IsFrameWord, IsMetWord, IsPlanOf, away_word as word_of_away, birth_rows as rows_of_births, end_rows, late_word as word_of_late, promise_word as word_of_promise, spots_word as word_of_spots, touch_rows, unmarked_word as word_of_unmarked};
 
 use crate::chunk::Chunk;
 use crate::plan::{Plan, behind_rows, coming_rows};
-use crate::rows::{Rows, block_words, call_rows, common, joined, others, rows_word};
+use crate::rows::{
+    Rows, block_words, call_rows, common, common_word, joined, others, rows_word, touched_word,
+};
 use crate::ways::{edges_word, ways_word};
 use coro_base::ValueId;
 use ir_model::{Function, Intrinsic};
-use slot_uses::{EdgeWord, name_word};
+use slot_uses::{EdgeWord, marker_rows, name_word};
 use std::alloc::{AllocError, Global};
 
 /// What stands at points and on edges, and has a question of the words there.
 fn spots_word(
-    alloc: Global,
     function: &Function,
     rows: &Rows,
     edges: &[EdgeWord],
@@ -23,13 +24,11 @@ fn spots_word(
 ) -> Result<u64, AllocError>
     ensures { IfOk result (λ word. word ≡ word_of_spots function.now rows.now edges.now words.now) }
 {
-    let both = common(alloc, rows, words)?;
-    Ok(edges_word(function, words, rows_word(0, &both), edges))
+    Ok(edges_word(function, words, common_word(rows, words)?, edges))
 }
 
 /// What is touched behind suspends: on the ways from blocks with these words, or at points with those.
 fn late_word(
-    alloc: Global,
     function: &Function,
     plan: &Plan,
     chunk: &Chunk,
@@ -37,33 +36,22 @@ fn late_word(
     behind: &Rows,
 ) -> Result<u64, AllocError>
     requires { IsPlanOf function.now plan.now }
-    ensures { IfOk result (λ word. word ≡ word_of_late function.now chunk.now.touches chunk.now.edges own.now behind.now) }
+    ensures { IfOk result (λ word. word ≡ word_of_late function.now (touch_rows chunk.now) chunk.now.edges own.now behind.now) }
 {
     let edges = chunk.edges.as_slice();
-    let spots = spots_word(alloc, function, &chunk.touches, edges, behind)?;
+    let met = touched_word(chunk.escaped, &chunk.uses, &chunk.starts, behind)?;
+    let spots = edges_word(function, behind, met, edges);
     Ok(ways_word(plan.ways.as_slice(), own, spots, edges))
 }
 
 /// The slots that are used in a window or after the end, and touched behind a suspend.
-fn away_word(
-    alloc: Global,
-    function: &Function,
-    plan: &Plan,
-    chunk: &Chunk,
-) -> Result<u64, AllocError>
+fn away_word(function: &Function, plan: &Plan, chunk: &Chunk) -> Result<u64, AllocError>
     requires { IsPlanOf function.now plan.now }
     ensures { IfOk result (λ word. word ≡ word_of_away function.now plan.now chunk.now) }
 {
     let edges = chunk.edges.as_slice();
-    let early = spots_word(alloc, function, &chunk.uses, edges, &plan.closed)?;
-    let late = late_word(
-        alloc,
-        function,
-        plan,
-        chunk,
-        plan.own.as_slice(),
-        &plan.behind,
-    )?;
+    let early = spots_word(function, &chunk.uses, edges, &plan.closed)?;
+    let late = late_word(function, plan, chunk, plan.own.as_slice(), &plan.behind)?;
     Ok(early & late)
 }
 
@@ -85,7 +73,8 @@ fn suspend_rows(
         &plan.graph,
         &chunk.uses,
         edges,
-        &chunk.parting,
+        &chunk.starts,
+        others(chunk.escaped),
     )?;
     common(alloc, &plan.suspends, &reached)
 }
@@ -109,28 +98,37 @@ fn across_word(
         &plan.graph,
         &plan.ways,
         own.as_slice(),
-        &chunk.parting,
+        &chunk.starts,
+        others(chunk.escaped),
         plan.end,
     )?;
-    late_word(alloc, function, plan, chunk, own.as_slice(), &behind)
+    late_word(function, plan, chunk, own.as_slice(), &behind)
 }
 
-/// The slots without markers.
-fn unmarked_word(chunk: &Chunk) -> u64
-    ensures { result ≡ word_of_unmarked chunk.now }
+/// The slots without markers, of which these are the ends.
+fn unmarked_word(function: &Function, chunk: &Chunk, ends: &Rows) -> u64
+    requires { ends.now ≡ end_rows function.now chunk.now }
+    ensures { result ≡ word_of_unmarked function.now chunk.now }
 {
-    others(rows_word(rows_word(0, &chunk.starts), &chunk.ends))
+    others(rows_word(rows_word(0, &chunk.starts), ends))
 }
 
 /// Where slots begin to be alive: at their starts, and at begin if they have no markers.
-fn birth_rows(alloc: Global, function: &Function, chunk: &Chunk) -> Result<Rows, AllocError>
+fn birth_rows(
+    alloc: Global,
+    function: &Function,
+    chunk: &Chunk,
+    ends: &Rows,
+) -> Result<Rows, AllocError>
+    requires { ends.now ≡ end_rows function.now chunk.now }
     ensures { IfOk result (λ rows. rows ≡ rows_of_births function.now chunk.now) }
 {
-    let begins = call_rows(alloc, function, Intrinsic::CoroBegin, unmarked_word(chunk))?;
+    let unmarked = unmarked_word(function, chunk, ends);
+    let begins = call_rows(alloc, function, Intrinsic::CoroBegin, unmarked)?;
     joined(alloc, &chunk.starts, &begins)
 }
 
-/// Where slots may be alive.
+/// Where slots that escape may be alive.
 fn alive_rows(
     alloc: Global,
     function: &Function,
@@ -141,11 +139,34 @@ fn alive_rows(
     requires chunk { IsChunkBy function.now chunk.now }
     ensures { IfOk result (AreAliveRows function.now chunk.now) }
 {
-    let births = birth_rows(alloc, function, chunk)?;
-    coming_rows(alloc, function, &plan.graph, &births, &[], &chunk.ends)
+    let own = chunk.own.as_slice();
+    let ends = marker_rows(alloc, Intrinsic::LifetimeEnd, function, own)?;
+    let births = birth_rows(alloc, function, chunk, &ends)?;
+    let escaped = chunk.escaped;
+    coming_rows(alloc, function, &plan.graph, &births, &[], &ends, escaped)
 }
 
 /// The slots that escape and may be alive at a suspend that a use comes to, or at any if a use stands after the end.
+fn met_word(
+    alloc: Global,
+    function: &Function,
+    plan: &Plan,
+    chunk: &Chunk,
+    rows: &Rows,
+) -> Result<u64, AllocError>
+    requires plan { IsPlanOf function.now plan.now }
+    requires chunk { IsChunkBy function.now chunk.now }
+    ensures { IfOk result (IsMetWord function.now plan.now chunk.now rows.now) }
+{
+    let alive = alive_rows(alloc, function, plan, chunk)?;
+    let met = common_word(rows, &alive)?;
+    let any = common_word(&plan.suspends, &alive)?;
+    let edges = chunk.edges.as_slice();
+    let after = spots_word(function, &chunk.uses, edges, &plan.after)?;
+    Ok(chunk.escaped & (met | (after & any)))
+}
+
+/// The same, and nothing is looked for where none escapes.
 fn alive_word(
     alloc: Global,
     function: &Function,
@@ -157,12 +178,11 @@ fn alive_word(
     requires chunk { IsChunkBy function.now chunk.now }
     ensures { IfOk result (IsAliveWord function.now plan.now chunk.now rows.now) }
 {
-    let alive = alive_rows(alloc, function, plan, chunk)?;
-    let met = common(alloc, rows, &alive)?;
-    let any = common(alloc, &plan.suspends, &alive)?;
-    let edges = chunk.edges.as_slice();
-    let after = spots_word(alloc, function, &chunk.uses, edges, &plan.after)?;
-    Ok(chunk.escaped & (rows_word(0, &met) | (after & rows_word(0, &any))))
+    if chunk.escaped == 0 {
+        Ok(0)
+    } else {
+        met_word(alloc, function, plan, chunk, rows)
+    }
 }
 
 fn promise_word(promise: Option<ValueId>, own: &[u64]) -> u64
@@ -188,6 +208,6 @@ pub fn frame_word(
     let rows = suspend_rows(alloc, function, plan, chunk)?;
     let across = across_word(alloc, function, plan, chunk, &rows)?;
     let alive = alive_word(alloc, function, plan, chunk, &rows)?;
-    let away = away_word(alloc, function, plan, chunk)?;
+    let away = away_word(function, plan, chunk)?;
     Ok(promise_word(plan.promise, chunk.own.as_slice()) | (away | (across | alive)))
 }

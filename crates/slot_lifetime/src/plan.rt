@@ -9,7 +9,7 @@ ghost use Rattle.ir_paths.specs.Windows.{call_operand, end_block as end_block_of
 ghost use Rattle.ir_paths.specs.declared.point.Point.{Point as ThePoint};
 ghost use Rattle.point_graph.specs.Rows.{is_marked};
 ghost use Rattle.point_reach.specs.Reached.{AreReachedAt, HaveShape};
-ghost use Rattle.slot_lifetime.specs.Rows.{call_rows as rows_of_calls};
+ghost use Rattle.slot_lifetime.specs.Rows.{all_bits, call_rows as rows_of_calls, kept_rows};
 ghost use Rattle.slot_lifetime.specs.Ways.{LeadToBlocks, coming, ways_of as ways_of_function};
 ghost use Rattle.slot_lifetime.specs.Words.{AreAfterRows, AreBehindRows, AreClosedRows, IsPlanOf, is_inside_any};
 ghost use Rattle.slot_rules.specs.Closed.{IsInSomeWindow};
@@ -43,8 +43,6 @@ pub struct Plan {
     pub phis: Items<PhiUse>,
     /// The alloca that coro.id names.
     pub promise: Option<ValueId>,
-    /// Rows without a bit.
-    pub none: Rows,
     /// Rows with all bits at the suspends.
     pub suspends: Rows,
     /// All bits for each block with a suspend.
@@ -90,7 +88,8 @@ fn promise_of(alloc: Global, function: &Function) -> Result<Option<ValueId>, All
 
 // ---- paths
 
-/// The rows of the points to which paths lead from what has a question at points or on edges, as far as where it ends.
+/// The rows of the points to which paths lead from what has a question at points or on edges, as far as where it ends if it is
+/// among some.
 pub fn coming_rows(
     alloc: Global,
     function: &Function,
@@ -98,14 +97,15 @@ pub fn coming_rows(
     rows: &Rows,
     edges: &[EdgeWord],
     stops: &Rows,
+    mask: u64,
 ) -> Result<Rows, AllocError>
     requires graph { graph.now ≡ graph_of function.now }
     requires shape { HaveShape function.now stops.now }
     requires edges { LeadToBlocks function.now edges.now }
-    ensures { IfOk result (AreReachedAt function.now (coming function.now rows.now edges.now stops.now)) }
+    ensures { IfOk result (AreReachedAt function.now (coming function.now rows.now edges.now (kept_rows mask stops.now))) }
 {
     let passes = Passes {
-        rows: passes_by(alloc, stops, rows)?,
+        rows: passes_by(alloc, mask, stops, rows)?,
         fronts: edge_fronts(alloc, edges)?,
         closed: function.blocks.len(),
     };
@@ -113,7 +113,7 @@ pub fn coming_rows(
 }
 
 /// The rows of the points outside the end block to which paths lead on the ways from blocks with these words, as far as
-/// where their questions end.
+/// where their questions end if they are among some.
 pub fn behind_rows(
     alloc: Global,
     function: &Function,
@@ -121,16 +121,17 @@ pub fn behind_rows(
     ways: &Items<(BlockId, BlockId)>,
     own: &[u64],
     stops: &Rows,
+    mask: u64,
     end: BlockId,
 ) -> Result<Rows, AllocError>
     requires graph { graph.now ≡ graph_of function.now }
     requires ways { ways.now ≡ ways_of_function function.now }
     requires shape { HaveShape function.now stops.now }
     requires end { end ≡ end_block_of function.now }
-    ensures { IfOk result (AreBehindRows function.now own.now stops.now) }
+    ensures { IfOk result (AreBehindRows function.now own.now (kept_rows mask stops.now)) }
 {
     let passes = Passes {
-        rows: passes_by(alloc, stops, &Items::new(alloc))?,
+        rows: passes_by(alloc, mask, stops, &Items::new(alloc))?,
         fronts: way_fronts(alloc, ways.as_slice(), own)?,
         closed: end,
     };
@@ -183,14 +184,14 @@ fn after_rows(
     alloc: Global,
     function: &Function,
     graph: &Graph,
-    none: &Rows,
+    suspends: &Rows,
 ) -> Result<Rows, AllocError>
     requires graph { graph.now ≡ graph_of function.now }
-    requires none { none.now ≡ rows_of_calls TheIntrinsic.CoroEnd 0 function.now }
+    requires suspends { suspends.now ≡ rows_of_calls TheIntrinsic.CoroSuspend all_bits function.now }
     ensures { IfOk result (AreAfterRows function.now) }
 {
     let ends = call_rows(alloc, function, Intrinsic::CoroEnd, u64::MAX)?;
-    coming_rows(alloc, function, graph, &ends, &[], none)
+    coming_rows(alloc, function, graph, &ends, &[], suspends, 0)
 }
 
 /// What is found of a function once, for all its slots.
@@ -200,19 +201,26 @@ pub fn plan_of(alloc: Global, function: &Function) -> Result<Plan, AllocError>
     let graph = block_graph(alloc, function)?;
     let end = end_block(function);
     let ways = ways_of(alloc, function)?;
-    let none = call_rows(alloc, function, Intrinsic::CoroEnd, 0)?;
     let suspends = call_rows(alloc, function, Intrinsic::CoroSuspend, u64::MAX)?;
     let own = block_words(alloc, &suspends)?;
-    let after = after_rows(alloc, function, &graph, &none)?;
+    let after = after_rows(alloc, function, &graph, &suspends)?;
     let closed = closed_rows(alloc, function, &after)?;
-    let behind = behind_rows(alloc, function, &graph, &ways, own.as_slice(), &none, end)?;
+    let behind = behind_rows(
+        alloc,
+        function,
+        &graph,
+        &ways,
+        own.as_slice(),
+        &suspends,
+        0,
+        end,
+    )?;
     Ok(Plan {
         graph,
         end,
         ways,
         phis: phi_uses(alloc, function)?,
         promise: promise_of(alloc, function)?,
-        none,
         suspends,
         own,
         after,

@@ -2,7 +2,7 @@
 
 ghost use Rattle.std.specs.Prelude.{◌≡◌, IfOk, bit_and, bit_or};
 ghost use Rattle.point_graph.specs.Rows.{is_marked};
-ghost use Rattle.slot_lifetime.specs.Rows.{block_words as words_of_blocks, call_row as row_of_calls, call_rows as rows_of_calls, call_word as word_of_call, cleared as cleared_rows, common as common_rows, joined as joined_rows, kept_of, others as others_of, pass_by, passes_by as passes_of, row_at as row_of, row_word as word_of_row, rows_word as word_of_rows, set_row as row_of_set, set_rows as rows_of_set, word_in as word_of, word_of_mark, zipped};
+ghost use Rattle.slot_lifetime.specs.Rows.{block_words as words_of_blocks, call_row as row_of_calls, call_rows as rows_of_calls, call_word as word_of_call, cleared as cleared_rows, common as common_rows, joined as joined_rows, kept_of, kept_rows, others as others_of, pass_by, passes_by as passes_of, row_at as row_of, row_word as word_of_row, rows_word as word_of_rows, set_row as row_of_set, set_rows as rows_of_set, touching, touching_rows, word_in as word_of, word_of_mark, zipped};
 
 use coro_base::{BlockId, Items};
 use coro_calls::is_call_of;
@@ -41,13 +41,13 @@ pub fn row_at(rows: &Rows, block: BlockId) -> &[u64]
 fn joined_row(alloc: Global, row: &[u64], other: &[u64]) -> Result<Items<u64>, AllocError>
     ensures { IfOk result (λ all. all ≡ zipped bit_or 0 row.now other.now) }
 {
-    let mut all = Items::new(alloc);
+    let mut all = Vec::with_capacity(alloc, row.len())?;
     let mut at = 0;
     for word in row {
         all.push(*word | word_in(other, at))?;
         at = next(at)?;
     }
-    Ok(all)
+    Ok(Items::from_vec(all))
 }
 
 /// The bits of both.
@@ -66,13 +66,13 @@ pub fn joined(alloc: Global, rows: &Rows, others: &Rows) -> Result<Rows, AllocEr
 fn common_row(alloc: Global, row: &[u64], other: &[u64]) -> Result<Items<u64>, AllocError>
     ensures { IfOk result (λ all. all ≡ zipped bit_and 0 row.now other.now) }
 {
-    let mut all = Items::new(alloc);
+    let mut all = Vec::with_capacity(alloc, row.len())?;
     let mut at = 0;
     for word in row {
         all.push(*word & word_in(other, at))?;
         at = next(at)?;
     }
-    Ok(all)
+    Ok(Items::from_vec(all))
 }
 
 /// The bits that both have.
@@ -88,36 +88,42 @@ pub fn common(alloc: Global, rows: &Rows, others: &Rows) -> Result<Rows, AllocEr
     Ok(all)
 }
 
-fn pass_row(alloc: Global, stops: &[u64], begins: &[u64]) -> Result<Items<Pass>, AllocError>
-    ensures { IfOk result (λ all. all ≡ zipped pass_by 0 stops.now begins.now) }
+fn pass_row(
+    alloc: Global,
+    mask: u64,
+    stops: &[u64],
+    begins: &[u64],
+) -> Result<Items<Pass>, AllocError>
+    ensures { IfOk result (λ all. all ≡ zipped pass_by 0 (kept_of mask stops.now) begins.now) }
 {
-    let mut all = Items::new(alloc);
+    let mut all = Vec::with_capacity(alloc, stops.len())?;
     let mut at = 0;
     for word in stops {
         all.push(Pass {
-            stops: *word,
+            stops: *word & mask,
             begins: word_in(begins, at),
         })?;
         at = next(at)?;
     }
-    Ok(all)
+    Ok(Items::from_vec(all))
 }
 
-/// The questions that end where the one says, and begin where the other says.
+/// The questions that end where the one says, if they are among some, and begin where the other says.
 pub fn passes_by(
     alloc: Global,
+    mask: u64,
     stops: &Rows,
     begins: &Rows,
 ) -> Result<Items<Items<Pass>>, AllocError>
-    ensures { IfOk result (λ all. all ≡ passes_of stops.now begins.now) }
+    ensures { IfOk result (λ all. all ≡ passes_of (kept_rows mask stops.now) begins.now) }
 {
-    let mut all = Items::new(alloc);
+    let mut all = Vec::with_capacity(alloc, stops.len())?;
     let mut at = 0;
     for row in stops.as_slice() {
-        all.push(pass_row(alloc, row.as_slice(), row_at(begins, at))?)?;
+        all.push(pass_row(alloc, mask, row.as_slice(), row_at(begins, at))?)?;
         at = next(at)?;
     }
-    Ok(all)
+    Ok(Items::from_vec(all))
 }
 
 // ---- all words together
@@ -141,6 +147,63 @@ pub fn rows_word(first: u64, rows: &Rows) -> u64
         all = row_word(all, row.as_slice());
     }
     all
+}
+
+fn common_in_row(first: u64, row: &[u64], other: &[u64]) -> Result<u64, AllocError>
+    ensures { IfOk result (λ word. word ≡ word_of_row first (zipped bit_and 0 row.now other.now)) }
+{
+    let mut all = first;
+    let mut at = 0;
+    for word in row {
+        all |= *word & word_in(other, at);
+        at = next(at)?;
+    }
+    Ok(all)
+}
+
+/// The bits that two words at one place have both.
+pub fn common_word(rows: &Rows, others: &Rows) -> Result<u64, AllocError>
+    ensures { IfOk result (λ word. word ≡ word_of_rows 0 (common_rows rows.now others.now)) }
+{
+    let mut all = 0;
+    let mut at = 0;
+    for row in rows.as_slice() {
+        all = common_in_row(all, row.as_slice(), row_at(others, at))?;
+        at = next(at)?;
+    }
+    Ok(all)
+}
+
+fn touched_in_row(
+    first: u64,
+    mask: u64,
+    row: &[u64],
+    starts: &[u64],
+    other: &[u64],
+) -> Result<u64, AllocError>
+    ensures { IfOk result (λ word. word ≡ word_of_row first (zipped bit_and 0 (zipped (touching mask) 0 row.now starts.now) other.now)) }
+{
+    let mut all = first;
+    let mut at = 0;
+    for word in row {
+        all |= (*word | (word_in(starts, at) & mask)) & word_in(other, at);
+        at = next(at)?;
+    }
+    Ok(all)
+}
+
+/// The same of rows to which the questions among some of other rows are added.
+pub fn touched_word(mask: u64, rows: &Rows, starts: &Rows, others: &Rows) -> Result<u64, AllocError>
+    ensures { IfOk result (λ word. word ≡ word_of_rows 0 (common_rows (touching_rows mask rows.now starts.now) others.now)) }
+{
+    let mut all = 0;
+    let mut at = 0;
+    for row in rows.as_slice() {
+        let here = row_at(starts, at);
+        all = touched_in_row(all, mask, row.as_slice(), here, row_at(others, at))?;
+        at = next(at)?;
+    }
+    Ok(all)
 }
 
 /// For each block the bits of all its words.
@@ -245,17 +308,6 @@ pub fn cleared(alloc: Global, rows: Rows, block: BlockId) -> Rows
     let mut all = rows;
     all.set(block, Items::new(alloc));
     all
-}
-
-/// The words of names, of which only some questions are kept.
-pub fn kept_words(alloc: Global, mask: u64, words: &[u64]) -> Result<Vec<u64>, AllocError>
-    ensures { IfOk result (λ all. all.items ≡ kept_of mask words.now) }
-{
-    let mut all = Vec::new(alloc);
-    for word in words {
-        all.push(*word & mask)?;
-    }
-    Ok(all)
 }
 
 /// The questions that a word hasn't.
