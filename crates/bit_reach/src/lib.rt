@@ -7,6 +7,3 @@ mod questions;
 
 pub use flow_solver::Graph;
 pub use questions::reached;
-
-#[cfg(test)]
-mod tests;

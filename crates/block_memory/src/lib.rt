@@ -18,6 +18,3 @@ pub use contents::Contents;
 pub use memory::Memory;
 pub use pointer::{Access, BlockId, Offset, Pointer, Spot, Value};
 pub use rights::{AccessRights, OwnerRights};
-
-#[cfg(test)]
-mod tests;

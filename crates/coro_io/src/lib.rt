@@ -4,8 +4,6 @@
 mod adapters;
 mod calls;
 mod memory;
-#[cfg(test)]
-mod tests;
 mod traits;
 mod whole;
 

@@ -9,8 +9,6 @@ mod entry;
 mod escape;
 mod opened;
 mod spelling;
-#[cfg(test)]
-mod tests;
 
 pub use entry::entry_of;
 pub use spelling::print_name;

@@ -8,8 +8,6 @@ mod promise;
 mod shape;
 mod suspends;
 mod switches;
-#[cfg(test)]
-mod tests;
 mod uses;
 
 pub use one_of_each::first_wrong_call;

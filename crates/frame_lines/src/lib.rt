@@ -3,8 +3,6 @@
 
 mod comments;
 mod frames;
-#[cfg(test)]
-mod tests;
 
 pub use comments::read_frames;
 pub use frames::{FrameLine, print_frames};

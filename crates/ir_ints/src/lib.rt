@@ -13,6 +13,3 @@ pub use compare::{icmp, select};
 pub use num::Num;
 pub use operation::binary;
 pub use whole::{cut_signed, signed};
-
-#[cfg(test)]
-mod tests;

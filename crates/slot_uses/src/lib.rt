@@ -16,4 +16,4 @@ pub use edges::{edge_words, phi_uses};
 pub use escaped::escaped_word;
 pub use rows::{marker_rows, use_rows};
 pub use slots::{chunk_of, slots_of};
-pub use words::name_word;
+pub use words::{marked, name_word};

@@ -4,7 +4,7 @@ ghost use Rattle.std.specs.Prelude.{◌≡◌};
 ghost use Rattle.block_memory.specs.declared.pointer.Pointer.{Pointer};
 ghost use Rattle.block_memory.specs.declared.pointer.Value.{Value};
 
-use crate::{Access, Kind, Memory, Offset, Pointer, Value};
+use block_memory::{Access, Kind, Memory, Offset, Pointer, Value};
 use coro_base::{Cause, Word};
 use std::alloc::Global;
 use std::process::Abort;

@@ -3,7 +3,7 @@
 ghost use Rattle.std.specs.Prelude.{◌≤◌, ◌&&◌, nat_lt, IsTrue, length};
 ghost use Rattle.std.specs.List.{list_all};
 
-use crate::{Graph, reached};
+use bit_reach::{Graph, reached};
 use coro_base::Items;
 use std::alloc::{AllocError, Global};
 use std::test::Fail;

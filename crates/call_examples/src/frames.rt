@@ -1,5 +1,5 @@
-use crate::{FrameLine, print_frames, read_frames};
 use coro_base::{Items, Name, Text};
+use frame_lines::{FrameLine, print_frames, read_frames};
 use std::alloc::{AllocError, Global};
 use std::test::Fail;
 

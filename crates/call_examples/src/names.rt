@@ -1,5 +1,5 @@
-use crate::{entry_of, print_name};
 use coro_base::{Name, Text};
+use coro_names::{entry_of, print_name};
 use std::test::Fail;
 
 #[test]
