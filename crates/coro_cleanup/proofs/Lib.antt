@@ -1,5 +1,5 @@
-mod Kept
-mod Parts
+pub mod Kept
+pub mod Parts
 mod States
 pub mod Simulation
 pub mod Freed

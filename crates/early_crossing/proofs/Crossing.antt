@@ -1,5 +1,5 @@
 -- Which values cross which suspends, in functions that are alike.
-use Rattle.std.proofs.Common.{◌≡◌, ℕ, ◌+◌, ◌⊎◌, inl, inr, List, [], ◌∷◌, map, sym, ap, ◌∙◌, subst, ◌↔◌}
+use Rattle.std.proofs.Common.{◌≡◌, ℕ, ◌+◌, ◌⊎◌, inl, inr, List, [], ◌∷◌, map, refl, sym, ap, ◌∙◌, subst, ◌↔◌}
 use Rattle.early_crossing.proofs.Alike.{AreAlike, IsAt, IsOfPlace, IsOneOn, branches_alike, instr_forth, instr_home, uses_alike}
 use Rattle.flow_solver.specs.Paths.{IsListed}
 use Rattle.function_parts.specs.Contents.{result_of}
@@ -271,41 +271,45 @@ module _ (f g : Function) (front back : ℕ → ℕ → ℕ) (v : ℕ) (alike : 
 -- ---- all values with all suspends
 
 module _ (f g : Function) (move : Point → Point) where
-  -- what crosses a suspend crosses it where it is moved to, and the other way round
+  -- what crosses a suspend of f crosses it where it is moved to, and the other way round
   pub record AreAsCrossing : Type 0 where
     pub values : values_of g ≡ values_of f
     pub suspends : suspends_of g ≡ map move (suspends_of f)
-    pub forth : (v : ℕ) (s : Point) → Crosses f v s → Crosses g v (move s)
-    pub home : (v : ℕ) (s : Point) → Crosses g v (move s) → Crosses f v s
+    pub forth : (v : ℕ) (s : Point) → IsListed s (suspends_of f) → Crosses f v s → Crosses g v (move s)
+    pub home : (v : ℕ) (s : Point) → IsListed s (suspends_of f) → Crosses g v (move s) → Crosses f v s
 
-  crossed_forth : AreAsCrossing → (v k : ℕ) (ss : List Point) (all : List (ℕ × ℕ)) → AreCrossed f v k ss all → AreCrossed g v k (map move ss) all
-  crossed_forth same v _ _ _ (NoMore k) = NoMore k
-  crossed_forth same v _ _ _ (Taken k s ss all c rest) = Taken k (move s) (map move ss) all (same.forth v s c) (crossed_forth same v (k + 1) ss all rest)
-  crossed_forth same v _ _ _ (LeftOut k s ss all n rest) = LeftOut k (move s) (map move ss) all (λ c. n (same.home v s c)) (crossed_forth same v (k + 1) ss all rest)
+  -- the points are suspends of f
+  abbrev AreSuspends : List Point → Type 0
+  AreSuspends ss = (s : Point) → IsListed s ss → IsListed s (suspends_of f)
 
-  crossed_home : AreAsCrossing → (v k : ℕ) (ts : List Point) (all : List (ℕ × ℕ)) → AreCrossed g v k ts all → (ss : List Point) → ts ≡ map move ss → AreCrossed f v k ss all
-  crossed_home same v _ _ _ (NoMore k) [] e = NoMore k
-  crossed_home same v _ _ _ (NoMore k) (s ∷ ss) e = absurd (cc)
-  crossed_home same v _ _ _ (Taken k t ts all c rest) [] e = absurd (cc)
-  crossed_home same v _ _ _ (Taken k t ts all c rest) (s ∷ ss) e =
+  crossed_forth : AreAsCrossing → (v k : ℕ) (ss : List Point) (all : List (ℕ × ℕ)) → AreCrossed f v k ss all → AreSuspends ss → AreCrossed g v k (map move ss) all
+  crossed_forth same v _ _ _ (NoMore k) these = NoMore k
+  crossed_forth same v _ _ _ (Taken k s ss all c rest) these = Taken k (move s) (map move ss) all (same.forth v s (these s (inl refl)) c) (crossed_forth same v (k + 1) ss all rest (λ t l. these t (inr l)))
+  crossed_forth same v _ _ _ (LeftOut k s ss all n rest) these = LeftOut k (move s) (map move ss) all (λ c. n (same.home v s (these s (inl refl)) c)) (crossed_forth same v (k + 1) ss all rest (λ t l. these t (inr l)))
+
+  crossed_home : AreAsCrossing → (v k : ℕ) (ts : List Point) (all : List (ℕ × ℕ)) → AreCrossed g v k ts all → (ss : List Point) → ts ≡ map move ss → AreSuspends ss → AreCrossed f v k ss all
+  crossed_home same v _ _ _ (NoMore k) [] e these = NoMore k
+  crossed_home same v _ _ _ (NoMore k) (s ∷ ss) e these = absurd (cc)
+  crossed_home same v _ _ _ (Taken k t ts all c rest) [] e these = absurd (cc)
+  crossed_home same v _ _ _ (Taken k t ts all c rest) (s ∷ ss) e these =
       let first : t ≡ move s = cc in
       let more : ts ≡ map move ss = cc in
-      Taken k s ss all (same.home v s (subst (Crosses g v) first c)) (crossed_home same v (k + 1) ts all rest ss more)
-  crossed_home same v _ _ _ (LeftOut k t ts all n rest) [] e = absurd (cc)
-  crossed_home same v _ _ _ (LeftOut k t ts all n rest) (s ∷ ss) e =
+      Taken k s ss all (same.home v s (these s (inl refl)) (subst (Crosses g v) first c)) (crossed_home same v (k + 1) ts all rest ss more (λ u l. these u (inr l)))
+  crossed_home same v _ _ _ (LeftOut k t ts all n rest) [] e these = absurd (cc)
+  crossed_home same v _ _ _ (LeftOut k t ts all n rest) (s ∷ ss) e these =
       let first : t ≡ move s = cc in
       let more : ts ≡ map move ss = cc in
-      LeftOut k s ss all (λ c. n (subst (Crosses g v) (sym first) (same.forth v s c))) (crossed_home same v (k + 1) ts all rest ss more)
+      LeftOut k s ss all (λ c. n (subst (Crosses g v) (sym first) (same.forth v s (these s (inl refl)) c))) (crossed_home same v (k + 1) ts all rest ss more (λ u l. these u (inr l)))
 
   by_forth : AreAsCrossing → (vs : List ℕ) (all : List (ℕ × ℕ)) → CrossedBy f vs all → CrossedBy g vs all
   by_forth same _ _ Nothing = Nothing
   by_forth same _ _ (More v vs here rest c more) =
-      More v vs here rest (subst (λ (ss : List Point). AreCrossed g v 0 ss here) (sym same.suspends) (crossed_forth same v 0 (suspends_of f) here c)) (by_forth same vs rest more)
+      More v vs here rest (subst (λ (ss : List Point). AreCrossed g v 0 ss here) (sym same.suspends) (crossed_forth same v 0 (suspends_of f) here c (λ s l. l))) (by_forth same vs rest more)
 
   by_home : AreAsCrossing → (vs : List ℕ) (all : List (ℕ × ℕ)) → CrossedBy g vs all → CrossedBy f vs all
   by_home same _ _ Nothing = Nothing
   by_home same _ _ (More v vs here rest c more) =
-      More v vs here rest (crossed_home same v 0 (suspends_of g) here c (suspends_of f) same.suspends) (by_home same vs rest more)
+      More v vs here rest (crossed_home same v 0 (suspends_of g) here c (suspends_of f) same.suspends (λ s l. l)) (by_home same vs rest more)
 
   pub crossing_same : AreAsCrossing → (all : List (ℕ × ℕ)) → AreCrossing f all ↔ AreCrossing g all
   crossing_same same all = (

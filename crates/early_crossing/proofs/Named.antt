@@ -145,8 +145,8 @@ crossing_with f named none all = crossing_same f (with_begin (length f.names) f)
     same = record {
       values = values_with (length f.names) f;
       suspends = points_where_same (length f.names) (is_call_of Intrinsic.CoroSuspend) (call_of_same (length f.names) Intrinsic.CoroSuspend) f ∙ sym (map_itself (suspends_of f));
-      forth = λ v s c. crosses_forth f (with_begin (length f.names) f) (λ b at. at) (λ b at. at) v (alike_named (length f.names) f none v (values_named f named v c.is_value)) (values_with (length f.names) f) s c;
-      home = λ v s c. crosses_home f (with_begin (length f.names) f) (λ b at. at) (λ b at. at) v (alike_named (length f.names) f none v (values_named f named v (subst (IsListed v) (values_with (length f.names) f) c.is_value))) (values_with (length f.names) f) s c;
+      forth = λ v s here c. crosses_forth f (with_begin (length f.names) f) (λ b at. at) (λ b at. at) v (alike_named (length f.names) f none v (values_named f named v c.is_value)) (values_with (length f.names) f) s c;
+      home = λ v s here c. crosses_home f (with_begin (length f.names) f) (λ b at. at) (λ b at. at) v (alike_named (length f.names) f none v (values_named f named v (subst (IsListed v) (values_with (length f.names) f) c.is_value))) (values_with (length f.names) f) s c;
     }
 
 pub crossing_named : (f : Function) → HasNamedLocals f → (all : List (ℕ × ℕ)) → AreCrossing f all ↔ AreCrossing (with_begin_name f) all

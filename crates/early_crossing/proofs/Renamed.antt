@@ -297,6 +297,6 @@ crossing_renamed f r plain all = crossing_same f (renamed_coroutine r f) (λ s. 
     same = record {
       values = values_same r f;
       suspends = points_where_same r (is_call_of Intrinsic.CoroSuspend) (is_call_of Intrinsic.CoroSuspend) (call_of_same r Intrinsic.CoroSuspend) f ∙ sym (map_itself (suspends_of f));
-      forth = λ v s c. crosses_forth f (renamed_coroutine r f) (λ b at. at) (λ b at. at) v (renamed_alike r v (values_plain r f plain v c.is_value) f) (values_same r f) s c;
-      home = λ v s c. crosses_home f (renamed_coroutine r f) (λ b at. at) (λ b at. at) v (renamed_alike r v (values_plain r f plain v (subst (IsListed v) (values_same r f) c.is_value)) f) (values_same r f) s c;
+      forth = λ v s here c. crosses_forth f (renamed_coroutine r f) (λ b at. at) (λ b at. at) v (renamed_alike r v (values_plain r f plain v c.is_value) f) (values_same r f) s c;
+      home = λ v s here c. crosses_home f (renamed_coroutine r f) (λ b at. at) (λ b at. at) v (renamed_alike r v (values_plain r f plain v (subst (IsListed v) (values_same r f) c.is_value)) f) (values_same r f) s c;
     }

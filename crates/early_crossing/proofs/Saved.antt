@@ -5,7 +5,8 @@ use Rattle.definite_use.specs.Uses.{local_of, locals_in}
 use Rattle.early_crossing.proofs.Alike.{AreAlike, IsAlike, IsOfPlace, IsOneOn, IsOther}
 use Rattle.early_crossing.proofs.Counted.{values_named}
 use Rattle.early_crossing.proofs.Crossing.{AreAsCrossing, crosses_forth, crosses_home, crossing_same}
-use Rattle.early_crossing.proofs.Unsaved.{bare_is, each_from, more_block, more_name}
+use Rattle.early_crossing.proofs.Unsaved.{each_from, more_block, more_name}
+use Rattle.save_agreement.proofs.Tokens.{bare_is}
 use Rattle.early_lower.specs.Early.{save_call, saved}
 use Rattle.flow_solver.specs.Paths.{IsListed}
 use Rattle.function_parts.specs.Contents.{arg_operands, result_of}
@@ -234,6 +235,6 @@ crossing_saved f named all = crossing_same f (saved_function f) (back_of f) same
     same = record {
       values = values_saved f;
       suspends = suspends_moved f;
-      forth = λ v s c. crosses_forth f (saved_function f) (front f) (back f) v (alike_saved f v (values_named f named v c.is_value)) (values_saved f) s c;
-      home = λ v s c. crosses_home f (saved_function f) (front f) (back f) v (alike_saved f v (values_named f named v (subst (IsListed v) (values_saved f) c.is_value))) (values_saved f) s c;
+      forth = λ v s here c. crosses_forth f (saved_function f) (front f) (back f) v (alike_saved f v (values_named f named v c.is_value)) (values_saved f) s c;
+      home = λ v s here c. crosses_home f (saved_function f) (front f) (back f) v (alike_saved f v (values_named f named v (subst (IsListed v) (values_saved f) c.is_value))) (values_saved f) s c;
     }

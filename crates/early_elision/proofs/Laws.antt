@@ -1,10 +1,9 @@
 -- What stays of elidable callees and of sites under the first pass.
 use Rattle.early_elision.proofs.Saved.{saved_elidable}
-use Rattle.early_elision.proofs.Renamed.{renamed_elidable, renamed_forth}
+use Rattle.early_elision.proofs.Renamed.{renamed_elidable}
 use Rattle.std.proofs.Common.{◌≡◌, ℕ, Bool, true, false, List, Some, None, Option, refl, sym, ap, ◌∙◌, subst, ◌↔◌}
 use Rattle.std.specs.Prelude.{if◌then◌else◌}
 use Rattle.coro_base.specs.declared.outcome.Place.{Place}
-use Rattle.early_agreement.proofs.Modules.{function_there}
 use Rattle.early_agreement.proofs.Rules.{all_regular}
 use Rattle.early_agreement.specs.Passes.{named_function, named_module, renamed_by_its_own, renamed_function, renamed_module}
 use Rattle.early_agreement.proofs.Composition.{early_in_turn}
@@ -17,20 +16,18 @@ use Rattle.early_meaning.proofs.Names.{named_locals, renamed_locals}
 use Rattle.save_agreement.proofs.Plain.{plain_stays}
 use Rattle.save_agreement.specs.SavesWritten.{saved_function, saves_written}
 use Rattle.early_agreement.specs.Regular.{AllKeepRules, IsRegular}
-use Rattle.early_elision.proofs.Modules.{IsPlainChange, callees_same, callees_stay, each_same, site_over, sites_stay}
+use Rattle.early_elision.proofs.Modules.{IsPlainChange, callees_stay, sites_stay}
 use Rattle.early_elision.proofs.Named.{named_elidable}
-use Rattle.early_elision.specs.Apart.{ArePhisApart, HasPhisApart}
 use Rattle.early_lower.specs.Early.{renaming_of}
 use Rattle.early_lower.specs.BeginName.{if_unnamed, with_begin_name}
 use Rattle.escape_flow.specs.Elidable.{AreElidable, IsElidable}
-use Rattle.escape_flow.specs.Sites.{AreSites, IsSite, callee_in}
-use Rattle.ir_model.specs.declared.instr.Instr.{Instr}
+use Rattle.escape_flow.specs.Sites.{AreSites}
 use Rattle.ir_model.specs.Calls.{first_result}
 use Rattle.ir_model.specs.Names.{function_at}
 use Rattle.ir_model.specs.declared.module.Function.{Function}
 use Rattle.ir_model.specs.declared.module.Module.{Module}
 use Rattle.ir_model.specs.declared.operand.Intrinsic.{Intrinsic}
-use Rattle.sound_states.specs.Named.{AreLocalsNamed, AreUsesNamed, HasNamedEnds, HasNamedLocals}
+use Rattle.sound_states.specs.Named.{AreLocalsNamed, AreUsesNamed, HasNamedLocals, HasNamedUses}
 
 -- what the name of a function is, and the like, stays where begins get names
 of_named : {X : Type 0} (part : Function → X) → ((f : Function) (o : Option ℕ) → part (if_unnamed o f) ≡ part f) → (f : Function) → part (named_function f) ≡ part f
@@ -66,7 +63,7 @@ named_change = record {
 named_one : (m : Module) → AreLocalsNamed m → AreUsesNamed m → (g : ℕ) (f : Function) → function_at m g ≡ f → f.coroutine ≡ true → IsElidable f ↔ IsElidable (named_function f)
 named_one m locals uses g f e c =
     subst (λ (b : Bool). IsElidable f ↔ IsElidable (if b then with_begin_name f else f)) (sym c)
-    (named_elidable f (subst HasNamedLocals e (locals g)) (subst HasNamedEnds e (uses g).ends))
+    (named_elidable f (subst HasNamedLocals e (locals g)) (subst HasNamedUses e (uses g)))
 
 pub callees_named : (m : Module) → AreLocalsNamed m → AreUsesNamed m → (all : List ℕ) → AreElidable m all ↔ AreElidable (named_module m) all
 callees_named m locals uses all = callees_stay named_function named_change m (named_one m locals uses) all
@@ -94,27 +91,16 @@ module _ (m : Module) (rules : AllKeepRules m) where
   regular_there : (g : ℕ) (f : Function) → function_at m g ≡ f → f.coroutine ≡ true → IsRegular f (renaming_of f)
   regular_there g f e c = subst (λ (h : Function). IsRegular h (renaming_of h)) e (all_regular m rules g (ap (λ (h : Function). h.coroutine) e ∙ c))
 
-  renamed_one : ArePhisApart m → (g : ℕ) (f : Function) → function_at m g ≡ f → f.coroutine ≡ true → IsElidable f ↔ IsElidable (renamed_function f)
-  renamed_one apart g f e c =
+  renamed_one : (g : ℕ) (f : Function) → function_at m g ≡ f → f.coroutine ≡ true → IsElidable f ↔ IsElidable (renamed_function f)
+  renamed_one g f e c =
       subst (λ (b : Bool). IsElidable f ↔ IsElidable (if b then renamed_by_its_own f else f)) (sym c)
-      (renamed_elidable f (regular_there g f e c) (subst (λ (h : Function). HasPhisApart (renaming_of h) h) e (apart g (ap (λ (h : Function). h.coroutine) e ∙ c))))
+      (renamed_elidable f (regular_there g f e c))
 
-  pub callees_renamed : ArePhisApart m → (all : List ℕ) → AreElidable m all ↔ AreElidable (renamed_module m) all
-  callees_renamed apart all = callees_stay renamed_function renamed_change m (renamed_one apart) all
+  pub callees_renamed : (all : List ℕ) → AreElidable m all ↔ AreElidable (renamed_module m) all
+  callees_renamed all = callees_stay renamed_function renamed_change m renamed_one all
 
-  pub sites_renamed : ArePhisApart m → (all : List Place) → AreSites m all ↔ AreSites (renamed_module m) all
-  sites_renamed apart all = sites_stay renamed_function renamed_change m (renamed_one apart) all
-
-  forth_at : (f : Function) → (f.coroutine ≡ true → IsRegular f (renaming_of f)) → IsElidable f → IsElidable (renamed_function f)
-  forth_at f ok h = on f.coroutine refl
-    where
-      on : (b : Bool) → f.coroutine ≡ b → IsElidable (if b then renamed_by_its_own f else f)
-      on true c = renamed_forth f (ok c) h
-      on false c = h
-
-  pub callee_renamed : (g : ℕ) → IsElidable (function_at m g) → IsElidable (function_at (renamed_module m) g)
-  callee_renamed g h =
-      subst IsElidable (sym (function_there renamed_function renamed_change.mild m refl g)) (forth_at (function_at m g) (regular_there g (function_at m g) refl) h)
+  pub sites_renamed : (all : List Place) → AreSites m all ↔ AreSites (renamed_module m) all
+  sites_renamed all = sites_stay renamed_function renamed_change m renamed_one all
 
 -- ---- saves are written out
 
@@ -139,61 +125,28 @@ sites_saved m locals all = sites_stay saved_function saved_change m (saved_one m
 in_row : (A B C D : Type 0) → A ↔ B → B ↔ C → C ↔ D → A ↔ D
 in_row A B C D x y z = ((λ a. z.0 (y.0 (x.0 a))), (λ d. x.1 (y.1 (z.1 d))))
 
-module _ (m : Module) (locals : AreLocalsNamed m) (uses : AreUsesNamed m) (rules : AllKeepRules (named_module m)) (apart : ArePhisApart (named_module m)) where
-  pub callees_early : (all : List ℕ) → AreElidable m all ↔ AreElidable (early_module m) all
+module _ (m : Module) (locals : AreLocalsNamed m) (uses : AreUsesNamed m) (rules : AllKeepRules (named_module m)) where
+  callees_early : (all : List ℕ) → AreElidable m all ↔ AreElidable (early_module m) all
   callees_early all =
       subst (λ (k : Module). AreElidable m all ↔ AreElidable k all) (sym (early_in_turn m))
       (in_row (AreElidable m all) (AreElidable (named_module m) all) (AreElidable (renamed_module (named_module m)) all) (AreElidable (saves_written (renamed_module (named_module m))) all)
       (callees_named m locals uses all)
-      (callees_renamed (named_module m) rules apart all)
+      (callees_renamed (named_module m) rules all)
       (callees_saved (renamed_module (named_module m)) (renamed_locals (named_module m) (named_locals m locals)) all))
 
-  pub sites_early : (all : List Place) → AreSites m all ↔ AreSites (early_module m) all
+  sites_early : (all : List Place) → AreSites m all ↔ AreSites (early_module m) all
   sites_early all =
       subst (λ (k : Module). AreSites m all ↔ AreSites k all) (sym (early_in_turn m))
       (in_row (AreSites m all) (AreSites (named_module m) all) (AreSites (renamed_module (named_module m)) all) (AreSites (saves_written (renamed_module (named_module m))) all)
       (sites_named m locals uses all)
-      (sites_renamed (named_module m) rules apart all)
+      (sites_renamed (named_module m) rules all)
       (sites_saved (renamed_module (named_module m)) (renamed_locals (named_module m) (named_locals m locals)) all))
-
--- ---- what stays with no premise on phis
-
-module _ (m : Module) (locals : AreLocalsNamed m) (uses : AreUsesNamed m) (rules : AllKeepRules (named_module m)) where
-  pub callee_early : (g : ℕ) → IsElidable (function_at m g) → IsElidable (function_at (early_module m) g)
-  callee_early g h =
-      subst (λ (k : Module). IsElidable (function_at k g)) (sym (early_in_turn m))
-      ((each_same saved_function saved_change (renamed_module (named_module m)) (saved_one (renamed_module (named_module m)) (renamed_locals (named_module m) (named_locals m locals))) g).0
-      (callee_renamed (named_module m) rules g
-      ((each_same named_function named_change m (named_one m locals uses) g).0 h)))
-
-  called_early : (o : Option Instr) → callee_in (early_module m) o ≡ callee_in m o
-  called_early o =
-      ap (λ (k : Module). callee_in k o) (early_in_turn m)
-      ∙ callees_same saved_function saved_change (renamed_module (named_module m)) (saved_one (renamed_module (named_module m)) (renamed_locals (named_module m) (named_locals m locals))) o
-      ∙ called_renamed o
-      ∙ callees_same named_function named_change m (named_one m locals uses) o
-    where
-      called_renamed : (o : Option Instr) → callee_in (renamed_module (named_module m)) o ≡ callee_in (named_module m) o
-      called_renamed (Some (Instr.Call result must_tail ty (Rattle.ir_model.specs.declared.operand.Callee.Callee.Named n) args)) = Rattle.early_agreement.proofs.Modules.named_there renamed_function renamed_change.mild (named_module m) n
-      called_renamed _ = refl
-
-  pub site_early : (f : Function) (p : Place) → IsSite m f p → IsSite (early_module m) f p
-  site_early f p h = site_over m (early_module m) called_early callee_early f p h
 
 -- ---- sources that break no rule
 
 module _ (m : Module) (accepted : IsRefused Stage.Source m None) (tabled : AreTabled m) (locals : AreLocalsNamed m) (uses : AreUsesNamed m) where
-  rules_kept : AllKeepRules (named_module m)
-  rules_kept = all_named_keep m accepted tabled
+  pub callees_of_source : (all : List ℕ) → AreElidable m all ↔ AreElidable (early_module m) all
+  callees_of_source = callees_early m locals uses (all_named_keep m accepted tabled)
 
-  pub callee_of_source : (g : ℕ) → IsElidable (function_at m g) → IsElidable (function_at (early_module m) g)
-  callee_of_source = callee_early m locals uses rules_kept
-
-  pub site_of_source : (f : Function) (p : Place) → IsSite m f p → IsSite (early_module m) f p
-  site_of_source = site_early m locals uses rules_kept
-
-  pub callees_of_source : ArePhisApart (named_module m) → (all : List ℕ) → AreElidable m all ↔ AreElidable (early_module m) all
-  callees_of_source apart = callees_early m locals uses rules_kept apart
-
-  pub sites_of_source : ArePhisApart (named_module m) → (all : List Place) → AreSites m all ↔ AreSites (early_module m) all
-  sites_of_source apart = sites_early m locals uses rules_kept apart
+  pub sites_of_source : (all : List Place) → AreSites m all ↔ AreSites (early_module m) all
+  sites_of_source = sites_early m locals uses (all_named_keep m accepted tabled)

@@ -47,7 +47,7 @@ dealt_otherwise d k (Instr.Load name ty p align) e = refl
 dealt_otherwise d k (Instr.Store arg p align) e = refl
 dealt_otherwise d k (Instr.Gep name inbounds ty base indices) e = refl
 
-module _ (Rel : Bool → Bool → Type 0) (f : Function) (more : List names.Name) (Q : List Phi → List Phi) (P : Phi → Phi) (I : Instr → Instr) (T : Terminator → Terminator) (Name : ℕ → Type 0) where
+module _ (f : Function) (more : List names.Name) (Q : List Phi → List Phi) (P : Phi → Phi) (I : Instr → Instr) (T : Terminator → Terminator) (Name : ℕ → Type 0) where
   abbrev pub change : Block → Block
   change b = record { label = b.label; phis = Q b.phis; instrs = map I b.instrs; term = T b.term }
 
@@ -75,7 +75,7 @@ module _ (Rel : Bool → Bool → Type 0) (f : Function) (more : List names.Name
     pub kinds : (k : ℕ) (b : Block) → slice_get f.blocks k ≡ Some b → (at : ℕ) → kind_of_ending (suspended (map I b.instrs)) (T b.term) at ≡ kind_of_ending (suspended b.instrs) b.term at
     pub tests : (p : Point) (i : Instr) → instr_at f p ≡ Some i → (v : ℕ) (t : Terminator) → Name v → ((c : ℕ) → Name c → uses_of changed c ≡ uses_of f c) → sides_of changed v (Some (I i)) (T t) ≡ sides_of f v (Some i) t
     pub made : (p : Point) (i : Instr) (v : ℕ) → instr_at f p ≡ Some i → is_call_of Intrinsic.CoroBegin i ≡ false → is_call_of Intrinsic.CoroFrame i ≡ false → call_result i ≡ Some v → Name v
-    pub phis_alike : ((l : ℕ) → position_of changed l ≡ position_of f l) → ((v : ℕ) → Name v → uses_of changed v ≡ uses_of f v) → (k : ℕ) (b : Block) → slice_get f.blocks k ≡ Some b → Each (IsPhiAlike Rel f changed stays Name P) b.phis
+    pub phis_alike : ((l : ℕ) → position_of changed l ≡ position_of f l) → ((v : ℕ) → Name v → uses_of changed v ≡ uses_of f v) → (k : ℕ) (b : Block) → slice_get f.blocks k ≡ Some b → Each (IsPhiAlike f changed stays Name P) b.phis
 
   module _ (is : IsChange) where
     abbrev g : Function
@@ -230,7 +230,7 @@ module _ (Rel : Bool → Bool → Type 0) (f : Function) (more : List names.Name
     second_same v name None = refl
     second_same v name (Some i) = is.operand v 1 i name
 
-    block_alike : (k : ℕ) (b : Block) → slice_get f.blocks k ≡ Some b → IsBlockAlike Rel f g stays Name P b (change b)
+    block_alike : (k : ℕ) (b : Block) → slice_get f.blocks k ≡ Some b → IsBlockAlike f g stays Name P b (change b)
     block_alike k b e = record {
       phis = is.phis b.phis;
       each = is.phis_alike position_same uses_same k b e;
@@ -257,10 +257,10 @@ module _ (Rel : Bool → Bool → Type 0) (f : Function) (more : List names.Name
             on true r = of_result i h m r
             on false r = absurd (cc)
 
-    blocks_alike : (k : ℕ) → AreBlocksAlike Rel f g stays Name P (slice_get f.blocks k) (slice_get g.blocks k)
-    blocks_alike k = subst (AreBlocksAlike Rel f g stays Name P (slice_get f.blocks k)) (sym (block_same k)) (on (slice_get f.blocks k) refl)
+    blocks_alike : (k : ℕ) → AreBlocksAlike f g stays Name P (slice_get f.blocks k) (slice_get g.blocks k)
+    blocks_alike k = subst (AreBlocksAlike f g stays Name P (slice_get f.blocks k)) (sym (block_same k)) (on (slice_get f.blocks k) refl)
       where
-        on : (o : Option Block) → slice_get f.blocks k ≡ o → AreBlocksAlike Rel f g stays Name P o (option_map change o)
+        on : (o : Option Block) → slice_get f.blocks k ≡ o → AreBlocksAlike f g stays Name P o (option_map change o)
         on None e = tt
         on (Some b) e = block_alike k b e
 
@@ -278,17 +278,17 @@ module _ (Rel : Bool → Bool → Type 0) (f : Function) (more : List names.Name
     points_same : (j : Intrinsic) → points_where (is_call_of j) g ≡ map stays (points_where (is_call_of j) f)
     points_same j = points_in_same (is_call_of j) (is.call_of j) 0 f.blocks ∙ sym (map_none (points_where (is_call_of j) f))
 
-    call_alike : (p : Point) (i : Instr) → instr_at f p ≡ Some i → is_call_of Intrinsic.CoroBegin i ≡ false → is_call_of Intrinsic.CoroFrame i ≡ false → IsCallAlike Rel f g stays Name P p
+    call_alike : (p : Point) (i : Instr) → instr_at f p ≡ Some i → is_call_of Intrinsic.CoroBegin i ≡ false → is_call_of Intrinsic.CoroFrame i ≡ false → IsCallAlike f g stays Name P p
     call_alike p i e begin frame = record {
       block = refl;
       value = ap (option_and_then call_result) (instr_same p ∙ ap (option_map I) e) ∙ is.result i begin ∙ sym (ap (option_and_then call_result) e);
       name = λ v r. is.made p i v e begin frame (sym (ap (option_and_then call_result) e) ∙ r);
     }
 
-    next_alike : (k at : ℕ) → AreNextAlike Rel f g stays Name P (slice_get f.blocks k) (slice_get g.blocks k) at at
-    next_alike k at = subst (λ (o : Option Block). AreNextAlike Rel f g stays Name P (slice_get f.blocks k) o at at) (sym (block_same k)) (on (slice_get f.blocks k) refl)
+    next_alike : (k at : ℕ) → AreNextAlike f g stays Name P (slice_get f.blocks k) (slice_get g.blocks k) at at
+    next_alike k at = subst (λ (o : Option Block). AreNextAlike f g stays Name P (slice_get f.blocks k) o at at) (sym (block_same k)) (on (slice_get f.blocks k) refl)
       where
-        on : (o : Option Block) → slice_get f.blocks k ≡ o → AreNextAlike Rel f g stays Name P o (option_map change o) at at
+        on : (o : Option Block) → slice_get f.blocks k ≡ o → AreNextAlike f g stays Name P o (option_map change o) at at
         on None e = tt
         on (Some b) e = record {
           released = λ v name. ap (releases v) (slice_get-map I b.instrs at) ∙ releases_same v name (slice_get b.instrs at);
@@ -328,7 +328,7 @@ module _ (Rel : Bool → Bool → Type 0) (f : Function) (more : List names.Name
         unwrap_or (first_same change (λ b. list_any (is_call_of Intrinsic.CoroEnd) b.instrs) (λ b. list_any (is_call_of Intrinsic.CoroEnd) b.instrs) (λ b. any_same I (is_call_of Intrinsic.CoroEnd) (is_call_of Intrinsic.CoroEnd) (is.call_of Intrinsic.CoroEnd) b.instrs) f.blocks k)
         (length_same change f.blocks k)
 
-    pub change_alike : AreAlike Rel f g stays Name P
+    pub change_alike : AreAlike f g stays Name P
     change_alike = record {
       coroutine = refl;
       position = position_same;
@@ -336,9 +336,9 @@ module _ (Rel : Bool → Bool → Type 0) (f : Function) (more : List names.Name
       uses = uses_same;
       blocks = blocks_alike;
       allocs = points_same Intrinsic.CoroAlloc;
-      each_alloc = each_where (IsCallAlike Rel f g stays Name P) (is_call_of Intrinsic.CoroAlloc) f (λ p i e t. call_alike p i e (alloc_begin i t) (alloc_frame i t));
+      each_alloc = each_where (IsCallAlike f g stays Name P) (is_call_of Intrinsic.CoroAlloc) f (λ p i e t. call_alike p i e (alloc_begin i t) (alloc_frame i t));
       frees = points_same Intrinsic.CoroFree;
-      each_free = each_where (IsFreeAlike Rel f g stays Name P) (is_call_of Intrinsic.CoroFree) f (λ p i e t. record { call = call_alike p i e (free_begin i t) (free_frame i t); next = next_alike p.block (p.at + 1) });
+      each_free = each_where (IsFreeAlike f g stays Name P) (is_call_of Intrinsic.CoroFree) f (λ p i e t. record { call = call_alike p i e (free_begin i t) (free_frame i t); next = next_alike p.block (p.at + 1) });
       rets = is.rets;
       has_free = has_same is_free (is.call_of Intrinsic.CoroFree);
       has_stop = has_same is_stop (λ i k. is.call_of Intrinsic.CoroSave i k || is.call_of Intrinsic.CoroSuspend i k);

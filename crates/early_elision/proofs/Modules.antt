@@ -68,7 +68,7 @@ one_more (x ∷ fs) f (g ∷ gs) h =
 -- ---- sites
 
 module _ (m k : Module) (callees : (i : Option Instr) → callee_in k i ≡ callee_in m i) (elidable : (g : ℕ) → IsElidable (function_at m g) → IsElidable (function_at k g)) where
-  pub site_over : (f : Function) (p : Place) → IsSite m f p → IsSite k f p
+  site_over : (f : Function) (p : Place) → IsSite m f p → IsSite k f p
   site_over f p h = record {
     calls = record {
       callee = h.calls.callee;
@@ -127,14 +127,14 @@ module _ (change : Function → Function) (is : IsPlainChange change) (m : Modul
       on None = sym (is.plain no_function refl)
       on (Some f) = refl
 
-  pub each_same : (g : ℕ) → IsElidable (function_at m g) ↔ IsElidable (function_at k g)
+  each_same : (g : ℕ) → IsElidable (function_at m g) ↔ IsElidable (function_at k g)
   each_same g = subst (λ (h : Function). IsElidable (function_at m g) ↔ IsElidable h) (sym (there g)) (on (function_at m g).coroutine refl)
     where
       on : (b : Bool) → (function_at m g).coroutine ≡ b → IsElidable (function_at m g) ↔ IsElidable (change (function_at m g))
       on true e = one g (function_at m g) refl e
       on false e = subst (λ (h : Function). IsElidable (function_at m g) ↔ IsElidable h) (sym (is.plain (function_at m g) e)) ((λ h. h), (λ h. h))
 
-  pub callees_same : (o : Option Instr) → callee_in k o ≡ callee_in m o
+  callees_same : (o : Option Instr) → callee_in k o ≡ callee_in m o
   callees_same (Some (Instr.Call result must_tail ty (Callee.Named n) args)) = named_there change is.mild m n
   callees_same _ = refl
 

@@ -1,5 +1,5 @@
 -- Elidable coroutines whose begin's value gets a name.
-use Rattle.std.proofs.Common.{◌≡◌, ℕ, zero, suc, ◌<◌, Bool, true, false, List, [], ◌∷◌, ◌++◌, length, Some, None, Option, refl, sym, ap, ◌∙◌, subst, ◌↔◌, arith}
+use Rattle.std.proofs.Common.{◌≡◌, ℕ, zero, suc, ◌<◌, Bool, true, false, cond, List, [], ◌∷◌, ◌++◌, length, Some, None, Option, refl, sym, ap, ◌∙◌, subst, ◌↔◌, arith}
 use Rattle.std.proofs.lemmas.Bool.{eqb-true}
 use Rattle.std.proofs.lemmas.Option.{slice_get-map}
 use Rattle.std.specs.List.{list_all, list_any}
@@ -9,7 +9,7 @@ use Rattle.block_paths.specs.Kinds.{kind_of_ending, suspended}
 use Rattle.coro_calls.specs.Calls.{is_null}
 use Rattle.coro_shape.specs.Uses.{phi_operands, uses_of}
 use Rattle.early_agreement.proofs.Modules.{length_same}
-use Rattle.early_elision.proofs.Alike.{IsPhiAlike, Same, elidable_same}
+use Rattle.early_elision.proofs.Alike.{IsPhiAlike, elidable_same, given_alike}
 use Rattle.early_elision.proofs.Lists.{map_none}
 use Rattle.early_elision.proofs.Mapped.{IsChange, change_alike}
 use Rattle.early_lower.specs.BeginName.{begin_name, if_unnamed, named_block, named_instr, with_begin_name}
@@ -22,6 +22,7 @@ use Rattle.escape_flow.specs.Elidable.{IsElidable}
 use Rattle.function_parts.specs.Contents.{instr_operands}
 use Rattle.ir_model.specs.Calls.{first_result, first_result_by, first_result_in, or_else, result_of_call}
 use Rattle.ir_model.specs.Names.{is_local, position_of}
+use Rattle.ir_model.specs.declared.instr.Incoming.{Incoming}
 use Rattle.ir_model.specs.declared.instr.Instr.{Instr}
 use Rattle.ir_model.specs.declared.instr.Phi.{Phi}
 use Rattle.ir_model.specs.declared.instr.Terminator.{Terminator}
@@ -33,7 +34,7 @@ use Rattle.ir_model.specs.declared.operand.Operand.{Operand}
 use Rattle.ir_paths.specs.Windows.{call_operand, call_result, instr_at, instr_in, is_call_of}
 use Rattle.ir_paths.specs.declared.point.Point.{Point}
 use Rattle.save_agreement.specs.Tokens.{Each, IsNamed, IsNamedResult}
-use Rattle.sound_states.specs.Named.{HasNamedEnds, HasNamedLocals, HasNamedResults}
+use Rattle.sound_states.specs.Named.{HasNamedLocals, HasNamedResults, HasNamedUses}
 use Rattle.step_laws.specs.Changed.{operands_of_term, result_of}
 use Rattle.step_laws.specs.Changed.{Each as EachOperand}
 
@@ -79,7 +80,7 @@ made_named f named p i v e r = on (slice_get f.blocks p.block) refl e
         (each_at (λ (x : Instr). IsNamedResult (length f.names) (result_of x)) b.instrs p.at i
         (each_at (λ (c : Block). Each (λ (x : Instr). IsNamedResult (length f.names) (result_of x)) c.instrs) f.blocks p.block b named s) h)
 
-module _ (f : Function) (locals : HasNamedLocals f) (ends : HasNamedEnds f) (none : first_result Intrinsic.CoroBegin f ≡ None) where
+module _ (f : Function) (locals : HasNamedLocals f) (used : HasNamedUses f) (none : first_result Intrinsic.CoroBegin f ≡ None) where
   abbrev n : ℕ
   n = length f.names
 
@@ -158,6 +159,34 @@ module _ (f : Function) (locals : HasNamedLocals f) (ends : HasNamedEnds f) (non
   given_same : ((l : ℕ) → position_of g l ≡ position_of f l) → (k : ℕ) (p : Phi) → given g k p ≡ given f k p
   given_same position k p = λ j. option_map (λ i. i.value) (find (λ i. position i.from j == k) p.incoming)
 
+  -- what a phi gives is among the names
+  given_named : (t : Incoming → Bool) (xs : List Incoming) → Each (λ (i : Incoming). IsNamed n i.value) xs → (x : Operand) → option_map (λ i. i.value) (find t xs) ≡ Some x → IsNamed n x
+  given_named t [] h x e = absurd (cc)
+  given_named t (i ∷ xs) h x e = on (t i) e (given_named t xs h.1 x)
+    where
+      on : (b : Bool) → option_map (λ i. i.value) (cond b (Some i) (find t xs)) ≡ Some x → (option_map (λ i. i.value) (find t xs) ≡ Some x → IsNamed n x) → IsNamed n x
+      on true e again = let same : i.value ≡ x = cc in subst (IsNamed n) same h.0
+      on false e again = again e
+
+  abbrev HasNamedGiven : Phi → Type 0
+  HasNamedGiven p = Each (λ (i : Incoming). IsNamed n i.value) p.incoming
+
+  module _ (position : (l : ℕ) → position_of g l ≡ position_of f l) (uses : (v : ℕ) → IsName v → uses_of g v ≡ uses_of f v) where
+    frame_given : (k : ℕ) (p : Phi) → HasNamedGiven p → (x : Operand) → given f k p ≡ Some x → is_frame g x ≡ is_frame f x
+    frame_given k p named x e = frame_same x (given_named (λ i. position_of f i.from == k) p.incoming named x e)
+
+    phi_same : (p : Phi) → p.result < n → HasNamedGiven p → IsPhiAlike f g (λ p. p) IsName (λ p. p) p
+    phi_same p lt named = record {
+      result = refl;
+      name = lt;
+      gives = λ a d. (λ j. same_given g (given_same position a p j) (given_same position d p j)) ∙ given_alike f g (given f a p) (given f d p) (frame_given a p named) (frame_given d p named);
+      memory = λ a d m name. λ j. is_given is_null (given_same position a p j) && (is_given (is_local m) (given_same position d p j) && (uses m name j == count_by (is_local m) (phi_operands p)));
+    }
+
+    phis_same : (ps : List Phi) → Each (λ (p : Phi). p.result < n) ps → Each HasNamedGiven ps → Each (IsPhiAlike f g (λ p. p) IsName (λ p. p)) ps
+    phis_same [] lt named = tt
+    phis_same (p ∷ ps) lt named = (phi_same p lt.0 named.0, phis_same ps lt.1 named.1)
+
   same_sides : (p : Point) (i : Instr) → instr_at f p ≡ Some i → (v : ℕ) (t : Terminator) → ((c : ℕ) → IsName c → uses_of g c ≡ uses_of f c) → sides_of g v (Some i) t ≡ sides_of f v (Some i) t
   same_sides p (Instr.Icmp c pred ty a b) e v t uses =
       let lt = made_named f locals.results p (Instr.Icmp c pred ty a b) c e refl in
@@ -171,7 +200,7 @@ module _ (f : Function) (locals : HasNamedLocals f) (ends : HasNamedEnds f) (non
   same_sides p (Instr.Store arg address align) e v t uses = refl
   same_sides p (Instr.Gep name inbounds ty base indices) e v t uses = refl
 
-  is_change : IsChange Same f (f.names ++ begin_name ∷ []) (λ ps. ps) (λ p. p) I (λ t. t) IsName
+  is_change : IsChange f (f.names ++ begin_name ∷ []) (λ ps. ps) (λ p. p) I (λ t. t) IsName
   is_change = record {
     phis = λ ps. sym (map_none ps);
     call_of = call_of_same n;
@@ -183,7 +212,7 @@ module _ (f : Function) (locals : HasNamedLocals f) (ends : HasNamedEnds f) (non
     phi_uses = λ v p name. refl;
     term_uses = λ v t name. refl;
     sized = λ i. same_but_begin n (λ x. is_size_value f (call_operand x 0)) (λ result must_tail ty args. refl) i;
-    rets = rets_same f.blocks ends;
+    rets = rets_same f.blocks used.ends;
     ways = λ v t name. refl;
     jumps = λ k t. refl;
     targets_stay = λ t. refl;
@@ -191,22 +220,17 @@ module _ (f : Function) (locals : HasNamedLocals f) (ends : HasNamedEnds f) (non
     tests = λ p i e v t name uses. same_but_begin n (λ x. sides_of g v (Some x) t) (λ result must_tail ty args. refl) i ∙ same_sides p i e v t uses;
     made = λ p i v e begin frame r. made_named f locals.results p i v e (call_made i v r);
     phis_alike = λ position uses k b e.
-        each_by (λ p. p.result < n) (IsPhiAlike Same f g (λ p. p) IsName (λ p. p)) b.phis
-        (λ p lt. record {
-          result = refl;
-          name = lt;
-          gives = λ a d. sym (λ j. same_given (given_same position a p j) (given_same position d p j));
-          memory = λ a d m name. λ j. is_given is_null (given_same position a p j) && (is_given (is_local m) (given_same position d p j) && (uses m name j == count_by (is_local m) (phi_operands p)));
-        })
-        (each_at (λ (c : Block). Each (λ (p : Phi). p.result < n) c.phis) f.blocks k b locals.phis e);
+        phis_same position uses b.phis
+        (each_at (λ (c : Block). Each (λ (p : Phi). p.result < n) c.phis) f.blocks k b locals.phis e)
+        (each_at (λ (c : Block). Each HasNamedGiven c.phis) f.blocks k b used.incoming e);
   }
 
   pub begin_elidable : IsElidable f ↔ IsElidable g
-  begin_elidable = elidable_same f g (λ p. p) IsName (λ p. p) (change_alike Same f (f.names ++ begin_name ∷ []) (λ ps. ps) (λ p. p) I (λ t. t) IsName is_change)
+  begin_elidable = elidable_same f g (λ p. p) IsName (λ p. p) (change_alike f (f.names ++ begin_name ∷ []) (λ ps. ps) (λ p. p) I (λ t. t) IsName is_change)
 
-pub named_elidable : (f : Function) → HasNamedLocals f → HasNamedEnds f → IsElidable f ↔ IsElidable (with_begin_name f)
-named_elidable f locals ends = on (first_result Intrinsic.CoroBegin f) refl
+pub named_elidable : (f : Function) → HasNamedLocals f → HasNamedUses f → IsElidable f ↔ IsElidable (with_begin_name f)
+named_elidable f locals used = on (first_result Intrinsic.CoroBegin f) refl
   where
     on : (o : Option ℕ) → first_result Intrinsic.CoroBegin f ≡ o → IsElidable f ↔ IsElidable (if_unnamed o f)
-    on None e = begin_elidable f locals ends e
+    on None e = begin_elidable f locals used e
     on (Some n) e = ((λ h. h), (λ h. h))

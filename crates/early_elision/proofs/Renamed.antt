@@ -1,5 +1,5 @@
 -- Elidable coroutines in which uses of coro.frame become uses of begin's value.
-use Rattle.std.proofs.Common.{◌≡◌, ℕ, zero, suc, ◌+◌, Bool, true, false, cond, List, [], ◌∷◌, ◌++◌, length, Some, None, Option, refl, sym, ap, ◌∙◌, subst, ◌↔◌, inl, inr}
+use Rattle.std.proofs.Common.{◌≡◌, ℕ, zero, suc, ◌+◌, Bool, true, false, cond, List, [], ◌∷◌, ◌++◌, length, Some, None, Option, refl, sym, ap, ◌∙◌, subst, ◌↔◌}
 use Rattle.std.proofs.lemmas.Option.{slice_get-map}
 use Rattle.std.specs.List.{list_all, list_any}
 use Rattle.std.specs.Prelude.{count_by, find, flat_map, map, option_and_then, option_map, slice_get, ◌-◌, ◌&&◌, ◌||◌, ◌==◌, if◌then◌else◌}
@@ -13,11 +13,10 @@ use Rattle.early_agreement.proofs.Parts.{call_of_same, call_operand_same, local_
 use Rattle.early_agreement.proofs.Slots.{plain_result}
 use Rattle.early_agreement.specs.Passes.{renamed_block, renamed_coroutine}
 use Rattle.early_agreement.specs.Regular.{IsPlain, IsRegular}
-use Rattle.early_elision.proofs.Alike.{Follows, IsPhiAlike, Same, elidable_forth, elidable_same}
-use Rattle.early_elision.proofs.Lists.{count_changed, count_cons, find_changed, found}
+use Rattle.early_elision.proofs.Alike.{IsPhiAlike, elidable_same}
+use Rattle.early_elision.proofs.Lists.{count_changed, count_cons, find_changed}
 use Rattle.early_elision.proofs.Mapped.{IsChange, change_alike}
-use Rattle.early_elision.proofs.Named.{any_both, call_made, each_at}
-use Rattle.early_elision.specs.Apart.{HasPhisApart, StaysApart}
+use Rattle.early_elision.proofs.Named.{any_both, call_made}
 use Rattle.early_lower.specs.Early.{renaming_of, renaming_to}
 use Rattle.early_lower.specs.Renaming.{is_renamed, renamed, renamed_arg, renamed_incoming, renamed_instr, renamed_phi, renamed_term, renamed_value}
 use Rattle.early_lower.specs.declared.renaming.Renaming.{Renaming}
@@ -28,10 +27,9 @@ use Rattle.elidable_shape.specs.Edges.{jumps_to, ways_on}
 use Rattle.elidable_shape.specs.Frames.{all_from, frame_value, frame_values, is_frame, is_frame_call, local_if, returns_frame}
 use Rattle.elidable_shape.specs.Frees.{is_null_test, not_null_first, sides_of}
 use Rattle.elidable_shape.specs.Guard.{is_memory_phi}
-use Rattle.elidable_shape.specs.Phis.{given, gives_same, is_given, same_given}
+use Rattle.elidable_shape.specs.Phis.{given, gives_same, is_given, same_given, same_value}
 use Rattle.elidable_shape.specs.declared.calls.Dealing.{Dealing}
 use Rattle.escape_flow.specs.Elidable.{IsElidable}
-use Rattle.flow_solver.specs.Paths.{IsListed}
 use Rattle.function_parts.specs.Contents.{arg_operands, ending_operands, instr_operands}
 use Rattle.ir_model.specs.Calls.{first_result, result_of_call}
 use Rattle.ir_model.specs.Names.{is_local, position_of}
@@ -111,20 +109,26 @@ module _ (r : Renaming) where
   phi_renamed [] = refl
   phi_renamed (x ∷ xs) = ap (λ ys. renamed r x.value ∷ ys) (phi_renamed xs)
 
-  -- ---- operands that are the same
+-- operands that are the same are both the frame's address, or neither is
+frame_of_same : (h : Function) (x y : Operand) → same_operand x y ≡ true → is_frame h x ≡ is_frame h y
+frame_of_same h (Operand.Local m) (Operand.Local n) e = ap (λ (k : ℕ). is_frame h (Operand.Local k)) (equal_numbers m n e)
+frame_of_same h (Operand.Local m) y e = absurd (cc)
+frame_of_same h x (Operand.Local n) e = absurd (cc)
+frame_of_same h (Operand.Global m) (Operand.Global n) e = refl
+frame_of_same h (Operand.Number m) (Operand.Number n) e = refl
+frame_of_same h Operand.True Operand.True e = refl
+frame_of_same h Operand.False Operand.False e = refl
+frame_of_same h Operand.Null Operand.Null e = refl
+frame_of_same h Operand.None Operand.None e = refl
+frame_of_same h Operand.Poison Operand.Poison e = refl
+frame_of_same h x y e = absurd (cc)
 
-  pub same_renamed : (x y : Operand) → same_operand x y ≡ true → same_operand (renamed r x) (renamed r y) ≡ true
-  same_renamed (Operand.Local m) (Operand.Local n) e = ap (λ (k : ℕ). renamed_value r m == renamed_value r k) (sym (equal_numbers m n e)) ∙ itself (renamed_value r m)
-  same_renamed (Operand.Local m) y e = absurd (cc)
-  same_renamed x (Operand.Local n) e = absurd (cc)
-  same_renamed (Operand.Global m) (Operand.Global n) e = e
-  same_renamed (Operand.Number m) (Operand.Number n) e = e
-  same_renamed Operand.True Operand.True e = refl
-  same_renamed Operand.False Operand.False e = refl
-  same_renamed Operand.Null Operand.Null e = refl
-  same_renamed Operand.None Operand.None e = refl
-  same_renamed Operand.Poison Operand.Poison e = refl
-  same_renamed x y e = absurd (cc)
+different : (h : Function) (x y : Operand) → (is_frame h x ≡ is_frame h y → ⊥) → same_operand x y ≡ false
+different h x y apart = on (same_operand x y) refl
+  where
+    on : (b : Bool) → same_operand x y ≡ b → b ≡ false
+    on true e = absurd (apart (frame_of_same h x y e))
+    on false e = refl
 
 module _ (f : Function) (ok : IsRegular f (renaming_of f)) where
   abbrev r : Renaming
@@ -206,6 +210,37 @@ module _ (f : Function) (ok : IsRegular f (renaming_of f)) where
   frame_same Operand.Null = refl
   frame_same Operand.None = refl
   frame_same Operand.Poison = refl
+
+  -- what isn't the frame's address stays
+  other_stays : (x : Operand) → is_frame f x ≡ false → renamed r x ≡ x
+  other_stays (Operand.Local v) e = on (is_renamed r v) refl
+    where
+      on : (b : Bool) → is_renamed r v ≡ b → Operand.Local (if b then r.to else v) ≡ Operand.Local v
+      on true h = let t : true ≡ false = sym (of_frame v h) ∙ e in absurd (cc)
+      on false h = refl
+  other_stays (Operand.Global n) e = refl
+  other_stays (Operand.Number z) e = refl
+  other_stays Operand.True e = refl
+  other_stays Operand.False e = refl
+  other_stays Operand.Null e = refl
+  other_stays Operand.None e = refl
+  other_stays Operand.Poison e = refl
+
+  -- operands count as equal where they did
+  value_alike : (x y : Operand) → same_value g (renamed r x) (renamed r y) ≡ same_value f x y
+  value_alike x y = (λ k. same_operand (renamed r x) (renamed r y) || (frame_same x k && frame_same y k)) ∙ on (is_frame f x) (is_frame f y) refl refl
+    where
+      always : (b : Bool) → (b || true) ≡ true
+      always b = or_one b true refl
+
+      apart : (is_frame f x ≡ is_frame f y → ⊥) → same_operand (renamed r x) (renamed r y) ≡ same_operand x y
+      apart h = different g (renamed r x) (renamed r y) (λ e. h (sym (frame_same x) ∙ e ∙ frame_same y)) ∙ sym (different f x y h)
+
+      on : (a b : Bool) → is_frame f x ≡ a → is_frame f y ≡ b → (same_operand (renamed r x) (renamed r y) || (a && b)) ≡ (same_operand x y || (a && b))
+      on true true h k = always (same_operand (renamed r x) (renamed r y)) ∙ sym (always (same_operand x y))
+      on true false h k = ap (λ (s : Bool). s || false) (apart (λ e. let t : true ≡ false = sym h ∙ e ∙ k in absurd (cc)))
+      on false true h k = ap (λ (s : Bool). s || false) (apart (λ e. let t : true ≡ false = sym k ∙ sym e ∙ h in absurd (cc)))
+      on false false h k = λ i. same_operand (other_stays x h i) (other_stays y k i) || false
 
   returns_same : (t : Terminator) → returns_frame g (renamed_term r t) ≡ returns_frame f t
   returns_same (Terminator.Ret None) = refl
@@ -381,95 +416,47 @@ module _ (f : Function) (ok : IsRegular f (renaming_of f)) where
         (λ j. is_given is_null (given_renamed a p j) && (is_given (is_local m) (given_renamed d p j) && (uses m plain j == phi_uses_same m p plain j)))
         ∙ (λ j. null_given (given f a p) j && (local_given m plain (given f d p) j && (uses_of f m == count_by (is_local m) (phi_operands p))))
 
-    follows_given : (o q : Option Operand) → Follows (same_given o q) (same_given (option_map (renamed r) o) (option_map (renamed r) q))
-    follows_given (Some x) (Some y) e = same_renamed r x y e
-    follows_given None q e = absurd (cc)
-    follows_given (Some x) None e = absurd (cc)
-
-    pub gives_follows : (p : Phi) (a d : ℕ) → Follows (gives_same f a d p) (gives_same g a d (renamed_phi r p))
-    gives_follows p a d = subst (λ (b : Bool). Follows (gives_same f a d p) b) (sym (λ j. same_given (given_renamed a p j) (given_renamed d p j))) (follows_given (given f a p) (given f d p))
-
-    -- what a phi gives is one of its operands
-    listed : (xs : List Incoming) (k : ℕ) (i : Incoming) → slice_get xs k ≡ Some i → IsListed i.value (map (λ i. i.value) xs)
-    listed [] k i e = absurd (cc)
-    listed (x ∷ xs) zero i e = let same : x ≡ i = cc in inl (ap (λ (y : Incoming). y.value) (sym same))
-    listed (x ∷ xs) (suc k) i e = inr (listed xs k i e)
-
-    given_listed : (k : ℕ) (p : Phi) (x : Operand) → given f k p ≡ Some x → IsListed x (phi_operands p)
-    given_listed k p x e = on (find (λ (i : Incoming). position_of f i.from == k) p.incoming) refl e
+    -- operands of a phi count as equal where they did
+    gives_alike : (p : Phi) (a d : ℕ) → gives_same g a d (renamed_phi r p) ≡ gives_same f a d p
+    gives_alike p a d = (λ j. same_given g (given_renamed a p j) (given_renamed d p j)) ∙ on (given f a p) (given f d p)
       where
-        on : (o : Option Incoming) → find (λ (i : Incoming). position_of f i.from == k) p.incoming ≡ o → option_map (λ i. i.value) o ≡ Some x → IsListed x (phi_operands p)
-        on None h e = absurd (cc)
-        on (Some i) h e =
-            let there = found (λ (i : Incoming). position_of f i.from == k) p.incoming i h in
-            let same : i.value ≡ x = cc in
-            subst (λ (y : Operand). IsListed y (phi_operands p)) same (listed p.incoming there.at i there.is)
-
-    pub gives_alike : (p : Phi) → StaysApart r p → (a d : ℕ) → Same (gives_same f a d p) (gives_same g a d (renamed_phi r p))
-    gives_alike p apart a d = sym ((λ j. same_given (given_renamed a p j) (given_renamed d p j)) ∙ on (given f a p) (given f d p) (given_listed a p) (given_listed d p))
-      where
-        on : (o q : Option Operand) → ((x : Operand) → o ≡ Some x → IsListed x (phi_operands p)) → ((y : Operand) → q ≡ Some y → IsListed y (phi_operands p)) → same_given (option_map (renamed r) o) (option_map (renamed r) q) ≡ same_given o q
-        on (Some x) (Some y) h e = apart x y (h x refl) (e y refl)
-        on None q h e = refl
-        on (Some x) None h e = refl
+        on : (o q : Option Operand) → same_given g (option_map (renamed r) o) (option_map (renamed r) q) ≡ same_given f o q
+        on (Some x) (Some y) = value_alike x y
+        on None q = refl
+        on (Some x) None = refl
 
   -- ---- the change
 
-  abbrev FromPhi : (Bool → Bool → Type 0) → Phi → Type 0
-  FromPhi Rel p = ((l : ℕ) → position_of g l ≡ position_of f l) → (a d : ℕ) → Rel (gives_same f a d p) (gives_same g a d (renamed_phi r p))
-
-  each_phi : (Rel : Bool → Bool → Type 0) → ((l : ℕ) → position_of g l ≡ position_of f l) → ((v : ℕ) → IsPlain r v → uses_of g v ≡ uses_of f v) → (ps : List Phi) → Rattle.step_laws.specs.Changed.Each (λ p. IsPlain r p.result) ps → Each (FromPhi Rel) ps → Each (IsPhiAlike Rel f g (λ p. p) (IsPlain r) (renamed_phi r)) ps
-  each_phi Rel position uses [] plain give = tt
-  each_phi Rel position uses (p ∷ ps) plain give = (
-    record { result = refl; name = plain.0; gives = give.0 position; memory = memory_same position uses p },
-    each_phi Rel position uses ps plain.1 give.1,
+  each_phi : ((l : ℕ) → position_of g l ≡ position_of f l) → ((v : ℕ) → IsPlain r v → uses_of g v ≡ uses_of f v) → (ps : List Phi) → Rattle.step_laws.specs.Changed.Each (λ p. IsPlain r p.result) ps → Each (IsPhiAlike f g (λ p. p) (IsPlain r) (renamed_phi r)) ps
+  each_phi position uses [] plain = tt
+  each_phi position uses (p ∷ ps) plain = (
+    record { result = refl; name = plain.0; gives = gives_alike position p; memory = memory_same position uses p },
+    each_phi position uses ps plain.1,
   )
 
-  module _ (Rel : Bool → Bool → Type 0) (give : Each (λ (b : Block). Each (FromPhi Rel) b.phis) f.blocks) where
-    pub is_change : IsChange Rel f f.names (map (renamed_phi r)) (renamed_phi r) (renamed_instr r) (renamed_term r) (IsPlain r)
-    is_change = record {
-      phis = λ ps. refl;
-      call_of = call_of_same r;
-      deals = deals_same r;
-      result = λ i e. result_same r i;
-      size = λ v i. (λ k. (call_of_same r Intrinsic.CoroSizeI32 i k || call_of_same r Intrinsic.CoroSizeI64 i k) && is_the_result v (result_same r i k));
-      operand = λ v k i plain. ap (is_local v) (call_operand_same r i k) ∙ local_same r v plain (call_operand i k);
-      instr_uses = λ v i plain. ap (count_by (is_local v)) (operands_renamed r i) ∙ count_changed (is_local v) (is_local v) (renamed r) (local_same r v plain) (instr_operands i);
-      phi_uses = λ v p plain. ap (count_by (is_local v)) (phi_renamed r p.incoming) ∙ count_changed (is_local v) (is_local v) (renamed r) (local_same r v plain) (phi_operands p);
-      term_uses = term_uses_same;
-      sized = λ i. ap (is_size_value f) (call_operand_same r i 0) ∙ sized_same (call_operand i 0);
-      rets = rets_same f.blocks;
-      ways = ways_same;
-      jumps = jumps_renamed;
-      targets_stay = targets_same r;
-      kinds = kinds_same;
-      tests = tests_same;
-      made = λ p i v e begin frame h. plain_result r f ok p i v e (call_made i v h) frame begin;
-      phis_alike = λ position uses k b e.
-          each_phi Rel position uses b.phis
-          (subst (λ ps. Rattle.step_laws.specs.Changed.Each (λ q. IsPlain r q.result) ps) (ap Rattle.ordinary_step.specs.Step.phis_of e) (ok.phis k))
-          (each_at (λ (c : Block). Each (FromPhi Rel) c.phis) f.blocks k b give e);
-    }
+  is_change : IsChange f f.names (map (renamed_phi r)) (renamed_phi r) (renamed_instr r) (renamed_term r) (IsPlain r)
+  is_change = record {
+    phis = λ ps. refl;
+    call_of = call_of_same r;
+    deals = deals_same r;
+    result = λ i e. result_same r i;
+    size = λ v i. (λ k. (call_of_same r Intrinsic.CoroSizeI32 i k || call_of_same r Intrinsic.CoroSizeI64 i k) && is_the_result v (result_same r i k));
+    operand = λ v k i plain. ap (is_local v) (call_operand_same r i k) ∙ local_same r v plain (call_operand i k);
+    instr_uses = λ v i plain. ap (count_by (is_local v)) (operands_renamed r i) ∙ count_changed (is_local v) (is_local v) (renamed r) (local_same r v plain) (instr_operands i);
+    phi_uses = λ v p plain. ap (count_by (is_local v)) (phi_renamed r p.incoming) ∙ count_changed (is_local v) (is_local v) (renamed r) (local_same r v plain) (phi_operands p);
+    term_uses = term_uses_same;
+    sized = λ i. ap (is_size_value f) (call_operand_same r i 0) ∙ sized_same (call_operand i 0);
+    rets = rets_same f.blocks;
+    ways = ways_same;
+    jumps = jumps_renamed;
+    targets_stay = targets_same r;
+    kinds = kinds_same;
+    tests = tests_same;
+    made = λ p i v e begin frame h. plain_result r f ok p i v e (call_made i v h) frame begin;
+    phis_alike = λ position uses k b e.
+        each_phi position uses b.phis
+        (subst (λ ps. Rattle.step_laws.specs.Changed.Each (λ q. IsPlain r q.result) ps) (ap Rattle.ordinary_step.specs.Step.phis_of e) (ok.phis k));
+  }
 
-  all_follow : (ps : List Phi) → Each (FromPhi Follows) ps
-  all_follow [] = tt
-  all_follow (p ∷ ps) = ((λ position. gives_follows position p), all_follow ps)
-
-  blocks_follow : (bs : List Block) → Each (λ (b : Block). Each (FromPhi Follows) b.phis) bs
-  blocks_follow [] = tt
-  blocks_follow (b ∷ bs) = (all_follow b.phis, blocks_follow bs)
-
-  all_apart : (ps : List Phi) → Each (StaysApart r) ps → Each (FromPhi Same) ps
-  all_apart [] h = tt
-  all_apart (p ∷ ps) h = ((λ position. gives_alike position p h.0), all_apart ps h.1)
-
-  blocks_apart : (bs : List Block) → Each (λ (b : Block). Each (StaysApart r) b.phis) bs → Each (λ (b : Block). Each (FromPhi Same) b.phis) bs
-  blocks_apart [] h = tt
-  blocks_apart (b ∷ bs) h = (all_apart b.phis h.0, blocks_apart bs h.1)
-
-  -- what is elidable stays so
-  pub renamed_forth : IsElidable f → IsElidable g
-  renamed_forth = elidable_forth f g (λ p. p) (IsPlain r) (renamed_phi r) (change_alike Follows f f.names (map (renamed_phi r)) (renamed_phi r) (renamed_instr r) (renamed_term r) (IsPlain r) (is_change Follows (blocks_follow f.blocks)))
-
-  pub renamed_elidable : HasPhisApart r f → IsElidable f ↔ IsElidable g
-  renamed_elidable apart = elidable_same f g (λ p. p) (IsPlain r) (renamed_phi r) (change_alike Same f f.names (map (renamed_phi r)) (renamed_phi r) (renamed_instr r) (renamed_term r) (IsPlain r) (is_change Same (blocks_apart f.blocks apart)))
+  pub renamed_elidable : IsElidable f ↔ IsElidable g
+  renamed_elidable = elidable_same f g (λ p. p) (IsPlain r) (renamed_phi r) (change_alike f f.names (map (renamed_phi r)) (renamed_phi r) (renamed_instr r) (renamed_term r) (IsPlain r) is_change)

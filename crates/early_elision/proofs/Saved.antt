@@ -8,7 +8,7 @@ use Rattle.block_paths.specs.Kinds.{kind_in, kind_of, kind_of_ending, suspended}
 use Rattle.coro_calls.specs.Calls.{is_null}
 use Rattle.coro_shape.specs.Uses.{block_operands, phi_operands, uses_of}
 use Rattle.early_agreement.proofs.Lists.{itself}
-use Rattle.early_elision.proofs.Alike.{AreAlike, AreBlocksAlike, AreNextAlike, IsBlockAlike, IsCallAlike, IsFreeAlike, IsNextAlike, IsPhiAlike, Same, elidable_same, last_sides}
+use Rattle.early_elision.proofs.Alike.{AreAlike, AreBlocksAlike, AreNextAlike, IsBlockAlike, IsCallAlike, IsFreeAlike, IsNextAlike, IsPhiAlike, elidable_same, given_alike, last_sides}
 use Rattle.early_elision.proofs.Lists.{count_both, count_cons, each_where, found, map_none}
 use Rattle.early_elision.proofs.Named.{call_made, each_at, each_by, made_named}
 use Rattle.early_lower.specs.Early.{save_call, saved}
@@ -39,9 +39,9 @@ use Rattle.save_agreement.proofs.Blocks.{get_block, position_saved}
 use Rattle.save_agreement.proofs.Instrs.{get_lone, get_save, get_then, instr_then, next_place}
 use Rattle.save_agreement.proofs.Expansion.{place_end, place_order}
 use Rattle.save_agreement.proofs.Parts.{at_back}
-use Rattle.early_elision.proofs.SavedPoints.{own_group, points_moved}
+use Rattle.save_agreement.proofs.Points.{own_group, points_moved}
 use Rattle.save_agreement.proofs.Saves.{each_trivial}
-use Rattle.early_elision.proofs.Bare.{bare_is}
+use Rattle.save_agreement.proofs.Tokens.{bare_is}
 use Rattle.save_agreement.proofs.Windows.{instr_at_is}
 use Rattle.save_agreement.specs.SavesWritten.{behind_save, behind_saves, is_bare, saved_block, saved_blocks, saved_function, with_save, with_saves}
 use Rattle.save_agreement.specs.Spots.{back_of, instrs_in, number_of_block, own_saves, place_in}
@@ -431,11 +431,11 @@ module _ (f : Function) (locals : HasNamedLocals f) where
   given_same : (k : ℕ) (p : Phi) → given g k p ≡ given f k p
   given_same k p = λ j. option_map (λ i. i.value) (find (λ i. position_saved f i.from j == k) p.incoming)
 
-  phi_alike : (p : Phi) → p.result < least → IsPhiAlike Same f g (back_of f) IsName (λ p. p) p
+  phi_alike : (p : Phi) → p.result < least → IsPhiAlike f g (back_of f) IsName (λ p. p) p
   phi_alike p lt = record {
     result = refl;
     name = lt;
-    gives = λ a d. sym (λ j. same_given (given_same a p j) (given_same d p j));
+    gives = λ a d. (λ j. same_given g (given_same a p j) (given_same d p j)) ∙ given_alike f g (given f a p) (given f d p) (λ x e. frame_same x) (λ x e. frame_same x);
     memory = λ a d m name. λ j. is_given is_null (given_same a p j) && (is_given (is_local m) (given_same d p j) && (uses_same m name j == count_by (is_local m) (phi_operands p)));
   }
 
@@ -468,10 +468,10 @@ module _ (f : Function) (locals : HasNamedLocals f) where
           let there = found is_other b.instrs i (phis (is_without_phis b.phis) i h) in
           made_named f locals.results (record { block = k; at = there.at }) i m (ap (λ (x : Option Block). instr_in x there.at) s ∙ there.is) (call_made i m (result (is_size_value f (call_operand i 0)) i e))
 
-  block_alike : (k : ℕ) (b : Block) → slice_get f.blocks k ≡ Some b → IsBlockAlike Same f g (back_of f) IsName (λ p. p) b (saved_block c (number k) b)
+  block_alike : (k : ℕ) (b : Block) → slice_get f.blocks k ≡ Some b → IsBlockAlike f g (back_of f) IsName (λ p. p) b (saved_block c (number k) b)
   block_alike k b e = record {
     phis = sym (map_none b.phis);
-    each = each_by (λ p. p.result < least) (IsPhiAlike Same f g (back_of f) IsName (λ p. p)) b.phis phi_alike (each_at (λ (d : Block). Each (λ (p : Phi). p.result < least) d.phis) f.blocks k b locals.phis e);
+    each = each_by (λ p. p.result < least) (IsPhiAlike f g (back_of f) IsName (λ p. p)) b.phis phi_alike (each_at (λ (d : Block). Each (λ (p : Phi). p.result < least) d.phis) f.blocks k b locals.phis e);
     sized = ap (value_if_sized g) (only_saved c (number k) Dealing.Allocates b) ∙ sized_same (only_call Dealing.Allocates b);
     sized_name = sized_made k b e;
     released = λ v name. ap (releases v) (only_saved c (number k) Dealing.Frees b);
@@ -480,10 +480,10 @@ module _ (f : Function) (locals : HasNamedLocals f) where
     ways = λ v name. refl;
   }
 
-  blocks_alike : (k : ℕ) → AreBlocksAlike Same f g (back_of f) IsName (λ p. p) (slice_get f.blocks k) (slice_get g.blocks k)
-  blocks_alike k = subst (AreBlocksAlike Same f g (back_of f) IsName (λ p. p) (slice_get f.blocks k)) (sym (block_same k)) (on (slice_get f.blocks k) refl)
+  blocks_alike : (k : ℕ) → AreBlocksAlike f g (back_of f) IsName (λ p. p) (slice_get f.blocks k) (slice_get g.blocks k)
+  blocks_alike k = subst (AreBlocksAlike f g (back_of f) IsName (λ p. p) (slice_get f.blocks k)) (sym (block_same k)) (on (slice_get f.blocks k) refl)
     where
-      on : (o : Option Block) → slice_get f.blocks k ≡ o → AreBlocksAlike Same f g (back_of f) IsName (λ p. p) o (option_map (saved_block c (number k)) o)
+      on : (o : Option Block) → slice_get f.blocks k ≡ o → AreBlocksAlike f g (back_of f) IsName (λ p. p) o (option_map (saved_block c (number k)) o)
       on None e = tt
       on (Some b) e = block_alike k b e
 
@@ -503,7 +503,7 @@ module _ (f : Function) (locals : HasNamedLocals f) where
       on true e = bare_result c (Rattle.save_agreement.proofs.Instrs.name_at c k n is) i e
       on false e = refl
 
-  call_alike : (p : Point) (i : Instr) → instr_at f p ≡ Some i → IsCallAlike Same f g (back_of f) IsName (λ p. p) p
+  call_alike : (p : Point) (i : Instr) → instr_at f p ≡ Some i → IsCallAlike f g (back_of f) IsName (λ p. p) p
   call_alike p i e = record {
     block = refl;
     value =
@@ -564,7 +564,7 @@ module _ (f : Function) (locals : HasNamedLocals f) where
               (λ (ge : length is ≤ suc k). not_end (omega (arith, ge, inside)))
               (cases_lt (suc k) (length is)))
 
-  next_alike : (p : Point) (b : Block) → slice_get f.blocks p.block ≡ Some b → IsNextAlike Same f g (back_of f) IsName (λ p. p) b (saved_block c (number p.block) b) (p.at + 1) ((back_of f p).at + 1)
+  next_alike : (p : Point) (b : Block) → slice_get f.blocks p.block ≡ Some b → IsNextAlike f g (back_of f) IsName (λ p. p) b (saved_block c (number p.block) b) (p.at + 1) ((back_of f p).at + 1)
   next_alike p b s = record {
     released = λ v name. ap (λ (k : ℕ). releases v (slice_get (with_saves c (number p.block) b.instrs) k)) there ∙ released v (slice_get b.instrs (suc p.at)) refl ∙ sym (ap (λ (k : ℕ). releases v (slice_get b.instrs k)) here);
     sides = λ v name. ap (last_sides g v (saved_block c (number p.block) b)) there ∙ sides v (slice_get b.instrs (suc p.at)) refl ∙ sym (ap (last_sides f v b) here);
@@ -619,17 +619,17 @@ module _ (f : Function) (locals : HasNamedLocals f) where
               ∙ (λ j. if last_same (number p.block) (suc p.at) b.instrs i e h j then own j else None)
               ∙ sym (ap (λ (o : Option Instr). if suc p.at + 1 == length b.instrs then sides_of f v o b.term else None) e)
 
-  free_alike : (p : Point) (i : Instr) → instr_at f p ≡ Some i → IsFreeAlike Same f g (back_of f) IsName (λ p. p) p
+  free_alike : (p : Point) (i : Instr) → instr_at f p ≡ Some i → IsFreeAlike f g (back_of f) IsName (λ p. p) p
   free_alike p i e = record {
     call = call_alike p i e;
-    next = subst (λ (o : Option Block). AreNextAlike Same f g (back_of f) IsName (λ p. p) (slice_get f.blocks p.block) o (p.at + 1) ((back_of f p).at + 1)) (sym (block_same p.block)) (on (slice_get f.blocks p.block) refl);
+    next = subst (λ (o : Option Block). AreNextAlike f g (back_of f) IsName (λ p. p) (slice_get f.blocks p.block) o (p.at + 1) ((back_of f p).at + 1)) (sym (block_same p.block)) (on (slice_get f.blocks p.block) refl);
   }
     where
-      on : (o : Option Block) → slice_get f.blocks p.block ≡ o → AreNextAlike Same f g (back_of f) IsName (λ p. p) o (option_map (saved_block c (number p.block)) o) (p.at + 1) ((back_of f p).at + 1)
+      on : (o : Option Block) → slice_get f.blocks p.block ≡ o → AreNextAlike f g (back_of f) IsName (λ p. p) o (option_map (saved_block c (number p.block)) o) (p.at + 1) ((back_of f p).at + 1)
       on None s = tt
       on (Some b) s = next_alike p b s
 
-  saved_alike : AreAlike Same f g (back_of f) IsName (λ p. p)
+  saved_alike : AreAlike f g (back_of f) IsName (λ p. p)
   saved_alike = record {
     coroutine = refl;
     position = position_saved f;
@@ -637,9 +637,9 @@ module _ (f : Function) (locals : HasNamedLocals f) where
     uses = uses_same;
     blocks = blocks_alike;
     allocs = points_same Intrinsic.CoroAlloc (λ n i e. refl);
-    each_alloc = each_where (IsCallAlike Same f g (back_of f) IsName (λ p. p)) (is_call_of Intrinsic.CoroAlloc) f (λ p i e t. call_alike p i e);
+    each_alloc = each_where (IsCallAlike f g (back_of f) IsName (λ p. p)) (is_call_of Intrinsic.CoroAlloc) f (λ p i e t. call_alike p i e);
     frees = points_same Intrinsic.CoroFree (λ n i e. refl);
-    each_free = each_where (IsFreeAlike Same f g (back_of f) IsName (λ p. p)) (is_call_of Intrinsic.CoroFree) f (λ p i e t. free_alike p i e);
+    each_free = each_where (IsFreeAlike f g (back_of f) IsName (λ p. p)) (is_call_of Intrinsic.CoroFree) f (λ p i e t. free_alike p i e);
     rets = rets_same least f.blocks;
     has_free = has_same is_free free_bare;
     has_stop = has_same is_stop stop_bare;

@@ -3,7 +3,7 @@ use Rattle.std.proofs.Common.{◌≡◌, ℕ, suc, ◌+◌, ◌≤◌, Bool, tru
 use Rattle.std.specs.Prelude.{slice_get, if◌then◌else◌}
 use Rattle.coroutine_frames.specs.Held.{held_blocks, held_instr, held_instrs, held_phis, if_result, if_value, result_size, value_held, value_size}
 use Rattle.early_agreement.specs.Passes.{renamed_block}
-use Rattle.early_crossing.proofs.Unsaved.{bare_is}
+use Rattle.save_agreement.proofs.Tokens.{bare_is}
 use Rattle.early_lower.specs.BeginName.{named_block, named_instr}
 use Rattle.early_lower.specs.Early.{save_call, saved}
 use Rattle.early_lower.specs.Renaming.{renamed_instr, renamed_phi}

@@ -1,11 +1,11 @@
 -- A source that is not refused breaks none of the rules that speak of no paths.
-use Rattle.std.proofs.Common.{◌≡◌, ℕ, zero, suc, ◌+◌, List, [], ◌∷◌, refl, sym, subst, arith}
-use Rattle.std.specs.Prelude.{None, Option, Some, slice_get}
+use Rattle.std.proofs.Common.{◌≡◌, ℕ, List, refl, sym}
+use Rattle.std.specs.Prelude.{None, Option, Some}
 use Rattle.coro_base.specs.declared.outcome.Place.{Place}
 use Rattle.coro_base.specs.declared.rule.Rule.{Rule}
 use Rattle.early_local_rules.specs.Local.{BreaksNoLocalRule, BreaksNoLocalRuleIn}
+use Rattle.early_rules.proofs.Order.{pass_of}
 use Rattle.edge_rules.specs.Edges.{first_wrong_edge}
-use Rattle.ir_check.specs.Faults.{faults_at}
 use Rattle.ir_check.specs.Order.{flow_refusal, function_refusal, functions_refusal, items_refusal, or_later, placing_refusal, pointer_refusal, refusal, shape_refusal, value_refusal}
 use Rattle.ir_check.specs.Refused.{IsRefused}
 use Rattle.ir_check.specs.declared.faults.PathFaults.{PathFaults}
@@ -33,11 +33,11 @@ use Rattle.value_rules.specs.Values.{first_wrong_value}
 -- ---- the first that there is
 
 -- neither is there
-both_later : (a b : Option Refusal) → or_later a b ≡ None → (a ≡ None) × (b ≡ None)
+pub both_later : (a b : Option Refusal) → or_later a b ≡ None → (a ≡ None) × (b ≡ None)
 both_later None b e = (refl, e)
 both_later (Some r) b e = absurd (cc)
 
-both_refused : (rule : Rule) (o : Option Place) (b : Option Refusal) → or_refusal rule o b ≡ None → (o ≡ None) × (b ≡ None)
+pub both_refused : (rule : Rule) (o : Option Place) (b : Option Refusal) → or_refusal rule o b ≡ None → (o ≡ None) × (b ≡ None)
 both_refused rule None b e = (refl, e)
 both_refused rule (Some p) b e = absurd (cc)
 
@@ -92,18 +92,6 @@ in_function m k f x e =
       marks = (both_refused Rule.K13 (first_other_mark m k f) None d.1).0;
     }
 
-in_functions : (m : Module) (faults : List PathFaults) (at : ℕ) (fs : List Function) (k : ℕ) (f : Function) → functions_refusal Stage.Source m faults at fs ≡ None → slice_get fs k ≡ Some f → function_refusal Stage.Source m (at + k) f (faults_at faults (at + k)) ≡ None
-in_functions m faults at [] k f e there = absurd (cc)
-in_functions m faults at (g ∷ fs) zero f e there =
-    let same : at ≡ at + 0 = omega arith in
-    let is_one : g ≡ f = cc in
-    subst (λ (n : ℕ). function_refusal Stage.Source m n f (faults_at faults n) ≡ None) same
-    (subst (λ (x : Function). function_refusal Stage.Source m at x (faults_at faults at) ≡ None) is_one (both_later (function_refusal Stage.Source m at g (faults_at faults at)) (functions_refusal Stage.Source m faults (at + 1) fs) e).0)
-in_functions m faults at (g ∷ fs) (suc k) f e there =
-    let same : at + 1 + k ≡ at + suc k = omega arith in
-    subst (λ (n : ℕ). function_refusal Stage.Source m n f (faults_at faults n) ≡ None) same
-    (in_functions m faults (at + 1) fs k f (both_later (function_refusal Stage.Source m at g (faults_at faults at)) (functions_refusal Stage.Source m faults (at + 1) fs) e).1 there)
-
 -- ---- the rules of the whole module
 
 record IsModuleLeft (m : Module) : Type 0 where
@@ -127,7 +115,6 @@ in_module m e =
 record AreItemsLeft (m : Module) (faults : List PathFaults) : Type 0 where
   initials : first_place (wrong_initials m) m ≡ None
   alignments : first_place misaligned_globals m ≡ None
-  functions : functions_refusal Stage.Source m faults 0 m.functions ≡ None
 
 in_items : (m : Module) (faults : List PathFaults) → items_refusal Stage.Source m faults ≡ None → AreItemsLeft m faults
 unfolding items_refusal
@@ -135,7 +122,7 @@ in_items m faults e =
     let fs : Option Refusal = functions_refusal Stage.Source m faults 0 m.functions in
     let a = both_refused Rule.Y1 (first_place (wrong_initials m) m) (or_refusal Rule.Y4 (first_place misaligned_globals m) fs) e in
     let b = both_refused Rule.Y4 (first_place misaligned_globals m) fs a.1 in
-    record { initials = a.0; alignments = b.0; functions = b.1 }
+    record { initials = a.0; alignments = b.0 }
 
 pub accepted_breaks_none : (m : Module) → IsRefused Stage.Source m None → BreaksNoLocalRule m
 unfolding refusal
@@ -149,7 +136,5 @@ accepted_breaks_none m h =
       types = of_module.types;
       initials = items.initials;
       alignments = items.alignments;
-      functions = λ k f there.
-          let same : 0 + k ≡ k = omega arith in
-          in_function m k f (faults_at h.faults k) (subst (λ (n : ℕ). function_refusal Stage.Source m n f (faults_at h.faults n) ≡ None) same (in_functions m h.faults 0 m.functions k f items.functions there));
+      functions = λ k f there. let x = pass_of m k f h there in in_function m k f x.faults x.passed;
     }

@@ -81,6 +81,26 @@ module _ (r : Renaming) (fresh : ℕ → Type 0) (sizes now : ℕ → Option ℕ
   other_marks_over p _ _ (Begins n result must_tail ty args) e = (λ q d. refl, tt)
   other_marks_over p _ _ (Saves n result must_tail ty a args number e0) e = (λ q d. refl, (λ q d. refl, tt))
 
+-- ---- the types of the result
+
+module _ (r : Renaming) where
+  pub arg_types_same : (args : List Arg) → arg_types (map (renamed_arg r) args) ≡ arg_types args
+  arg_types_same [] = refl
+  arg_types_same (a ∷ args) = λ k. a.ty ∷ arg_types_same args k
+
+  pub instr_types_same : (i : Instr) → instr_types (renamed_instr r i) ≡ instr_types i
+  instr_types_same (Instr.Gep result inbounds ty base indices) = λ k. ty ∷ arg_types_same indices k
+  instr_types_same (Instr.Call result must_tail ty callee args) = λ k. option_to_list ty ++ arg_types_same args k
+  instr_types_same _ = refl
+
+  return_types_same : (o : Option Arg) → return_types (renamed_return r o) ≡ return_types o
+  return_types_same None = refl
+  return_types_same (Some a) = refl
+
+  pub ending_types_same : (t : Terminator) → ending_types (renamed_term r t) ≡ ending_types t
+  ending_types_same (Terminator.Ret value) = return_types_same value
+  ending_types_same _ = refl
+
 -- ---- N2
 
 module _ (m : Module) where
@@ -123,23 +143,6 @@ module _ (m : Module) where
     operand_stays (Operand.Global n) e = address_same n ∙ e
     operand_stays _ e = refl
 
-    arg_types_same : (args : List Arg) → arg_types (map (renamed_arg r) args) ≡ arg_types args
-    arg_types_same [] = refl
-    arg_types_same (a ∷ args) = λ k. a.ty ∷ arg_types_same args k
-
-    instr_types_same : (i : Instr) → instr_types (renamed_instr r i) ≡ instr_types i
-    instr_types_same (Instr.Gep result inbounds ty base indices) = λ k. ty ∷ arg_types_same indices k
-    instr_types_same (Instr.Call result must_tail ty callee args) = λ k. option_to_list ty ++ arg_types_same args k
-    instr_types_same _ = refl
-
-    return_types_same : (o : Option Arg) → return_types (renamed_return r o) ≡ return_types o
-    return_types_same None = refl
-    return_types_same (Some a) = refl
-
-    ending_types_same : (t : Terminator) → ending_types (renamed_term r t) ≡ ending_types t
-    ending_types_same (Terminator.Ret value) = return_types_same value
-    ending_types_same _ = refl
-
     from_same : (xs : List Incoming) → map (λ i. i.from) (map (renamed_incoming r) xs) ≡ map (λ i. i.from) xs
     from_same [] = refl
     from_same (x ∷ xs) = λ k. x.from ∷ from_same xs k
@@ -173,13 +176,13 @@ module _ (m : Module) where
 
     unknown_over : (p : Place) (i : Instr) (js : List Instr) → Turns r fresh i js → names_unknown m values labels p (OfInstr i) ≡ false → Each (StaysOut (names_unknown m2 now labels_now) p) js
     unknown_over p i _ (Stays _) e = (
-      λ q d. part_known (OfInstr i) (OfInstr (renamed_instr r i)) (types_known (instr_types i) (instr_types (renamed_instr r i)) (instr_types_same i)) (all_in_instr r (knows_operand m values) (knows_operand m2 now) operand_over i) (λ k. k) (called_over i) p q e,
+      λ q d. part_known (OfInstr i) (OfInstr (renamed_instr r i)) (types_known (instr_types i) (instr_types (renamed_instr r i)) (instr_types_same r i)) (all_in_instr r (knows_operand m values) (knows_operand m2 now) operand_over i) (λ k. k) (called_over i) p q e,
       tt,
     )
     unknown_over p _ _ (Begins n result must_tail ty args) e =
         let i : Instr = Instr.Call result must_tail ty (Callee.Intrinsic Intrinsic.CoroBegin) args in
         let j : Instr = Instr.Call (Some n) must_tail ty (Callee.Intrinsic Intrinsic.CoroBegin) (map (renamed_arg r) args) in (
-          λ q d. part_known (OfInstr i) (OfInstr j) (types_known (instr_types i) (instr_types j) (instr_types_same i)) (all_in_args r (knows_operand m values) (knows_operand m2 now) operand_over args) (λ k. k) (λ k. refl) p q e,
+          λ q d. part_known (OfInstr i) (OfInstr j) (types_known (instr_types i) (instr_types j) (instr_types_same r i)) (all_in_args r (knows_operand m values) (knows_operand m2 now) operand_over args) (λ k. k) (λ k. refl) p q e,
           tt,
         )
     unknown_over p _ _ (Saves n result must_tail ty a args number e0) e =
@@ -187,7 +190,7 @@ module _ (m : Module) where
         let j : Instr = Instr.Call result must_tail ty (Callee.Intrinsic Intrinsic.CoroSuspend) (saved_args r n a args) in (
           λ q d. refl,
           (
-            λ q d. part_known (OfInstr i) (OfInstr j) (types_known (instr_types i) (instr_types j) (instr_types_same i))
+            λ q d. part_known (OfInstr i) (OfInstr j) (types_known (instr_types i) (instr_types j) (instr_types_same r i))
                 (λ k. and_both (now n) (list_all (knows_operand m2 now) (arg_operands (map (renamed_arg r) args))) (saves n number) (all_in_args r (knows_operand m values) (knows_operand m2 now) operand_over args (and_second (knows_operand m values a.value) (list_all (knows_operand m values) (arg_operands args)) k)))
                 (λ k. k) (λ k. refl) p q e,
             tt,
@@ -201,5 +204,5 @@ module _ (m : Module) where
           head = λ p b c d. part_known (Head b) (Head c) (λ k. k) (λ k. k) (λ k. k) (λ k. k) p p;
           phi = λ p x. part_known (OfPhi x) (OfPhi (renamed_phi r x)) (types_known (x.ty ∷ []) (x.ty ∷ []) refl) (all_in_phi r (knows_operand m values) (knows_operand m2 now) operand_over x) (labels_known (map (λ i. i.from) x.incoming) (map (λ i. i.from) (map (renamed_incoming r) x.incoming)) (from_same x.incoming)) (λ k. k) p p;
           instr = unknown_over;
-          ending = λ p q t. part_known (Ending t) (Ending (renamed_term r t)) (types_known (ending_types t) (ending_types (renamed_term r t)) (ending_types_same t)) (all_in_term r (knows_operand m values) (knows_operand m2 now) operand_over operand_stays t) (labels_known (ending_labels t) (ending_labels (renamed_term r t)) (ending_labels_same t)) (λ k. k) p q;
+          ending = λ p q t. part_known (Ending t) (Ending (renamed_term r t)) (types_known (ending_types t) (ending_types (renamed_term r t)) (ending_types_same r t)) (all_in_term r (knows_operand m values) (knows_operand m2 now) operand_over operand_stays t) (labels_known (ending_labels t) (ending_labels (renamed_term r t)) (ending_labels_same t)) (λ k. k) p q;
         }

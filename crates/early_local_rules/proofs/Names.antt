@@ -217,7 +217,7 @@ pub record AreApart (f : Function) : Type 0 where
   pub apart : Apart (numbers f)
   pub below : (n : ℕ) → IsListed n (numbers f) → n < length f.names
 
-is_definition : (ds : List Definition) (n : ℕ) → IsListed n (map name_of ds) → (d : Definition) × (IsListed d ds × (d.name ≡ n))
+pub is_definition : (ds : List Definition) (n : ℕ) → IsListed n (map name_of ds) → (d : Definition) × (IsListed d ds × (d.name ≡ n))
 is_definition [] n h = absurd h
 is_definition (d ∷ ds) n (inl e) = (d, (inl refl, sym e))
 is_definition (d ∷ ds) n (inr h) = let x = is_definition ds n h in (x.0, (inr x.1.0, x.1.1))

@@ -66,11 +66,11 @@ pub holds : (b : Bool) → not b ≡ false → b ≡ true
 holds true e = refl
 holds false e = absurd (cc)
 
-or_first_out : (a b : Bool) → (a || b) ≡ false → a ≡ false
+pub or_first_out : (a b : Bool) → (a || b) ≡ false → a ≡ false
 or_first_out true b e = absurd (cc)
 or_first_out false b e = refl
 
-or_second_out : (a b : Bool) → (a || b) ≡ false → b ≡ false
+pub or_second_out : (a b : Bool) → (a || b) ≡ false → b ≡ false
 or_second_out true b e = absurd (cc)
 or_second_out false b e = e
 

@@ -56,7 +56,7 @@ of_functions place at (g ∷ fs) (suc k) f e there =
     let same : at + 1 + k ≡ at + suc k = omega arith in
     subst (λ (n : ℕ). place n f ≡ None) same (of_functions place (at + 1) fs k f (second_out (place at g) (first_function place (at + 1) fs) e) there)
 
-of_function : (m : Module) (s : Sentence) → first_place s m ≡ None → (k : ℕ) (f : Function) → slice_get m.functions k ≡ Some f → s.in_function k f ≡ None
+pub of_function : (m : Module) (s : Sentence) → first_place s m ≡ None → (k : ℕ) (f : Function) → slice_get m.functions k ≡ Some f → s.in_function k f ≡ None
 of_function m s e k f there =
     let types : Option Place = first_item Item.Type s.on_type 0 m.types in
     let globals : Option Place = first_item Item.Global s.on_global 0 m.globals in

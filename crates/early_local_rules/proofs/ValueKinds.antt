@@ -33,7 +33,7 @@ apart_left : (xs ys : List ℕ) → Apart (xs ++ ys) → Apart xs
 apart_left [] ys h = tt
 apart_left (x ∷ xs) ys h = (λ k. h.0 (listed_left x xs ys k), apart_left xs ys h.1)
 
-apart_right : (xs ys : List ℕ) → Apart (xs ++ ys) → Apart ys
+pub apart_right : (xs ys : List ℕ) → Apart (xs ++ ys) → Apart ys
 apart_right [] ys h = h
 apart_right (x ∷ xs) ys h = apart_right xs ys h.1
 
@@ -80,7 +80,7 @@ module _ {A T : Type 0} (one : A → ℕ → Option T) (names : A → List ℕ) 
 kind_if_none : (r n : ℕ) (kind : Kind) → (n ≡ r → ⊥) → kind_if r kind n ≡ None
 kind_if_none r n kind h = ap (λ (b : Bool). if b then Some kind else None) (other_number r n (λ e. h (sym e)))
 
-instr_none : (n : ℕ) (i : Instr) → (IsListed n (made_by i) → ⊥) → instr_kind i n ≡ None
+pub instr_none : (n : ℕ) (i : Instr) → (IsListed n (made_by i) → ⊥) → instr_kind i n ≡ None
 instr_none n (Instr.Binary r op flags ty left right) h = kind_if_none r n (kind_of ty) (λ e. h (inl e))
 instr_none n (Instr.Icmp r pred ty left right) h = kind_if_none r n (Kind.Int 1) (λ e. h (inl e))
 instr_none n (Instr.Select r c a b) h = kind_if_none r n (kind_of a.ty) (λ e. h (inl e))
@@ -92,10 +92,10 @@ instr_none n (Instr.Gep r inbounds ty base indices) h = kind_if_none r n Kind.Pt
 instr_none n (Instr.Call None must_tail ty callee args) h = refl
 instr_none n (Instr.Call (Some r) must_tail ty callee args) h = kind_if_none r n (result_kind callee ty) (λ e. h (inl e))
 
-phis_none : (n : ℕ) (ps : List Phi) → (IsListed n (phi_names ps) → ⊥) → first_in phi_kind ps n ≡ None
+pub phis_none : (n : ℕ) (ps : List Phi) → (IsListed n (phi_names ps) → ⊥) → first_in phi_kind ps n ≡ None
 phis_none n = none_in_map phi_kind (λ p. p.result) n (λ p h. kind_if_none p.result n (kind_of p.ty) h)
 
-params_none : (n : ℕ) (ps : List Param) → (IsListed n (map (λ p. p.name) ps) → ⊥) → first_in param_kind ps n ≡ None
+pub params_none : (n : ℕ) (ps : List Param) → (IsListed n (map (λ p. p.name) ps) → ⊥) → first_in param_kind ps n ≡ None
 params_none n = none_in_map param_kind (λ p. p.name) n (λ p h. kind_if_none p.name n (kind_of p.ty) h)
 
 block_none : (n : ℕ) (b : Block) → (IsListed n (block_names b) → ⊥) → block_kind b n ≡ None

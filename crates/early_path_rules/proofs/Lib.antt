@@ -1,7 +1,5 @@
 pub mod Holding
 pub mod Origins
-pub mod Seconds
-pub mod Unsaved
 pub mod SavedCalls
 pub mod SavedEdges
 pub mod SavedSwitches

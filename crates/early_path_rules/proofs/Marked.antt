@@ -10,7 +10,7 @@ use Rattle.early_path_rules.proofs.Moved.{IsOf, front_same}
 use Rattle.early_path_rules.proofs.Origins.{HasOrigin, Kept, Suspended, Written, origin}
 use Rattle.early_path_rules.proofs.Outside.{after_home, place_point}
 use Rattle.early_path_rules.proofs.SavedWindows.{inside_home, lone_token, none_between}
-use Rattle.early_path_rules.proofs.Unsaved.{bare_is}
+use Rattle.save_agreement.proofs.Tokens.{bare_is}
 use Rattle.early_path_rules.proofs.Windows.{IsAlike, got_has, inside_back, is_save, passing_is}
 use Rattle.early_path_rules.proofs.Where.{where_has}
 use Rattle.function_parts.specs.Parts.{Part, parts_of}

@@ -13,7 +13,7 @@ use Rattle.early_path_rules.proofs.Moved.{IsOf, are_avoided, front_home, led_hom
 use Rattle.early_path_rules.proofs.Origins.{HasOrigin, IsSavedBlock, Kept, Suspended, Written, block_from, origin}
 use Rattle.early_path_rules.proofs.RenamedOperands.{map_was}
 use Rattle.early_path_rules.proofs.SavedCalls.{IsOwn, own_call}
-use Rattle.early_path_rules.proofs.Unsaved.{bare_is}
+use Rattle.save_agreement.proofs.Tokens.{bare_is}
 use Rattle.early_path_rules.proofs.Where.{has_where}
 use Rattle.early_agreement.specs.Regular.{passes}
 use Rattle.function_parts.specs.Parts.{Part, instr_place, parts_of}

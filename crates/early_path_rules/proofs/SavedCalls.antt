@@ -14,7 +14,7 @@ use Rattle.early_agreement.proofs.Switches.{none_part}
 use Rattle.early_lower.specs.Early.{save_call, saved}
 use Rattle.early_path_rules.proofs.Holding.{HoldsIn, HoldsOf, of_parts, part_none, to_parts}
 use Rattle.early_path_rules.proofs.Origins.{ComesFrom, IsSavedBlock, Saves, Stays, Suspends, block_from, comes_from, number_least}
-use Rattle.early_path_rules.proofs.Seconds.{no_second_begin, no_second_end, no_second_id}
+use Rattle.early_rules.proofs.Once.{no_second_begin, no_second_end, no_second_id}
 use Rattle.function_parts.specs.Parts.{OfInstr, first_part, instr_place, parts_of, place_if}
 use Rattle.ir_model.specs.declared.instr.Instr.{Instr}
 use Rattle.ir_model.specs.declared.module.Block.{Block}
@@ -26,7 +26,7 @@ use Rattle.ir_model.specs.declared.operand.Operand.{Operand}
 use Rattle.ir_paths.specs.Windows.{call_operand, call_result, is_call_of}
 use Rattle.save_agreement.proofs.Expansion.{none_past}
 use Rattle.save_agreement.proofs.Slots.{same_allocas}
-use Rattle.early_path_rules.proofs.Unsaved.{bare_is}
+use Rattle.save_agreement.proofs.Tokens.{bare_is}
 use Rattle.save_agreement.specs.SavesWritten.{behind_save, behind_saves, is_bare, saved_blocks, saved_function, with_save, with_saves}
 use Rattle.save_agreement.specs.Spots.{number_of_block, place_in}
 use Rattle.save_agreement.specs.Tokens.{HasNamedTokens}

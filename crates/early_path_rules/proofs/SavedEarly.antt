@@ -10,7 +10,7 @@ use Rattle.early_path_rules.proofs.Marked.{slot_back}
 use Rattle.early_path_rules.proofs.Moved.{IsOf, same_source}
 use Rattle.early_path_rules.proofs.Origins.{HasOrigin, Kept, Suspended, Written, block_from, origin}
 use Rattle.early_path_rules.proofs.Outside.{NothingOutside, end_at, end_back, of_outside, place_point, without_home}
-use Rattle.early_path_rules.proofs.Unsaved.{IsUnsaved, bare_is}
+use Rattle.save_agreement.proofs.Tokens.{IsUnsaved, bare_is}
 use Rattle.early_path_rules.proofs.Where.{has_where}
 use Rattle.function_parts.specs.Contents.{ending_operands}
 use Rattle.function_parts.specs.Parts.{Part, parts_of}

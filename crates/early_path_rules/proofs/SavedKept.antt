@@ -8,7 +8,7 @@ use Rattle.early_path_rules.proofs.Moved.{front_same, led_home, same_source}
 use Rattle.early_path_rules.proofs.Origins.{HasOrigin, Kept, Suspended, Written, origin}
 use Rattle.early_path_rules.proofs.SavedUses.{block_edges_saved, uses_move, values_within}
 use Rattle.early_path_rules.proofs.SavedWindows.{inside_home, label_saved, lone_token, none_between, not_same}
-use Rattle.early_path_rules.proofs.Unsaved.{bare_is}
+use Rattle.save_agreement.proofs.Tokens.{bare_is}
 use Rattle.early_path_rules.proofs.Where.{where_has}
 use Rattle.early_path_rules.proofs.Windows.{NoWrongWindow, got_has, is_save, passing_is}
 use Rattle.flow_solver.specs.Paths.{IsListed}

@@ -9,7 +9,7 @@ use Rattle.early_agreement.proofs.Switches.{none_part}
 use Rattle.early_lower.specs.Early.{save_call, saved}
 use Rattle.early_path_rules.proofs.Holding.{HoldsIn, of_parts, part_none, to_parts}
 use Rattle.early_path_rules.proofs.Origins.{ComesFrom, Saves, Stays, Suspends, block_from, comes_from, number_least}
-use Rattle.early_path_rules.proofs.Unsaved.{bare_is}
+use Rattle.save_agreement.proofs.Tokens.{bare_is}
 use Rattle.function_parts.specs.Contents.{arg_operands, ending_operands, instr_operands}
 use Rattle.function_parts.specs.Parts.{Part, OfInstr, first_part, instr_place, parts_of}
 use Rattle.ir_model.specs.Names.{is_local}

@@ -9,7 +9,7 @@ use Rattle.early_agreement.proofs.Lists.{each_behind}
 use Rattle.early_agreement.proofs.Outside.{each_left, each_right}
 use Rattle.early_agreement.proofs.Uses.{none_undefined}
 use Rattle.early_lower.specs.Early.{save_call, saved}
-use Rattle.early_path_rules.proofs.Unsaved.{bare_is}
+use Rattle.save_agreement.proofs.Tokens.{bare_is}
 use Rattle.flow_solver.specs.Paths.{IsListed}
 use Rattle.function_parts.specs.Contents.{arg_operands, ending_operands, instr_operands, result_of}
 use Rattle.function_parts.specs.Parts.{instr_place}

@@ -6,7 +6,7 @@ use Rattle.early_agreement.proofs.Outside.{where_pass}
 use Rattle.early_lower.specs.Early.{save_call, saved}
 use Rattle.early_path_rules.proofs.Moved.{IsOf, back_saved, back_stays, front_home, front_same, led_home, none_front}
 use Rattle.early_path_rules.proofs.Origins.{HasOrigin, Kept, Suspended, Written, origin}
-use Rattle.early_path_rules.proofs.Unsaved.{bare_is}
+use Rattle.save_agreement.proofs.Tokens.{bare_is}
 use Rattle.early_path_rules.proofs.Windows.{NoWrongWindow, got_has, is_save, passing_is}
 use Rattle.ir_model.specs.Names.{is_local}
 use Rattle.ir_model.specs.declared.instr.Instr.{Instr}

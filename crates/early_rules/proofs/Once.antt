@@ -180,19 +180,28 @@ module _ (func : ℕ) (f : Function) (coroutine : f.coroutine ≡ true) (calls :
           let t : true ≡ false = sym (spot_same func x.point.block (phi_count f x.point.block + x.point.at)) ∙ ap (λ (o : Option Place). is_spot o r) (ap Some (sym x.place) ∙ sym e) ∙ among r (here x.point x.instr x.stands) in
           absurd (cc)
 
+  pub no_second_begin : second_call Intrinsic.CoroBegin func f ≡ None
+  no_second_begin = no_second Intrinsic.CoroBegin (λ q e. left_false (is_spot c.second_begin q) (is_spot c.second_end q) (right_false (is_spot c.second_id q) (is_spot c.second_begin q || is_spot c.second_end q) e))
+
+  pub no_second_id : second_call Intrinsic.CoroId func f ≡ None
+  no_second_id = no_second Intrinsic.CoroId (λ q e. left_false (is_spot c.second_id q) (is_spot c.second_begin q || is_spot c.second_end q) e)
+
+  pub no_second_end : second_call Intrinsic.CoroEnd func f ≡ None
+  no_second_end = no_second Intrinsic.CoroEnd (λ q e. right_false (is_spot c.second_begin q) (is_spot c.second_end q) (right_false (is_spot c.second_id q) (is_spot c.second_begin q || is_spot c.second_end q) e))
+
   one_call : (j : Intrinsic) → second_call j func f ≡ None → (p q : Point) (i k : Instr) → instr_at f p ≡ Some i → instr_at f q ≡ Some k → is_call_of j i ≡ true → is_call_of j k ≡ true → p ≡ q
   one_call j none p q i k d e a b =
       same_point_of func f p q
       (one_listed (places_where (is_call_of j) func f) (instr_place func p.block (phi_count f p.block + p.at)) (instr_place func q.block (phi_count f q.block + q.at)) none (place_listed (is_call_of j) func f p i d a) (place_listed (is_call_of j) func f q k e b))
 
   pub one_begin : (p q : Point) (i k : Instr) → instr_at f p ≡ Some i → instr_at f q ≡ Some k → is_call_of Intrinsic.CoroBegin i ≡ true → is_call_of Intrinsic.CoroBegin k ≡ true → p ≡ q
-  one_begin = one_call Intrinsic.CoroBegin (no_second Intrinsic.CoroBegin (λ q e. left_false (is_spot c.second_begin q) (is_spot c.second_end q) (right_false (is_spot c.second_id q) (is_spot c.second_begin q || is_spot c.second_end q) e)))
+  one_begin = one_call Intrinsic.CoroBegin no_second_begin
 
   pub one_id : (p q : Point) (i k : Instr) → instr_at f p ≡ Some i → instr_at f q ≡ Some k → is_call_of Intrinsic.CoroId i ≡ true → is_call_of Intrinsic.CoroId k ≡ true → p ≡ q
-  one_id = one_call Intrinsic.CoroId (no_second Intrinsic.CoroId (λ q e. left_false (is_spot c.second_id q) (is_spot c.second_begin q || is_spot c.second_end q) e))
+  one_id = one_call Intrinsic.CoroId no_second_id
 
   pub one_end : (p q : Point) (i k : Instr) → instr_at f p ≡ Some i → instr_at f q ≡ Some k → is_call_of Intrinsic.CoroEnd i ≡ true → is_call_of Intrinsic.CoroEnd k ≡ true → p ≡ q
-  one_end = one_call Intrinsic.CoroEnd (no_second Intrinsic.CoroEnd (λ q e. right_false (is_spot c.second_begin q) (is_spot c.second_end q) (right_false (is_spot c.second_id q) (is_spot c.second_begin q || is_spot c.second_end q) e)))
+  one_end = one_call Intrinsic.CoroEnd no_second_end
 
   -- the calls of a coroutine are right
   pub right_call : (p : Point) (i : Instr) → instr_at f p ≡ Some i → is_right_instr c (instr_place func p.block (phi_count f p.block + p.at)) i ≡ true

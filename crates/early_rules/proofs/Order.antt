@@ -50,19 +50,19 @@ pub record IsUnbroken (m : Module) (k : ℕ) (f : Function) : Type 0 where
 
 -- ---- the first that there is
 
-first_later : (a b : Option Refusal) → or_later a b ≡ None → a ≡ None
+pub first_later : (a b : Option Refusal) → or_later a b ≡ None → a ≡ None
 first_later None b e = refl
 first_later (Some r) b e = absurd (cc)
 
-second_later : (a b : Option Refusal) → or_later a b ≡ None → b ≡ None
+pub second_later : (a b : Option Refusal) → or_later a b ≡ None → b ≡ None
 second_later None b e = e
 second_later (Some r) b e = absurd (cc)
 
-first_refused : (rule : Rule) (o : Option Place) (b : Option Refusal) → or_refusal rule o b ≡ None → o ≡ None
+pub first_refused : (rule : Rule) (o : Option Place) (b : Option Refusal) → or_refusal rule o b ≡ None → o ≡ None
 first_refused rule None b e = refl
 first_refused rule (Some p) b e = absurd (cc)
 
-second_refused : (rule : Rule) (o : Option Place) (b : Option Refusal) → or_refusal rule o b ≡ None → b ≡ None
+pub second_refused : (rule : Rule) (o : Option Place) (b : Option Refusal) → or_refusal rule o b ≡ None → b ≡ None
 second_refused rule None b e = e
 second_refused rule (Some p) b e = absurd (cc)
 
@@ -202,12 +202,26 @@ in_order : (m : Module) (faults : List PathFaults) → refusal Stage.Source m fa
 unfolding refusal
 in_order m faults e = (first_later (module_refusal Stage.Source m) (items_refusal Stage.Source m faults) e, second_later (module_refusal Stage.Source m) (items_refusal Stage.Source m faults) e)
 
-pub unbroken : (m : Module) (k : ℕ) (f : Function) → IsRefused Stage.Source m None → slice_get m.functions k ≡ Some f → IsUnbroken m k f
-unbroken m k f h there =
+-- the faults of a function by paths, with which it isn't refused
+pub record IsPassed (m : Module) (k : ℕ) (f : Function) : Type 0 where
+  pub faults : PathFaults
+  pub are : AreFaultsOf k f faults
+  pub passed : function_refusal Stage.Source m k f faults ≡ None
+
+pub pass_of : (m : Module) (k : ℕ) (f : Function) → IsRefused Stage.Source m None → slice_get m.functions k ≡ Some f → IsPassed m k f
+pass_of m k f h there =
     let order = in_order m h.faults (sym h.is) in
     let x = as_many m.functions h.faults k f h.have.as_many there in
     let same : 0 + k ≡ k = omega arith in
     let own : function_refusal Stage.Source m k f (faults_at h.faults k) ≡ None =
     subst (λ (n : ℕ). function_refusal Stage.Source m n f (faults_at h.faults n) ≡ None) same (in_functions m h.faults 0 m.functions k f (in_items m h.faults order.1) there) in
-    let left = in_function m k f x.0 (subst (λ (y : PathFaults). function_refusal Stage.Source m k f y ≡ None) (ap (λ (o : Option PathFaults). unwrap_or o no_faults) x.1) own) in
-    by_faults m k f x.0 (locals_apart m k f order.0 there) (h.have.each k f x.0 there x.1) left
+    record {
+      faults = x.0;
+      are = h.have.each k f x.0 there x.1;
+      passed = subst (λ (y : PathFaults). function_refusal Stage.Source m k f y ≡ None) (ap (λ (o : Option PathFaults). unwrap_or o no_faults) x.1) own;
+    }
+
+pub unbroken : (m : Module) (k : ℕ) (f : Function) → IsRefused Stage.Source m None → slice_get m.functions k ≡ Some f → IsUnbroken m k f
+unbroken m k f h there =
+    let x = pass_of m k f h there in
+    by_faults m k f x.faults (locals_apart m k f (in_order m h.faults (sym h.is)).0 there) x.are (in_function m k f x.faults x.passed)

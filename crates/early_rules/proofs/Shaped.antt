@@ -74,17 +74,17 @@ some_each : {A : Type 0} (P : A → Type 0) (xs : List A) → Some_of P xs → E
 some_each P [] h = absurd h
 some_each P (x ∷ xs) h = h
 
-name_listed : (d : Definition) (ds : List Definition) → IsListed d ds → IsListed d.name (map name_of ds)
+pub name_listed : (d : Definition) (ds : List Definition) → IsListed d ds → IsListed d.name (map name_of ds)
 name_listed d [] h = absurd h
 name_listed d (x ∷ ds) (inl e) = inl (ap name_of e)
 name_listed d (x ∷ ds) (inr h) = inr (name_listed d ds h)
 
-function_tabled : (func : ℕ) (f : Function) → IsFunction f → HasTabledLocals func f
+pub function_tabled : (func : ℕ) (f : Function) → IsFunction f → HasTabledLocals func f
 function_tabled func f h d l =
     both_below f.names (params_of f) (row_of block_names f.blocks) (params_below f.names f.params h.1) (blocks_below f.names f.blocks (some_each (IsBlock f.names) f.blocks h.2)) d.name
     (subst (IsListed d.name) (names_are func f) (name_listed d (locals_of func f) l))
 
-function_shaped : (fs : List Function) (k : ℕ) (f : Function) → Each IsFunction fs → slice_get fs k ≡ Some f → IsFunction f
+pub function_shaped : (fs : List Function) (k : ℕ) (f : Function) → Each IsFunction fs → slice_get fs k ≡ Some f → IsFunction f
 function_shaped [] k f h e = absurd (cc)
 function_shaped (x ∷ fs) zero f h e = let same : x ≡ f = cc in subst IsFunction same h.0
 function_shaped (x ∷ fs) (suc k) f h e = function_shaped fs k f h.1 e

@@ -3,7 +3,8 @@ use Rattle.std.proofs.Common.{◌≡◌, ℕ, inl, inr, Bool, true, false, List,
 use Rattle.std.specs.Prelude.{slice_get}
 use Rattle.early_slots.proofs.SlotsAlike.{AreLone, AreSlotsAlike, after_forth, after_home, alive_forth, alive_home, none_lone}
 use Rattle.early_slots.proofs.Spots.{IsOfSpot, behind_forth, behind_home, from_forth, from_home, moved_spot, point_moved, start_forth, start_home, use_forth, use_home}
-use Rattle.early_slots.proofs.Strands.{has_map, map_has, none_carried}
+use Rattle.early_slots.proofs.Strands.{none_carried}
+use Rattle.save_agreement.proofs.Ways.{has_map, map_has}
 use Rattle.ir_model.specs.declared.module.Function.{Function}
 use Rattle.ir_paths.proofs.Search.{Has}
 use Rattle.ir_paths.specs.Paths.{has_point}

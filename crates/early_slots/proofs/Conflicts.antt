@@ -38,7 +38,7 @@ module _ (f g : Function) (front back : Point → Point) (Name : ℕ → Type 0)
   entry_is = alike.first 0
 
   at_entry : IsBeforeBegin g (back entry)
-  at_entry = on (alike.strands.within entry) (alike.begins_lone.clear entry)
+  at_entry = on (alike.strands.ways.within entry) (alike.begins_lone.clear entry)
     where
       same : front entry ≡ back entry → IsBeforeBegin g (back entry)
       same e = inl (sym e ∙ entry_is)

@@ -4,8 +4,10 @@ use Rattle.std.proofs.lemmas.Bool.{cases_lt}
 use Rattle.std.specs.List.{list_any}
 use Rattle.std.specs.Prelude.{Some, None, Option, option_and_then, option_map, option_to_list, slice_get, if◌then◌else◌, ◌&&◌, ◌||◌}
 use Rattle.early_agreement.specs.Regular.{passes}
-use Rattle.early_crossing.proofs.Unsaved.{bare_is, each_from, more_block, more_name}
-use Rattle.early_slots.proofs.Edges.{save_leads, strands}
+use Rattle.early_crossing.proofs.Unsaved.{each_from, more_block, more_name}
+use Rattle.save_agreement.proofs.Tokens.{bare_is}
+use Rattle.early_slots.proofs.Edges.{strands}
+use Rattle.save_agreement.proofs.Ways.{save_leads}
 use Rattle.early_slots.proofs.Names.{HoldsSlot, address_holds, addresses_hold, alloca_holds, any_same}
 use Rattle.early_slots.proofs.SlotsAlike.{AreLone, AreSlotsAlike}
 use Rattle.early_slots.proofs.Strands.{IsOf}

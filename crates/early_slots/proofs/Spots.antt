@@ -1,7 +1,8 @@
 -- Where something of a slot stands, and what lies behind a suspend, in functions that are alike.
 use Rattle.std.proofs.Common.{◌≡◌, ℕ, ◌<◌, inr, true, List, [], ◌∷◌, ◌++◌, map, refl, sym, ap, ◌∙◌, subst}
 use Rattle.early_slots.proofs.SlotsAlike.{AreLone, AreSlotsAlike}
-use Rattle.early_slots.proofs.Strands.{AreCarried, IsOpen, both_carried, both_open, comes_forth, comes_home, has_map, leads_back, leads_home, map_has, to_point}
+use Rattle.early_slots.proofs.Strands.{AreCarried, IsOpen, both_carried, both_open, comes_forth, comes_home, leads_back, leads_home, to_point}
+use Rattle.save_agreement.proofs.Ways.{has_map, map_has}
 use Rattle.flow_solver.specs.Paths.{IsListed}
 use Rattle.ir_model.specs.Names.{position_of}
 use Rattle.ir_model.specs.declared.module.Function.{Function}

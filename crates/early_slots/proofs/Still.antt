@@ -11,9 +11,11 @@ stay p = p
 
 pub still_strands : (f g : Function) → ((p : Point) → nexts g p ≡ nexts f p) → AreStrands f g stay stay
 still_strands f g same = record {
-  forth = λ p q h. ap (λ (ps : List Point). has_point ps q) (same p) ∙ h;
-  home = λ p y h. record { point = y; is = refl; edge = ap (λ (ps : List Point). has_point ps y) (sym (same p)) ∙ h };
-  within = λ p. inl refl;
+  ways = record {
+    forth = λ p q h. ap (λ (ps : List Point). has_point ps q) (same p) ∙ h;
+    home = λ p y h. record { point = y; is = refl; edge = ap (λ (ps : List Point). has_point ps y) (sym (same p)) ∙ h };
+    within = λ p. inl refl;
+  };
   fronts = λ p q e. e;
   backs = λ p q e. e;
   mixed = λ p q e. e;

@@ -3,7 +3,8 @@ use Rattle.std.proofs.Common.{◌≡◌, ◌⊎◌, inl, inr, Bool, true, false,
 use Rattle.std.specs.List.{cons_option}
 use Rattle.std.specs.Prelude.{filter_map, option_map}
 use Rattle.early_slots.proofs.SlotsAlike.{AreLone}
-use Rattle.early_slots.proofs.Strands.{AreStrands, has_map, leads_back, leads_home, map_has, to_point}
+use Rattle.early_slots.proofs.Strands.{AreStrands, leads_back, leads_home, to_point}
+use Rattle.save_agreement.proofs.Ways.{has_map, map_has}
 use Rattle.ir_model.specs.declared.module.Function.{Function}
 use Rattle.ir_model.specs.declared.operand.Intrinsic.{Intrinsic}
 use Rattle.ir_paths.proofs.Search.{Has, either, or_left, or_right, same_point-itself, same_point-same}

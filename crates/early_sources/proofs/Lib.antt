@@ -1,4 +1,5 @@
 pub mod Tables
 pub mod Accepted
 pub mod Laid
+pub mod Alike
 pub mod Kept

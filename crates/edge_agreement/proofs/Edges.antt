@@ -54,7 +54,7 @@ module _ (f : Function) where
   nexts_edge named k b i e there got = ap (nexts_in (with_edge_blocks f) (entry_point (with_edge_blocks f) e.label)) (edge_spot named k b i e there got)
 
   -- and no block of the function is there
-  edge_apart : (named : HasNamedLabels f) (k : ℕ) (b : Block) (i : ℕ) (e : Edge) → slice_get f.blocks k ≡ Some b → slice_get (edges_of_block k b) i ≡ Some e → (p : Point) → entry_point (with_edge_blocks f) e.label ≡ moved f p → ⊥
+  pub edge_apart : (named : HasNamedLabels f) (k : ℕ) (b : Block) (i : ℕ) (e : Edge) → slice_get f.blocks k ≡ Some b → slice_get (edges_of_block k b) i ≡ Some e → (p : Point) → entry_point (with_edge_blocks f) e.label ≡ moved f p → ⊥
   edge_apart named k b i e there got p s =
       let at : spot f k + suc i ≡ spot f p.block = sym (position_edge f named k b i e there got) ∙ ap (λ (x : Point). x.block) s in
       let next = place_next (block_and_edges (phi_flags f) (table_of f)) (behind_edges (phi_flags f)) k (length f.names) f.blocks b there in

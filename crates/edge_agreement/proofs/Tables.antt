@@ -162,7 +162,7 @@ edge_among flags table (suc k) n (c ∷ bs) b e s a =
 
 -- ---- labels of edges
 
-abbrev AreLabelled : ℕ → List Edge → Type 0
+abbrev pub AreLabelled : ℕ → List Edge → Type 0
 AreLabelled n [] = Unit {0}
 AreLabelled n (e ∷ es) = (e.label ≡ n) × AreLabelled (suc n) es
 
@@ -174,7 +174,7 @@ labelled_append : (n : ℕ) (xs ys : List Edge) → AreLabelled n xs → AreLabe
 labelled_append n [] ys h k = let z : n + 0 ≡ n = omega arith in subst (λ (j : ℕ). AreLabelled j ys) z k
 labelled_append n (x ∷ xs) ys h k = let z : n + suc (length xs) ≡ suc n + length xs = omega arith in (h.0, labelled_append (suc n) xs ys h.1 (subst (λ (j : ℕ). AreLabelled j ys) z k))
 
-all_labelled : (flags : List Bool) (n : ℕ) (bs : List Block) → AreLabelled n (edges_by flags n bs)
+pub all_labelled : (flags : List Bool) (n : ℕ) (bs : List Block) → AreLabelled n (edges_by flags n bs)
 all_labelled flags n [] = tt
 all_labelled flags n (b ∷ bs) =
     labelled_append n (block_edges flags n b) (edges_by flags (n + length (block_edges flags n b)) bs)

@@ -50,12 +50,12 @@ fails true e = absurd (cc)
 fails false e = refl
 
 module _ {A : Type 0} where
-  all_at : (t : A → Bool) (xs : List A) (n : ℕ) (x : A) → list_all t xs ≡ true → slice_get xs n ≡ Some x → t x ≡ true
+  pub all_at : (t : A → Bool) (xs : List A) (n : ℕ) (x : A) → list_all t xs ≡ true → slice_get xs n ≡ Some x → t x ≡ true
   all_at t [] n x h e = absurd (cc)
   all_at t (y ∷ xs) zero x h e = let same : y ≡ x = cc in subst (λ z. t z ≡ true) same (both_true (t y) (list_all t xs) h).0
   all_at t (y ∷ xs) (suc n) x h e = all_at t xs n x (both_true (t y) (list_all t xs) h).1 e
 
-  none_at : (t : A → Bool) (xs : List A) (n : ℕ) (x : A) → list_any t xs ≡ false → slice_get xs n ≡ Some x → t x ≡ false
+  pub none_at : (t : A → Bool) (xs : List A) (n : ℕ) (x : A) → list_any t xs ≡ false → slice_get xs n ≡ Some x → t x ≡ false
   none_at t [] n x h e = absurd (cc)
   none_at t (y ∷ xs) zero x h e = let same : y ≡ x = cc in subst (λ z. t z ≡ false) same (neither (t y) (list_any t xs) h).0
   none_at t (y ∷ xs) (suc n) x h e = none_at t xs n x (neither (t y) (list_any t xs) h).1 e

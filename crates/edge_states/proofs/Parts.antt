@@ -76,7 +76,7 @@ fits_moved m ty args func = ap (fits_function ty args) (slice_get-map edge_funct
 
 -- ---- names
 
-names_length : (k : ℕ) → length (edge_names k) ≡ k
+pub names_length : (k : ℕ) → length (edge_names k) ≡ k
 names_length zero = refl
 names_length (suc k) =
     let again = names_length k in

@@ -6,7 +6,7 @@ use Rattle.coro_base.specs.declared.status.Options.{Options}
 use Rattle.coro_cleanup.proofs.Freed.{module_freed}
 use Rattle.coro_cleanup.specs.Cleanup.{clean_function, is_kept_instr}
 use Rattle.coro_cleanup.specs.Free.{calls_id_alone, is_free}
-use Rattle.coro_split.specs.Parts.{allocas_of, back_blocks, done_block, entry_instrs, head_blocks, is_alloca, later_part, layouts_after, first_layout, origins_for, part_blocks, parts_of, plain_of, plain_shape, ramp_of, ramp_source, split_function, split_functions, split_module}
+use Rattle.coro_split.specs.Parts.{allocas_of, back_blocks, done_block, entry_instrs, head_blocks, is_alloca, later_part, layouts_after, marked_parts, first_layout, origins_for, part_blocks, parts_of, plain_of, plain_shape, ramp_of, ramp_source, split_function, split_functions, split_module}
 use Rattle.coro_split.specs.Pieces.{all_pieces, begins_again, first_piecing, next_piecing, pass_block, piece, pieced, pieces_of, piecing_of, redirected_term, stop_label, stopped, with_instr, with_instrs}
 use Rattle.coro_split.specs.Reached.{is_flagged, kept_block, kept_blocks, pruned, reached}
 use Rattle.coro_split.specs.declared.origin.Origin.{Origin}
@@ -39,6 +39,7 @@ use Rattle.lower_pipeline.specs.NoCoroutine.{HasNoCoroutine, has_no_coroutine}
 use Rattle.lower_pipeline.specs.declared.whole.Lowered.{Lowered}
 use Rattle.lower_pipeline.specs.declared.whole.Lowering.{Lowering}
 use Rattle.module_acceptance.specs.declared.accepting.Acceptance.{Acceptance}
+use Rattle.window_exits.specs.ExitBlocks.{with_exit_blocks}
 
 -- ---- lists
 
@@ -270,11 +271,14 @@ parts_fine s f =
     (both _ _ (pruned_fine (later_part s Part.Resume s.resume_name f) (part_fine s Part.Resume f (origins_for s Part.Resume f)))
     (both _ _ (pruned_fine (later_part s Part.Destroy s.destroy_name f) (part_fine s Part.Destroy f (origins_for s Part.Destroy f))) refl))
 
+marked_fine : (l : Layout) (f : Function) → list_all is_split (marked_parts l f) ≡ true
+marked_fine l f = parts_fine (shape_of f l) f
+
 function_fine : (l : Layout) (f : Function) → list_all is_split (split_function l f) ≡ true
 function_fine l f = on f.coroutine
   where
-    on : (b : Bool) → list_all is_split (if b then parts_of (shape_of f l) f else plain_of (plain_shape f) f ∷ []) ≡ true
-    on true = parts_fine (shape_of f l) f
+    on : (b : Bool) → list_all is_split (if b then marked_parts l (with_exit_blocks f) else plain_of (plain_shape f) f ∷ []) ≡ true
+    on true = marked_fine l (with_exit_blocks f)
     on false = both _ _ (pieces_fine (plain_shape f) Part.Ramp [] _ f.blocks) refl
 
 functions_fine : (ls : List Layout) (fs : List Function) → list_all is_split (split_functions ls fs) ≡ true

@@ -40,7 +40,7 @@ memory_value c = c.suspends + 8
 abbrev pub begin_value : Coroutine → ℕ
 begin_value c = c.suspends + (if is_even c then 9 else 5)
 
--- ---- b0; q0, end, b1, d0, clean; then for each further j yj, xj, qj, b{j+1}, dj, and never in the place of the last b{j+1}
+-- ---- the labels of the generated blocks, in order: b0; q0, end, b1, d0, clean; then for each further j yj, xj, qj, b{j+1}, dj, and never in the place of the last b{j+1}
 
 abbrev pub first_label : Coroutine → ℕ
 first_label c = c.suspends + (if is_even c then 10 else 6)

@@ -1,0 +1,13 @@
+pub mod Calls
+pub mod Follows
+pub mod Spots
+pub mod Needed
+pub mod NewUses
+pub mod Paths
+pub mod Defined
+pub mod Values
+pub mod Like
+pub mod Entries
+pub mod Complete
+pub mod Whole
+pub mod Asking

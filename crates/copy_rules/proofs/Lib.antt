@@ -1,0 +1,4 @@
+pub mod Slots
+pub mod Names
+pub mod Copied
+pub mod KeptCopies

@@ -1,0 +1,14 @@
+pub mod States
+pub mod Ending
+pub mod Ways
+pub mod Follows
+pub mod Apart
+pub mod Steps
+pub mod Fetched
+pub mod Turned
+pub mod Copied
+pub mod Marks
+pub mod Framed
+pub mod Whole
+pub mod Made
+pub mod Crossed

@@ -1,0 +1,5 @@
+pub mod Shaped
+pub mod Tabled
+pub mod Depths
+pub mod Early
+pub mod Signatures

@@ -1,0 +1,3 @@
+pub mod Exited
+pub mod Row
+pub mod Whence

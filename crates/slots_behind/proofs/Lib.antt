@@ -1,0 +1,4 @@
+pub mod Walks
+pub mod Operands
+pub mod Slots
+pub mod Behind

@@ -1,0 +1,8 @@
+pub mod Lists
+mod Spellings
+mod Unreserved
+mod Made
+pub mod Parts
+pub mod Kept
+pub mod Items
+pub mod Sources

@@ -1,0 +1,16 @@
+pub mod Alike
+pub mod ValueKinds
+pub mod Once
+pub mod Operands
+pub mod Laid
+pub mod Carried
+pub mod Rules
+pub mod Instructions
+pub mod Values
+pub mod Edges
+pub mod Uses
+pub mod Unbroken
+pub mod Pieces
+pub mod Told
+pub mod All
+pub mod Fronts
