@@ -7,7 +7,7 @@ ghost use Rattle.spill_reload.specs.Framed.{IsFramedForm};
 
 use coro_cleanup::clean;
 use coro_split::split;
-use early_sources::early_kept;
+use first_pass_rules::early_sources::early_kept;
 use frame_layout::Layouts;
 use ir_model::Module;
 use spill_reload::frame_up;

@@ -1,0 +1,4 @@
+pub mod edge_agreement
+pub mod edge_simulation
+pub mod edge_sources
+pub mod edge_states

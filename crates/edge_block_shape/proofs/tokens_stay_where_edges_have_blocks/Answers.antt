@@ -1,7 +1,0 @@
-use Rattle.edge_block_shape.proofs.Kept.{same_calls}
-use Rattle.edge_block_shape.proofs.Tokens.{same_tokens}
-use Rattle.edge_block_shape.proofs.tokens_stay_where_edges_have_blocks.Goals as goal
-use Rattle.edge_blocks.specs.EdgeBlocks.{with_edge_blocks}
-
-pub returns : goal.returns
-returns c = λ m k f rules coroutine calls switches. same_tokens f (with_edge_blocks f) (same_calls m k f rules coroutine calls switches)

@@ -1,5 +1,0 @@
-use Rattle.exit_rules.proofs.Whole.{ended_first}
-use Rattle.exit_rules.proofs.ends_come_before_returns_where_exits_have_blocks.Goals as goal
-
-pub returns : goal.returns
-returns c = λ m k f rules jumps coroutine switches. ended_first m k f rules jumps coroutine switches

@@ -1,8 +1,0 @@
-use Rattle.fetching_rules.proofs.Fetched.{fetches_woven}
-use Rattle.fetching_rules.proofs.fetched_functions_keep_rules.Goals as goal
-use Rattle.fetching_rules.specs.Fetches.{fetch_weaving}
-use Rattle.use_fetching.specs.Blocks.{with_fetches}
-use Rattle.woven_rules.proofs.All.{rules_woven}
-
-pub returns : goal.returns
-returns c = λ m k f t word keeps once fit. rules_woven (fetch_weaving f t word) m k f (with_fetches f t word) (fetches_woven m k f t word keeps fit) keeps once

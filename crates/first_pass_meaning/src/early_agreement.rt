@@ -1,0 +1,24 @@
+//! That the first pass keeps the meaning of sources.
+
+ghost use Rattle.std.specs.Prelude.{◌≡◌, ℕ, ℤ, List};
+ghost use Rattle.agreement.specs.Agreements.{AgreesWithin};
+ghost use Rattle.coro_base.specs.declared.outcome.Word.{Word};
+ghost use Rattle.coro_meaning.specs.Source.{SourceAt};
+ghost use Rattle.first_pass_meaning.specs.early_agreement.Passes.{named_module, renamed_module};
+ghost use Rattle.first_pass_meaning.specs.early_agreement.Regular.{AllKeepRules};
+ghost use Rattle.early_lower.specs.Early.{early_module};
+ghost use Rattle.ir_model.specs.declared.module.Frame.{Frame};
+ghost use Rattle.ir_model.specs.declared.module.Module.{Module};
+ghost use Rattle.first_pass_meaning.specs.save_agreement.SavesWritten.{saves_written};
+
+/// The first pass is three in a row: begin's value gets a name, uses of `coro.frame` become uses of it, and saves are
+/// written out.
+#[tactic(auto, using(crate::proofs::Composition::early_in_turn))]
+pub fn early_is_three_passes()
+    ensures { (m : Module) → early_module m ≡ saves_written (renamed_module (named_module m)) }
+{}
+
+/// Where the uses of values of `coro.frame` become uses of begin's value, each run agrees within 1 with the run of the module.
+pub fn renaming_keeps_meaning()
+    ensures { (m : Module) → AllKeepRules m → (sizes : List Frame) (entry : ℕ) (args : List Word) (answers : List ℤ) → AgreesWithin 1 (SourceAt m sizes entry args answers) (SourceAt (renamed_module m) sizes entry args answers) }
+{}

@@ -1,0 +1,23 @@
+//! That the first pass as a whole keeps the meaning of sources.
+
+ghost use Rattle.std.specs.Prelude.{ℕ, ℤ, List};
+ghost use Rattle.agreement.specs.Agreements.{AgreesWithin};
+ghost use Rattle.coro_base.specs.declared.outcome.Word.{Word};
+ghost use Rattle.coro_meaning.specs.Source.{SourceAt};
+ghost use Rattle.first_pass_meaning.specs.early_agreement.Passes.{named_module, renamed_module};
+ghost use Rattle.first_pass_meaning.specs.early_agreement.Regular.{AllKeepRules};
+ghost use Rattle.early_lower.specs.Early.{early_module};
+ghost use Rattle.ir_model.specs.declared.module.Frame.{Frame};
+ghost use Rattle.ir_model.specs.declared.module.Module.{Module};
+ghost use Rattle.first_pass_meaning.specs.sound_states.Named.{AreLocalsNamed, AreUsesNamed};
+
+/// Where begin's value gets a name and uses of `coro.frame` become uses of it, locals stay positions of their functions' tables.
+pub fn names_stay()
+    ensures { (m : Module) → AreLocalsNamed m → AreUsesNamed m → AllKeepRules (named_module m) → AreLocalsNamed (renamed_module (named_module m)) × AreUsesNamed (renamed_module (named_module m)) }
+{}
+
+/// Each run of a module in which locals are positions of their functions' tables, and whose coroutines keep the rules where
+/// begin's value has a name, agrees within 2 with the run of what the first pass makes of it.
+pub fn early_keeps_meaning()
+    ensures { (m : Module) → AreLocalsNamed m → AreUsesNamed m → AllKeepRules (named_module m) → (sizes : List Frame) (entry : ℕ) (args : List Word) (answers : List ℤ) → AgreesWithin 2 (SourceAt m sizes entry args answers) (SourceAt (early_module m) sizes entry args answers) }
+{}

@@ -1,0 +1,29 @@
+//! What crosses suspends stays under the first pass.
+
+ghost use Rattle.std.specs.Prelude.{◌≡◌, ◌↔◌, ℕ, List};
+ghost use Rattle.first_pass_meaning.specs.early_agreement.Passes.{renamed_coroutine};
+ghost use Rattle.first_pass_rules.specs.early_crossing.Plain.{HasPlainNames};
+ghost use Rattle.early_lower.specs.BeginName.{with_begin_name};
+ghost use Rattle.early_lower.specs.declared.renaming.Renaming.{Renaming};
+ghost use Rattle.ir_model.specs.declared.module.Function.{Function};
+ghost use Rattle.first_pass_meaning.specs.save_agreement.SavesWritten.{saved_function};
+ghost use Rattle.first_pass_meaning.specs.sound_states.Named.{HasNamedLocals};
+ghost use Rattle.suspend_crossing.specs.Crossing.{AreCrossing};
+
+/// The values that cross suspends stay where uses of `coro.frame` are renamed.
+#[tactic(auto, using(crate::proofs::Renamed::crossing_renamed))]
+pub fn crossing_stays_renamed()
+    ensures { (f : Function) (r : Renaming) → HasPlainNames f r → (all : List (ℕ × ℕ)) → AreCrossing f all ↔ AreCrossing (renamed_coroutine r f) all }
+{}
+
+/// They stay where saves are written out.
+#[tactic(auto, using(crate::proofs::Saved::crossing_saved))]
+pub fn crossing_stays_saved()
+    ensures { (f : Function) → HasNamedLocals f → (all : List (ℕ × ℕ)) → AreCrossing f all ↔ AreCrossing (saved_function f) all }
+{}
+
+/// They stay where begin's value gets a name.
+#[tactic(auto, using(crate::proofs::Named::crossing_named))]
+pub fn crossing_stays_named()
+    ensures { (f : Function) → HasNamedLocals f → (all : List (ℕ × ℕ)) → AreCrossing f all ↔ AreCrossing (with_begin_name f) all }
+{}

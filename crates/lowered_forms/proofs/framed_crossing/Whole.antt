@@ -1,0 +1,154 @@
+-- All the passes that build a coroutine's frame, one behind another.
+use Rattle.std.proofs.Common.{◌≡◌, ℕ, Bool, true, List, ◌∷◌, length, sym, subst}
+use Rattle.std.specs.Prelude.{None, Some}
+use Rattle.frame_rules.specs.address_rules.Addresses.{AddressesFit}
+use Rattle.lowered_forms.proofs.cell_crossing.Whole.{nothing_needed}
+use Rattle.lowered_forms.specs.cell_crossing.Crossed.{IsNothingNeeded}
+use Rattle.frame_rules.specs.cell_rules.Asked.{AreCellsFor}
+use Rattle.frame_rules.specs.cell_rules.Weaving.{cells_weaving}
+use Rattle.frame_rules.specs.copy_rules.Copies.{CopiesFit, copied_slots, copy_weaving}
+use Rattle.coro_shape.specs.OneOfEach.{wrong_call}
+use Rattle.coro_shape.specs.Switches.{wrong_switch}
+use Rattle.coroutine_frames.specs.declared.contents.Contents.{Contents}
+use Rattle.edge_blocks.specs.EdgeBlocks.{with_edge_blocks}
+use Rattle.frame_layout.specs.declared.layout.Layout.{Layout}
+use Rattle.lowered_forms.proofs.framed_crossing.Copied.{copies_follow, fronts_apart}
+use Rattle.lowered_forms.proofs.framed_crossing.Ending.{edges_end_first}
+use Rattle.lowered_forms.proofs.framed_crossing.Framed.{addresses_end_first, addresses_nothing}
+use Rattle.lowered_forms.proofs.framed_crossing.Steps.{IsQuiet, nothing_stays}
+use Rattle.lowered_forms.proofs.framed_crossing.Ways.{woven_end_first}
+use Rattle.lowered_forms.specs.framed_crossing.Ended.{AreEndedFirst}
+use Rattle.lowered_forms.proofs.framed_shape.Apart.{edges_apart}
+use Rattle.lowered_forms.proofs.framed_shape.Edges.{edges_shaped}
+use Rattle.lowered_forms.proofs.framed_shape.Fits.{cells_fit}
+use Rattle.lowered_forms.proofs.framed_shape.Framed.{begin_is, coroutine_c, coroutine_d, crossed_e, jumps_d, keeps_c, keeps_d, once_d, rules_c, rules_d, rules_e, shape_c, shape_d, woven_c, woven_d}
+use Rattle.lowered_forms.specs.framed_shape.Passes.{PassesFit}
+use Rattle.frame_rules.specs.function_rules.Kept.{KeepsFunctionRules}
+use Rattle.ir_model.specs.Calls.{first_result}
+use Rattle.ir_model.specs.declared.module.Function.{Function}
+use Rattle.ir_model.specs.declared.module.Module.{Module}
+use Rattle.ir_model.specs.declared.operand.Intrinsic.{Intrinsic}
+use Rattle.slot_lifetime.specs.declared.class.SlotClass.{SlotClass}
+use Rattle.spill_reload.specs.Framed.{begin_block, begin_of, celled, copied, offsets_of, placed}
+use Rattle.spill_reload.specs.Tables.{class_flags, label_flags, sizes_by_name}
+use Rattle.suspend_crossing.specs.Crossing.{AreCrossing}
+use Rattle.window_rules.specs.Outside.{IsFirstOutside}
+use Rattle.window_rules.specs.Windows.{IsFirstWindow}
+use Rattle.frame_rules.specs.woven_rules.Blocks.{IsWoven}
+use Rattle.frame_rules.specs.woven_rules.Weaving.{Weaving}
+use Rattle.lowered_forms.specs.woven_shape.Shaped.{IsShaped, KeepsCalls}
+
+module _ (m : Module) (k : ℕ) (f : Function) (c : Contents) (begin : ℕ) (rules : KeepsFunctionRules m k f) (coroutine : f.coroutine ≡ true) (calls : wrong_call k f ≡ None) (switches : wrong_switch k f ≡ None) (crossed : AreCrossing f c.crossing) (shape : IsShaped k (with_edge_blocks f) begin) where
+  abbrev Edged : Function
+  Edged = with_edge_blocks f
+
+  abbrev Local : List Bool
+  Local = class_flags f c.classes SlotClass.Local
+
+  abbrev Celled : Function
+  Celled = celled m f c
+
+  abbrev Frame : List Bool
+  Frame = class_flags f c.classes SlotClass.Frame
+
+  abbrev Ramp : List Bool
+  Ramp = class_flags f c.classes SlotClass.Ramp
+
+  abbrev Sizes : List ℕ
+  Sizes = sizes_by_name f c.held
+
+  module _ (asked : AreCellsFor k Edged c.crossing Local) (before : List ℕ) where
+    abbrev Flags : List Bool
+    Flags = label_flags Celled (begin_block Celled ∷ before)
+
+    abbrev Copied : Function
+    Copied = copied f c Celled before
+
+    abbrev celling : Weaving
+    celling = cells_weaving m Edged c.crossing Local
+
+    abbrev copying : Weaving
+    copying = copy_weaving Celled Flags (copied_slots Celled Frame Flags Sizes)
+
+    cells_nothing : IsNothingNeeded Celled
+    unfolding celled
+    cells_nothing =
+        nothing_needed m k Edged (rules_e m k f c begin rules coroutine calls switches crossed shape) c.crossing Local asked
+        (edges_apart m k f rules coroutine calls switches)
+        (crossed_e m k f c begin rules coroutine calls switches crossed shape)
+
+    cells_end : AreEndedFirst Edged → AreEndedFirst Celled
+    cells_end =
+        woven_end_first celling m Edged Celled (woven_c m k f c begin rules coroutine calls switches crossed shape asked)
+        (keeps_c m k f c begin rules coroutine calls switches crossed shape asked)
+
+    module _ (copies : CopiesFit Celled (copied_slots Celled Frame Flags Sizes)) where
+      woven_copied : IsWoven copying m Celled Copied
+      woven_copied = woven_d m k f c begin rules coroutine calls switches crossed shape asked before copies
+
+      same_copied : KeepsCalls copying Celled Copied
+      same_copied = keeps_d m k f c begin rules coroutine calls switches crossed shape asked before copies
+
+      rules_C : KeepsFunctionRules m k Celled
+      rules_C = rules_c m k f c begin rules coroutine calls switches crossed shape asked
+
+      rules_D : KeepsFunctionRules m k Copied
+      rules_D = rules_d m k f c begin rules coroutine calls switches crossed shape asked before copies
+
+      shape_C : IsShaped k Celled begin
+      shape_C = shape_c m k f c begin rules coroutine calls switches crossed shape asked
+
+      coroutine_C : Celled.coroutine ≡ true
+      coroutine_C = coroutine_c m k f c begin rules coroutine calls switches crossed shape asked
+
+      copies_quiet : IsQuiet copying m Celled Copied woven_copied same_copied k rules_C coroutine_C begin shape_C
+      unfolding copied
+      copies_quiet = record {
+        follows = copies_follow m k Celled Frame Flags Sizes rules_C;
+        fronts = fronts_apart m k Celled Frame Flags Sizes rules_C rules_D;
+      }
+
+      copies_nothing : IsNothingNeeded Celled → IsNothingNeeded Copied
+      copies_nothing = nothing_stays copying m Celled Copied woven_copied same_copied k rules_C coroutine_C begin shape_C copies_quiet
+
+      copies_end : AreEndedFirst Celled → AreEndedFirst Copied
+      copies_end = woven_end_first copying m Celled Copied woven_copied same_copied
+
+      module _ (l : Layout) (fit : AddressesFit k Copied (begin_of f) (offsets_of l f c (length Copied.names)) Ramp) where
+        abbrev Built : Function
+        Built = placed l f c Copied
+
+        placed_nothing : IsNothingNeeded Copied → IsNothingNeeded Built
+        unfolding placed
+        placed_nothing =
+            addresses_nothing m k Copied (begin_of f) (offsets_of l f c (length Copied.names)) Ramp rules_D
+            (once_d m k f c begin rules coroutine calls switches crossed shape asked before copies) fit
+            (coroutine_d m k f c begin rules coroutine calls switches crossed shape asked before copies)
+            (subst (IsShaped k Copied) (sym (begin_is m k f c begin rules coroutine calls switches crossed shape)) (shape_d m k f c begin rules coroutine calls switches crossed shape asked before copies))
+            (jumps_d m k f c begin rules coroutine calls switches crossed shape asked before copies)
+
+        placed_end : AreEndedFirst Copied → AreEndedFirst Built
+        unfolding placed
+        placed_end =
+            addresses_end_first m k Copied (begin_of f) (offsets_of l f c (length Copied.names)) Ramp rules_D
+            (once_d m k f c begin rules coroutine calls switches crossed shape asked before copies) fit
+            (coroutine_d m k f c begin rules coroutine calls switches crossed shape asked before copies)
+            (subst (IsShaped k Copied) (sym (begin_is m k f c begin rules coroutine calls switches crossed shape)) (shape_d m k f c begin rules coroutine calls switches crossed shape asked before copies))
+            (jumps_d m k f c begin rules coroutine calls switches crossed shape asked before copies)
+
+        pub all_nothing : IsNothingNeeded Built
+        all_nothing = placed_nothing (copies_nothing cells_nothing)
+
+        pub all_end : AreEndedFirst Edged → AreEndedFirst Built
+        all_end h = placed_end (copies_end (cells_end h))
+
+pub framed_end_first : (m : Module) (k : ℕ) (l : Layout) (f : Function) (c : Contents) (before : List ℕ) (begin : ℕ) → KeepsFunctionRules m k f → f.coroutine ≡ true → wrong_call k f ≡ None → wrong_switch k f ≡ None → IsFirstOutside k f None → IsFirstWindow k f None → first_result Intrinsic.CoroBegin f ≡ Some begin → AreCrossing f c.crossing → PassesFit m k l f c before → AreEndedFirst (placed l f c (copied f c (celled m f c) before))
+framed_end_first m k l f c before begin rules coroutine calls switches outside window named crossed fit =
+    all_end m k f c begin rules coroutine calls switches crossed (edges_shaped m k f begin rules coroutine calls switches outside window named)
+    (cells_fit m k f c rules coroutine calls switches crossed fit.widths) before fit.copies l fit.addresses
+    (edges_end_first m k f rules coroutine calls switches outside)
+
+pub framed_nothing : (m : Module) (k : ℕ) (l : Layout) (f : Function) (c : Contents) (before : List ℕ) (begin : ℕ) → KeepsFunctionRules m k f → f.coroutine ≡ true → wrong_call k f ≡ None → wrong_switch k f ≡ None → IsFirstOutside k f None → IsFirstWindow k f None → first_result Intrinsic.CoroBegin f ≡ Some begin → AreCrossing f c.crossing → PassesFit m k l f c before → IsNothingNeeded (placed l f c (copied f c (celled m f c) before))
+framed_nothing m k l f c before begin rules coroutine calls switches outside window named crossed fit =
+    all_nothing m k f c begin rules coroutine calls switches crossed (edges_shaped m k f begin rules coroutine calls switches outside window named)
+    (cells_fit m k f c rules coroutine calls switches crossed fit.widths) before fit.copies l fit.addresses

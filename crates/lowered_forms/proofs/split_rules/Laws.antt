@@ -1,0 +1,31 @@
+-- Names and values of parts, where the locals that they name are their own.
+use Rattle.std.proofs.Common.{◌≡◌, ℕ, true, false}
+use Rattle.std.specs.Prelude.{None, Some, slice_get}
+use Rattle.coro_split.specs.Parts.{plain_of, plain_shape}
+use Rattle.frame_layout.specs.declared.layout.Layout.{Layout}
+use Rattle.frame_rules.specs.function_rules.Kept.{KeepsFunctionRules}
+use Rattle.intrinsic_lowering.specs.Cuts.{goes_on}
+use Rattle.intrinsic_lowering.specs.Shapes.{shape_of}
+use Rattle.intrinsic_lowering.specs.declared.shape.Part.{Part}
+use Rattle.ir_model.specs.declared.module.Function.{Function}
+use Rattle.ir_model.specs.declared.module.Module.{Module}
+use Rattle.name_rules.specs.Known.{first_unknown}
+use Rattle.frame_rules.specs.split_names.Parts.{HasPartsOf}
+use Rattle.lowered_forms.proofs.split_rules.Instructions.{parts_kept, plain_kept}
+use Rattle.lowered_forms.proofs.split_rules.Locals.{all_names_known}
+use Rattle.lowered_forms.proofs.split_rules.ValueLaws.{parts_values, plain_values}
+use Rattle.lowered_forms.specs.split_rules.Instructions.{KnowsItsLocals}
+use Rattle.lowered_forms.specs.split_rules.Parted.{IsPartOf, IsSmall}
+use Rattle.lowered_forms.specs.split_rules.Returns.{ReturnsNothing}
+use Rattle.lowered_forms.specs.split_rules.Splittable.{IsSplittable}
+use Rattle.value_rules.specs.Values.{first_wrong_value}
+
+pub parts_named : (m n : Module) (k l : ℕ) (layout : Layout) (part : Part) (begin : ℕ) (f g : Function) → HasPartsOf m n → slice_get m.functions k ≡ Some f → IsSplittable m k f begin → IsSmall (shape_of f layout) → IsPartOf (shape_of f layout) f part g → KnowsItsLocals l g → (goes_on part ≡ true → ReturnsNothing l g) → (first_unknown n l g ≡ None) × (first_wrong_value n l g ≡ None)
+parts_named m n k l layout part begin f g h stands splittable small is own returns =
+    let known : first_unknown n l g ≡ None = all_names_known n l g (parts_kept m n k l layout part f g h stands splittable.coroutine splittable.rules is).known own in
+    (known, parts_values m n k l layout part begin f g h splittable.rules splittable.named small is known returns)
+
+pub plain_named : (m n : Module) (k l : ℕ) (f : Function) → HasPartsOf m n → slice_get m.functions k ≡ Some f → f.coroutine ≡ false → KeepsFunctionRules m k f → KnowsItsLocals l (plain_of (plain_shape f) f) → (first_unknown n l (plain_of (plain_shape f) f) ≡ None) × (first_wrong_value n l (plain_of (plain_shape f) f) ≡ None)
+plain_named m n k l f h stands coroutine rules own =
+    let known : first_unknown n l (plain_of (plain_shape f) f) ≡ None = all_names_known n l (plain_of (plain_shape f) f) (plain_kept m n k l f h stands coroutine rules).known own in
+    (known, plain_values m n k l f h coroutine rules known)

@@ -1,0 +1,12 @@
+pub mod begin_order
+pub mod cell_crossing
+pub mod frame_numbers
+pub mod framed_crossing
+pub mod framed_rules
+pub mod framed_shape
+pub mod lowered_rules
+pub mod lowered_sources
+pub mod part_uses
+pub mod split_rules
+pub mod unnamed_intrinsics
+pub mod woven_shape

@@ -1,0 +1,103 @@
+//! A coroutine stays as splitting asks where blocks are put on the edges that leave windows.
+
+ghost use Rattle.std.specs.Prelude.{◌≡◌, ℕ, None, Some, true, slice_get};
+ghost use Rattle.coro_shape.specs.OneOfEach.{wrong_call};
+ghost use Rattle.coro_shape.specs.Switches.{wrong_switch};
+ghost use Rattle.frame_rules.specs.edge_block_rules.Phis.{ArePhisEnteredByJumps};
+ghost use Rattle.flow_solver.specs.Paths.{IsListed};
+ghost use Rattle.frame_layout.specs.declared.layout.Layout.{Layout};
+ghost use Rattle.frame_rules.specs.function_rules.Kept.{KeepsFunctionRules};
+ghost use Rattle.intrinsic_lowering.specs.Shapes.{shape_of, suspends_of};
+ghost use Rattle.intrinsic_lowering.specs.declared.shape.SuspendPoint.{SuspendPoint};
+ghost use Rattle.ir_model.specs.Calls.{first_result};
+ghost use Rattle.ir_model.specs.declared.instr.Terminator.{Terminator};
+ghost use Rattle.ir_model.specs.declared.module.Block.{Block};
+ghost use Rattle.ir_model.specs.declared.module.Function.{Function};
+ghost use Rattle.ir_model.specs.declared.module.Module.{Module};
+ghost use Rattle.ir_model.specs.declared.operand.Intrinsic.{Intrinsic};
+ghost use Rattle.ir_paths.specs.declared.point.Point.{Point};
+ghost use Rattle.lowered_forms.specs.split_rules.Parted.{IsSmall};
+ghost use Rattle.lowered_forms.specs.split_rules.Reached.{IsLedTo};
+ghost use Rattle.lowered_forms.specs.split_rules.Splittable.{AreBlocksBegun, HasOwnEdges, IsEndedFirst, IsSplittable, may_cross};
+ghost use Rattle.step_laws.specs.Changed.{Each};
+ghost use Rattle.suspend_crossing.specs.Crossing.{suspends_of as suspend_points};
+ghost use Rattle.suspend_crossing.specs.Paths.{IsDefinedBefore, IsNeededBehind};
+ghost use Rattle.lowered_forms.specs.unnamed_intrinsics.Unnamed.{NamesNoIntrinsic};
+ghost use Rattle.window_exits.specs.ExitBlocks.{with_exit_blocks};
+ghost use Rattle.window_exits.specs.Exits.{mark_of};
+ghost use Rattle.frame_rules.specs.woven_rules.Pairs.{AreIncomingOnce};
+
+/// An edge that is the only one of its block leaves no window: what stands behind it is in the window too, or is its suspend.
+pub fn only_edges_leave_no_window()
+    ensures { (f : Function) (at : ℕ) (b : Block) (label : ℕ) → slice_get f.blocks at ≡ Some b → b.term ≡ Terminator.Jump label → mark_of f at label ≡ None }
+{}
+
+/// So where phis are entered by jumps, a function with such blocks breaks none of the rules of functions that it broke not.
+pub fn exit_blocks_keep_function_rules()
+    ensures { (m : Module) (k : ℕ) (f : Function) → KeepsFunctionRules m k f → ArePhisEnteredByJumps f → KeepsFunctionRules m k (with_exit_blocks f) }
+{}
+
+/// The labels of each phi's operands stay different.
+pub fn phis_keep_each_label_once()
+    ensures { (f : Function) → AreIncomingOnce f → AreIncomingOnce (with_exit_blocks f) }
+{}
+
+/// The calls by which it is a coroutine break no rule (K2).
+pub fn calls_break_no_rule_where_exits_have_blocks()
+    ensures { (k : ℕ) (f : Function) → f.coroutine ≡ true → wrong_call k f ≡ None → wrong_call k (with_exit_blocks f) ≡ None }
+{}
+
+/// The switches of its suspends break no rule (K3).
+pub fn switches_break_no_rule_where_exits_have_blocks()
+    ensures { (k : ℕ) (f : Function) → f.coroutine ≡ true → wrong_switch k f ≡ None → wrong_switch k (with_exit_blocks f) ≡ None }
+{}
+
+/// Begin's value is the same one.
+pub fn begin_stays_where_exits_have_blocks()
+    ensures { (f : Function) → first_result Intrinsic.CoroBegin (with_exit_blocks f) ≡ first_result Intrinsic.CoroBegin f }
+{}
+
+/// The suspends are the same, with their tokens and labels.
+pub fn suspends_stay_where_exits_have_blocks()
+    ensures { (k : ℕ) (f : Function) → f.coroutine ≡ true → wrong_switch k f ≡ None → suspends_of (with_exit_blocks f) ≡ suspends_of f }
+{}
+
+/// What asks for begin stands behind it.
+pub fn begin_comes_first_where_exits_have_blocks()
+    ensures { (m : Module) (k : ℕ) (f : Function) (begin : ℕ) → KeepsFunctionRules m k f → ArePhisEnteredByJumps f → AreBlocksBegun f begin 0 f.blocks → AreBlocksBegun (with_exit_blocks f) begin 0 (with_exit_blocks f).blocks }
+{}
+
+/// Each suspend keeps edges of its own.
+pub fn suspends_keep_their_edges()
+    ensures { (m : Module) (k : ℕ) (f : Function) → KeepsFunctionRules m k f → f.coroutine ≡ true → wrong_switch k f ≡ None → Each (HasOwnEdges f) (suspends_of f)
+        → Each (HasOwnEdges (with_exit_blocks f)) (suspends_of (with_exit_blocks f)) }
+{}
+
+/// Behind a suspend that is reached the end comes before a return.
+pub fn ends_come_before_returns_where_exits_have_blocks()
+    ensures { (m : Module) (k : ℕ) (f : Function) → KeepsFunctionRules m k f → ArePhisEnteredByJumps f → f.coroutine ≡ true → wrong_switch k f ≡ None
+        → ((p : SuspendPoint) → IsListed p (suspends_of f) → IsLedTo f p.block → IsEndedFirst f p)
+        → (p : SuspendPoint) → IsListed p (suspends_of (with_exit_blocks f)) → IsLedTo (with_exit_blocks f) p.block → IsEndedFirst (with_exit_blocks f) p }
+{}
+
+/// No further values cross suspends that are reached.
+pub fn no_more_crosses_where_exits_have_blocks()
+    ensures { (m : Module) (k : ℕ) (f : Function) → KeepsFunctionRules m k f → ArePhisEnteredByJumps f → f.coroutine ≡ true → wrong_switch k f ≡ None
+        → ((v : ℕ) (s : Point) (b : Block) → IsListed s (suspend_points f) → slice_get f.blocks s.block ≡ Some b → IsLedTo f b.label → IsDefinedBefore f v s.block s.at → IsNeededBehind f v s → may_cross m f v ≡ true)
+        → (v : ℕ) (s : Point) (b : Block) → IsListed s (suspend_points (with_exit_blocks f)) → slice_get (with_exit_blocks f).blocks s.block ≡ Some b → IsLedTo (with_exit_blocks f) b.label → IsDefinedBefore (with_exit_blocks f) v s.block s.at → IsNeededBehind (with_exit_blocks f) v s → may_cross m (with_exit_blocks f) v ≡ true }
+{}
+
+/// A coroutine stays as splitting asks.
+pub fn exits_keep_splittable()
+    ensures { (m : Module) (k : ℕ) (f : Function) (begin : ℕ) → IsSplittable m k f begin → ArePhisEnteredByJumps f → IsSplittable m k (with_exit_blocks f) begin }
+{}
+
+/// It names no coro intrinsic but where it calls it, if it named none.
+pub fn exit_blocks_name_no_intrinsic()
+    ensures { (m : Module) (k : ℕ) (f : Function) → KeepsFunctionRules m k f → ArePhisEnteredByJumps f → NamesNoIntrinsic k f → NamesNoIntrinsic k (with_exit_blocks f) }
+{}
+
+/// The numbers of its frame fit their types as before.
+pub fn numbers_stay_small_where_exits_have_blocks()
+    ensures { (k : ℕ) (f : Function) (layout : Layout) → f.coroutine ≡ true → wrong_switch k f ≡ None → IsSmall (shape_of f layout) → IsSmall (shape_of (with_exit_blocks f) layout) }
+{}

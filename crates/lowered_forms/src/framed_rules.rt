@@ -1,0 +1,21 @@
+//! What is asked of coroutines so that their frames may be built, and that the framed form breaks no rule of functions.
+
+ghost use Rattle.std.specs.Prelude.{ℕ, List};
+ghost use Rattle.coroutine_frames.specs.declared.contents.Contents.{Contents};
+ghost use Rattle.frame_layout.specs.declared.layout.Layout.{Layout};
+ghost use Rattle.lowered_forms.specs.framed_rules.Buildable.{IsBuildable};
+ghost use Rattle.lowered_forms.specs.framed_shape.Passes.{IsKept, PassesFit};
+ghost use Rattle.ir_model.specs.declared.module.Function.{Function};
+ghost use Rattle.ir_model.specs.declared.module.Module.{Module};
+ghost use Rattle.spill_reload.specs.Framed.{celled, copied, placed};
+
+/// What the passes that build frames ask of each other holds of such a coroutine: slots that are copied are made before begin, and what lies in
+/// the frame is used behind it.
+pub fn frames_may_be_built()
+    ensures { (m : Module) (k : ℕ) (l : Layout) (f : Function) (c : Contents) (before : List ℕ) (begin : ℕ) → IsBuildable m k l f c before begin → PassesFit m k l f c before }
+{}
+
+/// So its framed form breaks none of the rules of functions, each of its phis names a label once, and its calls are what splitting asks.
+pub fn framed_forms_are_kept()
+    ensures { (m : Module) (k : ℕ) (l : Layout) (f : Function) (c : Contents) (before : List ℕ) (begin : ℕ) → IsBuildable m k l f c before begin → IsKept m k (placed l f c (copied f c (celled m f c) before)) begin }
+{}
