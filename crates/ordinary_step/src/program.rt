@@ -44,20 +44,16 @@ impl Program {
         ensures same_module { IfOk result (λ program. program.«module» ≡ code) }
         ensures same_answers { IfOk result (λ program. program.answers ≡ answers.now) }
     {
-        let functions = table_of(alloc, code.functions.as_slice())?;
-        let globals = table_of(alloc, code.globals.as_slice())?;
-        let declarations = table_of(alloc, code.declarations.as_slice())?;
-        let types = table_of(alloc, code.types.as_slice())?;
-        let tables = all_tables(alloc, code.functions.as_slice())?;
+        let found = tables_of(alloc, &code)?;
         let answers = copied_answers(alloc, answers)?;
         Ok(Program {
             module: code,
             answers,
-            functions,
-            globals,
-            declarations,
-            types,
-            tables,
+            functions: found.functions,
+            globals: found.globals,
+            declarations: found.declarations,
+            types: found.types,
+            tables: found.tables,
             pointer: IrType::pointer(),
         })
     }
@@ -164,6 +160,56 @@ impl Program {
             None => Value::Poison,
         }
     }
+}
+
+/// The tables of a module.
+#[derive(Drop)]
+struct Tables {
+    functions: NameTable,
+    globals: NameTable,
+    declarations: NameTable,
+    types: NameTable,
+    tables: Items<FunctionTable>,
+}
+
+fn tables_of(alloc: Global, code: &Module) -> Result<Tables, AllocError>
+    ensures functions { IfOk result (λ t. FindsFirst (λ f. f.name) code.now.functions t.functions) }
+    ensures globals { IfOk result (λ t. FindsFirst (λ g. g.name) code.now.globals t.globals) }
+    ensures declarations { IfOk result (λ t. FindsFirst (λ d. d.name) code.now.declarations t.declarations) }
+    ensures types { IfOk result (λ t. FindsFirst (λ i. i.name) code.now.types t.types) }
+    ensures tables { IfOk result (λ t. HaveTables code.now.functions t.tables) }
+{
+    Ok(Tables {
+        functions: functions_named(alloc, code)?,
+        globals: globals_named(alloc, code)?,
+        declarations: declarations_named(alloc, code)?,
+        types: types_named(alloc, code)?,
+        tables: all_tables(alloc, code.functions.as_slice())?,
+    })
+}
+
+fn functions_named(alloc: Global, code: &Module) -> Result<NameTable, AllocError>
+    ensures { IfOk result (λ t. FindsFirst (λ f. f.name) code.now.functions t) }
+{
+    table_of(alloc, code.functions.as_slice())
+}
+
+fn globals_named(alloc: Global, code: &Module) -> Result<NameTable, AllocError>
+    ensures { IfOk result (λ t. FindsFirst (λ g. g.name) code.now.globals t) }
+{
+    table_of(alloc, code.globals.as_slice())
+}
+
+fn declarations_named(alloc: Global, code: &Module) -> Result<NameTable, AllocError>
+    ensures { IfOk result (λ t. FindsFirst (λ d. d.name) code.now.declarations t) }
+{
+    table_of(alloc, code.declarations.as_slice())
+}
+
+fn types_named(alloc: Global, code: &Module) -> Result<NameTable, AllocError>
+    ensures { IfOk result (λ t. FindsFirst (λ i. i.name) code.now.types t) }
+{
+    table_of(alloc, code.types.as_slice())
 }
 
 fn copied_answers(alloc: Global, answers: &[i128]) -> Result<Items<i128>, AllocError>
