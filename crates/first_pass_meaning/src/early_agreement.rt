@@ -13,7 +13,7 @@ ghost use Rattle.first_pass_meaning.specs.save_agreement.SavesWritten.{saves_wri
 
 /// The first pass is three in a row: begin's value gets a name, uses of `coro.frame` become uses of it, and saves are
 /// written out.
-#[tactic(auto, using(crate::proofs::Composition::early_in_turn))]
+#[tactic(auto, using(crate::proofs::early_agreement::Composition::early_in_turn))]
 pub fn early_is_three_passes()
     ensures { (m : Module) → early_module m ≡ saves_written (renamed_module (named_module m)) }
 {}

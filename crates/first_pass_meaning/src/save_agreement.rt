@@ -15,43 +15,43 @@ ghost use Rattle.first_pass_meaning.specs.save_agreement.Spots.{back_of, front_o
 ghost use Rattle.first_pass_meaning.specs.save_agreement.Tokens.{HasNamedTokens};
 
 /// A function that is no coroutine stays as it is.
-#[tactic(auto, using(crate::proofs::Plain::plain_stays))]
+#[tactic(auto, using(crate::proofs::save_agreement::Plain::plain_stays))]
 pub fn plain_functions_stay()
     ensures { (f : Function) → f.coroutine ≡ false → saved_function f ≡ f }
 {}
 
 /// A path from one instruction to another is a path from where the first one stands to where what the other becomes begins.
-#[tactic(auto, using(crate::proofs::Laws::paths_kept))]
+#[tactic(auto, using(crate::proofs::save_agreement::Laws::paths_kept))]
 pub fn paths_are_kept()
     ensures { (f : Function) (avoided besides : List Point) (p q : Point) → AreAvoided (front_of f) (back_of f) avoided besides → Leads f avoided p q ↔ Leads (saved_function f) besides (back_of f p) (front_of f q) }
 {}
 
 /// The windows of the function are moved, and those of the written saves have no points.
-#[tactic(auto, using(crate::proofs::Saves::are_moved))]
+#[tactic(auto, using(crate::proofs::save_agreement::Saves::are_moved))]
 pub fn windows_are_moved()
     ensures { (f : Function) → HasNamedTokens f → AreMoved f (windows_of f) (windows_of (saved_function f)) }
 {}
 
 /// A branch leaves the windows that it left, moved.
-#[tactic(auto, using(crate::proofs::Laws::left_kept))]
+#[tactic(auto, using(crate::proofs::save_agreement::Laws::left_kept))]
 pub fn left_windows_are_moved()
     ensures { (f : Function) (p q : Point) → HasNamedTokens f → AreAllMoved f (filter (leaves p q) (windows_of f)) (filter (leaves (front_of f p) (front_of f q)) (windows_of (saved_function f))) }
 {}
 
 /// The ramp slots stay.
-#[tactic(auto, using(crate::proofs::Slots::same_ramp_slots))]
+#[tactic(auto, using(crate::proofs::save_agreement::Slots::same_ramp_slots))]
 pub fn ramp_slots_stay()
     ensures { (f : Function) → HasNamedTokens f → (a : ℕ) → has_name (facts_of (saved_function f)).ramp_slots a ≡ has_name (facts_of f).ramp_slots a }
 {}
 
 /// So does the promise.
-#[tactic(auto, using(crate::proofs::Slots::same_promise))]
+#[tactic(auto, using(crate::proofs::save_agreement::Slots::same_promise))]
 pub fn promise_stays()
     ensures { (f : Function) → HasNamedTokens f → promise_of (saved_function f) ≡ promise_of f }
 {}
 
 /// Markers of slots stay.
-#[tactic(auto, using(crate::proofs::Parts::markers_saved))]
+#[tactic(auto, using(crate::proofs::save_agreement::Parts::markers_saved))]
 pub fn markers_stay()
     ensures { (f : Function) (name : ℕ) → has_markers (saved_function f) name ≡ has_markers f name }
 {}

@@ -11,19 +11,19 @@ ghost use Rattle.first_pass_meaning.specs.sound_states.Named.{HasNamedLocals};
 ghost use Rattle.suspend_crossing.specs.Crossing.{AreCrossing};
 
 /// The values that cross suspends stay where uses of `coro.frame` are renamed.
-#[tactic(auto, using(crate::proofs::Renamed::crossing_renamed))]
+#[tactic(auto, using(crate::proofs::early_crossing::Renamed::crossing_renamed))]
 pub fn crossing_stays_renamed()
     ensures { (f : Function) (r : Renaming) → HasPlainNames f r → (all : List (ℕ × ℕ)) → AreCrossing f all ↔ AreCrossing (renamed_coroutine r f) all }
 {}
 
 /// They stay where saves are written out.
-#[tactic(auto, using(crate::proofs::Saved::crossing_saved))]
+#[tactic(auto, using(crate::proofs::early_crossing::Saved::crossing_saved))]
 pub fn crossing_stays_saved()
     ensures { (f : Function) → HasNamedLocals f → (all : List (ℕ × ℕ)) → AreCrossing f all ↔ AreCrossing (saved_function f) all }
 {}
 
 /// They stay where begin's value gets a name.
-#[tactic(auto, using(crate::proofs::Named::crossing_named))]
+#[tactic(auto, using(crate::proofs::early_crossing::Named::crossing_named))]
 pub fn crossing_stays_named()
     ensures { (f : Function) → HasNamedLocals f → (all : List (ℕ × ℕ)) → AreCrossing f all ↔ AreCrossing (with_begin_name f) all }
 {}

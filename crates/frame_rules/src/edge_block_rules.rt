@@ -4,9 +4,9 @@ ghost use Rattle.std.specs.Prelude.{◌≡◌, ◌↔◌, ℕ, true, List, None}
 ghost use Rattle.coro_shape.specs.Switches.{wrong_switch};
 ghost use Rattle.frame_rules.specs.edge_block_rules.Phis.{ArePhisEnteredByJumps};
 ghost use Rattle.frame_rules.specs.edge_block_rules.Returns.{AreSwitched, HaveOwnBlocks, HaveOwnReturns};
-ghost use Rattle.edge_block_meaning.specs.edge_agreement.Spots.{moved};
+ghost use Rattle.frame_rules.specs.edge_agreement.Spots.{moved};
 ghost use Rattle.edge_blocks.specs.EdgeBlocks.{with_edge_blocks};
-ghost use Rattle.edge_block_meaning.specs.edge_states.MovedState.{edges_split};
+ghost use Rattle.frame_rules.specs.edge_states.MovedState.{edges_split};
 ghost use Rattle.frame_rules.specs.function_rules.Kept.{AllKeepFunctionRules, KeepsFunctionRules};
 ghost use Rattle.ir_model.specs.declared.module.Function.{Function};
 ghost use Rattle.ir_model.specs.declared.module.Module.{Module};

@@ -292,7 +292,7 @@ all_of_each t u h [] e = refl
 all_of_each t u h (x ∷ xs) e =
     both (u x) (list_all u xs) (h x (first_of_both (t x) (list_all t xs) e)) (all_of_each t u h xs (second_of_both (t x) (list_all t xs) e))
 
-split_calls_id : (ls : Layouts) (m : Module) → calls_id_alone (split_module ls m) ≡ true
+pub split_calls_id : (ls : Layouts) (m : Module) → calls_id_alone (split_module ls m) ≡ true
 split_calls_id ls m =
     all_of_each is_split is_fine (λ f e. second_of_both (not f.coroutine) (is_fine f) e) (split_functions ls.coroutines m.functions)
     (functions_fine ls.coroutines m.functions)
@@ -300,11 +300,13 @@ split_calls_id ls m =
 abbrev is_ordinary : Function → Bool
 is_ordinary f = not f.coroutine
 
+pub split_all_plain : (ls : Layouts) (m : Module) → list_all (λ f. not f.coroutine) (split_module ls m).functions ≡ true
+split_all_plain ls m =
+    all_of_each is_split is_ordinary (λ f e. first_of_both (not f.coroutine) (is_fine f) e) (split_functions ls.coroutines m.functions)
+    (functions_fine ls.coroutines m.functions)
+
 all_ordinary : (ls : Layouts) (m : Module) → list_all is_ordinary (lowered_module ls m).functions ≡ true
-all_ordinary ls m =
-    all_mapped is_ordinary clean_function (λ f e. e) (split_functions ls.coroutines m.functions)
-    (all_of_each is_split is_ordinary (λ f e. first_of_both (not f.coroutine) (is_fine f) e) (split_functions ls.coroutines m.functions)
-    (functions_fine ls.coroutines m.functions))
+all_ordinary ls m = all_mapped is_ordinary clean_function (λ f e. e) (split_functions ls.coroutines m.functions) (split_all_plain ls m)
 
 lowered_has_none : (ls : Layouts) (m : Module) → has_no_coroutine (lowered_module ls m) ≡ true
 lowered_has_none ls m = both _ _ (all_ordinary ls m) (module_freed (split_module ls m) (split_calls_id ls m))

@@ -1,2 +1,3 @@
 pub mod Lowering
 pub mod NoCoroutine
+pub mod NoRule

@@ -3,6 +3,7 @@
 ghost use Rattle.std.specs.Prelude.{◌≡◌, IfOk, map, slice_get};
 ghost use Rattle.lower_pipeline.specs.Lowering.{IsDone, IsLowering, IsLoweringBy, IsModuleLowering, frame_line, lowered_by, lowered_text, name_of};
 ghost use Rattle.lower_pipeline.specs.NoCoroutine.{HasNoCoroutine};
+ghost use Rattle.lower_pipeline.specs.NoRule.{BreaksNoRule};
 
 use crate::passes::{framed_module, lowered_module};
 use coro_base::{Data, FuncId, Items, Name, Options, Place, Rule};
@@ -131,11 +132,13 @@ pub fn lower_module(alloc: Global, source: Module, share: bool) -> Result<Loweri
     lower_by(alloc, source, acceptance)
 }
 
-/// Lowers a text. What is lowered has no coroutine left, and neither calls nor declares a coro intrinsic.
-#[tactic(auto, using(crate::proofs::Told::syntax_is_told, crate::proofs::Told::module_is_told, crate::proofs::NoCoroutine::lowering_has_none))]
+/// Lowers a text. What is lowered has no coroutine left, neither calls nor declares a coro intrinsic, and breaks none of the rules of
+/// modules without coroutines.
+#[tactic(auto, using(crate::proofs::Told::syntax_is_told, crate::proofs::Told::module_is_told, crate::proofs::NoCoroutine::lowering_has_none, crate::proofs::NoRule::lowering_breaks_none))]
 pub fn lower(alloc: Global, text: &[u8], options: Options) -> Result<Lowering, AllocError>
     ensures lowered { IfOk result (λ l. IsLowering options text.now l) }
     ensures plain { IfOk result (λ l. HasNoCoroutine l) }
+    ensures accepted { IfOk result (λ l. BreaksNoRule l) }
 {
     match parse(alloc, text)? {
         Parsed::Syntax { items } => Ok(Lowering::Syntax(items)),

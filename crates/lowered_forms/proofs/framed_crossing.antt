@@ -3,6 +3,7 @@ pub mod Ending
 pub mod Ways
 pub mod Follows
 pub mod Apart
+pub mod Others
 pub mod Steps
 pub mod Fetched
 pub mod Turned

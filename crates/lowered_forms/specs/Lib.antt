@@ -5,8 +5,8 @@ pub mod framed_crossing
 pub mod framed_rules
 pub mod framed_shape
 pub mod lowered_rules
-pub mod lowered_sources
 pub mod part_uses
 pub mod split_rules
 pub mod unnamed_intrinsics
+pub mod unused_frames
 pub mod woven_shape

@@ -19,4 +19,5 @@ pub mod row_names;
 pub mod slots_behind;
 pub mod split_rules;
 pub mod unnamed_intrinsics;
+pub mod unused_frames;
 pub mod woven_shape;

@@ -12,19 +12,17 @@ ghost use Rattle.ir_check.specs.Refused.{IsRefused};
 ghost use Rattle.ir_grammar.specs.Text.{StandsFor};
 ghost use Rattle.ir_model.specs.declared.module.Module.{Module};
 ghost use Rattle.lowered_forms.specs.lowered_rules.Ready.{IsReady};
-ghost use Rattle.lowered_forms.specs.lowered_sources.Frames.{AllFramesUnneeded};
 ghost use Rattle.name_rules.specs.declared.stage.Stage.{Stage};
 ghost use Rattle.spill_reload.specs.Framed.{IsFramedForm};
 
-/// A source that a text stands for and that breaks no rule is ready for splitting, once saves are written out and frames are built,
-/// where what `coro.frame` makes isn't needed behind suspends.
+/// A source that a text stands for and that breaks no rule is ready for splitting, once saves are written out and frames are built.
 pub fn accepted_sources_are_ready()
-    ensures { (text : List ℕ) (m : Module) → StandsFor text m → IsRefused Stage.Source m None → (share : Bool) (layouts : Layouts) → AreLayouts m share (Ok layouts) → (n : Module) → IsFramedForm layouts (early_module m) n → AllFramesUnneeded n → IsReady layouts n }
+    ensures { (text : List ℕ) (m : Module) → StandsFor text m → IsRefused Stage.Source m None → (share : Bool) (layouts : Layouts) → AreLayouts m share (Ok layouts) → (n : Module) → IsFramedForm layouts (early_module m) n → IsReady layouts n }
 {}
 
 /// So what is lowered of it is accepted as a module without coroutines, where no function is a coroutine and `coro.id` alone of the
 /// coro intrinsics is called once it is split.
 pub fn lowered_sources_are_accepted()
-    ensures { (text : List ℕ) (m : Module) → StandsFor text m → IsRefused Stage.Source m None → (share : Bool) (layouts : Layouts) → AreLayouts m share (Ok layouts) → (n : Module) → IsFramedForm layouts (early_module m) n → AllFramesUnneeded n
+    ensures { (text : List ℕ) (m : Module) → StandsFor text m → IsRefused Stage.Source m None → (share : Bool) (layouts : Layouts) → AreLayouts m share (Ok layouts) → (n : Module) → IsFramedForm layouts (early_module m) n
         → list_all (λ f. not f.coroutine) (split_module layouts n).functions ≡ true → calls_id_alone (split_module layouts n) ≡ true → IsRefused Stage.Plain (clean_module (split_module layouts n)) None }
 {}

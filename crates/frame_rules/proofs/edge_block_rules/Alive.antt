@@ -1,12 +1,12 @@
 -- A slot may be alive at a point exactly where it may be at the point to which that is moved when edges have blocks.
 use Rattle.std.proofs.Common.{Bool, List, [], ap, false, map, refl, subst, sym, true, ℕ, ◌++◌, ◌∙◌, ◌∷◌, ◌≡◌}
 use Rattle.std.specs.Prelude.{◌↔◌}
-use Rattle.edge_block_meaning.proofs.edge_agreement.Edges.{moved_apart, threads}
-use Rattle.edge_block_meaning.proofs.edge_agreement.Points.{has_map, map_has, points_moved}
-use Rattle.edge_block_meaning.proofs.edge_agreement.Threads.{paths_kept}
-use Rattle.edge_block_meaning.specs.edge_agreement.Labels.{HasNamedLabels}
-use Rattle.edge_block_meaning.specs.edge_agreement.Spots.{moved}
-use Rattle.edge_block_meaning.specs.edge_agreement.Threads.{AreAvoidedToo}
+use Rattle.frame_rules.proofs.edge_agreement.Edges.{moved_apart, threads}
+use Rattle.frame_rules.proofs.edge_agreement.Points.{has_map, map_has, points_moved}
+use Rattle.frame_rules.proofs.edge_agreement.Threads.{paths_kept}
+use Rattle.frame_rules.specs.edge_agreement.Labels.{HasNamedLabels}
+use Rattle.frame_rules.specs.edge_agreement.Spots.{moved}
+use Rattle.frame_rules.specs.edge_agreement.Threads.{AreAvoidedToo}
 use Rattle.edge_blocks.specs.EdgeBlocks.{with_edge_blocks}
 use Rattle.ir_model.specs.declared.instr.Instr.{Instr}
 use Rattle.ir_model.specs.declared.module.Function.{Function}

@@ -5,9 +5,9 @@ use Rattle.std.specs.Prelude.{slice_get}
 use Rattle.coro_base.specs.declared.outcome.Place.{Place}
 use Rattle.first_pass_meaning.proofs.early_agreement.Switches.{none_part}
 use Rattle.first_pass_rules.proofs.early_path_rules.Holding.{HoldsIn, of_parts, part_none, to_parts}
-use Rattle.edge_block_meaning.proofs.edge_agreement.Blocks.{spot}
-use Rattle.edge_block_meaning.proofs.edge_agreement.Edges.{edges_of_block}
-use Rattle.edge_block_meaning.specs.edge_agreement.Spots.{table_of}
+use Rattle.frame_rules.proofs.edge_agreement.Blocks.{spot}
+use Rattle.frame_rules.proofs.edge_agreement.Edges.{edges_of_block}
+use Rattle.frame_rules.specs.edge_agreement.Spots.{table_of}
 use Rattle.frame_rules.proofs.edge_block_rules.Homes.{IsEdge, IsOwn, entry_same, home, own_block}
 use Rattle.edge_blocks.specs.EdgeBlocks.{edge_block, split_phi, with_edge_blocks}
 use Rattle.edge_blocks.specs.Edges.{edges_at}

@@ -1,12 +1,12 @@
 -- Where the cases of switches lead when edges have blocks.
 use Rattle.std.proofs.Common.{Bool, List, [], false, if◌then◌else◌, inl, inr, map, refl, subst, sym, true, ℕ, ◌∷◌}
-use Rattle.edge_block_meaning.proofs.edge_agreement.Behind.{case_split}
-use Rattle.edge_block_meaning.proofs.edge_agreement.Legs.{term_split}
-use Rattle.edge_block_meaning.specs.edge_agreement.Labels.{AreSplit, IsSplit}
+use Rattle.frame_rules.proofs.edge_agreement.Behind.{case_split}
+use Rattle.frame_rules.proofs.edge_agreement.Legs.{term_split}
+use Rattle.frame_rules.specs.edge_agreement.Labels.{AreSplit, IsSplit}
 use Rattle.edge_blocks.specs.EdgeBlocks.{split_label, split_term}
 use Rattle.edge_blocks.specs.Edges.{after_edge, term_edges}
 use Rattle.edge_blocks.specs.declared.edge.Edge.{Edge}
-use Rattle.edge_block_meaning.specs.edge_states.MovedState.{IsSwitch}
+use Rattle.frame_rules.specs.edge_states.MovedState.{IsSwitch}
 use Rattle.flow_solver.specs.Paths.{IsListed}
 use Rattle.ir_model.specs.declared.instr.Case.{Case}
 use Rattle.ir_model.specs.declared.instr.Terminator.{Terminator}

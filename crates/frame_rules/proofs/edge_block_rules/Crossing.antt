@@ -5,14 +5,14 @@ use Rattle.std.specs.Prelude.{◌↔◌, slice_get}
 use Rattle.first_pass_meaning.proofs.early_agreement.Outside.{where_pass}
 use Rattle.first_pass_meaning.specs.early_agreement.Regular.{passes}
 use Rattle.first_pass_rules.proofs.early_crossing.Crossing.{crossing_same}
-use Rattle.edge_block_meaning.proofs.edge_agreement.Blocks.{own_number, position_edge, spot}
-use Rattle.edge_block_meaning.proofs.edge_agreement.Edges.{edges_of_block}
-use Rattle.edge_block_meaning.proofs.edge_agreement.Points.{points_moved}
-use Rattle.edge_block_meaning.proofs.edge_agreement.Tables.{flag_at}
-use Rattle.edge_block_meaning.proofs.edge_agreement.Whole.{first_moved}
-use Rattle.edge_block_meaning.specs.edge_agreement.Labels.{HasNamedLabels, IsSplit}
-use Rattle.edge_block_meaning.specs.edge_agreement.Phis.{AreLabelsOnce, ArePhisForEdges}
-use Rattle.edge_block_meaning.specs.edge_agreement.Spots.{behind_edges, moved, table_of}
+use Rattle.frame_rules.proofs.edge_agreement.Blocks.{own_number, position_edge, spot}
+use Rattle.frame_rules.proofs.edge_agreement.Edges.{edges_of_block}
+use Rattle.frame_rules.proofs.edge_agreement.Points.{points_moved}
+use Rattle.frame_rules.proofs.edge_agreement.Tables.{flag_at}
+use Rattle.frame_rules.proofs.edge_agreement.Whole.{first_moved}
+use Rattle.frame_rules.specs.edge_agreement.Labels.{HasNamedLabels, IsSplit}
+use Rattle.frame_rules.specs.edge_agreement.Phis.{AreLabelsOnce, ArePhisForEdges}
+use Rattle.frame_rules.specs.edge_agreement.Spots.{behind_edges, moved, table_of}
 use Rattle.frame_rules.proofs.edge_block_rules.CaseLabels.{switch_split, switch_target}
 use Rattle.frame_rules.proofs.edge_block_rules.EdgeUses.{label_there, taken_by, used_forth, used_home}
 use Rattle.frame_rules.proofs.edge_block_rules.Edges.{phis_there}
@@ -21,7 +21,7 @@ use Rattle.frame_rules.proofs.edge_block_rules.Standing.{branch_forth, branch_ho
 use Rattle.edge_blocks.specs.EdgeBlocks.{edge_block, split_blocks, split_phi, with_edge_blocks}
 use Rattle.edge_blocks.specs.Edges.{block_edges, edges_at, ends_in_suspend, has_phis, phi_flags}
 use Rattle.edge_blocks.specs.declared.edge.Edge.{Edge}
-use Rattle.edge_block_meaning.specs.edge_states.MovedState.{IsSwitch, KeepsEdges}
+use Rattle.frame_rules.specs.edge_states.MovedState.{IsSwitch, KeepsEdges}
 use Rattle.flow_solver.specs.Paths.{IsListed}
 use Rattle.ir_model.specs.Names.{position_of}
 use Rattle.ir_model.specs.declared.instr.Instr.{Instr}

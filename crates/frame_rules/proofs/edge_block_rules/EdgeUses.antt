@@ -5,11 +5,11 @@ use Rattle.std.specs.List.{cons_option}
 use Rattle.std.specs.Prelude.{filter_map, slice_get}
 use Rattle.definite_use.specs.Uses.{local_of}
 use Rattle.first_pass_rules.proofs.early_rules.Locals.{listed_either, listed_left, listed_right}
-use Rattle.edge_block_meaning.proofs.edge_agreement.Blocks.{position_edge, spot}
-use Rattle.edge_block_meaning.proofs.edge_agreement.Edges.{edges_of_block}
-use Rattle.edge_block_meaning.specs.edge_agreement.Labels.{HasNamedLabels}
-use Rattle.edge_block_meaning.specs.edge_agreement.Phis.{AreLabelsOnce, ArePhisForEdges, IsForEdge}
-use Rattle.edge_block_meaning.specs.edge_agreement.Spots.{table_of}
+use Rattle.frame_rules.proofs.edge_agreement.Blocks.{position_edge, spot}
+use Rattle.frame_rules.proofs.edge_agreement.Edges.{edges_of_block}
+use Rattle.frame_rules.specs.edge_agreement.Labels.{HasNamedLabels}
+use Rattle.frame_rules.specs.edge_agreement.Phis.{AreLabelsOnce, ArePhisForEdges, IsForEdge}
+use Rattle.frame_rules.specs.edge_agreement.Spots.{table_of}
 use Rattle.frame_rules.proofs.edge_block_rules.Edges.{first_operand, label_below}
 use Rattle.frame_rules.proofs.edge_block_rules.Homes.{IsEdge, IsOwn, edge_from, home, own_block, own_there}
 use Rattle.frame_rules.proofs.edge_block_rules.Labels.{edge_to_label, label_to_edge}

@@ -7,12 +7,12 @@ use Rattle.coro_base.specs.declared.outcome.Place.{Place}
 use Rattle.first_pass_meaning.proofs.early_agreement.Switches.{none_part}
 use Rattle.first_pass_rules.proofs.early_local_rules.Rules.{and_both, and_first, and_second, holds}
 use Rattle.first_pass_rules.proofs.early_path_rules.Holding.{HoldsIn, of_parts, part_none, to_parts}
-use Rattle.edge_block_meaning.proofs.edge_agreement.Blocks.{spot}
-use Rattle.edge_block_meaning.proofs.edge_agreement.Edges.{edges_of_block}
-use Rattle.edge_block_meaning.proofs.edge_agreement.Tables.{flag_at, one_edge}
-use Rattle.edge_block_meaning.specs.edge_agreement.Labels.{HasLabelsBelow, HasNamedLabels, IsAmong}
-use Rattle.edge_block_meaning.specs.edge_agreement.Phis.{AreLabelsOnce}
-use Rattle.edge_block_meaning.specs.edge_agreement.Spots.{table_of}
+use Rattle.frame_rules.proofs.edge_agreement.Blocks.{spot}
+use Rattle.frame_rules.proofs.edge_agreement.Edges.{edges_of_block}
+use Rattle.frame_rules.proofs.edge_agreement.Tables.{flag_at, one_edge}
+use Rattle.frame_rules.specs.edge_agreement.Labels.{HasLabelsBelow, HasNamedLabels, IsAmong}
+use Rattle.frame_rules.specs.edge_agreement.Phis.{AreLabelsOnce}
+use Rattle.frame_rules.specs.edge_agreement.Spots.{table_of}
 use Rattle.frame_rules.proofs.edge_block_rules.Homes.{IsEdge, IsOwn, edge_behind, edge_from, edge_target, edge_there, entry_same, home, label_behind, own_block, own_there, target_home}
 use Rattle.frame_rules.proofs.edge_block_rules.Labels.{LeadsTo, among_all, any_at, edge_to_label, label_to_edge, labels_all, at_any}
 use Rattle.edge_blocks.specs.EdgeBlocks.{edge_block, incoming_on, incoming_with, operand_from, split_phi, with_edge_blocks}
@@ -20,7 +20,7 @@ use Rattle.edge_blocks.specs.Edges.{edges_at, edges_of, has_phis, phi_flags}
 use Rattle.edge_blocks.specs.declared.edge.Edge.{Edge}
 use Rattle.edge_rules.specs.Edges.{breaks_edges, differs, first_wrong_edge, fits_edges, has, incoming_labels, into_block, is_empty, leads, predecessors}
 use Rattle.edge_rules.specs.Operands.{same_operand}
-use Rattle.edge_block_meaning.proofs.edge_sources.Rules.{labels_spelt, none_at}
+use Rattle.frame_rules.proofs.edge_sources.Rules.{labels_spelt, none_at}
 use Rattle.flow_solver.specs.Paths.{IsListed}
 use Rattle.function_parts.specs.Parts.{Part, parts_of}
 use Rattle.ir_model.specs.declared.instr.Incoming.{Incoming}

@@ -5,11 +5,11 @@ use Rattle.std.proofs.lemmas.List.{length-map}
 use Rattle.std.proofs.lemmas.Option.{slice_get-map, slice_get_within}
 use Rattle.std.specs.Prelude.{slice_get}
 use Rattle.first_pass_rules.proofs.early_local_rules.Woven.{other_number}
-use Rattle.edge_block_meaning.proofs.edge_agreement.Blocks.{number, own_number, place, place_apart, position_edge, spot, get_block, get_edge}
-use Rattle.edge_block_meaning.proofs.edge_agreement.Edges.{edge_apart, edges_of_block, target_named}
-use Rattle.edge_block_meaning.proofs.edge_agreement.Legs.{Leg, edges_by_legs, leg_edges, legs, numbered_at, targets_by_legs, term_numbered, term_split}
-use Rattle.edge_block_meaning.specs.edge_agreement.Labels.{AreSplit, HasNamedLabels, IsSplit}
-use Rattle.edge_block_meaning.specs.edge_agreement.Spots.{behind_edges, block_and_edges, table_of}
+use Rattle.frame_rules.proofs.edge_agreement.Blocks.{number, own_number, place, place_apart, position_edge, spot, get_block, get_edge}
+use Rattle.frame_rules.proofs.edge_agreement.Edges.{edge_apart, edges_of_block, target_named}
+use Rattle.frame_rules.proofs.edge_agreement.Legs.{Leg, edges_by_legs, leg_edges, legs, numbered_at, targets_by_legs, term_numbered, term_split}
+use Rattle.frame_rules.specs.edge_agreement.Labels.{AreSplit, HasNamedLabels, IsSplit}
+use Rattle.frame_rules.specs.edge_agreement.Spots.{behind_edges, block_and_edges, table_of}
 use Rattle.edge_blocks.specs.EdgeBlocks.{edge_block, split_block, split_blocks, with_edge_blocks}
 use Rattle.edge_blocks.specs.Edges.{block_edges, ends_in_suspend, is_split, phi_flags}
 use Rattle.edge_blocks.specs.declared.edge.Edge.{Edge}

@@ -1,11 +1,11 @@
 -- Blocks on edges break none of the rules of functions.
 use Rattle.std.proofs.Common.{ℕ, None, true, ◌≡◌, List}
 use Rattle.std.specs.Prelude.{◌↔◌}
-use Rattle.edge_block_meaning.specs.edge_agreement.Spots.{moved}
+use Rattle.frame_rules.specs.edge_agreement.Spots.{moved}
 use Rattle.coro_shape.specs.Switches.{wrong_switch}
 use Rattle.first_pass_rules.proofs.early_rules.Locals.{own_label}
-use Rattle.edge_block_meaning.specs.edge_agreement.Labels.{HasNamedLabels}
-use Rattle.edge_block_meaning.specs.edge_agreement.Phis.{AreLabelsOnce}
+use Rattle.frame_rules.specs.edge_agreement.Labels.{HasNamedLabels}
+use Rattle.frame_rules.specs.edge_agreement.Phis.{AreLabelsOnce}
 use Rattle.frame_rules.proofs.edge_block_rules.Alive.{alive_stays}
 use Rattle.frame_rules.proofs.edge_block_rules.Crossing.{crossing_stays}
 use Rattle.frame_rules.proofs.edge_block_rules.Edges.{edges_kept}
@@ -18,8 +18,8 @@ use Rattle.frame_rules.proofs.edge_block_rules.Uses.{uses_kept}
 use Rattle.frame_rules.specs.edge_block_rules.Phis.{ArePhisEnteredByJumps}
 use Rattle.frame_rules.specs.edge_block_rules.Returns.{HaveOwnBlocks, HaveOwnReturns}
 use Rattle.edge_blocks.specs.EdgeBlocks.{with_edge_blocks}
-use Rattle.edge_block_meaning.proofs.edge_sources.Known.{labels_known}
-use Rattle.edge_block_meaning.proofs.edge_sources.Rules.{rules_kept as keeps_edges}
+use Rattle.frame_rules.proofs.edge_sources.Known.{labels_known}
+use Rattle.frame_rules.proofs.edge_sources.Rules.{rules_kept as keeps_edges}
 use Rattle.frame_rules.specs.function_rules.Kept.{KeepsFunctionRules}
 use Rattle.ir_model.specs.declared.module.Function.{Function}
 use Rattle.ir_model.specs.declared.module.Module.{Module}

@@ -5,16 +5,16 @@ use Rattle.std.specs.List.{cons_option, list_all, list_any}
 use Rattle.std.specs.Prelude.{filter_map, slice_get}
 use Rattle.first_pass_rules.proofs.early_local_rules.Defined.{label_defined}
 use Rattle.first_pass_rules.proofs.early_local_rules.Rules.{and_both, and_first, and_second}
-use Rattle.edge_block_meaning.proofs.edge_agreement.Blocks.{number, spot}
-use Rattle.edge_block_meaning.proofs.edge_agreement.Edges.{edges_of_block}
-use Rattle.edge_block_meaning.proofs.edge_agreement.Tables.{among_filter, edge_among, filter_among, leads_to, table_at}
-use Rattle.edge_block_meaning.specs.edge_agreement.Labels.{IsAmong}
-use Rattle.edge_block_meaning.specs.edge_agreement.Spots.{behind_edges, table_of}
+use Rattle.frame_rules.proofs.edge_agreement.Blocks.{number, spot}
+use Rattle.frame_rules.proofs.edge_agreement.Edges.{edges_of_block}
+use Rattle.frame_rules.proofs.edge_agreement.Tables.{among_filter, edge_among, filter_among, leads_to, table_at}
+use Rattle.frame_rules.specs.edge_agreement.Labels.{IsAmong}
+use Rattle.frame_rules.specs.edge_agreement.Spots.{behind_edges, table_of}
 use Rattle.frame_rules.proofs.edge_block_rules.Homes.{IsTarget, edge_target, edge_there, own_block, target_home}
 use Rattle.edge_blocks.specs.EdgeBlocks.{edge_block, incoming_on, incoming_with, operand_from, split_blocks, with_edge_blocks}
 use Rattle.edge_blocks.specs.Edges.{block_edges, edges_at, edges_by, edges_of, phi_flags}
 use Rattle.edge_blocks.specs.declared.edge.Edge.{Edge}
-use Rattle.edge_block_meaning.proofs.edge_sources.Rules.{labels_spelt, all_at}
+use Rattle.frame_rules.proofs.edge_sources.Rules.{labels_spelt, all_at}
 use Rattle.flow_solver.specs.Paths.{IsListed}
 use Rattle.function_parts.specs.Contents.{ending_labels}
 use Rattle.ir_model.specs.declared.instr.Incoming.{Incoming}

@@ -7,9 +7,9 @@ use Rattle.first_pass_meaning.proofs.early_agreement.Switches.{none_part}
 use Rattle.first_pass_rules.proofs.early_local_rules.Rules.{and_both, and_first, and_second, holds}
 use Rattle.first_pass_rules.specs.early_local_rules.Local.{BreaksNoLocalRuleIn}
 use Rattle.first_pass_rules.proofs.early_path_rules.Holding.{of_parts}
-use Rattle.edge_block_meaning.proofs.edge_agreement.Blocks.{own_number}
-use Rattle.edge_block_meaning.specs.edge_agreement.Labels.{HasLabelsBelow, HasNamedLabels}
-use Rattle.edge_block_meaning.specs.edge_agreement.Spots.{table_of}
+use Rattle.frame_rules.proofs.edge_agreement.Blocks.{own_number}
+use Rattle.frame_rules.specs.edge_agreement.Labels.{HasLabelsBelow, HasNamedLabels}
+use Rattle.frame_rules.specs.edge_agreement.Spots.{table_of}
 use Rattle.frame_rules.proofs.edge_block_rules.Carried.{AreAlikePlaced, Carries, carried, on_instrs}
 use Rattle.frame_rules.proofs.edge_block_rules.Homes.{own_block}
 use Rattle.frame_rules.proofs.edge_block_rules.Labels.{edge_target_known, incoming_known, targets_known}

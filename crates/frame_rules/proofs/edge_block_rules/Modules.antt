@@ -4,7 +4,7 @@ use Rattle.std.proofs.lemmas.Option.{slice_get-map}
 use Rattle.std.specs.Prelude.{slice_get}
 use Rattle.frame_rules.proofs.edge_block_rules.Kept.{rules_kept}
 use Rattle.edge_blocks.specs.EdgeBlocks.{with_edge_blocks}
-use Rattle.edge_block_meaning.specs.edge_states.MovedState.{edge_function, edges_split}
+use Rattle.frame_rules.specs.edge_states.MovedState.{edge_function, edges_split}
 use Rattle.frame_rules.proofs.function_rules.Signatures.{go_by_signatures}
 use Rattle.frame_rules.specs.function_rules.Kept.{AllKeepFunctionRules, KeepsFunctionRules}
 use Rattle.frame_rules.specs.function_rules.Signatures.{HaveSameSignatures, heading}

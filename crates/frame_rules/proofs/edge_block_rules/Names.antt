@@ -5,12 +5,12 @@ use Rattle.first_pass_rules.proofs.early_local_rules.Names.{numbers}
 use Rattle.first_pass_rules.proofs.early_local_rules.Woven.{Ends, New, Woven, apart_names, apart_woven, joined_woven, listed_woven, none_twice, same_woven}
 use Rattle.first_pass_rules.proofs.early_rules.Locals.{Apart, block_names, made_by, names_are, phi_names, row_of}
 use Rattle.first_pass_rules.specs.early_rules.Named.{HasTabledLocals}
-use Rattle.edge_block_meaning.proofs.edge_agreement.Legs.{AreNumbered, term_numbered}
-use Rattle.edge_block_meaning.specs.edge_agreement.Spots.{behind_edges, table_of}
+use Rattle.frame_rules.proofs.edge_agreement.Legs.{AreNumbered, term_numbered}
+use Rattle.frame_rules.specs.edge_agreement.Spots.{behind_edges, table_of}
 use Rattle.edge_blocks.specs.EdgeBlocks.{edge_block, edge_names, split_block, split_blocks, split_phi, with_edge_blocks}
 use Rattle.edge_blocks.specs.Edges.{block_edges, edges_at, edges_by, edges_of, ends_in_suspend, phi_flags}
 use Rattle.edge_blocks.specs.declared.edge.Edge.{Edge}
-use Rattle.edge_block_meaning.proofs.edge_states.Parts.{names_length}
+use Rattle.frame_rules.proofs.edge_states.Parts.{names_length}
 use Rattle.flow_solver.specs.Paths.{IsListed}
 use Rattle.function_parts.specs.Locals.{locals_of}
 use Rattle.frame_rules.proofs.function_rules.Tabled.{numbers_below, tabled_by}

@@ -2,7 +2,7 @@
 use Rattle.std.proofs.Common.{Bool, List, None, Option, [], ap, length, map, refl, sym, ℕ, ◌++◌, ◌∙◌, ◌∷◌, ◌≡◌}
 use Rattle.std.specs.Prelude.{is_some}
 use Rattle.first_pass_rules.proofs.early_local_rules.Defined.{value_defined}
-use Rattle.edge_block_meaning.specs.edge_agreement.Spots.{behind_edges, table_of}
+use Rattle.frame_rules.specs.edge_agreement.Spots.{behind_edges, table_of}
 use Rattle.edge_blocks.specs.EdgeBlocks.{edge_block, split_block, split_blocks, split_phi, with_edge_blocks}
 use Rattle.edge_blocks.specs.Edges.{block_edges, edges_at, phi_flags}
 use Rattle.edge_blocks.specs.declared.edge.Edge.{Edge}

@@ -3,10 +3,10 @@ use Rattle.std.proofs.Common.{Bool, List, None, Option, Some, [], ap, arith, fal
 use Rattle.std.proofs.lemmas.Option.{slice_get-map}
 use Rattle.std.specs.List.{cons_option}
 use Rattle.std.specs.Prelude.{filter_map, slice_get}
-use Rattle.edge_block_meaning.proofs.edge_agreement.Tables.{AreLabelled, all_labelled, leads_to, table_at}
-use Rattle.edge_block_meaning.specs.edge_agreement.Labels.{HasLabelsBelow, HasNamedLabels}
-use Rattle.edge_block_meaning.specs.edge_agreement.Phis.{AreLabelsOnce}
-use Rattle.edge_block_meaning.specs.edge_agreement.Spots.{table_of}
+use Rattle.frame_rules.proofs.edge_agreement.Tables.{AreLabelled, all_labelled, leads_to, table_at}
+use Rattle.frame_rules.specs.edge_agreement.Labels.{HasLabelsBelow, HasNamedLabels}
+use Rattle.frame_rules.specs.edge_agreement.Phis.{AreLabelsOnce}
+use Rattle.frame_rules.specs.edge_agreement.Spots.{table_of}
 use Rattle.frame_rules.proofs.edge_block_rules.Edges.{led_by_edge}
 use Rattle.frame_rules.proofs.edge_block_rules.Homes.{IsEdge, IsOwn, home}
 use Rattle.frame_rules.specs.edge_block_rules.Phis.{ArePhisEnteredByJumps}

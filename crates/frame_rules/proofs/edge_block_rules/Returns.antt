@@ -1,13 +1,13 @@
 -- Where edges have blocks, the resume and destroy edges of each suspend lead to blocks of their own.
 use Rattle.std.proofs.Common.{Bool, List, Some, [], ap, arith, false, if◌then◌else◌, length, map, refl, subst, suc, sym, true, zero, ℕ, ⊎_elim, ◌++◌, ◌+◌, ◌<◌, ◌∙◌, ◌∷◌, ◌≡◌, ◌≤◌, ◌⊎◌, inl, inr, unwrap_or}
 use Rattle.std.specs.Prelude.{slice_get}
-use Rattle.edge_block_meaning.proofs.edge_agreement.Blocks.{own_number, spot}
-use Rattle.edge_block_meaning.proofs.edge_agreement.Edges.{edge_spot, edges_of_block, target_named}
-use Rattle.edge_block_meaning.proofs.edge_agreement.Legs.{Leg, labels_by_legs, leg_labels, legs, targets_by_legs}
-use Rattle.edge_block_meaning.proofs.edge_agreement.Tables.{edge_among, labels_apart, one_edge}
-use Rattle.edge_block_meaning.specs.edge_agreement.Labels.{HasNamedLabels, IsAmong}
-use Rattle.edge_block_meaning.specs.edge_agreement.Phis.{AreLabelsOnce}
-use Rattle.edge_block_meaning.specs.edge_agreement.Spots.{table_of}
+use Rattle.frame_rules.proofs.edge_agreement.Blocks.{own_number, spot}
+use Rattle.frame_rules.proofs.edge_agreement.Edges.{edge_spot, edges_of_block, target_named}
+use Rattle.frame_rules.proofs.edge_agreement.Legs.{Leg, labels_by_legs, leg_labels, legs, targets_by_legs}
+use Rattle.frame_rules.proofs.edge_agreement.Tables.{edge_among, labels_apart, one_edge}
+use Rattle.frame_rules.specs.edge_agreement.Labels.{HasNamedLabels, IsAmong}
+use Rattle.frame_rules.specs.edge_agreement.Phis.{AreLabelsOnce}
+use Rattle.frame_rules.specs.edge_agreement.Spots.{table_of}
 use Rattle.frame_rules.proofs.edge_block_rules.Homes.{IsEdge, IsOwn, edge_target, home, label_behind, number_behind, own_block, target_home, target_low}
 use Rattle.frame_rules.specs.edge_block_rules.Returns.{HaveOwnBlocks, IsEnteredOnce, IsOwnBlock, LeadsFrom}
 use Rattle.edge_blocks.specs.EdgeBlocks.{edge_block, split_case, split_term, with_edge_blocks, split_cases}

@@ -2,11 +2,11 @@
 use Rattle.std.proofs.Common.{Bool, None, Option, Some, [], ap, false, inl, inr, length, refl, subst, suc, sym, true, ℕ, ◌+◌, ◌==◌, ◌∙◌, ◌∷◌, ◌≡◌}
 use Rattle.std.specs.Prelude.{slice_get}
 use Rattle.definite_use.specs.Uses.{locals_in}
-use Rattle.edge_block_meaning.proofs.edge_agreement.Blocks.{get_none, own_number, position_edge, position_moved, spot}
-use Rattle.edge_block_meaning.proofs.edge_agreement.Edges.{edges_of_block}
-use Rattle.edge_block_meaning.proofs.edge_agreement.Legs.{term_split}
-use Rattle.edge_block_meaning.specs.edge_agreement.Labels.{HasNamedLabels, IsSplit}
-use Rattle.edge_block_meaning.specs.edge_agreement.Spots.{table_of}
+use Rattle.frame_rules.proofs.edge_agreement.Blocks.{get_none, own_number, position_edge, position_moved, spot}
+use Rattle.frame_rules.proofs.edge_agreement.Edges.{edges_of_block}
+use Rattle.frame_rules.proofs.edge_agreement.Legs.{term_split}
+use Rattle.frame_rules.specs.edge_agreement.Labels.{HasNamedLabels, IsSplit}
+use Rattle.frame_rules.specs.edge_agreement.Spots.{table_of}
 use Rattle.frame_rules.proofs.edge_block_rules.CaseLabels.{split_from}
 use Rattle.frame_rules.proofs.edge_block_rules.Homes.{edge_target, edge_there, own_block, own_there, spots_apart, spots_no_edge, target_home, target_low}
 use Rattle.frame_rules.proofs.edge_block_rules.Operands.{ending_operands_same}

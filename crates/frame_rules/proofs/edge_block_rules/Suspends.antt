@@ -6,9 +6,9 @@ use Rattle.coro_shape.specs.Switches.{are_both, wrong_switch}
 use Rattle.first_pass_rules.proofs.early_local_rules.Rules.{and_first, and_second}
 use Rattle.first_pass_rules.proofs.early_local_rules.Woven.{other_number}
 use Rattle.first_pass_rules.proofs.early_rules.Locals.{row_of}
-use Rattle.edge_block_meaning.proofs.edge_agreement.Blocks.{own_number}
-use Rattle.edge_block_meaning.specs.edge_agreement.Labels.{HasNamedLabels}
-use Rattle.edge_block_meaning.specs.edge_agreement.Phis.{AreLabelsOnce}
+use Rattle.frame_rules.proofs.edge_agreement.Blocks.{own_number}
+use Rattle.frame_rules.specs.edge_agreement.Labels.{HasNamedLabels}
+use Rattle.frame_rules.specs.edge_agreement.Phis.{AreLabelsOnce}
 use Rattle.frame_rules.proofs.edge_block_rules.Homes.{IsEdge, IsOwn, home, own_block}
 use Rattle.frame_rules.proofs.edge_block_rules.Returns.{have_own_blocks}
 use Rattle.frame_rules.proofs.edge_block_rules.Rows.{in_row_of, row_different}

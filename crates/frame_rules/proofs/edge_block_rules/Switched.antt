@@ -6,7 +6,7 @@ use Rattle.coro_shape.specs.Switches.{are_both, breaks_switch, end_label, is_las
 use Rattle.first_pass_meaning.proofs.early_agreement.Switches.{none_part}
 use Rattle.first_pass_rules.proofs.early_local_rules.Rules.{and_first, and_second, holds}
 use Rattle.first_pass_rules.proofs.early_path_rules.Holding.{of_parts}
-use Rattle.edge_block_meaning.proofs.edge_agreement.Blocks.{own_number}
+use Rattle.frame_rules.proofs.edge_agreement.Blocks.{own_number}
 use Rattle.frame_rules.proofs.edge_block_rules.Homes.{IsEdge, IsOwn, home, own_block}
 use Rattle.frame_rules.specs.edge_block_rules.Returns.{AreSwitched, IsSwitched}
 use Rattle.edge_blocks.specs.EdgeBlocks.{edge_block, split_cases, split_label, split_term, with_edge_blocks}

@@ -9,11 +9,11 @@ use Rattle.first_pass_meaning.proofs.early_agreement.Lists.{each_behind}
 use Rattle.first_pass_meaning.proofs.early_agreement.Outside.{each_left, each_right}
 use Rattle.first_pass_meaning.proofs.early_agreement.Uses.{AreOfBlock, none_undefined, of_block, three_kinds}
 use Rattle.first_pass_rules.proofs.early_path_rules.SavedUses.{all_defined}
-use Rattle.edge_block_meaning.proofs.edge_agreement.Blocks.{own_number, position_edge, position_moved, spot}
-use Rattle.edge_block_meaning.proofs.edge_agreement.Edges.{edges_of_block}
-use Rattle.edge_block_meaning.specs.edge_agreement.Labels.{HasLabelsBelow, HasNamedLabels, IsAmong}
-use Rattle.edge_block_meaning.specs.edge_agreement.Phis.{AreLabelsOnce}
-use Rattle.edge_block_meaning.specs.edge_agreement.Spots.{table_of}
+use Rattle.frame_rules.proofs.edge_agreement.Blocks.{own_number, position_edge, position_moved, spot}
+use Rattle.frame_rules.proofs.edge_agreement.Edges.{edges_of_block}
+use Rattle.frame_rules.specs.edge_agreement.Labels.{HasLabelsBelow, HasNamedLabels, IsAmong}
+use Rattle.frame_rules.specs.edge_agreement.Phis.{AreLabelsOnce}
+use Rattle.frame_rules.specs.edge_agreement.Spots.{table_of}
 use Rattle.frame_rules.proofs.edge_block_rules.Homes.{IsEdge, IsOwn, edge_from, edge_spots, edge_target, home, own_block, own_there, spots_apart, spots_no_edge, target_home, target_low}
 use Rattle.frame_rules.proofs.edge_block_rules.Labels.{ComesFromBlock, edge_to_label}
 use Rattle.frame_rules.proofs.edge_block_rules.Operands.{ending_operands_same}

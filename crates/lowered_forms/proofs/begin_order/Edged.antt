@@ -8,11 +8,11 @@ use Rattle.coro_base.specs.declared.outcome.Place.{Place}
 use Rattle.definite_use.specs.Uses.{block_values, phi_values, values_at}
 use Rattle.first_pass_meaning.proofs.early_agreement.Lists.{equal_numbers}
 use Rattle.first_pass_rules.proofs.early_rules.Locals.{made_by}
-use Rattle.edge_block_meaning.proofs.edge_agreement.Blocks.{own_number, spot}
-use Rattle.edge_block_meaning.proofs.edge_agreement.Edges.{edges_of_block}
-use Rattle.edge_block_meaning.specs.edge_agreement.Labels.{HasLabelsBelow, HasNamedLabels}
-use Rattle.edge_block_meaning.specs.edge_agreement.Phis.{AreLabelsOnce}
-use Rattle.edge_block_meaning.specs.edge_agreement.Spots.{table_of}
+use Rattle.frame_rules.proofs.edge_agreement.Blocks.{own_number, spot}
+use Rattle.frame_rules.proofs.edge_agreement.Edges.{edges_of_block}
+use Rattle.frame_rules.specs.edge_agreement.Labels.{HasLabelsBelow, HasNamedLabels}
+use Rattle.frame_rules.specs.edge_agreement.Phis.{AreLabelsOnce}
+use Rattle.frame_rules.specs.edge_agreement.Spots.{table_of}
 use Rattle.frame_rules.proofs.edge_block_rules.Homes.{IsEdge, IsOwn, home, own_block}
 use Rattle.frame_rules.proofs.edge_block_rules.Labels.{ComesFromBlock, edge_to_label}
 use Rattle.frame_rules.proofs.edge_block_rules.Operands.{ending_operands_same}

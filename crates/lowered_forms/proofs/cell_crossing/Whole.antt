@@ -76,6 +76,12 @@ any_at t (x ∷ is) (suc j) i e h = ap (λ (b : Bool). t x || b) (any_at t is j 
     or_true true = refl
     or_true false = refl
 
+-- a suspend of the function behind which the value is needed
+pub record NeededBefore (f : Function) (v : ℕ) : Type 0 where
+  pub point : Point
+  pub listed : IsListed point (suspends_of f)
+  pub needed : IsNeededBehind f v point
+
 -- a path in a function with the same edges
 same_reach : (f h : Function) → block_edges h ≡ block_edges f → (starts avoided : List ℕ) (q : ℕ) → IsReached h starts avoided q → IsReached f starts avoided q
 same_reach f h same starts avoided _ (Start q l) = Start q l
@@ -160,6 +166,10 @@ module _ (m : Module) (k : ℕ) (f : Function) (rules : KeepsFunctionRules m k f
 
     -- ---- an old value
 
+    slotless : (v : ℕ) → slot_size m f v ≡ None → (i : ℕ) (x : KeptValue) (slot : ℕ) → slice_get the_plan.kept i ≡ Some x → x.slot ≡ Some slot → slot ≡ v → ⊥
+    slotless v none i x slot e d same =
+        alloca_sized m f slot (once m k f rules crossing local asked slot) (((kept.kept i x e).slot slot d).alloca) (ap (slot_size m f) same ∙ none)
+
     module _ (v : ℕ) (old : v < the_weaving.first) (no_slot : (i : ℕ) (x : KeptValue) (s : ℕ) → slice_get the_plan.kept i ≡ Some x → x.slot ≡ Some s → s ≡ v → ⊥) where
       like : IsLike (HasAPlace the_plan) v f the_result
       like =
@@ -216,6 +226,12 @@ module _ (m : Module) (k : ℕ) (f : Function) (rules : KeepsFunctionRules m k f
           let got : slice_get f.blocks s.block ≡ Some b2 = suspend_at.got in
           none_enters m k f rules s.block b2 (label_of_term i b2.term) got (switch_leads i b2.term (stands_apart.switch b2 got)) (ap (position_of f) (sym (ap (label_at i) got)) ∙ e)
 
+      -- an old value that is no slot was needed behind that
+      was_needed_behind : (v : ℕ) → v < the_weaving.first → slot_size m f v ≡ None → IsNeededBehind the_result v s → NeededBefore f v
+      was_needed_behind v old none needed =
+          let r = needed_behind (HasAPlace the_plan) v f the_result (like v old (slotless v none)) s suspend_at.resume suspend_at.destroy (away 0) (away 1) needed in
+          record { point = before; listed = suspend_at.listed; needed = r.0 }
+
       module _ (v : ℕ) (is : IsListed v (values_of the_result)) (reached : IsReached the_result (0 ∷ []) [] s.block) (needed : IsNeededBehind the_result v s) where
         -- new values aren't needed
         new_not : the_weaving.first ≤ v → ⊥
@@ -247,21 +263,27 @@ module _ (m : Module) (k : ℕ) (f : Function) (rules : KeepsFunctionRules m k f
         old_not old =
             let value : IsListed v (values_of f) = old_value the_weaving m f the_result (is_woven m k f rules crossing local asked) v old is in
             let none : slot_size m f v ≡ None = (keepable m k f rules crossing local asked v value).no_slot in
-            let r = needed_behind (HasAPlace the_plan) v f the_result (like v old (slotless none)) s suspend_at.resume suspend_at.destroy (away 0) (away 1) needed in
+            let r = needed_behind (HasAPlace the_plan) v f the_result (like v old (slotless v none)) s suspend_at.resume suspend_at.destroy (away 0) (away 1) needed in
             let path : IsReached f (0 ∷ []) [] s.block = same_reach f the_result same_edges (0 ∷ []) [] s.block reached in
             let crosses : Crosses f v before = record { is_value = value; defined = defined_before k f rules.uses v before suspend_at.listed stands_apart path r.0; needed = r.0 } in
             let pair = crossed_listed f (values_of f) crossing crossed v value before suspend_at.listed crosses in
             r.1 (pair_placed (length f.names) crossing (v, pair.0) old pair.1)
-          where
-            slotless : slot_size m f v ≡ None → (i : ℕ) (x : KeptValue) (slot : ℕ) → slice_get the_plan.kept i ≡ Some x → x.slot ≡ Some slot → slot ≡ v → ⊥
-            slotless none i x slot e d same =
-                alloca_sized m f slot (once m k f rules crossing local asked slot) (((kept.kept i x e).slot slot d).alloca) (ap (slot_size m f) same ∙ none)
 
         nothing : ⊥
         nothing = ⊎_elim old_not new_not (cases_lt v the_weaving.first)
 
+  no_suspends : f.blocks ≡ [] → (s : Point) → IsListed s (suspends_of the_result) → {A : Type 0} → A
+  no_suspends e s l = absurd (subst (λ (xs : List Block). IsListed s (points_in (is_call_of Intrinsic.CoroSuspend) 0 xs)) (blocks_are m the_plan f ∙ ap (λ (xs : List Block). entry_blocks m the_plan the_start k0 (fetched_blocks (t m k f rules crossing local asked) the_rows j0 n0 xs)) e) l)
+
+  before_by : (bs : List Block) → f.blocks ≡ bs → (v : ℕ) → v < the_weaving.first → slot_size m f v ≡ None → (s : Point) → IsListed s (suspends_of the_result) → IsNeededBehind the_result v s → NeededBefore f v
+  before_by [] e v old none s l needed = no_suspends e s l
+  before_by (b ∷ bs) e v old none s l needed = was_needed_behind b bs e s l v old none needed
+
+  pub was_needed : (v : ℕ) → v < the_weaving.first → slot_size m f v ≡ None → (s : Point) → IsListed s (suspends_of the_result) → IsNeededBehind the_result v s → NeededBefore f v
+  was_needed = before_by f.blocks refl
+
   by_blocks : (bs : List Block) → f.blocks ≡ bs → (v : ℕ) (s : Point) → IsListed s (suspends_of the_result) → IsReached the_result (0 ∷ []) [] s.block → IsListed v (values_of the_result) → IsNeededBehind the_result v s → ⊥
-  by_blocks [] e v s l reached is needed = absurd (subst (λ (xs : List Block). IsListed s (points_in (is_call_of Intrinsic.CoroSuspend) 0 xs)) (blocks_are m the_plan f ∙ ap (λ (xs : List Block). entry_blocks m the_plan the_start k0 (fetched_blocks (t m k f rules crossing local asked) the_rows j0 n0 xs)) e) l)
+  by_blocks [] e v s l reached is needed = no_suspends e s l
   by_blocks (b ∷ bs) e v s l reached is needed = nothing b bs e s l v is reached needed
 
   pub nothing_needed : (v : ℕ) (s : Point) → IsListed s (suspends_of the_result) → IsReached the_result (0 ∷ []) [] s.block → IsListed v (values_of the_result) → IsNeededBehind the_result v s → ⊥

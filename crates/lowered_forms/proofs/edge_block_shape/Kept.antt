@@ -9,14 +9,14 @@ use Rattle.first_pass_meaning.specs.early_agreement.Regular.{passes}
 use Rattle.first_pass_rules.proofs.early_local_rules.Rules.{and_first, and_second}
 use Rattle.first_pass_rules.proofs.early_rules.Ends.{end_first}
 use Rattle.first_pass_rules.proofs.early_rules.Locals.{own_label}
-use Rattle.edge_block_meaning.proofs.edge_agreement.Tables.{flag_at}
-use Rattle.edge_block_meaning.specs.edge_agreement.Labels.{HasNamedLabels}
-use Rattle.edge_block_meaning.specs.edge_agreement.Phis.{AreLabelsOnce}
-use Rattle.edge_block_meaning.specs.edge_agreement.Spots.{table_of}
+use Rattle.frame_rules.proofs.edge_agreement.Tables.{flag_at}
+use Rattle.frame_rules.specs.edge_agreement.Labels.{HasNamedLabels}
+use Rattle.frame_rules.specs.edge_agreement.Phis.{AreLabelsOnce}
+use Rattle.frame_rules.specs.edge_agreement.Spots.{table_of}
 use Rattle.edge_blocks.specs.EdgeBlocks.{with_edge_blocks}
 use Rattle.edge_blocks.specs.Edges.{has_phis, phi_flags}
 use Rattle.lowered_forms.proofs.edge_block_shape.Unsplit.{IsUnsplit, Unflagged, same_blocks}
-use Rattle.edge_block_meaning.proofs.edge_sources.Known.{labels_known}
+use Rattle.frame_rules.proofs.edge_sources.Known.{labels_known}
 use Rattle.frame_rules.specs.function_rules.Kept.{KeepsFunctionRules}
 use Rattle.ir_model.specs.Calls.{first_result}
 use Rattle.ir_model.specs.declared.instr.Instr.{Instr}

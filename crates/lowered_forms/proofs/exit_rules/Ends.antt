@@ -2,7 +2,7 @@
 use Rattle.std.proofs.Common.{◌≡◌, ℕ, suc, ◌+◌, Bool, true, false, List, [], ◌∷◌, ◌++◌, None, Option, Some, option_map, unwrap_or, if◌then◌else◌, ap, length, map, refl, sym, ◌∙◌, arith}
 use Rattle.std.proofs.lemmas.List.{length-map}
 use Rattle.std.specs.List.{list_any}
-use Rattle.edge_block_meaning.proofs.edge_agreement.Blocks.{first_behind}
+use Rattle.frame_rules.proofs.edge_agreement.Blocks.{first_behind}
 use Rattle.ir_model.specs.Names.{first_where}
 use Rattle.ir_model.specs.declared.module.Block.{Block}
 use Rattle.ir_model.specs.declared.module.Function.{Function}

@@ -9,7 +9,7 @@ use Rattle.first_pass_rules.proofs.early_local_rules.Rules.{and_first, and_secon
 use Rattle.first_pass_rules.proofs.early_path_rules.Holding.{HoldsOf, of_parts}
 use Rattle.first_pass_rules.proofs.early_rules.Locals.{own_label}
 use Rattle.frame_rules.proofs.edge_block_rules.Labels.{IsAt, at_any}
-use Rattle.edge_block_meaning.proofs.edge_sources.Rules.{labels_spelt}
+use Rattle.frame_rules.proofs.edge_sources.Rules.{labels_spelt}
 use Rattle.flow_solver.specs.Paths.{IsListed}
 use Rattle.function_parts.specs.Contents.{ending_labels, part_labels, part_operands, part_types}
 use Rattle.function_parts.specs.Locals.{locals_of}

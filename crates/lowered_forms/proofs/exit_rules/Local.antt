@@ -9,7 +9,7 @@ use Rattle.first_pass_rules.specs.early_local_rules.Local.{BreaksNoLocalRuleIn}
 use Rattle.frame_rules.proofs.edge_block_rules.Carried.{AreAlikePlaced}
 use Rattle.frame_rules.proofs.edge_block_rules.Labels.{any_at, at_all}
 use Rattle.frame_rules.specs.edge_block_rules.Phis.{ArePhisEnteredByJumps}
-use Rattle.edge_block_meaning.proofs.edge_sources.Rules.{labels_spelt}
+use Rattle.frame_rules.proofs.edge_sources.Rules.{labels_spelt}
 use Rattle.flow_solver.proofs.Lists.{listed_at}
 use Rattle.flow_solver.specs.Paths.{IsListed}
 use Rattle.function_parts.specs.Contents.{ending_labels, ending_operands, ending_types, part_labels, part_operands, part_types}

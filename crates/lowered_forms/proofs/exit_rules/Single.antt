@@ -3,11 +3,11 @@ use Rattle.std.proofs.Common.{◌≡◌, ℕ, ◌+◌, inl, inr, Bool, true, fal
 use Rattle.std.proofs.lemmas.Bool.{ltb-true}
 use Rattle.std.proofs.lemmas.List.Elements.{All-head, All-tail}
 use Rattle.std.specs.Prelude.{All, Some, None, Option, not, nat_lt, slice_get, if◌then◌else◌, ◌==◌}
-use Rattle.edge_block_meaning.proofs.edge_agreement.Edges.{only_one}
+use Rattle.frame_rules.proofs.edge_agreement.Edges.{only_one}
 use Rattle.frame_rules.specs.edge_block_rules.Phis.{ArePhisEnteredByJumps}
 use Rattle.edge_blocks.specs.Edges.{ends_in_suspend, has_phis}
 use Rattle.edge_rules.specs.Edges.{has, leads}
-use Rattle.edge_block_meaning.proofs.edge_sources.Rules.{labels_spelt}
+use Rattle.frame_rules.proofs.edge_sources.Rules.{labels_spelt}
 use Rattle.flow_solver.specs.Paths.{IsListed}
 use Rattle.ir_model.specs.declared.instr.Terminator.{Terminator}
 use Rattle.ir_model.specs.declared.module.Block.{Block}

@@ -6,12 +6,12 @@ use Rattle.first_pass_rules.proofs.early_local_rules.Rules.{holds}
 use Rattle.first_pass_rules.proofs.early_local_rules.Woven.{other_number}
 use Rattle.first_pass_rules.proofs.early_path_rules.Holding.{HoldsIn, of_parts, part_none, to_parts}
 use Rattle.coro_base.specs.declared.outcome.Place.{Place}
-use Rattle.edge_block_meaning.specs.edge_agreement.Labels.{HasLabelsBelow}
+use Rattle.frame_rules.specs.edge_agreement.Labels.{HasLabelsBelow}
 use Rattle.frame_rules.proofs.edge_block_rules.Edges.{phis_there}
 use Rattle.frame_rules.specs.edge_block_rules.Phis.{ArePhisEnteredByJumps}
 use Rattle.edge_rules.specs.Edges.{breaks_edges, first_wrong_edge, fits_edges, has, into_block, is_empty, leads, predecessors}
-use Rattle.edge_block_meaning.proofs.edge_sources.Known.{labels_known}
-use Rattle.edge_block_meaning.proofs.edge_sources.Rules.{labels_spelt}
+use Rattle.frame_rules.proofs.edge_sources.Known.{labels_known}
+use Rattle.frame_rules.proofs.edge_sources.Rules.{labels_spelt}
 use Rattle.flow_solver.specs.Paths.{IsListed}
 use Rattle.function_parts.specs.Parts.{Part, parts_of}
 use Rattle.frame_rules.specs.function_rules.Kept.{KeepsFunctionRules}

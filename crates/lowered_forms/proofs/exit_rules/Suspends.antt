@@ -3,14 +3,14 @@ use Rattle.std.proofs.Common.{◌≡◌, ◌⊎◌, inl, inr, ⊎_elim, ℕ, zer
 use Rattle.std.specs.Prelude.{slice_get}
 use Rattle.coro_shape.specs.Switches.{wrong_switch}
 use Rattle.first_pass_rules.proofs.early_rules.Locals.{own_label}
-use Rattle.edge_block_meaning.specs.edge_agreement.Labels.{HasLabelsBelow}
+use Rattle.frame_rules.specs.edge_agreement.Labels.{HasLabelsBelow}
 use Rattle.frame_rules.proofs.edge_block_rules.CaseLabels.{switch_target}
 use Rattle.frame_rules.proofs.edge_block_rules.Switched.{switched}
 use Rattle.frame_rules.specs.edge_block_rules.Returns.{AreSwitched, IsSwitched}
 use Rattle.edge_blocks.specs.Edges.{ends_in_suspend, is_suspend, is_suspend_at}
 use Rattle.edge_rules.specs.Edges.{leads, predecessors}
-use Rattle.edge_block_meaning.proofs.edge_sources.Known.{labels_known}
-use Rattle.edge_block_meaning.specs.edge_states.MovedState.{IsSwitch}
+use Rattle.frame_rules.proofs.edge_sources.Known.{labels_known}
+use Rattle.frame_rules.specs.edge_states.MovedState.{IsSwitch}
 use Rattle.flow_solver.specs.Paths.{IsListed}
 use Rattle.frame_rules.specs.function_rules.Kept.{KeepsFunctionRules}
 use Rattle.intrinsic_lowering.specs.Shapes.{is_final, save_of, suspends_of, with_suspend, with_suspends_by, with_suspends_in}

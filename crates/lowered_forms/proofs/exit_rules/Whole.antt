@@ -13,7 +13,7 @@ use Rattle.frame_rules.proofs.edge_block_rules.Switched.{switched}
 use Rattle.frame_rules.specs.edge_block_rules.Phis.{ArePhisEnteredByJumps}
 use Rattle.frame_rules.specs.edge_block_rules.Returns.{AreSwitched}
 use Rattle.edge_blocks.specs.Edges.{ends_in_suspend}
-use Rattle.edge_block_meaning.specs.edge_states.MovedState.{IsSwitch}
+use Rattle.frame_rules.specs.edge_states.MovedState.{IsSwitch}
 use Rattle.flow_solver.specs.Paths.{IsListed}
 use Rattle.frame_rules.specs.function_rules.Kept.{KeepsFunctionRules}
 use Rattle.intrinsic_lowering.specs.Shapes.{suspends_of}

@@ -15,6 +15,7 @@ use Rattle.frame_rules.specs.fetching_rules.Fetches.{base_of}
 use Rattle.flow_solver.specs.Paths.{IsListed}
 use Rattle.lowered_forms.proofs.framed_crossing.Apart.{apart_no_value}
 use Rattle.lowered_forms.proofs.framed_crossing.Fetched.{one_follows}
+use Rattle.lowered_forms.proofs.framed_crossing.Others.{IsOther}
 use Rattle.lowered_forms.proofs.framed_crossing.Follows.{Ended, Follows, Same, extras_follow}
 use Rattle.function_parts.specs.Contents.{instr_operands, result_of}
 use Rattle.frame_rules.specs.function_rules.Kept.{KeepsFunctionRules}
@@ -168,22 +169,22 @@ module _ (m : Module) (k : ℕ) (f : Function) (slots before : List Bool) (sizes
   low : (n : ℕ) → IsListed n (front_names ss) → first ≤ n
   low n l = (front_range first n ss (numbered (used_before f slots before) sizes first (entry_instrs f.blocks)) l).0
 
-  all_spare : (v : ℕ) → IsListed v (values_of f) → (all : List EarlySlot) → ((s : EarlySlot) → IsListed s all → IsListed s ss) → Each (IsSpare first v) all
-  all_spare v value [] up = tt
-  all_spare v value (s ∷ all) up =
+  all_spare : (v : ℕ) → IsOther f v → (all : List EarlySlot) → ((s : EarlySlot) → IsListed s all → IsListed s ss) → Each (IsSpare first v) all
+  all_spare v other [] up = tt
+  all_spare v other (s ∷ all) up =
       let l : IsListed s ss = up s (inl refl) in
       let p = entry_point f (Instr.Alloca s.slot s.ty s.align) (slot_alloca s l) in (
         record {
-          slot = λ e. apart_no_value m k f rules v p.0 (Instr.Alloca s.slot s.ty s.align) p.1 (ap (λ (n : ℕ). Some n) e) refl value;
+          slot = λ e. other p.0 (Instr.Alloca s.slot s.ty s.align) p.1 (ap (λ (n : ℕ). Some n) e) refl;
           temporary = low s.temporary (temporary_named ss s l);
           cell = low s.cell (cell_named ss s l);
         },
-        all_spare v value all (λ x h. up x (inr h)),
+        all_spare v other all (λ x h. up x (inr h)),
       )
 
-  pub copies_follow : (v : ℕ) → v < length f.names → IsListed v (values_of f) → (q : ℕ) (b d : Block) → slice_get f.blocks q ≡ Some b → slice_get g.blocks q ≡ Some d → (q ≡ 0 → ⊥) → Follows v b.instrs d.instrs
-  copies_follow v old value =
-      blocks_follow c first v old (all_spare v value ss (λ s l. l))
+  pub copies_follow : (v : ℕ) → v < length f.names → IsOther f v → (q : ℕ) (b d : Block) → slice_get f.blocks q ≡ Some b → slice_get g.blocks q ≡ Some d → (q ≡ 0 → ⊥) → Follows v b.instrs d.instrs
+  copies_follow v old other =
+      blocks_follow c first v old (all_spare v other ss (λ s l. l))
       (λ u x e same.
       let y = cell_found f ss u x e in
       let high : first ≤ y.slot.cell = low y.slot.cell (cell_named ss y.slot y.listed) in

@@ -12,17 +12,17 @@ use Rattle.first_pass_meaning.proofs.early_agreement.Lists.{get_within, itself}
 use Rattle.first_pass_meaning.specs.early_agreement.Regular.{passes}
 use Rattle.first_pass_rules.proofs.early_path_rules.Outside.{NothingOutside, of_outside}
 use Rattle.first_pass_rules.proofs.early_path_rules.Where.{has_where}
-use Rattle.edge_block_meaning.proofs.edge_agreement.Blocks.{position_edge, spot}
-use Rattle.edge_block_meaning.proofs.edge_agreement.Edges.{edges_of_block}
-use Rattle.edge_block_meaning.proofs.edge_agreement.Whole.{first_moved}
-use Rattle.edge_block_meaning.specs.edge_agreement.Labels.{HasNamedLabels, IsSplit}
+use Rattle.frame_rules.proofs.edge_agreement.Blocks.{position_edge, spot}
+use Rattle.frame_rules.proofs.edge_agreement.Edges.{edges_of_block}
+use Rattle.frame_rules.proofs.edge_agreement.Whole.{first_moved}
+use Rattle.frame_rules.specs.edge_agreement.Labels.{HasNamedLabels, IsSplit}
 use Rattle.frame_rules.proofs.edge_block_rules.Homes.{IsEdge, IsOwn, edge_target, edge_there, home, own_block, spots_apart, spots_no_edge}
 use Rattle.frame_rules.proofs.edge_block_rules.Standing.{BothTerm, IsBranch, branch_home, leads_home, place_of_target}
 use Rattle.frame_rules.proofs.edge_block_rules.Switched.{switched, switches_stay}
 use Rattle.edge_blocks.specs.EdgeBlocks.{edge_block, split_term, with_edge_blocks}
 use Rattle.edge_blocks.specs.Edges.{phi_flags}
 use Rattle.edge_blocks.specs.declared.edge.Edge.{Edge}
-use Rattle.edge_block_meaning.proofs.edge_sources.Known.{labels_known}
+use Rattle.frame_rules.proofs.edge_sources.Known.{labels_known}
 use Rattle.flow_solver.specs.Paths.{IsListed}
 use Rattle.lowered_forms.proofs.framed_crossing.States.{Stands, at_entry, next_in, not_end, point, runs_on, runs_out, runs_through, stands_on, stands_within, suspend_no_end, suspend_runs}
 use Rattle.lowered_forms.specs.framed_crossing.Ended.{AreEndedFirst}

@@ -10,15 +10,15 @@ use Rattle.frame_rules.proofs.fetching_rules.Ends.{blocks_rise}
 use Rattle.frame_rules.specs.fetching_rules.Fetches.{base_of, fetch_weaving, second_name}
 use Rattle.flow_solver.specs.Paths.{IsListed}
 use Rattle.frame_addresses.specs.Placing.{lies_outside, slot_fetches, stays, with_frame_addresses, without_markers, without_promise_of}
-use Rattle.lowered_forms.proofs.framed_crossing.Apart.{apart_no_value}
 use Rattle.lowered_forms.proofs.framed_crossing.Fetched.{fetches_follow}
 use Rattle.lowered_forms.proofs.framed_crossing.Marks.{marker_none}
-use Rattle.lowered_forms.proofs.framed_crossing.Steps.{IsQuiet, nothing_stays}
+use Rattle.lowered_forms.proofs.framed_crossing.Others.{is_address, other_than_begin}
+use Rattle.lowered_forms.proofs.framed_crossing.Steps.{IsQuiet, frames_stay, nothing_stays}
 use Rattle.lowered_forms.proofs.framed_crossing.Turned.{filter_follows, promise_follows, turned_follows}
 use Rattle.lowered_forms.proofs.framed_crossing.Ways.{woven_end_first}
+use Rattle.lowered_forms.specs.framed_crossing.Crossed.{AreFramesUnneeded}
 use Rattle.lowered_forms.specs.framed_crossing.Ended.{AreEndedFirst}
 use Rattle.lowered_forms.proofs.framed_shape.Addresses.{address_found, keeps_unmarked, keeps_unpromised, keeps_refetched, keeps_addressed, rules_unmarked, shape_unmarked, shape_unpromised, shape_refetched}
-use Rattle.lowered_forms.proofs.framed_shape.Begin.{begin_no_value}
 use Rattle.frame_rules.specs.function_rules.Kept.{KeepsFunctionRules}
 use Rattle.ir_model.specs.declared.instr.Instr.{Instr}
 use Rattle.ir_model.specs.declared.module.Block.{Block}
@@ -26,7 +26,6 @@ use Rattle.ir_model.specs.declared.module.Function.{Function}
 use Rattle.ir_model.specs.declared.module.Module.{Module}
 use Rattle.ir_paths.specs.Windows.{instr_in}
 use Rattle.ir_paths.specs.declared.point.Point.{Point}
-use Rattle.suspend_crossing.specs.Values.{is_apart, values_of}
 use Rattle.use_fetching.specs.Blocks.{with_fetches}
 use Rattle.use_fetching.specs.declared.fetch.Fetch.{Fetch}
 use Rattle.frame_rules.specs.woven_rules.Blocks.{IsWoven}
@@ -39,10 +38,10 @@ listed_at [] x l = absurd l
 listed_at (y ∷ ys) x (inl e) = (0, ap (λ (z : Instr). Some z) (sym e))
 listed_at (y ∷ ys) x (inr l) = let r = listed_at ys x l in (suc r.0, r.1)
 
--- an alloca's address is none of the values that may cross
-alloca_apart : (offsets : List (Option ℕ)) (i : Instr) → lies_outside offsets i ≡ false → is_apart i ≡ true
-alloca_apart offsets (Instr.Alloca r ty align) e = refl
-alloca_apart offsets _ e = absurd (cc)
+-- what lies in the frame is an alloca
+lies_in : (offsets : List (Option ℕ)) (i : Instr) → lies_outside offsets i ≡ false → is_address i ≡ true
+lies_in offsets (Instr.Alloca r ty align) e = refl
+lies_in offsets _ e = absurd (cc)
 
 -- ---- slots become bytes of the frame
 
@@ -111,12 +110,9 @@ module _ (m : Module) (k : ℕ) (f : Function) (begin : ℕ) (offsets : List (Op
 
   markers_quiet : IsQuiet unmarking m f Unmarked woven_unmarked same_unmarked k rules coroutine begin shape
   markers_quiet = record {
-    follows = λ v old value q b c got now other. turned_follows v (filter (stays marked)) f.blocks q b c got now (filter_follows v (stays marked) b.instrs (λ i l e. marker_none m k f marked rules q b i got l e v));
+    follows = λ v old other q b c got now away. turned_follows v (filter (stays marked)) f.blocks q b c got now (filter_follows v (stays marked) b.instrs (λ i l e. marker_none m k f marked rules q b i got l e v));
     fronts = λ v l. absurd l;
   }
-
-  pub markers_nothing : IsNothingNeeded f → IsNothingNeeded Unmarked
-  markers_nothing = nothing_stays unmarking m f Unmarked woven_unmarked same_unmarked k rules coroutine begin shape markers_quiet
 
   rules_of_unmarked : KeepsFunctionRules m k Unmarked
   rules_of_unmarked = rules_unmarked m k f begin offsets marked rules once fit coroutine shape jumps
@@ -124,11 +120,11 @@ module _ (m : Module) (k : ℕ) (f : Function) (begin : ℕ) (offsets : List (Op
   shape_of_unmarked : IsShaped k Unmarked begin
   shape_of_unmarked = shape_unmarked m k f begin offsets marked rules once fit coroutine shape jumps
 
-  promise_nothing : IsNothingNeeded Unmarked → IsNothingNeeded Unpromised
-  promise_nothing = nothing_stays unpromising m Unmarked Unpromised woven_unpromised same_unpromised k rules_of_unmarked coroutine begin shape_of_unmarked (record {
-    follows = λ v old value q b c got now other. turned_follows v (map without_promise_of) Unmarked.blocks q b c got now (promise_follows v b.instrs);
+  promise_quiet : IsQuiet unpromising m Unmarked Unpromised woven_unpromised same_unpromised k rules_of_unmarked coroutine begin shape_of_unmarked
+  promise_quiet = record {
+    follows = λ v old other q b c got now away. turned_follows v (map without_promise_of) Unmarked.blocks q b c got now (promise_follows v b.instrs);
     fronts = λ v l. absurd l;
-  })
+  }
 
   rules_of_unpromised : KeepsFunctionRules m k Unpromised
   rules_of_unpromised = unmarked_keeps m k f marked rules once
@@ -136,17 +132,17 @@ module _ (m : Module) (k : ℕ) (f : Function) (begin : ℕ) (offsets : List (Op
   shape_of_unpromised : IsShaped k Unpromised begin
   shape_of_unpromised = shape_unpromised m k f begin offsets marked rules once fit coroutine shape jumps
 
-  fetches_nothing : IsNothingNeeded Unpromised → IsNothingNeeded Refetched
-  fetches_nothing = nothing_stays refetching m Unpromised Refetched woven_refetched same_refetched k rules_of_unpromised coroutine begin shape_of_unpromised (record {
-    follows = λ v old value q b c got now other.
+  fetches_quiet : IsQuiet refetching m Unpromised Refetched woven_refetched same_refetched k rules_of_unpromised coroutine begin shape_of_unpromised
+  fetches_quiet = record {
+    follows = λ v old other q b c got now away.
         fetches_follow Table (length Unpromised.names) v old
         (λ u x e same.
         let y = address_found begin offsets u x e in
         let is : begin ≡ v = ap base_of (sym y.same) ∙ same in
-        begin_no_value m k Unpromised rules_of_unpromised begin shape_of_unpromised.named (subst (λ (n : ℕ). IsListed n (values_of Unpromised)) (sym is) value))
+        other_than_begin m k Unpromised rules_of_unpromised begin v shape_of_unpromised.named other is)
         (length Unpromised.names) (length Unpromised.names) (second_name Unpromised Table) Unpromised.blocks Unpromised.blocks (omega arith) (blocks_rise Table (length Unpromised.names) Unpromised.blocks) q b c got now;
     fronts = λ v l. absurd l;
-  })
+  }
 
   rules_3 : KeepsFunctionRules m k Refetched
   rules_3 = fetched_keeps m k f begin offsets marked rules once fit
@@ -154,16 +150,29 @@ module _ (m : Module) (k : ℕ) (f : Function) (begin : ℕ) (offsets : List (Op
   shape_3 : IsShaped k Refetched begin
   shape_3 = shape_refetched m k f begin offsets marked rules once fit coroutine shape jumps
 
-  slots_nothing : IsNothingNeeded Refetched → IsNothingNeeded Addressed
-  slots_nothing = nothing_stays addressing m Refetched Addressed woven_addressed same_addressed k rules_3 coroutine begin shape_3 (record {
-    follows = λ v old value q b c got now other.
+  slots_quiet : IsQuiet addressing m Refetched Addressed woven_addressed same_addressed k rules_3 coroutine begin shape_3
+  slots_quiet = record {
+    follows = λ v old other q b c got now away.
         turned_follows v (filter (lies_outside offsets)) Refetched.blocks q b c got now
         (filter_follows v (lies_outside offsets) b.instrs
         (λ i l e makes.
         let x = listed_at b.instrs i l in
-        apart_no_value m k Refetched rules_3 v (point q x.0) i (ap (λ (o : Option Block). instr_in o x.0) got ∙ x.1) makes (alloca_apart offsets i e) value));
+        other (point q x.0) i (ap (λ (o : Option Block). instr_in o x.0) got ∙ x.1) makes (lies_in offsets i e)));
     fronts = λ v l. absurd l;
-  })
+  }
 
   pub addresses_nothing : IsNothingNeeded f → IsNothingNeeded Addressed
-  addresses_nothing h = slots_nothing (fetches_nothing (promise_nothing (markers_nothing h)))
+  addresses_nothing h =
+      nothing_stays addressing m Refetched Addressed woven_addressed same_addressed k rules_3 coroutine begin shape_3 slots_quiet
+      (nothing_stays refetching m Unpromised Refetched woven_refetched same_refetched k rules_of_unpromised coroutine begin shape_of_unpromised fetches_quiet
+      (nothing_stays unpromising m Unmarked Unpromised woven_unpromised same_unpromised k rules_of_unmarked coroutine begin shape_of_unmarked promise_quiet
+      (nothing_stays unmarking m f Unmarked woven_unmarked same_unmarked k rules coroutine begin shape markers_quiet h)))
+
+  -- ---- no value of coro.frame is either
+
+  pub addresses_frames : AreFramesUnneeded f → AreFramesUnneeded Addressed
+  addresses_frames h =
+      frames_stay addressing m Refetched Addressed woven_addressed same_addressed k rules_3 coroutine begin shape_3 slots_quiet
+      (frames_stay refetching m Unpromised Refetched woven_refetched same_refetched k rules_of_unpromised coroutine begin shape_of_unpromised fetches_quiet
+      (frames_stay unpromising m Unmarked Unpromised woven_unpromised same_unpromised k rules_of_unmarked coroutine begin shape_of_unmarked promise_quiet
+      (frames_stay unmarking m f Unmarked woven_unmarked same_unmarked k rules coroutine begin shape markers_quiet h)))

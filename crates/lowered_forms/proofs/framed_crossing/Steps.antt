@@ -2,7 +2,7 @@
 use Rattle.std.proofs.Common.{◌≡◌, inl, inr, ⊎_elim, ℕ, zero, suc, ◌+◌, ◌<◌, ◌≤◌, Bool, true, false, List, [], ◌∷◌, ◌++◌, length, refl, sym, ap, ◌∙◌, subst, arith}
 use Rattle.std.proofs.lemmas.Bool.{cases_lt}
 use Rattle.std.specs.List.{list_any}
-use Rattle.std.specs.Prelude.{None, Option, Some, map, option_to_list, slice_get, ◌||◌}
+use Rattle.std.specs.Prelude.{None, Option, Some, map, not, option_to_list, slice_get, ◌&&◌, ◌||◌}
 use Rattle.block_paths.specs.Edges.{block_edges, edges_of_blocks}
 use Rattle.block_paths.specs.Reach.{Edge, IsReached, Start}
 use Rattle.lowered_forms.proofs.cell_crossing.Defined.{switch_leads}
@@ -10,20 +10,28 @@ use Rattle.lowered_forms.proofs.cell_crossing.Entries.{none_enters, not_entered}
 use Rattle.lowered_forms.proofs.cell_crossing.NewUses.{new_unneeded}
 use Rattle.lowered_forms.proofs.cell_crossing.Paths.{point_found, point_there}
 use Rattle.lowered_forms.proofs.cell_crossing.Values.{old_value}
+use Rattle.lowered_forms.proofs.unused_frames.Flags.{IsFrame}
+use Rattle.lowered_forms.proofs.unused_frames.Standing.{stands_at}
 use Rattle.lowered_forms.specs.cell_crossing.Crossed.{IsNothingNeeded, is_switch}
-use Rattle.definite_use.specs.Uses.{block_values, local_of, locals_in, made_by_phis, values_at}
-use Rattle.first_pass_rules.proofs.early_rules.Locals.{listed_either, listed_left, listed_right}
+use Rattle.lowered_forms.specs.framed_crossing.Crossed.{AreFramesUnneeded}
+use Rattle.definite_use.specs.Undefined.{params_of}
+use Rattle.definite_use.specs.Uses.{block_values, local_of, locals_in, made_by_phis, phi_values, values_at}
+use Rattle.first_pass_rules.proofs.early_local_rules.Names.{numbers}
+use Rattle.first_pass_rules.proofs.early_rules.Locals.{block_names, in_row, listed_either, listed_left, listed_right, made_by, phi_names, row_of}
+use Rattle.frame_rules.proofs.cell_rules.DefinedKinds.{made_in}
 use Rattle.frame_rules.proofs.edge_block_rules.EdgeUses.{label_there}
 use Rattle.frame_rules.proofs.edge_block_rules.Switched.{switched}
 use Rattle.flow_solver.specs.Paths.{IsListed}
 use Rattle.lowered_forms.proofs.framed_crossing.Follows.{Follows, IsBlockLike, IsLike, IsTermLike, needed_from}
+use Rattle.lowered_forms.proofs.framed_crossing.Others.{IsOther, frame_other, value_other}
 use Rattle.lowered_forms.proofs.framed_crossing.Ways.{IsWay, comes_from, leads_same, way_end, way_position, woven_ways}
 use Rattle.lowered_forms.proofs.framed_shape.Fetched.{call_suspends}
 use Rattle.lowered_forms.proofs.framed_shape.Points.{HasPoint, point_there as suspend_there}
-use Rattle.function_parts.specs.Contents.{ending_operands}
+use Rattle.function_parts.specs.Contents.{ending_operands, result_of}
 use Rattle.frame_rules.specs.function_rules.Kept.{KeepsFunctionRules}
 use Rattle.intrinsic_lowering.specs.Shapes.{suspends_of as suspend_points}
 use Rattle.ir_model.specs.Names.{position_of}
+use Rattle.ir_model.specs.Ty.{Ty}
 use Rattle.ir_model.specs.declared.instr.Incoming.{Incoming}
 use Rattle.ir_model.specs.declared.instr.Instr.{Instr}
 use Rattle.ir_model.specs.declared.instr.Phi.{Phi}
@@ -31,9 +39,11 @@ use Rattle.ir_model.specs.declared.instr.Terminator.{Terminator}
 use Rattle.ir_model.specs.declared.module.Block.{Block}
 use Rattle.ir_model.specs.declared.module.Function.{Function}
 use Rattle.ir_model.specs.declared.module.Module.{Module}
+use Rattle.ir_model.specs.declared.operand.Arg.{Arg}
+use Rattle.ir_model.specs.declared.operand.Callee.{Callee}
 use Rattle.ir_model.specs.declared.operand.Intrinsic.{Intrinsic}
 use Rattle.ir_model.specs.declared.operand.Operand.{Operand}
-use Rattle.ir_paths.specs.Windows.{is_call_of, label_at, label_of_term}
+use Rattle.ir_paths.specs.Windows.{instr_at, instr_in, is_call_of, label_at, label_of_term}
 use Rattle.ir_paths.specs.declared.point.Point.{Point}
 use Rattle.lowered_forms.specs.split_rules.Splittable.{HasOwnEdges, IsLedToBy}
 use Rattle.suspend_crossing.specs.Crossing.{suspends_of}
@@ -46,9 +56,9 @@ use Rattle.frame_rules.proofs.woven_rules.Operands.{term_pairs}
 use Rattle.frame_rules.proofs.woven_rules.Unbroken.{of_listed}
 use Rattle.frame_rules.proofs.woven_rules.Uses.{same_made}
 use Rattle.frame_rules.proofs.woven_rules.ValueKinds.{none_new}
-use Rattle.frame_rules.specs.woven_rules.Blocks.{AreWovenBlocks, IsWoven, IsWovenBlock, NoBlock, OneBlock}
+use Rattle.frame_rules.specs.woven_rules.Blocks.{AreWovenBlocks, Done, Gone, IsPutIn, IsWoven, IsWovenBlock, Kept, MayGo, NoBlock, OneBlock, Put, Remain, Stays, Unpromised, WeavesAll, may_stand}
 use Rattle.frame_rules.specs.woven_rules.Pairs.{Empty, Pair, Pairwise}
-use Rattle.frame_rules.specs.woven_rules.Parts.{Branch, IncomingStays, Jump, PhiStays, Return, ReturnVoid, Switch, TermStays, Unreachable}
+use Rattle.frame_rules.specs.woven_rules.Parts.{Branch, Call, Direct, IncomingStays, Indirect, InstrStays, Jump, PhiStays, Return, ReturnVoid, Switch, TermStays, Unreachable}
 use Rattle.frame_rules.specs.woven_rules.Weaving.{Fetched, IsInPlace, Same, Weaving}
 use Rattle.lowered_forms.specs.woven_shape.Shaped.{IsShaped, KeepsCalls}
 
@@ -89,6 +99,55 @@ some_local : (o : Option ℕ) (u : ℕ) → IsListed u (option_to_list o) → o 
 some_local None u h = absurd h
 some_local (Some n) u (inl e) = ap (λ (k : ℕ). Some k) (sym e)
 some_local (Some n) u (inr h) = absurd h
+
+-- ---- calls of coro.frame among woven instructions
+
+record FrameAt (v : ℕ) (is : List Instr) : Type 0 where
+  at : ℕ
+  instr : Instr
+  there : slice_get is at ≡ Some instr
+  makes : IsFrame v instr
+
+frame_in : (Puts : List ℕ → Instr → Type 0) (Goes : Instr → Type 0) (Remains : List ℕ → Instr → Instr → Type 0) (v : ℕ) → ((made : List ℕ) (j : Instr) → Puts made j → IsFrame v j → ⊥) → ((made : List ℕ) (i j : Instr) → Remains made i j → IsFrame v j → IsFrame v i)
+    → (made : List ℕ) (is js : List Instr) → WeavesAll Puts Goes Remains made is js → (at : ℕ) (j : Instr) → slice_get js at ≡ Some j → IsFrame v j → FrameAt v is
+frame_in Puts Goes Remains v puts stays _ _ _ (Done made) at j e h = absurd (cc)
+frame_in Puts Goes Remains v puts stays _ _ _ (Put made x is js new rest) zero j e h = let same : x ≡ j = cc in absurd (puts made x new (subst (IsFrame v) (sym same) h))
+frame_in Puts Goes Remains v puts stays _ _ _ (Put made x is js new rest) (suc at) j e h = frame_in Puts Goes Remains v puts stays (option_to_list (result_of x) ++ made) is js rest at j e h
+frame_in Puts Goes Remains v puts stays _ _ _ (Gone made i is js goes rest) at j e h =
+    let x = frame_in Puts Goes Remains v puts stays made is js rest at j e h in
+    record { at = suc x.at; instr = x.instr; there = x.there; makes = x.makes }
+frame_in Puts Goes Remains v puts stays _ _ _ (Remain made i x is js same rest) zero j e h =
+    let one : x ≡ j = cc in
+    record { at = 0; instr = i; there = refl; makes = stays made i x same (subst (IsFrame v) (sym one) h) }
+frame_in Puts Goes Remains v puts stays _ _ _ (Remain made i y is js same rest) (suc at) j e h =
+    let x = frame_in Puts Goes Remains v puts stays (option_to_list (result_of y) ++ made) is js rest at j e h in
+    record { at = suc x.at; instr = x.instr; there = x.there; makes = x.makes }
+
+no_copy : (block : ℕ) (j : Instr) → may_stand block j ≡ true → is_call_of Intrinsic.CoroFrame j ≡ true → ⊥
+no_copy block (Instr.Call r must_tail ty (Callee.Intrinsic Intrinsic.CoroFrame) args) e h = no_second (not must_tail) e
+  where
+    no_second : (b : Bool) → (b && false) ≡ true → ⊥
+    no_second true d = absurd (cc)
+    no_second false d = absurd (cc)
+no_copy block _ e h = absurd (cc)
+
+puts_no_frame : (w : Weaving) (m : Module) (f : Function) (block v : ℕ) (made : List ℕ) (j : Instr) → IsPutIn w m f block made j → IsFrame v j → ⊥
+puts_no_frame w m f block v made j put h = no_copy block j put.stands h.calls
+
+same_call : (r : Option ℕ) (must_tail : Bool) (ty : Option Ty) (c : Callee) (args now : List Arg) → is_call_of Intrinsic.CoroFrame (Instr.Call r must_tail ty c args) ≡ is_call_of Intrinsic.CoroFrame (Instr.Call r must_tail ty c now)
+same_call r must_tail ty (Callee.Intrinsic x) args now = refl
+same_call r must_tail ty (Callee.Named n) args now = refl
+same_call r must_tail ty (Callee.Allocator a) args now = refl
+same_call r must_tail ty (Callee.Local u) args now = refl
+
+kept_frame : (R : Operand → Operand → Type 0) (v : ℕ) (i j : Instr) → InstrStays R i j → IsFrame v j → IsFrame v i
+kept_frame R v _ _ (Call r must_tail ty c d args now (Direct _ direct) rest) h = record { calls = same_call r must_tail ty c args now ∙ h.calls; makes = h.makes }
+kept_frame R v _ _ (Call r must_tail ty c d args now (Indirect u n same) rest) h = let bad : false ≡ true = h.calls in absurd (cc)
+kept_frame R v _ _ _ h = let bad : false ≡ true = h.calls in absurd (cc)
+
+stays_frame : (w : Weaving) (f : Function) (v : ℕ) (made : List ℕ) (i j : Instr) → Stays w f made i j → IsFrame v j → IsFrame v i
+stays_frame w f v made _ _ (Kept i j same mark) h = kept_frame (IsInPlace w f made) v i j same h
+stays_frame w f v made _ _ (Unpromised r must_tail ty a p args rest) h = let bad : false ≡ true = h.calls in absurd (cc)
 
 -- ---- where an old value is used
 
@@ -231,6 +290,30 @@ module _ (w : Weaving) (m : Module) (f g : Function) (woven : IsWoven w m f g) (
         entered = not_entered m k f rules;
       }
 
+  -- ---- a call of coro.frame in the result is one of the function
+
+  pub record FrameBefore (v : ℕ) : Type 0 where
+    pub point : Point
+    pub instr : Instr
+    pub there : instr_at f point ≡ Some instr
+    pub makes : IsFrame v instr
+    pub block : Block
+    pub got : slice_get f.blocks point.block ≡ Some block
+
+  pub frame_back : (v : ℕ) (p : Point) (i : Instr) → instr_at g p ≡ Some i → IsFrame v i → FrameBefore v
+  frame_back v p i there h =
+      let x = stands_at g p i there in
+      let y = woven_at p.block x.block x.got in
+      let z = frame_in (IsPutIn w m f p.block) (MayGo w) (Stays w f) v (puts_no_frame w m f p.block v) (stays_frame w f v) (phi_values x.block) y.block.instrs x.block.instrs y.is.instrs p.at i x.there h in
+      record { point = record { block = p.block; at = z.at }; instr = z.instr; there = ap (λ (o : Option Block). instr_in o z.at) y.got ∙ z.there; makes = z.makes; block = y.block; got = y.got }
+
+  pub frame_named : (v : ℕ) → FrameBefore v → IsListed v (numbers f)
+  frame_named v y =
+      let z = stands_at f y.point y.instr y.there in
+      listed_right v (params_of f) (row_of block_names f.blocks)
+      (in_row block_names f.blocks y.point.block v z.block z.got
+      (inr (listed_right v (phi_names z.block.phis) (row_of made_by z.block.instrs) (in_row made_by z.block.instrs y.point.at v y.instr z.there (made_in y.instr v y.makes.makes)))))
+
   -- ---- a suspend of the result is one of the function
 
   module _ (k : ℕ) (rules : KeepsFunctionRules m k f) (coroutine : f.coroutine ≡ true) (begin : ℕ) (shape : IsShaped k f begin) where
@@ -321,9 +404,9 @@ module _ (w : Weaving) (m : Module) (f g : Function) (woven : IsWoven w m f g) (
 
     -- ---- so nothing is needed where nothing was
 
-    -- instructions that are put in don't use a value that may cross, and the fronts are none
+    -- instructions that are put in don't use a value that neither begin nor an alloca makes, and the fronts are none that may cross
     pub record IsQuiet : Type 0 where
-      pub follows : (v : ℕ) → v < w.first → IsListed v (values_of f) → (q : ℕ) (b c : Block) → slice_get f.blocks q ≡ Some b → slice_get g.blocks q ≡ Some c → (q ≡ 0 → ⊥) → Follows v b.instrs c.instrs
+      pub follows : (v : ℕ) → v < w.first → IsOther f v → (q : ℕ) (b c : Block) → slice_get f.blocks q ≡ Some b → slice_get g.blocks q ≡ Some c → (q ≡ 0 → ⊥) → Follows v b.instrs c.instrs
       pub fronts : (v : ℕ) → IsListed v w.fronts → IsListed v (values_of g) → ⊥
 
     pub nothing_stays : IsQuiet → IsNothingNeeded f → IsNothingNeeded g
@@ -332,6 +415,15 @@ module _ (w : Weaving) (m : Module) (f g : Function) (woven : IsWoven w m f g) (
         ⊎_elim
         (λ (old : v < w.first).
         let value : IsListed v (values_of f) = old_value w m f g woven v old is in
-        nothing v (before s x) x.listed (reached_back s.block reached) value (old_needed s x v old (quiet.follows v old value) needed))
+        nothing v (before s x) x.listed (reached_back s.block reached) value (old_needed s x v old (quiet.follows v old (value_other m k f rules v value)) needed))
         (λ (new : w.first ≤ v). new_not s x v new (λ front. quiet.fronts v front is) needed)
         (cases_lt v w.first)
+
+    pub frames_stay : IsQuiet → AreFramesUnneeded f → AreFramesUnneeded g
+    frames_stay quiet unneeded p i v there calls makes s l needed =
+        let x = suspend_at s l in
+        let y = frame_back v p i there (record { calls = calls; makes = makes }) in
+        let own : IsFrame v y.instr = y.makes in
+        let low : v < length f.names = names_below k f rules.tabled v (frame_named v y) in
+        let old : v < w.first = subst (λ (n : ℕ). v < n) (sym woven.first) low in
+        unneeded y.point y.instr v y.there own.calls own.makes (before s x) x.listed (old_needed s x v old (quiet.follows v old (frame_other m k f rules v y.point y.instr y.there own.calls own.makes)) needed)

@@ -1,10 +1,19 @@
 -- All the passes that build a coroutine's frame, one behind another.
-use Rattle.std.proofs.Common.{◌≡◌, ℕ, Bool, true, List, ◌∷◌, length, sym, subst}
+use Rattle.std.proofs.Common.{◌≡◌, ℕ, ◌<◌, ◌≤◌, Bool, true, List, [], ◌∷◌, length, refl, sym, ◌∙◌, subst}
 use Rattle.std.specs.Prelude.{None, Some}
 use Rattle.frame_rules.specs.address_rules.Addresses.{AddressesFit}
-use Rattle.lowered_forms.proofs.cell_crossing.Whole.{nothing_needed}
+use Rattle.lowered_forms.proofs.cell_crossing.Whole.{nothing_needed, was_needed}
 use Rattle.lowered_forms.specs.cell_crossing.Crossed.{IsNothingNeeded}
+use Rattle.first_pass_rules.proofs.early_local_rules.Names.{numbers}
+use Rattle.first_pass_rules.proofs.early_local_rules.Woven.{apart_names}
+use Rattle.first_pass_rules.proofs.early_rules.Locals.{Apart, names_are}
+use Rattle.frame_rules.proofs.cell_rules.DefinedKinds.{made_in}
+use Rattle.frame_rules.proofs.cell_rules.Slots.{instr_size}
+use Rattle.frame_rules.proofs.cell_rules.Times.{apart_times}
+use Rattle.frame_rules.proofs.woven_rules.Once.{names_below}
 use Rattle.frame_rules.specs.cell_rules.Asked.{AreCellsFor}
+use Rattle.frame_rules.specs.woven_rules.Pairs.{times}
+use Rattle.function_parts.specs.Locals.{locals_of}
 use Rattle.frame_rules.specs.cell_rules.Weaving.{cells_weaving}
 use Rattle.frame_rules.specs.copy_rules.Copies.{CopiesFit, copied_slots, copy_weaving}
 use Rattle.coro_shape.specs.OneOfEach.{wrong_call}
@@ -14,9 +23,10 @@ use Rattle.edge_blocks.specs.EdgeBlocks.{with_edge_blocks}
 use Rattle.frame_layout.specs.declared.layout.Layout.{Layout}
 use Rattle.lowered_forms.proofs.framed_crossing.Copied.{copies_follow, fronts_apart}
 use Rattle.lowered_forms.proofs.framed_crossing.Ending.{edges_end_first}
-use Rattle.lowered_forms.proofs.framed_crossing.Framed.{addresses_end_first, addresses_nothing}
-use Rattle.lowered_forms.proofs.framed_crossing.Steps.{IsQuiet, nothing_stays}
+use Rattle.lowered_forms.proofs.framed_crossing.Framed.{addresses_end_first, addresses_frames, addresses_nothing}
+use Rattle.lowered_forms.proofs.framed_crossing.Steps.{IsQuiet, frame_back, frame_named, frames_stay, nothing_stays}
 use Rattle.lowered_forms.proofs.framed_crossing.Ways.{woven_end_first}
+use Rattle.lowered_forms.specs.framed_crossing.Crossed.{AreFramesUnneeded}
 use Rattle.lowered_forms.specs.framed_crossing.Ended.{AreEndedFirst}
 use Rattle.lowered_forms.proofs.framed_shape.Apart.{edges_apart}
 use Rattle.lowered_forms.proofs.framed_shape.Edges.{edges_shaped}
@@ -25,9 +35,18 @@ use Rattle.lowered_forms.proofs.framed_shape.Framed.{begin_is, coroutine_c, coro
 use Rattle.lowered_forms.specs.framed_shape.Passes.{PassesFit}
 use Rattle.frame_rules.specs.function_rules.Kept.{KeepsFunctionRules}
 use Rattle.ir_model.specs.Calls.{first_result}
+use Rattle.ir_model.specs.declared.instr.Instr.{Instr}
 use Rattle.ir_model.specs.declared.module.Function.{Function}
 use Rattle.ir_model.specs.declared.module.Module.{Module}
 use Rattle.ir_model.specs.declared.operand.Intrinsic.{Intrinsic}
+use Rattle.ir_paths.specs.Windows.{instr_at, is_call_of}
+use Rattle.ir_paths.specs.declared.point.Point.{Point}
+use Rattle.local_rules.specs.Markers.{made_size, slot_size}
+use Rattle.lowered_forms.proofs.unused_frames.Edges.{unused_where_edges_have_blocks}
+use Rattle.lowered_forms.proofs.unused_frames.Flags.{IsFrame}
+use Rattle.lowered_forms.proofs.unused_frames.Standing.{stands_at}
+use Rattle.lowered_forms.proofs.unused_frames.Unneeded.{unneeded}
+use Rattle.lowered_forms.specs.unused_frames.Unused.{AreFramesUnused}
 use Rattle.slot_lifetime.specs.declared.class.SlotClass.{SlotClass}
 use Rattle.spill_reload.specs.Framed.{begin_block, begin_of, celled, copied, offsets_of, placed}
 use Rattle.spill_reload.specs.Tables.{class_flags, label_flags, sizes_by_name}
@@ -37,6 +56,10 @@ use Rattle.window_rules.specs.Windows.{IsFirstWindow}
 use Rattle.frame_rules.specs.woven_rules.Blocks.{IsWoven}
 use Rattle.frame_rules.specs.woven_rules.Weaving.{Weaving}
 use Rattle.lowered_forms.specs.woven_shape.Shaped.{IsShaped, KeepsCalls}
+
+no_size : (m : Module) (i : Instr) (v : ℕ) → is_call_of Intrinsic.CoroFrame i ≡ true → made_size m i v ≡ None
+no_size m (Instr.Alloca r ty align) v e = absurd (cc)
+no_size m _ v e = refl
 
 module _ (m : Module) (k : ℕ) (f : Function) (c : Contents) (begin : ℕ) (rules : KeepsFunctionRules m k f) (coroutine : f.coroutine ≡ true) (calls : wrong_call k f ≡ None) (switches : wrong_switch k f ≡ None) (crossed : AreCrossing f c.crossing) (shape : IsShaped k (with_edge_blocks f) begin) where
   abbrev Edged : Function
@@ -77,6 +100,28 @@ module _ (m : Module) (k : ℕ) (f : Function) (c : Contents) (begin : ℕ) (rul
         (edges_apart m k f rules coroutine calls switches)
         (crossed_e m k f c begin rules coroutine calls switches crossed shape)
 
+    frame_sizeless : (v : ℕ) (p : Point) (i : Instr) → instr_at Edged p ≡ Some i → IsFrame v i → slot_size m Edged v ≡ None
+    frame_sizeless v p i there h =
+        let x = stands_at Edged p i there in
+        let rules_now : KeepsFunctionRules m k Edged = rules_e m k f c begin rules coroutine calls switches crossed shape in
+        let once : times v (numbers Edged) ≤ 1 = apart_times v (numbers Edged) (subst Apart (names_are k Edged) (apart_names [] (locals_of k Edged) rules_now.definitions)) in
+        instr_size m v Edged once p.block x.block p.at i x.got x.there (made_in i v h.makes) ∙ no_size m i v h.calls
+
+    cells_frames : AreFramesUnneeded Edged → AreFramesUnneeded Celled
+    unfolding celled
+    cells_frames h p i v there called makes s l needed =
+        let rules_now : KeepsFunctionRules m k Edged = rules_e m k f c begin rules coroutine calls switches crossed shape in
+        let woven : IsWoven celling m Edged Celled = woven_c m k f c begin rules coroutine calls switches crossed shape asked in
+        let same : KeepsCalls celling Edged Celled = keeps_c m k f c begin rules coroutine calls switches crossed shape asked in
+        let y = frame_back celling m Edged Celled woven same v p i there (record { calls = called; makes = makes }) in
+        let own : IsFrame v y.instr = y.makes in
+        let low : v < length Edged.names = names_below k Edged rules_now.tabled v (frame_named celling m Edged Celled woven same v y) in
+        let x =
+        was_needed m k Edged rules_now c.crossing Local asked (edges_apart m k f rules coroutine calls switches)
+        (crossed_e m k f c begin rules coroutine calls switches crossed shape)
+        v (subst (λ (n : ℕ). v < n) (sym woven.first) low) (frame_sizeless v y.point y.instr y.there own) s l needed in
+        h y.point y.instr v y.there own.calls own.makes x.point x.listed x.needed
+
     cells_end : AreEndedFirst Edged → AreEndedFirst Celled
     cells_end =
         woven_end_first celling m Edged Celled (woven_c m k f c begin rules coroutine calls switches crossed shape asked)
@@ -111,6 +156,9 @@ module _ (m : Module) (k : ℕ) (f : Function) (c : Contents) (begin : ℕ) (rul
       copies_nothing : IsNothingNeeded Celled → IsNothingNeeded Copied
       copies_nothing = nothing_stays copying m Celled Copied woven_copied same_copied k rules_C coroutine_C begin shape_C copies_quiet
 
+      copies_frames : AreFramesUnneeded Celled → AreFramesUnneeded Copied
+      copies_frames = frames_stay copying m Celled Copied woven_copied same_copied k rules_C coroutine_C begin shape_C copies_quiet
+
       copies_end : AreEndedFirst Celled → AreEndedFirst Copied
       copies_end = woven_end_first copying m Celled Copied woven_copied same_copied
 
@@ -127,6 +175,15 @@ module _ (m : Module) (k : ℕ) (f : Function) (c : Contents) (begin : ℕ) (rul
             (subst (IsShaped k Copied) (sym (begin_is m k f c begin rules coroutine calls switches crossed shape)) (shape_d m k f c begin rules coroutine calls switches crossed shape asked before copies))
             (jumps_d m k f c begin rules coroutine calls switches crossed shape asked before copies)
 
+        placed_frames : AreFramesUnneeded Copied → AreFramesUnneeded Built
+        unfolding placed
+        placed_frames =
+            addresses_frames m k Copied (begin_of f) (offsets_of l f c (length Copied.names)) Ramp rules_D
+            (once_d m k f c begin rules coroutine calls switches crossed shape asked before copies) fit
+            (coroutine_d m k f c begin rules coroutine calls switches crossed shape asked before copies)
+            (subst (IsShaped k Copied) (sym (begin_is m k f c begin rules coroutine calls switches crossed shape)) (shape_d m k f c begin rules coroutine calls switches crossed shape asked before copies))
+            (jumps_d m k f c begin rules coroutine calls switches crossed shape asked before copies)
+
         placed_end : AreEndedFirst Copied → AreEndedFirst Built
         unfolding placed
         placed_end =
@@ -135,6 +192,9 @@ module _ (m : Module) (k : ℕ) (f : Function) (c : Contents) (begin : ℕ) (rul
             (coroutine_d m k f c begin rules coroutine calls switches crossed shape asked before copies)
             (subst (IsShaped k Copied) (sym (begin_is m k f c begin rules coroutine calls switches crossed shape)) (shape_d m k f c begin rules coroutine calls switches crossed shape asked before copies))
             (jumps_d m k f c begin rules coroutine calls switches crossed shape asked before copies)
+
+        pub all_frames : AreFramesUnneeded Edged → AreFramesUnneeded Built
+        all_frames h = placed_frames (copies_frames (cells_frames h))
 
         pub all_nothing : IsNothingNeeded Built
         all_nothing = placed_nothing (copies_nothing cells_nothing)
@@ -152,3 +212,9 @@ pub framed_nothing : (m : Module) (k : ℕ) (l : Layout) (f : Function) (c : Con
 framed_nothing m k l f c before begin rules coroutine calls switches outside window named crossed fit =
     all_nothing m k f c begin rules coroutine calls switches crossed (edges_shaped m k f begin rules coroutine calls switches outside window named)
     (cells_fit m k f c rules coroutine calls switches crossed fit.widths) before fit.copies l fit.addresses
+
+pub framed_frames : (m : Module) (k : ℕ) (l : Layout) (f : Function) (c : Contents) (before : List ℕ) (begin : ℕ) → KeepsFunctionRules m k f → f.coroutine ≡ true → wrong_call k f ≡ None → wrong_switch k f ≡ None → IsFirstOutside k f None → IsFirstWindow k f None → first_result Intrinsic.CoroBegin f ≡ Some begin → AreCrossing f c.crossing → PassesFit m k l f c before → AreFramesUnused k f → AreFramesUnneeded (placed l f c (copied f c (celled m f c) before))
+framed_frames m k l f c before begin rules coroutine calls switches outside window named crossed fit unused =
+    all_frames m k f c begin rules coroutine calls switches crossed (edges_shaped m k f begin rules coroutine calls switches outside window named)
+    (cells_fit m k f c rules coroutine calls switches crossed fit.widths) before fit.copies l fit.addresses
+    (unneeded k (with_edge_blocks f) (unused_where_edges_have_blocks k f unused))

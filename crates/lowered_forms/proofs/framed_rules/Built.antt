@@ -12,7 +12,7 @@ use Rattle.coroutine_frames.specs.declared.contents.Contents.{Contents}
 use Rattle.first_pass_rules.proofs.early_rules.Locals.{own_label}
 use Rattle.frame_rules.proofs.edge_block_rules.Kept.{crossing_kept, labels_different, phis_by_jumps, rules_kept, suspend_blocks}
 use Rattle.edge_blocks.specs.EdgeBlocks.{with_edge_blocks}
-use Rattle.edge_block_meaning.proofs.edge_sources.Known.{labels_known}
+use Rattle.frame_rules.proofs.edge_sources.Known.{labels_known}
 use Rattle.frame_layout.specs.declared.layout.Layout.{Layout}
 use Rattle.lowered_forms.specs.framed_rules.Buildable.{IsBuildable}
 use Rattle.lowered_forms.proofs.framed_shape.Cells.{cells_keep}

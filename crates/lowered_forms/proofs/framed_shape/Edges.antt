@@ -15,7 +15,7 @@ use Rattle.lowered_forms.proofs.edge_block_shape.Tokens.{same_tokens}
 use Rattle.edge_blocks.specs.EdgeBlocks.{with_edge_blocks}
 use Rattle.edge_rules.specs.Edges.{has, leads}
 use Rattle.flow_solver.specs.Paths.{IsListed}
-use Rattle.edge_block_meaning.proofs.edge_sources.Known.{labels_known}
+use Rattle.frame_rules.proofs.edge_sources.Known.{labels_known}
 use Rattle.lowered_forms.proofs.framed_shape.Begin.{begin_result}
 use Rattle.lowered_forms.proofs.framed_shape.Beginning.{begins_made, begun_where, none_without}
 use Rattle.lowered_forms.proofs.framed_shape.Fetched.{call_suspends}

@@ -10,8 +10,8 @@ use Rattle.coro_shape.specs.OneOfEach.{wrong_call}
 use Rattle.coro_shape.specs.Switches.{wrong_switch}
 use Rattle.coroutine_frames.specs.declared.contents.Contents.{Contents}
 use Rattle.first_pass_meaning.proofs.early_agreement.Lists.{set_other}
-use Rattle.edge_block_meaning.proofs.edge_agreement.Slots.{same_allocas}
-use Rattle.edge_block_meaning.proofs.edge_agreement.Blocks.{own_number}
+use Rattle.frame_rules.proofs.edge_agreement.Slots.{same_allocas}
+use Rattle.frame_rules.proofs.edge_agreement.Blocks.{own_number}
 use Rattle.frame_rules.proofs.edge_block_rules.Carried.{Carries, carried}
 use Rattle.frame_rules.proofs.edge_block_rules.Kept.{crossing_kept, rules_kept}
 use Rattle.frame_rules.proofs.edge_block_rules.Operands.{ending_types_same}

@@ -1,12 +1,12 @@
 -- Where edges have blocks, paths without begin are those of the function, so K5 isn't broken there.
 use Rattle.std.proofs.Common.{◌≡◌, ◌⊎◌, inl, inr, ⊎_elim, Bool, true, false, List, [], ◌∷◌, refl, sym, ap, ◌∙◌, subst}
 use Rattle.std.specs.Prelude.{Some, None, Option, map, slice_get, ◌||◌}
-use Rattle.edge_block_meaning.proofs.edge_agreement.Edges.{threads}
-use Rattle.edge_block_meaning.proofs.edge_agreement.Points.{has_map, map_has, points_moved}
-use Rattle.edge_block_meaning.proofs.edge_agreement.Threads.{leads_home}
-use Rattle.edge_block_meaning.specs.edge_agreement.Labels.{HasNamedLabels}
-use Rattle.edge_block_meaning.specs.edge_agreement.Spots.{moved}
-use Rattle.edge_block_meaning.specs.edge_agreement.Threads.{AreAvoidedToo, AreThreads}
+use Rattle.frame_rules.proofs.edge_agreement.Edges.{threads}
+use Rattle.frame_rules.proofs.edge_agreement.Points.{has_map, map_has, points_moved}
+use Rattle.frame_rules.proofs.edge_agreement.Threads.{leads_home}
+use Rattle.frame_rules.specs.edge_agreement.Labels.{HasNamedLabels}
+use Rattle.frame_rules.specs.edge_agreement.Spots.{moved}
+use Rattle.frame_rules.specs.edge_agreement.Threads.{AreAvoidedToo, AreThreads}
 use Rattle.frame_rules.proofs.edge_block_rules.Homes.{IsEdge, IsOwn, home}
 use Rattle.edge_blocks.specs.EdgeBlocks.{edge_block, with_edge_blocks}
 use Rattle.lowered_forms.proofs.framed_shape.Beginning.{NoneWithout}

@@ -52,7 +52,7 @@ instrs_same r n (i ∷ is) =
     one_same n (renamed_instr r i) (early_instrs r (after_one n (renamed_instr r i)) is)
     ∙ (λ k. or_else (renamed_same r i k) (instrs_same r (after_one n (renamed_instr r i)) is k))
 
-blocks_same : (r : Renaming) (n : ℕ) (bs : List Block) → first_result_by Intrinsic.CoroBegin (early_blocks r n bs) ≡ first_result_by Intrinsic.CoroBegin bs
+pub blocks_same : (r : Renaming) (n : ℕ) (bs : List Block) → first_result_by Intrinsic.CoroBegin (early_blocks r n bs) ≡ first_result_by Intrinsic.CoroBegin bs
 blocks_same r n [] = refl
 blocks_same r n (b ∷ bs) = λ k. or_else (instrs_same r n b.instrs k) (blocks_same r (after_instrs r n b.instrs) bs k)
 
@@ -102,14 +102,14 @@ pub record HasBeginName (f : Function) : Type 0 where
   pub named : first_result Intrinsic.CoroBegin f ≡ Some begin
 
 -- there is a begin (K2)
-begin_there : (k : ℕ) (f : Function) → f.coroutine ≡ true → wrong_call k f ≡ None → is_none (first_call Intrinsic.CoroBegin f) ≡ false
+pub begin_there : (k : ℕ) (f : Function) → f.coroutine ≡ true → wrong_call k f ≡ None → is_none (first_call Intrinsic.CoroBegin f) ≡ false
 begin_there k f c e =
     let all : first_part (breaks_calls (calls_of k f)) (parts_of k f) ≡ None = ap (λ (b : Bool). if b then first_part (breaks_calls (calls_of k f)) (parts_of k f) else None) (sym c) ∙ e in
     let missing = (passing (breaks_calls (calls_of k f)) (parts_of k f) all).0 in
     or_first_out (is_none (first_call Intrinsic.CoroBegin f)) (is_none (first_call Intrinsic.CoroEnd f))
     (or_second_out (is_none (first_call Intrinsic.CoroId f)) (is_none (first_call Intrinsic.CoroBegin f) || is_none (first_call Intrinsic.CoroEnd f)) missing)
 
-name_by : (f : Function) → is_none (first_call Intrinsic.CoroBegin f) ≡ false → HasBeginName (with_begin_name f)
+pub name_by : (f : Function) → is_none (first_call Intrinsic.CoroBegin f) ≡ false → HasBeginName (with_begin_name f)
 name_by f e = on (first_result Intrinsic.CoroBegin f) refl
   where
     on : (o : Option ℕ) → first_result Intrinsic.CoroBegin f ≡ o → HasBeginName (if_unnamed o f)

@@ -16,7 +16,7 @@ use Rattle.lowered_forms.proofs.frame_numbers.Numbers.{all_near}
 use Rattle.lowered_forms.proofs.frame_numbers.Small.{early_few}
 use Rattle.lowered_forms.specs.frame_numbers.Given.{IsGiven}
 use Rattle.lowered_forms.proofs.framed_crossing.Crossed.{only_these}
-use Rattle.lowered_forms.proofs.framed_crossing.Whole.{framed_end_first, framed_nothing}
+use Rattle.lowered_forms.proofs.framed_crossing.Whole.{framed_end_first, framed_frames, framed_nothing}
 use Rattle.lowered_forms.specs.framed_crossing.Crossed.{AreFramesUnneeded}
 use Rattle.lowered_forms.specs.framed_crossing.Ended.{AreEndedFirst}
 use Rattle.lowered_forms.proofs.framed_rules.Built.{form_kept, passes_fit}
@@ -31,7 +31,7 @@ use Rattle.ir_grammar.specs.Text.{StandsFor}
 use Rattle.ir_model.specs.declared.module.Function.{Function}
 use Rattle.ir_model.specs.declared.module.Module.{Module}
 use Rattle.lowered_forms.proofs.lowered_sources.BeginNames.{HasBeginName}
-use Rattle.lowered_forms.proofs.lowered_sources.Sources.{early_named, early_others, early_rules, early_unnamed, early_wide}
+use Rattle.lowered_forms.proofs.lowered_sources.Sources.{early_named, early_others, early_rules, early_unnamed, early_unused, early_wide}
 use Rattle.lowered_forms.proofs.lowered_sources.Unnamed.{framed_free, framed_jumped}
 use Rattle.name_rules.specs.declared.stage.Stage.{Stage}
 use Rattle.first_pass_rules.proofs.named_texts.Placed.{locals_named, uses_named}
@@ -47,6 +47,7 @@ pub record IsFramedWell (m : Module) (k : ℕ) (g : Function) : Type 0 where
   pub kept : IsKept m k g begin
   pub ends : AreEndedFirst g
   pub nothing : IsNothingNeeded g
+  pub frames : AreFramesUnneeded g
   pub names : NamesNoIntrinsic k g
   pub jumps : ArePhisEnteredByJumps g
 
@@ -98,6 +99,7 @@ module _ (text : List ℕ) (m : Module) (stands : StandsFor text m) (accepted : 
             kept = form_kept e k l f h.contents h.before named.begin buildable;
             ends = framed_end_first e k l f h.contents h.before named.begin rules coroutine shape.calls shape.switches paths.outside paths.window named.named h.contents_are.crossing_are fit;
             nothing = framed_nothing e k l f h.contents h.before named.begin rules coroutine shape.calls shape.switches paths.outside paths.window named.named h.contents_are.crossing_are fit;
+            frames = framed_frames e k l f h.contents h.before named.begin rules coroutine shape.calls shape.switches paths.outside paths.window named.named h.contents_are.crossing_are fit (early_unused text m stands accepted k f there coroutine);
             names = framed_free e k l f h.contents h.before named.begin rules coroutine shape.calls shape.switches paths.outside paths.window named.named h.contents_are.crossing_are fit (early_unnamed text m stands accepted k f there);
             jumps = framed_jumped e k l f h.contents h.before named.begin rules coroutine shape.calls shape.switches paths.outside paths.window named.named h.contents_are.crossing_are fit;
           }
@@ -110,7 +112,7 @@ module _ (text : List ℕ) (m : Module) (stands : StandsFor text m) (accepted : 
 
 -- ---- splitting
 
-module _ (m n : Module) (same : HaveSameSignatures m n) (k : ℕ) (g : Function) (h : IsFramedWell m k g) (frames : AreFramesUnneeded g) where
+module _ (m n : Module) (same : HaveSameSignatures m n) (k : ℕ) (g : Function) (h : IsFramedWell m k g) where
   rules_n : KeepsFunctionRules n k g
   rules_n = go_by_signatures m n k g same h.kept.rules
 
@@ -127,7 +129,7 @@ module _ (m n : Module) (same : HaveSameSignatures m n) (k : ℕ) (g : Function)
         tokens = h.kept.shape.tokens;
         edges = h.kept.shape.edges;
         returns = h.ends;
-        crossing = only_these n k g rules_n h.kept.coroutine h.kept.shape.calls h.begin h.kept.shape.named h.nothing frames;
+        crossing = only_these n k g rules_n h.kept.coroutine h.kept.shape.calls h.begin h.kept.shape.named h.nothing h.frames;
       }
 
   pub exits_splittable : IsSplittable n k (with_exit_blocks g) h.begin

@@ -24,7 +24,6 @@ use Rattle.lowered_forms.proofs.lowered_sources.Coroutines.{exits_splittable, ex
 use Rattle.lowered_forms.proofs.lowered_sources.Positions.{Becomes, FramedBy, StandsAs, Unchanged, stands_as}
 use Rattle.lowered_forms.proofs.lowered_sources.Short.{names_stay_short, not_both}
 use Rattle.lowered_forms.proofs.lowered_sources.Sources.{early_items, early_rules, early_unnamed}
-use Rattle.lowered_forms.specs.lowered_sources.Frames.{AllFramesUnneeded}
 use Rattle.name_rules.specs.declared.stage.Stage.{Stage}
 use Rattle.lowered_forms.proofs.row_names.Headings.{early_names, framed_names, framed_signatures}
 use Rattle.lowered_forms.proofs.row_names.Texts.{text_names_short}
@@ -49,31 +48,30 @@ module _ (text : List ℕ) (m : Module) (stands : StandsFor text m) (accepted : 
       let well = framed_well text m stands accepted share layouts laid k f there marked (layout_at layouts.coroutines taken) (number_given layouts.coroutines taken) g framed in
       let both : true ≡ false = sym well.kept.coroutine ∙ c in absurd (cc)
 
-  module _ (frames : AllFramesUnneeded n) where
-    coroutine_by : (k : ℕ) (f g : Function) → slice_get (early_module m).functions k ≡ Some f → slice_get n.functions k ≡ Some g → Becomes (early_module m) layouts.coroutines f g → g.coroutine ≡ true → IsCoroutineReady n layouts k g
-    coroutine_by k f _ there now (Unchanged plain) c = absurd (not_both f.coroutine plain c)
-    coroutine_by k f g there now (FramedBy taken _ marked framed) c =
-        let l : Layout = layout_at layouts.coroutines taken in
-        let given = number_given layouts.coroutines taken in
-        let was : f.coroutine ≡ true = marked in
-        let well = framed_well text m stands accepted share layouts laid k f there was l given g framed in
-        let few = framed_few text m stands accepted share layouts laid k f there was l given g framed in
-        let same = framed_signatures layouts e n form in
-        record {
-          begin = well.begin;
-          splittable = exits_splittable e n same k g well (frames k g now c);
-          names = exits_unnamed e n same k g well (frames k g now c);
-          small = λ l2 given2. stays_small k g l2 c well.kept.shape.switches (shape_small m share layouts laid g (subst (λ (x : ℕ). x ≤ 65536) (sym (framed_as_many e l f g framed)) few) l2 given2);
-        }
+  coroutine_by : (k : ℕ) (f g : Function) → slice_get (early_module m).functions k ≡ Some f → slice_get n.functions k ≡ Some g → Becomes (early_module m) layouts.coroutines f g → g.coroutine ≡ true → IsCoroutineReady n layouts k g
+  coroutine_by k f _ there now (Unchanged plain) c = absurd (not_both f.coroutine plain c)
+  coroutine_by k f g there now (FramedBy taken _ marked framed) c =
+      let l : Layout = layout_at layouts.coroutines taken in
+      let given = number_given layouts.coroutines taken in
+      let was : f.coroutine ≡ true = marked in
+      let well = framed_well text m stands accepted share layouts laid k f there was l given g framed in
+      let few = framed_few text m stands accepted share layouts laid k f there was l given g framed in
+      let same = framed_signatures layouts e n form in
+      record {
+        begin = well.begin;
+        splittable = exits_splittable e n same k g well;
+        names = exits_unnamed e n same k g well;
+        small = λ l2 given2. stays_small k g l2 c well.kept.shape.switches (shape_small m share layouts laid g (subst (λ (x : ℕ). x ≤ 65536) (sym (framed_as_many e l f g framed)) few) l2 given2);
+      }
 
-    pub is_ready : IsReady layouts n
-    is_ready =
-        record {
-          items = same_names_keep_items Stage.Source e n (framed_names layouts e n form) (early_items text m stands accepted);
-          short = short;
-          plain = λ k g there c. let x = comes k g there in plain_by k x.source g x.stands x.becomes c;
-          coroutines = λ k g there c. let x = comes k g there in coroutine_by k x.source g x.stands there x.becomes c;
-        }
+  pub is_ready : IsReady layouts n
+  is_ready =
+      record {
+        items = same_names_keep_items Stage.Source e n (framed_names layouts e n form) (early_items text m stands accepted);
+        short = short;
+        plain = λ k g there c. let x = comes k g there in plain_by k x.source g x.stands x.becomes c;
+        coroutines = λ k g there c. let x = comes k g there in coroutine_by k x.source g x.stands there x.becomes c;
+      }
 
-pub all_accepted : (text : List ℕ) (m : Module) → StandsFor text m → IsRefused Stage.Source m None → (share : Bool) (layouts : Layouts) → AreLayouts m share (Ok layouts) → (n : Module) → IsFramedForm layouts (early_module m) n → AllFramesUnneeded n → list_all (λ f. not f.coroutine) (split_module layouts n).functions ≡ true → calls_id_alone (split_module layouts n) ≡ true → IsRefused Stage.Plain (clean_module (split_module layouts n)) None
-all_accepted text m stands accepted share layouts laid n form frames = split_accepted layouts n (is_ready text m stands accepted share layouts laid n form frames)
+pub all_accepted : (text : List ℕ) (m : Module) → StandsFor text m → IsRefused Stage.Source m None → (share : Bool) (layouts : Layouts) → AreLayouts m share (Ok layouts) → (n : Module) → IsFramedForm layouts (early_module m) n → list_all (λ f. not f.coroutine) (split_module layouts n).functions ≡ true → calls_id_alone (split_module layouts n) ≡ true → IsRefused Stage.Plain (clean_module (split_module layouts n)) None
+all_accepted text m stands accepted share layouts laid n form = split_accepted layouts n (is_ready text m stands accepted share layouts laid n form)

@@ -10,7 +10,7 @@ use Rattle.first_pass_rules.proofs.early_local_rules.Turned.{Any, Begins, Saves,
 use Rattle.early_lower.specs.Early.{early_function}
 use Rattle.early_lower.specs.Renaming.{renamed, renamed_arg, renamed_callee, renamed_incoming, renamed_instr, renamed_phi, renamed_return, renamed_term}
 use Rattle.early_lower.specs.declared.renaming.Renaming.{Renaming}
-use Rattle.edge_block_meaning.specs.edge_agreement.Spots.{table_of}
+use Rattle.frame_rules.specs.edge_agreement.Spots.{table_of}
 use Rattle.frame_rules.proofs.edge_block_rules.Carried as edges
 use Rattle.frame_rules.proofs.edge_block_rules.Homes.{own_block}
 use Rattle.frame_rules.proofs.edge_block_rules.Operands as operands

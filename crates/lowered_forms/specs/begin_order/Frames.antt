@@ -5,8 +5,8 @@ use Rattle.frame_rules.specs.cell_rules.Asked.{AreCellsFor}
 use Rattle.coro_shape.specs.OneOfEach.{wrong_call}
 use Rattle.coroutine_frames.specs.Frames.{AreContents}
 use Rattle.coroutine_frames.specs.declared.contents.Contents.{Contents}
-use Rattle.edge_block_meaning.specs.edge_agreement.Labels.{HasNamedLabels}
-use Rattle.edge_block_meaning.specs.edge_agreement.Phis.{AreLabelsOnce}
+use Rattle.frame_rules.specs.edge_agreement.Labels.{HasNamedLabels}
+use Rattle.frame_rules.specs.edge_agreement.Phis.{AreLabelsOnce}
 use Rattle.edge_blocks.specs.EdgeBlocks.{with_edge_blocks}
 use Rattle.frame_layout.specs.declared.layout.Layout.{Layout}
 use Rattle.frame_rules.specs.function_rules.Kept.{KeepsFunctionRules}

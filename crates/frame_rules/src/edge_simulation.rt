@@ -1,0 +1,30 @@
+//! That blocks on the edges of coroutines keep the meaning of sources.
+
+ghost use Rattle.std.specs.Prelude.{ℕ, ℤ, List};
+ghost use Rattle.agreement.specs.Agreements.{AgreesWithin};
+ghost use Rattle.coro_base.specs.declared.outcome.Word.{Word};
+ghost use Rattle.coro_meaning.specs.Source.{SourceAt};
+ghost use Rattle.frame_rules.specs.edge_states.MovedState.{AreEdgesKept, edges_split};
+ghost use Rattle.ir_model.specs.declared.module.Frame.{Frame};
+ghost use Rattle.ir_model.specs.declared.module.Module.{Module};
+ghost use Rattle.first_pass_meaning.specs.sound_states.Named.{AreLocalsNamed, AreUsesNamed};
+
+/// Where coroutines' edges have blocks, each run agrees within 2 with the run of the module: a step through an edge with a
+/// block becomes two, and each other one stays one. It asks that locals are positions of their functions' tables of names,
+/// and of each coroutine that its labels are too and stand once, that the operands of phis are for edges, the first one for
+/// an edge being the same as any other, and that a block with a suspend ends in a switch.
+pub fn edge_blocks_keep_meaning()
+    ensures { (m : Module) → AreLocalsNamed m → AreEdgesKept m → (sizes : List Frame) (entry : ℕ) (args : List Word) (answers : List ℤ) → AgreesWithin 2 (SourceAt m sizes entry args answers) (SourceAt (edges_split m) sizes entry args answers) }
+{}
+
+/// Each local that the result defines is a position of its function's table of names, where each of the module is.
+#[tactic(auto, using(crate::proofs::edge_simulation::Names::locals_named))]
+pub fn edge_blocks_define_named_locals()
+    ensures { (m : Module) → AreLocalsNamed m → AreLocalsNamed (edges_split m) }
+{}
+
+/// The same of the locals that it uses.
+#[tactic(auto, using(crate::proofs::edge_simulation::Names::uses_named))]
+pub fn edge_blocks_use_named_locals()
+    ensures { (m : Module) → AreUsesNamed m → AreUsesNamed (edges_split m) }
+{}

@@ -1,0 +1,58 @@
+//! That blocks on the edges of coroutines keep the meaning of what the first pass makes of a source that breaks no rule.
+
+ghost use Rattle.std.specs.Prelude.{◌≡◌, ℕ, ℤ, true, List, [], None, Some, slice_get};
+ghost use Rattle.agreement.specs.Agreements.{AgreesWithin};
+ghost use Rattle.coro_base.specs.declared.outcome.Word.{Word};
+ghost use Rattle.coro_meaning.specs.Source.{SourceAt};
+ghost use Rattle.coro_shape.specs.Switches.{wrong_switch};
+ghost use Rattle.first_pass_rules.specs.early_local_rules.Local.{BreaksNoLocalRule};
+ghost use Rattle.early_lower.specs.Early.{early_module};
+ghost use Rattle.first_pass_rules.specs.early_path_rules.Shape.{KeepsShape};
+ghost use Rattle.first_pass_rules.specs.early_rules.Named.{AreTabled, HasTabledLocals};
+ghost use Rattle.frame_rules.specs.edge_agreement.Labels.{HasNamedLabels};
+ghost use Rattle.edge_rules.specs.Edges.{first_wrong_edge};
+ghost use Rattle.frame_rules.specs.edge_states.MovedState.{AreEdgesKept, KeepsEdges, edges_split};
+ghost use Rattle.function_parts.specs.Locals.{locals_of};
+ghost use Rattle.ir_check.specs.Refused.{IsRefused};
+ghost use Rattle.ir_grammar.specs.Text.{StandsFor};
+ghost use Rattle.ir_model.specs.declared.module.Frame.{Frame};
+ghost use Rattle.ir_model.specs.declared.module.Function.{Function};
+ghost use Rattle.ir_model.specs.declared.module.Module.{Module};
+ghost use Rattle.name_rules.specs.Definitions.{first_twice};
+ghost use Rattle.name_rules.specs.Known.{first_unknown};
+ghost use Rattle.name_rules.specs.declared.stage.Stage.{Stage};
+ghost use Rattle.first_pass_meaning.specs.sound_states.Named.{AreLocalsNamed};
+
+/// A coroutine whose labels are positions of its table of names, and which has no fault of N1 among its locals, of F1 and of
+/// K3, keeps what blocks on edges ask of it.
+pub fn rules_keep_edges()
+    ensures { (func : ℕ) (f : Function) → f.coroutine ≡ true → HasNamedLabels f → first_twice [] (locals_of func f) ≡ None → first_wrong_edge func f ≡ None → wrong_switch func f ≡ None → KeepsEdges f }
+{}
+
+/// The labels of a function are positions of its table of names where all that it defines are, and where it has no fault of N2.
+pub fn known_labels_are_named()
+    ensures { (m : Module) (func : ℕ) (f : Function) → HasTabledLocals func f → first_unknown m func f ≡ None → HasNamedLabels f }
+{}
+
+/// So do the coroutines of a module that breaks none of the rules that speak of no paths, N1 and N2 among them, nor those on
+/// edges and on the calls of coroutines, F1 and K3 among them, where what coroutines define are positions of their tables of
+/// names.
+pub fn rules_keep_edges_of_modules()
+    ensures { (m : Module) → AreTabled m → BreaksNoLocalRule m → ((k : ℕ) (f : Function) → slice_get m.functions k ≡ Some f → KeepsShape k f) → AreEdgesKept m }
+{}
+
+/// So do the coroutines that the first pass makes of a source that a text stands for and that breaks no rule.
+pub fn accepted_edges_are_kept()
+    ensures { (text : List ℕ) (m : Module) → StandsFor text m → IsRefused Stage.Source m None → AreEdgesKept (early_module m) }
+{}
+
+/// The locals that the functions of such a source define after the first pass are positions of their tables of names.
+pub fn first_pass_names_what_it_defines()
+    ensures { (text : List ℕ) (m : Module) → StandsFor text m → IsRefused Stage.Source m None → AreLocalsNamed (early_module m) }
+{}
+
+/// Each run of such a source agrees within 4 with the run of what the first pass makes of it where coroutines' edges have
+/// blocks.
+pub fn accepted_edges_keep_meaning()
+    ensures { (text : List ℕ) (m : Module) → StandsFor text m → IsRefused Stage.Source m None → (sizes : List Frame) (entry : ℕ) (args : List Word) (answers : List ℤ) → AgreesWithin 4 (SourceAt m sizes entry args answers) (SourceAt (edges_split (early_module m)) sizes entry args answers) }
+{}
