@@ -1,7 +1,7 @@
 //! What is noted beside locals.
 
-ghost use Rattle.std.specs.Prelude.{◌≡◌, ◌==◌, ℕ, IfOk, OnOk, None, Some, if◌then◌else◌};
-ghost use Rattle.local_tables.specs.Tables.{noted, or_first};
+ghost use Rattle.std.specs.Prelude.{◌≡◌, ◌==◌, ◌≤◌, ℕ, IfOk, OnErr, OnOk, None, Some, if◌then◌else◌};
+ghost use Rattle.local_tables.specs.Tables.{noted, or_first, room};
 
 use coro_base::{Items, ValueId};
 use std::alloc::{AllocError, Global};
@@ -15,7 +15,8 @@ pub struct LocalTable<T> {
 impl<T: Copy> LocalTable<T> {
     /// Nothing is noted, and there is room for so many names.
     pub fn new(alloc: Global, names: usize) -> Result<LocalTable<T>, AllocError>
-        ensures { IfOk result (λ t. (n : ℕ) → noted t n ≡ None) }
+        ensures empty { IfOk result (λ t. (n : ℕ) → noted t n ≡ None) }
+        ensures room { IfOk result (λ t. room t ≡ names) }
     {
         let mut slots = Items::new(alloc);
         for _at in 0..names {
@@ -36,7 +37,9 @@ impl<T: Copy> LocalTable<T> {
 
     /// Notes a value beside a local, where nothing is noted. There is no room for one that is beyond the names.
     pub fn note(&mut self, local: ValueId, value: T) -> Result<(), AllocError>
-        ensures { OnOk result ((n : ℕ) → noted self.new n ≡ or_first (noted self.old n) (if local == n then Some value else None)) }
+        ensures noted { OnOk result ((n : ℕ) → noted self.new n ≡ or_first (noted self.old n) (if local == n then Some value else None)) }
+        ensures beyond { OnErr result (room self.old ≤ local) }
+        ensures kept { room self.new ≡ room self.old }
     {
         if local >= self.slots.len() {
             return Err(AllocError);

@@ -8,7 +8,7 @@ use Rattle.value_rules.proofs.table.note_params.Goals as goal
 pub loop-param-preserved : goal.loop-param-preserved
 loop-param-preserved c =
     one_more param_kind c.args.params.now c.loop-param.param-index c.param-item.result (noted c.loop-param.table) (noted c.note.new.self) (λ (n : ℕ). or_first (noted c.args.table.now n) (first_in param_kind c.args.params.now n)) c.loop-param-test.true c.param-item.is
-    (kind_noted (noted c.loop-param.table) (noted c.note.new.self) c.param-item.result.name c.kind_of.result c.param-item.result.ty c.kind_of.ensures c.in_ok-note.ensures) c.loop-param.invariant
+    (kind_noted (noted c.loop-param.table) (noted c.note.new.self) c.param-item.result.name c.kind_of.result c.param-item.result.ty c.kind_of.ensures c.in_ok-note.ensures.noted) c.loop-param.invariant
 
 pub returns : goal.returns
 returns c =
