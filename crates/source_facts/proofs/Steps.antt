@@ -54,16 +54,16 @@ all-same depth x (a ∷ xs) (b ∷ ys) s = λ i. may_leave depth x (record { sav
 
 -- ---- slots
 
-new-slots-same : (r1 r2 : List ℕ) (o : Option (ℕ × Instance)) (s : State) (slots : List Slot) → ((v : ℕ) → has_name r1 v ≡ has_name r2 v) → with_new_slots r1 o s slots ≡ with_new_slots r2 o s slots
-new-slots-same r1 r2 None s slots h = refl
-new-slots-same r1 r2 (Some (i, x)) s slots h = λ j.
+new-slots-same : (names others : List ℕ) (o : Option (ℕ × Instance)) (s : State) (slots : List Slot) → ((v : ℕ) → has_name names v ≡ has_name others v) → with_new_slots names o s slots ≡ with_new_slots others o s slots
+new-slots-same names others None s slots h = refl
+new-slots-same names others (Some (i, x)) s slots h = λ j.
     with_slots
     (with_instance s i (record x { slots = filter (λ (slot : Slot). not (h slot.alloca j)) slots ++ x.slots }))
     (filter (λ (slot : Slot). h slot.alloca j) slots ++ s.top.slots)
 
-kill-same : (r1 r2 : List ℕ) (o : Option (ℕ × Instance)) (s : State) (slot : Slot) → ((v : ℕ) → has_name r1 v ≡ has_name r2 v) → kill_late r1 o s slot ≡ kill_late r2 o s slot
-kill-same r1 r2 None s slot h = refl
-kill-same r1 r2 (Some (i, x)) s slot h = λ j. if is_over x && not (h slot.alloca j) then with_memory s (killed s.world.memory slot.block) else s
+kill-same : (names others : List ℕ) (o : Option (ℕ × Instance)) (s : State) (slot : Slot) → ((v : ℕ) → has_name names v ≡ has_name others v) → kill_late names o s slot ≡ kill_late others o s slot
+kill-same names others None s slot h = refl
+kill-same names others (Some (i, x)) s slot h = λ j. if is_over x && not (h slot.alloca j) then with_memory s (killed s.world.memory slot.block) else s
 
 -- ---- steps
 
