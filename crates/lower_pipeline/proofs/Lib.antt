@@ -1,3 +1,4 @@
 pub mod Told
 pub mod NoCoroutine
+pub mod Done
 pub mod NoRule

@@ -1,5 +1,5 @@
 -- The passes in a row.
-use Rattle.std.specs.Prelude.{ℕ, Bool, List, map, slice_get, Some, None, Option, ◌≡◌, ◌++◌}
+use Rattle.std.specs.Prelude.{ℕ, Bool, List, [], map, slice_get, Some, None, Option, ◌≡◌, ◌++◌}
 use Rattle.coro_base.specs.declared.name.Name.{Name}
 use Rattle.coro_base.specs.declared.status.Options.{Options}
 use Rattle.coro_cleanup.specs.Cleanup.{clean_module}
@@ -40,7 +40,7 @@ lowered_text m layouts lowered = frames_text (map (frame_line m) layouts.corouti
 
 -- ---- what the lowering of a text comes to
 
--- a source with the layouts of its frames and its framed form
+-- a source with the layouts of its frames and its framed form; no call is elided yet
 abbrev pub lowered_by : Module → Layouts → Module → Lowered
 lowered_by m layouts framed =
     record {
@@ -49,6 +49,7 @@ lowered_by m layouts framed =
       source = m;
       framed = framed;
       layouts = layouts;
+      sites = [];
     }
 
 -- an accepted source, with the layouts of its frames, is lowered: saves are written out, and frames are built
@@ -78,3 +79,9 @@ IsLoweringOf share (Parsed.Module m) l = IsModuleLowering share m l
 -- what the lowering of a text comes to
 unfoldable pub IsLowering : Options → List ℕ → Lowering → Type 0
 IsLowering options text l = IsLoweringOf options.share (read_module text) l
+
+-- where a text was lowered, what it was lowered to has a property
+abbrev pub OfLowered : (Lowered → Type 0) → Lowering → Type 0
+OfLowered P (Lowering.Done l) = P l
+OfLowered P (Lowering.Syntax items) = Unit {0}
+OfLowered P (Lowering.Refused m rule place) = Unit {0}

@@ -3,6 +3,7 @@ use Rattle.std.specs.Prelude.{◌≡◌, Bool, true, not, ◌&&◌}
 use Rattle.std.specs.List.{list_all}
 use Rattle.coro_cleanup.specs.Free.{is_free_module}
 use Rattle.ir_model.specs.declared.module.Module.{Module}
+use Rattle.lower_pipeline.specs.Lowering.{OfLowered}
 use Rattle.lower_pipeline.specs.declared.whole.Lowering.{Lowering}
 
 -- no function is a coroutine, and no coro intrinsic is called or declared
@@ -11,6 +12,4 @@ has_no_coroutine m = list_all (λ f. not f.coroutine) m.functions && is_free_mod
 
 -- the lowered module, where there is one, is such a module
 abbrev pub HasNoCoroutine : Lowering → Type 0
-HasNoCoroutine (Lowering.Done l) = has_no_coroutine l.«module» ≡ true
-HasNoCoroutine (Lowering.Syntax items) = Unit {0}
-HasNoCoroutine (Lowering.Refused m rule place) = Unit {0}
+HasNoCoroutine = OfLowered (λ l. has_no_coroutine l.«module» ≡ true)

@@ -3,7 +3,7 @@
 ghost use Rattle.std.specs.Prelude.{◌≡◌, IfOk, map, slice_get};
 ghost use Rattle.lower_pipeline.specs.Lowering.{IsDone, IsLowering, IsLoweringBy, IsModuleLowering, frame_line, lowered_by, lowered_text, name_of};
 ghost use Rattle.lower_pipeline.specs.NoCoroutine.{HasNoCoroutine};
-ghost use Rattle.lower_pipeline.specs.NoRule.{BreaksNoRule};
+ghost use Rattle.lower_pipeline.specs.NoRule.{BreaksNoRule, IsFramed};
 
 use crate::passes::{framed_module, lowered_module};
 use coro_base::{Data, FuncId, Items, Name, Options, Place, Rule};
@@ -15,7 +15,8 @@ use module_acceptance::{Acceptance, accept};
 use std::alloc::{AllocError, Global};
 
 /// What the lowering of an accepted module gives: its text (a frame line per coroutine, then the canonical text of the
-/// lowered module), the lowered module, the source, its framed form, and the layouts of its frames.
+/// lowered module), the lowered module, the source, its framed form, the layouts of its frames, and the calls whose frames lie
+/// in their callers, of which there are none yet.
 #[derive(Drop)]
 pub struct Lowered {
     pub text: Items<u8>,
@@ -23,6 +24,7 @@ pub struct Lowered {
     pub source: Module,
     pub framed: Module,
     pub layouts: Layouts,
+    pub sites: Items<Place>,
 }
 
 /// What the lowering of a text comes to.
@@ -96,6 +98,7 @@ fn lower_framed(
         source,
         framed,
         layouts,
+        sites: Items::new(alloc),
     })
 }
 
@@ -133,12 +136,13 @@ pub fn lower_module(alloc: Global, source: Module, share: bool) -> Result<Loweri
 }
 
 /// Lowers a text. What is lowered has no coroutine left, neither calls nor declares a coro intrinsic, and breaks none of the rules of
-/// modules without coroutines.
-#[tactic(auto, using(crate::proofs::Told::syntax_is_told, crate::proofs::Told::module_is_told, crate::proofs::NoCoroutine::lowering_has_none, crate::proofs::NoRule::lowering_breaks_none))]
+/// modules without coroutines; its framed form is a framed module.
+#[tactic(auto, using(crate::proofs::Told::syntax_is_told, crate::proofs::Told::module_is_told, crate::proofs::NoCoroutine::lowering_has_none, crate::proofs::NoRule::lowering_breaks_none, crate::proofs::NoRule::lowering_is_framed))]
 pub fn lower(alloc: Global, text: &[u8], options: Options) -> Result<Lowering, AllocError>
     ensures lowered { IfOk result (λ l. IsLowering options text.now l) }
     ensures plain { IfOk result (λ l. HasNoCoroutine l) }
     ensures accepted { IfOk result (λ l. BreaksNoRule l) }
+    ensures framed { IfOk result (λ l. IsFramed l) }
 {
     match parse(alloc, text)? {
         Parsed::Syntax { items } => Ok(Lowering::Syntax(items)),

@@ -1,7 +1,7 @@
 use Rattle.std.proofs.Common.{◌≡◌}
 use Rattle.ir_parser.specs.Parse.{read_module}
 use Rattle.ir_parser.specs.declared.text.Parsed.{Parsed}
-use Rattle.lower_pipeline.proofs.NoRule.{lowering_breaks_none}
+use Rattle.lower_pipeline.proofs.NoRule.{lowering_breaks_none, lowering_is_framed}
 use Rattle.lower_pipeline.proofs.Told.{module_is_told}
 use Rattle.lower_pipeline.proofs.whole.lower.Goals as goal
 
@@ -11,3 +11,10 @@ returns-in-Module-clause-accepted c =
     let read = c.in_ok-items.ensures.value in
     let told : Parsed.Module c.in-Module.source ≡ read_module c.args.text.now = cc in
     lowering_breaks_none c.args.options c.args.text.now c.lower_module.result (module_is_told c.args.options c.args.text.now c.in-Module.source c.lower_module.result told c.lower_module.ensures.lowered)
+
+pub returns-in-Module-clause-framed : goal.returns-in-Module-clause-framed
+returns-in-Module-clause-framed c =
+    let is = c.in-Module.is in
+    let read = c.in_ok-items.ensures.value in
+    let told : Parsed.Module c.in-Module.source ≡ read_module c.args.text.now = cc in
+    lowering_is_framed c.args.options c.args.text.now c.lower_module.result (module_is_told c.args.options c.args.text.now c.in-Module.source c.lower_module.result told c.lower_module.ensures.lowered)
