@@ -2,7 +2,7 @@
 use Rattle.std.proofs.Common.{◌≡◌, ℕ, ◌+◌, inl, inr, Bool, true, false, List, [], ◌∷◌, length, Option, Some, None, Result, Ok, Err, refl, sym, ap, ◌∙◌, subst}
 use Rattle.std.specs.Prelude.{IsFalse, IsTrue, find, if◌then◌else◌, is_none, not, option_map, slice_get, slice_set, unwrap_or, ◌&&◌, ◌==◌, ◌||◌}
 use Rattle.std.specs.List.{list_all}
-use Rattle.kept_values.specs.Accepted.{IsCallAt, KeepsNeeded}
+use Rattle.kept_values.specs.SuspendRules.{IsCallAt, KeepsNeeded}
 use Rattle.kept_values.specs.Kept.{Keep, continue_keeping, kept}
 use Rattle.kept_values.specs.Needed.{IsNeededBehind, IsNeededOn, IsReached, label_of_block, phis_at, phis_give, phis_read}
 use Rattle.kept_values.proofs.Same.{SameOn, kept_at, kept_wide, same_all, same_less, same_result}

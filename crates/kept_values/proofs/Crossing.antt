@@ -2,7 +2,7 @@
 use Rattle.std.proofs.Common.{◌≡◌, ℕ, ◌+◌, ◌⊎◌, inl, inr, ⊎_elim, Bool, true, false, List, Option, Some, None, refl, sym, ap, subst, ℤ}
 use Rattle.std.specs.Prelude.{IsTrue}
 use Rattle.std.proofs.lemmas.Bool.{cases_eq}
-use Rattle.kept_values.specs.Accepted.{IsAccepted, IsAcceptedFunction, IsCallAt, IsGivenBy, KeepsNeeded}
+use Rattle.kept_values.specs.SuspendRules.{AllKeepSuspendRules, KeepsSuspendRules, IsCallAt, IsGivenBy, KeepsNeeded}
 use Rattle.kept_values.specs.Crossing.{AreDefinite, Crosses, IsDefinedBefore, IsDefinite, IsReachedWithout, KeepsCrossing, LeadsTo, across, after_without, along_without, by_instr, by_param, by_phi, first_without, is_param, is_remade, over, there}
 use Rattle.kept_values.specs.Kept.{Keep, KeptAt}
 use Rattle.kept_values.specs.Needed.{BranchesTo, IsNeeded, IsNeededBehind, IsReached, PassesBy, after, along, enter, first, given_by, next, phi, phis_at, phis_give, read}
@@ -77,7 +77,7 @@ not_without f v d (next {block} {at} h n) w = not_without f v d n (on (fetch f b
 not_without f v d (phi {block} {at} label b h) w = d.phi_uses v block at label w b h
 not_without f v d (enter label b h n) w = not_without f v d n (along_without label b h w)
 
-pub needed_crosses : (f : Function) → IsAcceptedFunction f → IsDefinite f → (s : Point) (v : ℕ) → IsReached f s.block s.at → IsCallAt Intrinsic.CoroSuspend f s → IsNeededBehind f s v → IsTrue (is_remade f v) ⊎ Crosses f s v
+pub needed_crosses : (f : Function) → KeepsSuspendRules f → IsDefinite f → (s : Point) (v : ℕ) → IsReached f s.block s.at → IsCallAt Intrinsic.CoroSuspend f s → IsNeededBehind f s v → IsTrue (is_remade f v) ⊎ Crosses f s v
 needed_crosses f ok d s v r c n = on (is_remade f v) refl (split f v r)
   where
     on : (b : Bool) → is_remade f v ≡ b → IsReachedWithout f v s.block s.at ⊎ IsDefinedBefore f v s.block s.at → IsTrue (is_remade f v) ⊎ Crosses f s v
@@ -85,8 +85,8 @@ needed_crosses f ok d s v r c n = on (is_remade f v) refl (split f v r)
     on false e (inl w) = absurd (not_without f v d ((saves_enough f ok).itself s c v n) w)
     on false e (inr k) = inr (record { not_remade = e; defined = k; needed = n })
 
-pub crossing_is_enough : (m : Module) (keep : Keep) → IsAccepted m → AreDefinite m → KeepsCrossing m keep → KeepsNeeded m keep
+pub crossing_is_enough : (m : Module) (keep : Keep) → AllKeepSuspendRules m → AreDefinite m → KeepsCrossing m keep → KeepsNeeded m keep
 crossing_is_enough m keep ok d k = λ func s v r c n. (k.each func s v c).1 (needed_crosses (function_at m func) (ok func) (d.each func) s v r c n)
 
-pub crossing_agrees : (m : Module) (keep : Keep) (sizes : List Frame) (entry : ℕ) (args : List Word) (answers : List ℤ) → IsAccepted m → AreDefinite m → KeepsCrossing m keep → AgreesWithin 1 (SourceAt m sizes entry args answers) (KeptAt m keep sizes entry args answers)
+pub crossing_agrees : (m : Module) (keep : Keep) (sizes : List Frame) (entry : ℕ) (args : List Word) (answers : List ℤ) → AllKeepSuspendRules m → AreDefinite m → KeepsCrossing m keep → AgreesWithin 1 (SourceAt m sizes entry args answers) (KeptAt m keep sizes entry args answers)
 crossing_agrees m keep sizes entry args answers ok d k = kept_agrees m keep sizes entry args answers ok (crossing_is_enough m keep ok d k)

@@ -1,6 +1,6 @@
 -- A resume needs no more than the values that cross its suspend.
 use Rattle.std.proofs.Common.{◌≡◌, ℕ, inl, List, [], Result, Ok, Err, refl, sym, ap, ◌∙◌, subst, arith, ℤ}
-use Rattle.kept_values.specs.Accepted.{IsAccepted, KeepsNeeded}
+use Rattle.kept_values.specs.SuspendRules.{AllKeepSuspendRules, KeepsNeeded}
 use Rattle.kept_values.specs.Kept.{Keep, KeptAt, continue_keeping}
 use Rattle.kept_values.specs.Needed.{first}
 use Rattle.kept_values.proofs.Actions.{work}
@@ -38,7 +38,7 @@ or_sound : (g : Given) (s : State) (r : Result State Cause) → Stays g r → Is
 or_sound g s (Err cause) h fine = absurd fine
 or_sound g s (Ok s') h fine = h
 
-module _ (m : Module) (keep : Keep) (sizes : List Frame) (entry : ℕ) (args : List Word) (answers : List ℤ) (ok : IsAccepted m) (keeps : KeepsNeeded m keep) where
+module _ (m : Module) (keep : Keep) (sizes : List Frame) (entry : ℕ) (args : List Word) (answers : List ℤ) (ok : AllKeepSuspendRules m) (keeps : KeepsNeeded m keep) where
   abbrev g : Given
   g = given m sizes answers
 

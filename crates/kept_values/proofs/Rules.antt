@@ -2,7 +2,7 @@
 use Rattle.std.proofs.Common.{◌≡◌, ℕ, suc, ◌+◌, ◌≤◌, ◌<◌, ◌⊎◌, inl, inr, Bool, true, false, List, [], ◌∷◌, ◌++◌, Option, Some, None, refl, sym, ap, ◌∙◌, subst, arith}
 use Rattle.std.specs.Prelude.{◌==◌, length, IsTrue, slice_get, ◌&&◌, ◌||◌, if◌then◌else◌, option_and_then}
 use Rattle.std.proofs.lemmas.Bool.{cases_eq}
-use Rattle.kept_values.specs.Accepted.{IsCallAt}
+use Rattle.kept_values.specs.SuspendRules.{IsCallAt}
 use Rattle.kept_values.specs.Needed.{IsNeeded, IsNeededBehind, IsNeededOn, PassesBy, enter, given_by, label_of_block, next, phi, phis_at, phis_read, read, reads_at}
 use Rattle.kept_values.proofs.Same.{same_point_same}
 use Rattle.ir_model.specs.declared.instr.Instr.{Instr}

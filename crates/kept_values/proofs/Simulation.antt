@@ -1,7 +1,7 @@
 -- The meaning in which a resume hands on what crosses its suspend simulates the source meaning.
 use Rattle.std.proofs.Common.{◌≡◌, ℕ, ◌+◌, Bool, List, Option, Some, None, Ok, refl, sym, ap, ◌∙◌, subst}
 use Rattle.std.specs.Prelude.{IsTrue, IsFalse, slice_get, negsuc}
-use Rattle.kept_values.specs.Accepted.{IsCallAt, KeepsNeeded}
+use Rattle.kept_values.specs.SuspendRules.{IsCallAt, KeepsNeeded}
 use Rattle.kept_values.specs.Kept.{Keep, continue_keeping}
 use Rattle.kept_values.specs.Needed.{IsNeeded, IsNeededBehind, IsReached, PassesBy, given_by_intrinsic, reads_at, reads_intrinsic}
 use Rattle.kept_values.proofs.Same.{SameOn, nth_same}

@@ -2,7 +2,7 @@
 use Rattle.block_memory.specs.declared.pointer.Pointer.{Pointer}
 use Rattle.std.proofs.Common.{◌≡◌, ℕ, zero, suc, ◌+◌, Bool, true, false, List, [], ◌∷◌, ◌++◌, length, Option, Some, None, Result, Ok, Err, refl, sym, ap, ◌∙◌, subst}
 use Rattle.std.specs.Prelude.{if◌then◌else◌, is_none, map, not, option_and_then, option_map, slice_get, slice_set, ◌&&◌}
-use Rattle.kept_values.specs.Accepted.{IsAccepted, IsCallAt}
+use Rattle.kept_values.specs.SuspendRules.{AllKeepSuspendRules, IsCallAt}
 use Rattle.kept_values.specs.Needed.{BranchesTo, IsReached, first, after, along}
 use Rattle.kept_values.proofs.Actions.{SameAction, action_same}
 use Rattle.kept_values.proofs.Same.{same_all}
@@ -314,7 +314,7 @@ of_term g s (Terminator.Ret None) = refl
 of_term g s (Terminator.Ret (Some arg)) = refl
 of_term g s Terminator.Unreachable = refl
 
-module _ (g : Given) (ok : IsAccepted g.code) (s : State) (h : IsSound g s) where
+module _ (g : Given) (ok : AllKeepSuspendRules g.code) (s : State) (h : IsSound g s) where
   abbrev here : Fetched
   here = fetch (function_of g s) s.top.block s.top.at
 
@@ -498,5 +498,5 @@ module _ (g : Given) (ok : IsAccepted g.code) (s : State) (h : IsSound g s) wher
         on (AtInstr i) e k = (i, e)
         on (AtTerm t) e k = let no_instr : IsOfInstr (term_action (context_of g s) (work_of s) t) ≡ false = of_term g s t in absurd (cc)
 
-pub source_stays : (g : Given) → IsAccepted g.code → (s : State) → IsSound g s → Stays g (act g (continue g) s (action_of (context_of g s) (work_of s) (fetch (function_of g s) s.top.block s.top.at)))
+pub source_stays : (g : Given) → AllKeepSuspendRules g.code → (s : State) → IsSound g s → Stays g (act g (continue g) s (action_of (context_of g s) (work_of s) (fetch (function_of g s) s.top.block s.top.at)))
 source_stays g ok s h = step_stays g ok s h (continue g) (continue_stays g ok s h)

@@ -1,7 +1,7 @@
 -- What is needed behind a suspend was needed at its save; what can be reached.
 use Rattle.std.proofs.Common.{◌≡◌, ℕ, zero, suc, ◌+◌, ◌⊎◌, inl, inr, Bool, true, false, List, [], ◌∷◌, length, Option, Some, None, refl, sym, ap, ◌∙◌, subst, arith}
 use Rattle.std.specs.Prelude.{IsTrue, IsFalse, map, slice_get, nat_lt, ◌==◌, ◌||◌, ◌&&◌, if◌then◌else◌}
-use Rattle.kept_values.specs.Accepted.{IsAcceptedFunction, IsCallAt, IsGivenBy, IsPhiAt, IsSwitched}
+use Rattle.kept_values.specs.SuspendRules.{KeepsSuspendRules, IsCallAt, IsGivenBy, IsPhiAt, IsSwitched}
 use Rattle.kept_values.specs.Needed.{BranchesTo, IsNeeded, IsNeededBehind, IsNeededOn, IsReached, PassesBy, after, along, next, phi, enter, given_by, given_by_intrinsic, phis_at, phis_give}
 use Rattle.kept_values.proofs.Rules.{leads_between, suspend_is_suspend}
 use Rattle.kept_values.proofs.Same.{either, neither, or_left, or_right, same_point_same}
@@ -99,7 +99,7 @@ suspend_is _ e = absurd (cc)
 
 -- ---- what is needed behind a suspend is needed at it
 
-module _ (f : Function) (ok : IsAcceptedFunction f) where
+module _ (f : Function) (ok : KeepsSuspendRules f) where
   itself : (s : Point) → IsCallAt Intrinsic.CoroSuspend f s → (v : ℕ) → IsNeededBehind f s v → IsNeeded f v s.block s.at
   itself s c v n = next (subst (PassesBy v) (sym c.stands) (suspend_is c.instr c.is, λ e. ok.unread s c v e n)) (on n)
     where

@@ -1,6 +1,6 @@
 -- Which values cross a suspend.
 use Rattle.std.specs.Prelude.{◌≡◌, ℕ, Bool, true, false, IsTrue, IsFalse, slice_get, Some, None, Option, ◌+◌, ◌⊎◌, ◌↔◌, ◌&&◌, ◌||◌, ◌==◌}
-use Rattle.kept_values.specs.Accepted.{IsCallAt, IsGivenBy}
+use Rattle.kept_values.specs.SuspendRules.{IsCallAt, IsGivenBy}
 use Rattle.kept_values.specs.Kept.{Keep}
 use Rattle.kept_values.specs.Needed.{BranchesTo, IsNeededBehind, given_by, label_of_block, phis_at, phis_give, phis_read, reads_at}
 use Rattle.std.specs.List.{list_any}

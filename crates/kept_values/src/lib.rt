@@ -7,11 +7,11 @@ ghost use Rattle.coro_base.specs.declared.outcome.Word.{Word};
 ghost use Rattle.coro_meaning.specs.Source.{SourceAt};
 ghost use Rattle.ir_model.specs.declared.module.Frame.{Frame};
 ghost use Rattle.ir_model.specs.declared.module.Module.{Module};
-ghost use Rattle.kept_values.specs.Accepted.{IsAccepted};
+ghost use Rattle.kept_values.specs.SuspendRules.{AllKeepSuspendRules};
 ghost use Rattle.kept_values.specs.Crossing.{AreDefinite, KeepsCrossing};
 ghost use Rattle.kept_values.specs.Kept.{Keep, KeptAt};
 
 /// The meaning in which a resume hands on only what crosses its suspend, and the addresses that are made anew, agrees with the source meaning, step by step.
 pub fn crossing_values_are_enough()
-    ensures { (m : Module) (keep : Keep) (sizes : List Frame) (entry : ℕ) (args : List Word) (answers : List ℤ) → IsAccepted m → AreDefinite m → KeepsCrossing m keep → AgreesWithin 1 (SourceAt m sizes entry args answers) (KeptAt m keep sizes entry args answers) }
+    ensures { (m : Module) (keep : Keep) (sizes : List Frame) (entry : ℕ) (args : List Word) (answers : List ℤ) → AllKeepSuspendRules m → AreDefinite m → KeepsCrossing m keep → AgreesWithin 1 (SourceAt m sizes entry args answers) (KeptAt m keep sizes entry args answers) }
 {}

@@ -1,4 +1,4 @@
--- What the proof asks of a module, in paths; each part is a consequence of rules by which modules are refused.
+-- What is asked of saves, suspends and windows, in paths; each part is a consequence of rules by which modules are refused.
 use Rattle.std.specs.Prelude.{◌≡◌, ℕ, IsTrue, slice_get, Some, ◌+◌, ◌⊎◌, []}
 use Rattle.kept_values.specs.Kept.{Keep}
 use Rattle.kept_values.specs.Needed.{IsNeededBehind, IsReached, given_by, phis_give}
@@ -36,7 +36,7 @@ pub record IsSwitched (f : Function) (suspend : Point) : Type 0 where
   pub to_resume : IsTrue (has_name (targets term) (resume_label f suspend))
   pub to_destroy : IsTrue (has_name (targets term) (destroy_label f suspend))
 
-pub record IsAcceptedFunction (f : Function) : Type 0 where
+pub record KeepsSuspendRules (f : Function) : Type 0 where
   -- K3: a suspend is followed at once by its switch, which alone uses its result
   pub switched : (s : Point) → IsCallAt Intrinsic.CoroSuspend f s → IsSwitched f s
   pub unread : (s : Point) (c : IsCallAt Intrinsic.CoroSuspend f s) (v : ℕ) → given_by c.instr ≡ Some v → IsNeededBehind f s v → ⊥
@@ -49,8 +49,8 @@ pub record IsAcceptedFunction (f : Function) : Type 0 where
   -- more than K7 says: nor is a phi of the suspend's own block, where that begins with the suspend
   pub no_phi : (k s : Point) (v : ℕ) → IsCallAt Intrinsic.CoroSave f k → suspend_of f k ≡ Some s → IsNeededBehind f s v → IsPhiAt f v s → ⊥
 
-abbrev pub IsAccepted : Module → Type 0
-IsAccepted m = (func : ℕ) → IsAcceptedFunction (function_at m func)
+abbrev pub AllKeepSuspendRules : Module → Type 0
+AllKeepSuspendRules m = (func : ℕ) → KeepsSuspendRules (function_at m func)
 
 -- what is needed behind a reached suspend is kept
 abbrev pub KeepsNeeded : Module → Keep → Type 0
