@@ -46,7 +46,7 @@ is_given None v = inr (λ e. absurd (cc))
 is_given (Some u) v = ⊎_elim (λ e. inl (ap Some e)) (λ ne. inr (λ (e : Some u ≡ Some v). ne (cc))) (cases_eq u v)
 
 -- a reached point is reached without the definition, or it stands before
-split : (f : Function) (v : ℕ) {block at : ℕ} → IsReached f block at → IsReachedWithout f v block at ⊎ IsDefinedBefore f v block at
+pub split : (f : Function) (v : ℕ) {block at : ℕ} → IsReached f block at → IsReachedWithout f v block at ⊎ IsDefinedBefore f v block at
 split f v first = on (is_param f v) refl
   where
     on : (b : Bool) → is_param f v ≡ b → IsReachedWithout f v 0 0 ⊎ IsDefinedBefore f v 0 0
@@ -66,7 +66,7 @@ split f v (along {block} {at} label b r) = on (split f v r) (phis_give v (phis_a
     on (inr d) c e = inr (defined_across f v block at label b d)
 
 -- what is needed isn't reached without its definition
-not_without : (f : Function) (v : ℕ) → IsDefinite f → {block at : ℕ} → IsNeeded f v block at → IsReachedWithout f v block at → ⊥
+pub not_without : (f : Function) (v : ℕ) → IsDefinite f → {block at : ℕ} → IsNeeded f v block at → IsReachedWithout f v block at → ⊥
 not_without f v d (read {block} {at} h) w = d.uses v block at w h
 not_without f v d (next {block} {at} h n) w = not_without f v d n (on (fetch f block at) refl h)
   where

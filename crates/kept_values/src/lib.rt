@@ -9,9 +9,15 @@ ghost use Rattle.ir_model.specs.declared.module.Frame.{Frame};
 ghost use Rattle.ir_model.specs.declared.module.Module.{Module};
 ghost use Rattle.kept_values.specs.SuspendRules.{AllKeepSuspendRules};
 ghost use Rattle.kept_values.specs.Crossing.{AreDefinite, KeepsCrossing};
+ghost use Rattle.kept_values.specs.Handed.{HandsOn, HavePlainNames};
 ghost use Rattle.kept_values.specs.Kept.{Keep, KeptAt};
 
 /// The meaning in which a resume hands on only what crosses its suspend, and the addresses that are made anew, agrees with the source meaning, step by step.
 pub fn crossing_values_are_enough()
     ensures { (m : Module) (keep : Keep) (sizes : List Frame) (entry : ℕ) (args : List Word) (answers : List ℤ) → AllKeepSuspendRules m → AreDefinite m → KeepsCrossing m keep → AgreesWithin 1 (SourceAt m sizes entry args answers) (KeptAt m keep sizes entry args answers) }
+{}
+
+/// So it does where a resume hands on the values that cross its suspend by the sentences of the analysis, and all that isn't a value that may cross.
+pub fn values_that_cross_are_enough()
+    ensures { (m : Module) (keep : Keep) (sizes : List Frame) (entry : ℕ) (args : List Word) (answers : List ℤ) → AllKeepSuspendRules m → AreDefinite m → HavePlainNames m → HandsOn m keep → AgreesWithin 1 (SourceAt m sizes entry args answers) (KeptAt m keep sizes entry args answers) }
 {}
