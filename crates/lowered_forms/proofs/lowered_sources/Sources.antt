@@ -70,7 +70,7 @@ row_listed g (y ∷ xs) n x (inl e) h = listed_left n (g y) (row_of g xs) (subst
 row_listed g (y ∷ xs) n x (inr l) h = listed_right n (g y) (row_of g xs) (row_listed g xs n x l h)
 
 -- results of instructions are positions of the table of names
-results_below : (k : ℕ) (f : Function) → HasTabledLocals k f → (v : ℕ) (b : Block) (i : Instr) → IsListed b f.blocks → IsListed i b.instrs → result_of i ≡ Some v → v < length f.names
+pub results_below : (k : ℕ) (f : Function) → HasTabledLocals k f → (v : ℕ) (b : Block) (i : Instr) → IsListed b f.blocks → IsListed i b.instrs → result_of i ≡ Some v → v < length f.names
 results_below k f tabled v b i at l makes =
     names_below k f tabled v
     (listed_right v (params_of f) (row_of block_names f.blocks)
