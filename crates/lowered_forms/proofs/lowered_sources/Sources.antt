@@ -52,7 +52,7 @@ pub record ComesFrom (m : Module) (k : ℕ) (g : Function) : Type 0 where
   pub stands : slice_get m.functions k ≡ Some source
   pub is : g ≡ early_function source
 
-comes_from : (m : Module) (k : ℕ) (g : Function) → slice_get (early_module m).functions k ≡ Some g → ComesFrom m k g
+pub comes_from : (m : Module) (k : ℕ) (g : Function) → slice_get (early_module m).functions k ≡ Some g → ComesFrom m k g
 comes_from m k g there = on (slice_get m.functions k) refl (sym (slice_get-map early_function m.functions k) ∙ there)
   where
     on : (o : Option Function) → slice_get m.functions k ≡ o → option_map early_function o ≡ Some g → ComesFrom m k g

@@ -1,11 +1,10 @@
 -- Where slots become bytes of the frame, a function can still be written.
-use Rattle.std.proofs.Common.{◌≡◌, ℕ, Bool, List, [], ◌∷◌, refl}
-use Rattle.std.specs.Prelude.{None, Option, Some, codes, filter, map, option_map}
-use Rattle.frame_addresses.specs.Placing.{lies_outside, slot_fetches, stays, turned_block, turned_function, with_frame_addresses, with_null, without_markers, without_promise, without_promise_of, without_slots}
+use Rattle.std.proofs.Common.{ℕ, Bool, List, [], ◌∷◌, refl}
+use Rattle.std.specs.Prelude.{None, Option, Some, codes, filter, map}
+use Rattle.frame_addresses.specs.Placing.{lies_outside, slot_fetches, stays, turned_block, turned_function, with_frame_addresses, with_null, without_markers, without_promise, without_promise_of}
 use Rattle.function_parts.specs.Contents.{arg_types}
 use Rattle.ir_model.specs.Ty.{Ty}
 use Rattle.ir_model.specs.declared.instr.Instr.{Instr}
-use Rattle.ir_model.specs.declared.module.Block.{Block}
 use Rattle.ir_model.specs.declared.module.Function.{Function}
 use Rattle.ir_model.specs.declared.operand.Arg.{Arg}
 use Rattle.ir_model.specs.declared.operand.Callee.{Callee}
@@ -15,7 +14,6 @@ use Rattle.lowered_forms.proofs.split_rules.Parted.{each_filtered, each_mapped}
 use Rattle.lowered_forms.specs.printed_forms.Spelled.{IsSpelled, IsSpelledBlock, IsSpelledFunction, IsSpelledInstr}
 use Rattle.step_laws.specs.Changed.{Each}
 use Rattle.use_fetching.specs.Blocks.{with_fetches}
-use Rattle.use_fetching.specs.declared.fetch.Fetch.{Fetch}
 
 -- a function with the instructions of each block turned
 turned_spelled : (T : List Instr → List Instr) → ((is : List Instr) → Each IsSpelledInstr is → Each IsSpelledInstr (T is)) → (f : Function) → IsSpelledFunction f → IsSpelledFunction (turned_function T f)

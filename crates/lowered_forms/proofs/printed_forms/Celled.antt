@@ -1,8 +1,8 @@
 -- Where crossing values are kept in cells, a function can still be written.
-use Rattle.std.proofs.Common.{◌≡◌, ℕ, zero, suc, ◌+◌, ◌-◌, Bool, true, false, List, [], ◌∷◌, ◌++◌, length, replicate, refl}
-use Rattle.std.specs.Prelude.{None, Option, Some, codes, if◌then◌else◌, map, slice_get, slice_set}
+use Rattle.std.proofs.Common.{ℕ, zero, suc, ◌+◌, ◌-◌, Bool, true, false, List, [], ◌∷◌, ◌++◌, length, replicate, refl}
+use Rattle.std.specs.Prelude.{None, Option, Some, codes, if◌then◌else◌, map, slice_get}
 use Rattle.first_pass_rules.proofs.early_local_rules.Carried.{each_joined}
-use Rattle.function_parts.specs.Contents.{arg_types, instr_types, result_of}
+use Rattle.function_parts.specs.Contents.{arg_types, result_of}
 use Rattle.gep_distances.specs.Sums.{distance_instrs, is_wide, on_number, start_instrs, start_value, sum_instrs, sum_value, way_instrs, widened, widening}
 use Rattle.gep_distances.specs.Ways.{inner_type, inner_ways, way_at, ways_of}
 use Rattle.gep_distances.specs.declared.way.Way.{Way}
@@ -23,10 +23,9 @@ use Rattle.lowered_forms.proofs.printed_forms.Names.{all_numbered, joined_names,
 use Rattle.lowered_forms.proofs.printed_forms.Types.{byte_spelled, ptr_spelled, truth_spelled, word_spelled}
 use Rattle.lowered_forms.specs.printed_forms.Spelled.{IsSpelled, IsSpelledBlock, IsSpelledFunction, IsSpelledInstr}
 use Rattle.step_laws.specs.Changed.{Each}
-use Rattle.use_fetching.specs.Blocks.{numbered_names, with_fetches}
-use Rattle.use_fetching.specs.declared.fetch.Fetch.{Fetch}
-use Rattle.value_cells.specs.Cells.{fetch_by, fetch_for, fetched_function, fetches_of, named_function, with_cells, with_own_names, with_plan, written_function}
-use Rattle.value_cells.specs.Kept.{answer_type, entry, result_type, value_types, with_block_types, with_param_types, with_phi_types, with_result_type, with_result_types, with_type}
+use Rattle.use_fetching.specs.Blocks.{numbered_names}
+use Rattle.value_cells.specs.Cells.{fetch_by, fetch_for, fetched_function, fetches_of, named_function, with_cells, with_plan, written_function}
+use Rattle.value_cells.specs.Kept.{entry, result_type, value_types, with_block_types, with_param_types, with_phi_types, with_result_type, with_result_types, with_type}
 use Rattle.value_cells.specs.Links.{cell_name, field_name, link_name}
 use Rattle.value_cells.specs.Moves.{address_again, after_again, after_saved, again_one, again_values, cell_alloca, load_from, saved_one, saved_values, store_to}
 use Rattle.value_cells.specs.Plan.{kept_from, kept_value, plan_of, type_at}

@@ -1,14 +1,12 @@
 -- Where slots that are used before begin have temporaries, a function can still be written.
-use Rattle.std.proofs.Common.{◌≡◌, ℕ, zero, suc, ◌+◌, ◌-◌, ◌*◌, Bool, true, false, List, [], ◌∷◌, ◌++◌, length, replicate, refl}
-use Rattle.std.specs.Prelude.{None, Option, Some, codes, if◌then◌else◌, map, slice_set}
+use Rattle.std.proofs.Common.{ℕ, ◌-◌, Bool, true, false, List, [], ◌∷◌, ◌++◌, length, replicate, refl}
+use Rattle.std.specs.Prelude.{None, Option, codes, if◌then◌else◌, map, slice_set}
 use Rattle.begin_copies.specs.BeginCopies.{after_block, after_blocks, after_instr, begin_copies, behind, block_front, copied_block, copied_blocks, copied_function, copied_instr, copied_instrs, copy, copying_of, entry_front, first_fetched, is_fetched, put, puts, slot_allocas, with_begin_copies}
-use Rattle.begin_copies.specs.Slots.{after_slot, early_slot, early_slots, entry_instrs, fetches_of, set_fetches, slot_names, slot_of, slots_from}
+use Rattle.begin_copies.specs.Slots.{after_slot, early_slot, early_slots, entry_instrs, set_fetches, slot_names, slot_of, slots_from}
 use Rattle.begin_copies.specs.Uses.{flag_at, is_begin, still_before, used_before}
 use Rattle.begin_copies.specs.declared.copying.Copying.{Copying}
 use Rattle.begin_copies.specs.declared.slot.EarlySlot.{EarlySlot}
-use Rattle.coro_base.specs.declared.name.Name.{Name}
 use Rattle.first_pass_rules.proofs.early_local_rules.Carried.{each_joined}
-use Rattle.ir_model.specs.Ty.{Ty}
 use Rattle.ir_model.specs.declared.instr.Instr.{Instr}
 use Rattle.ir_model.specs.declared.module.Block.{Block}
 use Rattle.ir_model.specs.declared.module.Function.{Function}
@@ -109,8 +107,8 @@ module _ (c : Copying) (fetches : Each IsSpelledFetch c.fetches) where
   instrs_spelled is_before n (i ∷ is) h =
       both (copied_instr c is_before n i) (copied_instrs c (still_before is_before i) (after_instr c is_before n i) is) (instr_spelled is_before n i h.0) (instrs_spelled (still_before is_before i) (after_instr c is_before n i) is h.1)
 
-  resumed_spelled : (n label : ℕ) → All (block_front c label)
-  resumed_spelled n label = on (flag_at c.resumed label)
+  resumed_spelled : (label : ℕ) → All (block_front c label)
+  resumed_spelled label = on (flag_at c.resumed label)
     where
       on : (b : Bool) → All (if b then puts c.slots else [])
       on true = puts_spelled c.slots
@@ -121,7 +119,7 @@ module _ (c : Copying) (fetches : Each IsSpelledFetch c.fetches) where
       record {
         phis = h.phis;
         instrs =
-            both (front ++ block_front c b.label) (copied_instrs c (flag_at before b.label) n b.instrs) (both front (block_front c b.label) f (resumed_spelled n b.label))
+            both (front ++ block_front c b.label) (copied_instrs c (flag_at before b.label) n b.instrs) (both front (block_front c b.label) f (resumed_spelled b.label))
             (instrs_spelled (flag_at before b.label) n b.instrs h.instrs);
         term = h.term;
       }

@@ -1,11 +1,10 @@
 -- Where saves are written out, a function can still be written.
-use Rattle.std.proofs.Common.{◌≡◌, ℕ, ◌-◌, Bool, true, false, List, [], ◌∷◌, ◌++◌, length, refl, sym, subst}
+use Rattle.std.proofs.Common.{◌≡◌, ℕ, ◌-◌, Bool, true, false, List, [], ◌∷◌, length, sym, subst}
 use Rattle.std.specs.Prelude.{None, Option, Some, if◌then◌else◌, map, option_to_list}
-use Rattle.coro_base.specs.declared.name.Name.{Name}
 use Rattle.coro_names.specs.Spelling.{IsName}
 use Rattle.early_lower.specs.BeginName.{begin_name, if_unnamed, with_begin_name}
 use Rattle.early_lower.specs.Early.{after_blocks, early_function, early_named, renaming_of, save_names}
-use Rattle.early_lower.specs.Renaming.{renamed_callee, renamed_instr, renamed_phi, renamed_term}
+use Rattle.early_lower.specs.Renaming.{renamed_instr, renamed_phi}
 use Rattle.early_lower.specs.declared.renaming.Renaming.{Renaming}
 use Rattle.first_pass_rules.proofs.early_local_rules.Carried.{each_joined}
 use Rattle.first_pass_rules.proofs.early_local_rules.Known.{ending_types_same, instr_types_same}

@@ -1,14 +1,12 @@
 -- Where edges have blocks, and where edges that leave windows do, a function can still be written.
 use Rattle.std.proofs.Common.{◌≡◌, ℕ, ◌+◌, Bool, List, [], ◌∷◌, ◌++◌, true, length, refl, sym, subst}
 use Rattle.std.specs.Prelude.{codes, decimal, map}
-use Rattle.coro_base.specs.declared.name.Name.{Name}
 use Rattle.coro_names.specs.Spelling.{IsName, is_name_text}
-use Rattle.edge_blocks.specs.EdgeBlocks.{edge_block, edge_names, split_block, split_blocks, split_phi, with_edge_blocks}
+use Rattle.edge_blocks.specs.EdgeBlocks.{edge_block, edge_names, split_blocks, split_phi, with_edge_blocks}
 use Rattle.edge_blocks.specs.Edges.{block_edges, edge_table, edges_at, edges_of, ends_in_suspend, phi_flags}
 use Rattle.edge_blocks.specs.declared.edge.Edge.{Edge}
 use Rattle.first_pass_rules.proofs.early_local_rules.Carried.{each_joined}
 use Rattle.frame_rules.proofs.edge_block_rules.Operands as split
-use Rattle.function_parts.specs.Contents.{ending_types}
 use Rattle.ir_model.specs.declared.instr.Phi.{Phi}
 use Rattle.ir_model.specs.declared.module.Block.{Block}
 use Rattle.ir_model.specs.declared.module.Function.{Function}

@@ -1,7 +1,6 @@
 -- Where values are fetched before their uses, a function can still be written.
-use Rattle.std.proofs.Common.{◌≡◌, ℕ, zero, suc, ◌-◌, Bool, true, false, List, [], ◌∷◌, ◌++◌, length, replicate, refl}
-use Rattle.std.specs.Prelude.{None, Option, Some, map, slice_get, slice_set, unwrap_or}
-use Rattle.coro_base.specs.declared.name.Name.{Name}
+use Rattle.std.proofs.Common.{◌≡◌, ℕ, zero, suc, ◌-◌, Bool, true, List, [], ◌∷◌, ◌++◌, length, replicate}
+use Rattle.std.specs.Prelude.{None, Option, Some, slice_get, slice_set}
 use Rattle.coro_names.specs.Spelling.{is_name_text}
 use Rattle.first_pass_rules.proofs.early_local_rules.Carried.{each_joined}
 use Rattle.function_parts.specs.Contents.{arg_types, ending_types, instr_operands}
@@ -20,7 +19,7 @@ use Rattle.lowered_forms.proofs.printed_forms.Types.{byte_spelled, word_spelled}
 use Rattle.lowered_forms.specs.printed_forms.Spelled.{IsSpelled, IsSpelledBlock, IsSpelledFunction, IsSpelledInstr, MayStand}
 use Rattle.step_laws.specs.Changed.{Each}
 use Rattle.use_fetching.specs.Blocks.{end_at, ends_of_blocks, ends_of_incoming, ends_of_phis, fetched_block, fetched_blocks, fetched_phis, next_after_block, next_after_blocks, next_after_phi, next_after_phis, next_after_phis_by, numbered_names, with_end, with_fetches}
-use Rattle.use_fetching.specs.Fetching.{callee_by, fetch_at, fetch_into, fetch_of, fetch_of_callee, fetched_arg, fetched_args, fetched_operand, fetches_by, fetches_of, fetches_of_all, next_after, next_after_all}
+use Rattle.use_fetching.specs.Fetching.{callee_by, fetch_at, fetch_into, fetch_of, fetched_args, fetches_by, fetches_of, fetches_of_all, next_after}
 use Rattle.use_fetching.specs.Instrs.{fetched_instr, fetched_instrs, fetched_term, next_after_instr, next_after_instrs, term_operands, with_fetched}
 use Rattle.use_fetching.specs.declared.fetch.Fetch.{Fetch}
 

@@ -1,19 +1,18 @@
 -- A function that breaks no rule of modules without coroutines, whose types, flags and names can be written, is one of the grammar and can be written.
-use Rattle.std.proofs.Common.{◌≡◌, ◌⊎◌, ⊎_elim, inl, inr, ℕ, ◌+◌, ◌<◌, ◌^◌, Bool, true, false, not, List, [], ◌∷◌, ◌++◌, length, refl, sym, ap, ◌∙◌, subst, eqb-true, append-nil, arith}
+use Rattle.std.proofs.Common.{◌≡◌, ⊎_elim, inl, inr, ℕ, ◌<◌, ◌^◌, Bool, true, false, not, List, [], ◌∷◌, ◌++◌, length, refl, sym, subst, eqb-true, append-nil, arith}
 use Rattle.std.proofs.lemmas.Bool.{or_cases}
 use Rattle.std.specs.List.{list_all}
-use Rattle.std.specs.Prelude.{None, Option, Some, map, option_to_list, slice_get, ◌&&◌, ◌||◌, ◌==◌}
+use Rattle.std.specs.Prelude.{None, Option, Some, map, option_to_list, ◌&&◌, ◌||◌, ◌==◌}
 use Rattle.canonical_text.specs.BlockSymbols.{all_incoming_symbols, block_symbols, blocks_symbols, case_symbols, cases_symbols, incoming_symbols, instrs_symbols, more_incoming_symbols, phi_symbols, phis_symbols, term_symbols}
 use Rattle.canonical_text.specs.InstrSymbols.{action_symbols, address_symbols, align_symbols, flag_symbols, flags_symbols, instr_symbols, pair_symbols, set_symbols}
 use Rattle.canonical_text.specs.ItemSymbols.{function_symbols, head_symbols, more_params_symbols, param_symbols, params_symbols}
-use Rattle.canonical_text.specs.Marks.{close_curly, close_round, close_square, comma, equals, open_curly, open_round, open_square, word}
+use Rattle.canonical_text.specs.Marks.{close_curly, close_round, close_square, comma, open_curly, open_round, open_square, word}
 use Rattle.canonical_text.specs.OperandSymbols.{arg_symbols, args_symbols, callee_symbol, global_symbol, label_symbols, local_symbol, more_args_symbols, operand_symbol, result_symbols}
 use Rattle.canonical_text.specs.TypeSymbols.{type_symbols}
 use Rattle.canonical_text.specs.Written.{AreWritten, IsWritten}
 use Rattle.coro_base.specs.declared.name.Name.{Name}
 use Rattle.coro_base.specs.declared.ops.Flags.{Flags}
 use Rattle.coro_base.specs.declared.outcome.Place.{Place}
-use Rattle.coro_names.specs.Spelling.{IsName}
 use Rattle.definite_use.specs.Undefined.{params_of}
 use Rattle.first_pass_rules.proofs.early_local_rules.Carried.{passing}
 use Rattle.first_pass_rules.proofs.early_local_rules.Fitting.{either, no_either}
@@ -24,7 +23,7 @@ use Rattle.flow_solver.specs.Paths.{IsListed}
 use Rattle.frame_rules.proofs.woven_rules.Once.{names_below}
 use Rattle.frame_rules.proofs.woven_rules.Unbroken.{first_no, second_no}
 use Rattle.frame_rules.specs.plain_rules.Kept.{KeepsPlainRules}
-use Rattle.function_parts.specs.Contents.{arg_operands, arg_types, callee_operands, ending_labels, ending_operands, ending_types, instr_operands, instr_types, part_labels, part_operands, part_types}
+use Rattle.function_parts.specs.Contents.{arg_operands, arg_types, callee_operands, ending_labels, ending_operands, ending_types, instr_operands, part_labels, part_operands, part_types}
 use Rattle.function_parts.specs.Locals.{locals_of}
 use Rattle.function_parts.specs.Parts.{Ending, OfInstr, OfPhi, Part, parts_of}
 use Rattle.ir_model.specs.Ty.{Ty, int, ptr}
@@ -63,7 +62,7 @@ use Rattle.value_rules.specs.Geps.{indices_fit}
 use Rattle.value_rules.specs.Instrs.{both_fit, casts, compares, fits_called, fits_instr, fits_result, is_passed, passes}
 use Rattle.value_rules.specs.Kinds.{value_kind}
 use Rattle.value_rules.specs.Switches.{any_twice, bits_in, case_word, fits_case, is_constant}
-use Rattle.value_rules.specs.Values.{breaks_values, fits_ending, fits_phi, fits_return, takes}
+use Rattle.value_rules.specs.Values.{breaks_values, fits_ending, fits_phi, takes}
 use Rattle.value_rules.specs.declared.kinds.Kind.{Kind}
 
 -- ---- words and alignments

@@ -1,25 +1,21 @@
 -- The parts of a coroutine can be written where it can, and so can a function that is no coroutine, once it is turned.
-use Rattle.std.proofs.Common.{◌≡◌, ℕ, zero, suc, ℤ, pos, ◌+◌, ◌-◌, ◌≤◌, Bool, true, false, List, [], ◌∷◌, ◌++◌, length, refl, sym, subst, arith}
+use Rattle.std.proofs.Common.{ℕ, zero, suc, ℤ, pos, ◌+◌, ◌-◌, Bool, true, false, List, [], ◌∷◌, ◌++◌, length, refl, sym, subst, arith}
 use Rattle.std.specs.Prelude.{None, Option, Some, codes, if◌then◌else◌, map, slice_get, slice_set}
 use Rattle.coro_base.specs.declared.name.Name.{Name}
-use Rattle.coro_base.specs.declared.ops.BinOp.{BinOp}
 use Rattle.coro_names.specs.Spelling.{IsName}
-use Rattle.coro_split.specs.Parts.{back_name, begun_mark, case_of, cases_from, done_mark, entry_mark, entry_term, frame_mark, index_mark, instr_names, is_entered, later_part, mark_names, names_of, names_of_suspend, none_mark, origins_for, part_names, pass_name, plain_of, plain_shape, ramp_of, ramp_source, saved_name, slot_mark, suspend_names}
-use Rattle.coro_split.specs.Pieces.{begins_again, next_after, redirected_term}
+use Rattle.coro_split.specs.Parts.{back_name, begun_mark, case_of, cases_from, done_mark, entry_mark, frame_mark, index_mark, instr_names, is_entered, later_part, mark_names, names_of, names_of_suspend, none_mark, origins_for, part_names, pass_name, plain_of, plain_shape, ramp_of, ramp_source, saved_name, slot_mark, suspend_names}
+use Rattle.coro_split.specs.Pieces.{next_after}
 use Rattle.coro_split.specs.Reached.{pruned}
-use Rattle.coro_calls.specs.Calls.{is_true}
 use Rattle.frame_layout.specs.declared.layout.Layout.{Layout}
 use Rattle.frame_rules.proofs.woven_rules.Operands.{each_turns}
 use Rattle.function_parts.specs.Contents.{ending_types}
-use Rattle.intrinsic_lowering.specs.Cuts.{goes_on}
-use Rattle.intrinsic_lowering.specs.Lowered.{address, begin_stores, call_pointer, destroy_call, done_test, is_final_at, load_pointer, lowered, number_of_save, operand_at, promise_distance, resume_call, resumed_by, save_or_none, set_address, set_number, set_truth, store_pointer, truth_of}
+use Rattle.intrinsic_lowering.specs.Lowered.{address, begin_stores, call_pointer, destroy_call, done_test, is_final_at, load_pointer, lowered, number_of_save, operand_at, resume_call, resumed_by, save_or_none, set_address, set_number, set_truth, store_pointer, truth_of}
 use Rattle.intrinsic_lowering.specs.Shapes.{first_name, shape_of}
 use Rattle.intrinsic_lowering.specs.declared.shape.Part.{Part}
 use Rattle.intrinsic_lowering.specs.declared.shape.Shape.{Shape}
 use Rattle.intrinsic_lowering.specs.declared.shape.SuspendPoint.{SuspendPoint}
 use Rattle.ir_model.specs.Names.{numbered}
 use Rattle.ir_model.specs.Ty.{Ty, int}
-use Rattle.ir_model.specs.declared.instr.Case.{Case}
 use Rattle.ir_model.specs.declared.instr.Instr.{Instr}
 use Rattle.ir_model.specs.declared.instr.Phi.{Phi}
 use Rattle.ir_model.specs.declared.instr.Terminator.{Terminator}
@@ -31,7 +27,7 @@ use Rattle.ir_model.specs.declared.operand.Intrinsic.{Intrinsic}
 use Rattle.ir_model.specs.declared.operand.Operand.{Operand}
 use Rattle.lowered_forms.proofs.printed_forms.Names.{joined_names, numbered_named, part_named}
 use Rattle.lowered_forms.proofs.printed_forms.Types.{byte_spelled, ptr_spelled, short_spelled, truth_spelled, width_spelled, word_spelled}
-use Rattle.lowered_forms.proofs.split_rules.Carried.{Becomes, IsPhiOf, index_instrs, part_all, plain_all}
+use Rattle.lowered_forms.proofs.split_rules.Carried.{Becomes, part_all, plain_all}
 use Rattle.lowered_forms.proofs.split_rules.Local.{same_term_types}
 use Rattle.lowered_forms.proofs.split_rules.Passed.{IsAll}
 use Rattle.lowered_forms.specs.printed_forms.Spelled.{IsSpelled, IsSpelledBlock, IsSpelledFunction, IsSpelledInstr}

@@ -1,9 +1,9 @@
 -- Operands that fit their types and name what is known are operands of the grammar and can be written.
-use Rattle.std.proofs.Common.{◌≡◌, ◌⊎◌, ⊎_elim, inl, inr, ℕ, ℤ, zero, suc, pos, negsuc, ◌+◌, ◌*◌, ◌<◌, ◌^◌, Bool, true, false, List, [], ◌∷◌, length, refl, sym, ap, ◌∙◌, subst, ltb-true, arith}
+use Rattle.std.proofs.Common.{◌≡◌, ⊎_elim, ℕ, ℤ, zero, suc, pos, negsuc, ◌*◌, ◌<◌, ◌^◌, Bool, true, false, List, [], ◌∷◌, length, refl, ap, ◌∙◌, subst, ltb-true, arith}
 use Rattle.std.proofs.lemmas.Bool.{or_cases}
 use Rattle.std.specs.Prelude.{None, Option, Some, if◌then◌else◌, is_some, option_map, slice_get, ◌||◌}
 use Rattle.canonical_text.specs.OperandSymbols.{callee_symbol, number_symbol, operand_symbol}
-use Rattle.canonical_text.specs.Written.{AreWritten, IsNamed, IsWritten}
+use Rattle.canonical_text.specs.Written.{IsNamed, IsWritten}
 use Rattle.coro_base.specs.declared.name.Name.{Name}
 use Rattle.coro_names.specs.Spelling.{IsName, is_name_text}
 use Rattle.ir_model.specs.Names.{declaration_named, first_where, function_named, global_named, same_name, same_text}

@@ -1,5 +1,5 @@
 -- What can be written of an instruction, a phi and a terminator says that their types can be written.
-use Rattle.std.proofs.Common.{◌≡◌, ℕ, Bool, List, [], ◌∷◌, ◌++◌, refl}
+use Rattle.std.proofs.Common.{ℕ, Bool, List, [], ◌∷◌, ◌++◌}
 use Rattle.std.specs.Prelude.{None, Option, Some, map, option_to_list}
 use Rattle.canonical_text.specs.BlockSymbols.{all_incoming_symbols, block_symbols, blocks_symbols, cases_symbols, case_symbols, instrs_symbols, phi_symbols, phis_symbols, term_symbols}
 use Rattle.canonical_text.specs.InstrSymbols.{action_symbols, address_symbols, align_symbols, flag_symbols, flags_symbols, instr_symbols, set_symbols}
@@ -7,9 +7,9 @@ use Rattle.canonical_text.specs.Instrs.{set_by}
 use Rattle.canonical_text.specs.Marks.{close_round, close_square, comma, open_round, open_square, word}
 use Rattle.canonical_text.specs.OperandSymbols.{arg_symbols, args_symbols, callee_symbol, label_symbols, more_args_symbols, operand_symbol, result_symbols}
 use Rattle.canonical_text.specs.TypeSymbols.{type_symbols}
-use Rattle.canonical_text.specs.Written.{AreWritten, IsWritten}
+use Rattle.canonical_text.specs.Written.{AreWritten}
 use Rattle.coro_base.specs.declared.name.Name.{Name}
-use Rattle.function_parts.specs.Contents.{arg_types, ending_types, instr_types}
+use Rattle.function_parts.specs.Contents.{arg_types, ending_types}
 use Rattle.ir_model.specs.Ty.{Ty}
 use Rattle.ir_model.specs.declared.instr.Case.{Case}
 use Rattle.ir_model.specs.declared.instr.Instr.{Instr}

@@ -1,5 +1,5 @@
 -- The functions of a module that a text of bytes stands for can be written.
-use Rattle.std.proofs.Common.{◌≡◌, ℕ, zero, suc, List, [], ◌∷◌, ◌++◌, refl, sym, subst}
+use Rattle.std.proofs.Common.{◌≡◌, ℕ, zero, suc, List, [], ◌∷◌, ◌++◌, subst}
 use Rattle.std.specs.Prelude.{Option, None, Some, option_to_list, slice_get}
 use Rattle.canonical_text.specs.BlockSymbols.{blocks_symbols}
 use Rattle.canonical_text.specs.InstrSymbols.{flag_symbols}

@@ -1,6 +1,6 @@
 -- Phrases of the grammar leave behind them nothing but symbols that stood there: what holds of each before holds of each that is left.
-use Rattle.std.proofs.Common.{◌≡◌, ℕ, ◌⊎◌, inl, inr, List, [], ◌∷◌, ◌++◌, refl, sym, ap, subst}
-use Rattle.std.specs.Prelude.{Bool, true, false, Option, Some, None}
+use Rattle.std.proofs.Common.{inl, inr, List, [], ◌∷◌, ◌++◌, subst}
+use Rattle.std.specs.Prelude.{Bool, true, false}
 use Rattle.coro_base.specs.declared.name.Name.{Name}
 use Rattle.ir_grammar.specs.Attributes.{Attr, Balanced, IsAttr, any, any_integer, attributes, curly_text, empty, in_group, metadata, nested, other, pairs, plain_attr, presplit, round_text}
 use Rattle.ir_grammar.specs.Phrases.{Locals, Naming, Phrase, ◌⨾◌, ◌∥◌, behind_comma, comma, commas, each, flag, listed, mark, never, nothing, perhaps, plain, some, these, word}

@@ -1,18 +1,18 @@
 -- The phrases of types, values, instructions, blocks and items keep what holds of each symbol, and of each name of a function.
-use Rattle.std.proofs.Common.{◌≡◌, ℕ, ◌<◌, ℤ, pos, ◌-ℤ◌, ◌⊎◌, inl, inr, List, [], ◌∷◌, ◌++◌, refl, sym, ap, subst}
-use Rattle.std.specs.Prelude.{Bool, true, false, Option, Some, None, map, ◌^◌}
+use Rattle.std.proofs.Common.{◌≡◌, ℕ, ◌<◌, ℤ, pos, ◌-ℤ◌, ◌⊎◌, inl, inr, List, [], ◌∷◌, ◌++◌, sym, subst}
+use Rattle.std.specs.Prelude.{Bool, true, false, Option, Some, None, ◌^◌}
 use Rattle.coro_base.specs.declared.name.Name.{Name}
 use Rattle.coro_base.specs.declared.ops.BinOp.{BinOp}
 use Rattle.coro_base.specs.declared.ops.BinOp.TheVariants as ops
 use Rattle.coro_base.specs.declared.ops.CastOp.{CastOp}
 use Rattle.coro_base.specs.declared.ops.CastOp.TheVariants as casts
 use Rattle.coro_base.specs.declared.ops.Flags.{Flags}
-use Rattle.ir_grammar.specs.Attributes.{Attr, IsAttr, attributes, metadata, pairs}
-use Rattle.ir_grammar.specs.Blocks.{AreBlocks, IsBlock, IsBody, IsCase, IsEntry, IsIncoming, IsLine, IsPhi, IsPhiLine, IsTerminator, label, unwritten_label}
+use Rattle.ir_grammar.specs.Attributes.{Attr, IsAttr}
+use Rattle.ir_grammar.specs.Blocks.{AreBlocks, IsBlock, IsBody, IsCase, IsIncoming, IsLine, IsPhi, IsPhiLine, IsTerminator, label, unwritten_label}
 use Rattle.ir_grammar.specs.Functions.{AreNamed, AreParams, IsDeclaration, IsFunction, IsHead, IsParam, IsParamName, IsWrittenName, Written, counted}
 use Rattle.ir_grammar.specs.Instructions.{AreArgs, AreFlags, AreWraps, IsCall, IsCallee, IsCast, IsInstr, IsNamed, IsOperation, IsTail, IsWrap, MayBeDisjoint, MayBeExact, WithoutFlags, Wrap, nsw, nuw}
-use Rattle.ir_grammar.specs.Items.{AreItems, IsAttributes, IsGlobal, IsGroup, IsItem, IsKeyword, IsTypeItem, Item, attributes_item, comdat_item, declaration, function, global_item, group, metadata_item, other, source_item, target_item, type_item}
-use Rattle.ir_grammar.specs.Phrases.{Locals, Naming, Phrase, ◌⨾◌, ◌∥◌, commas, each, flag, mark, never, nothing, perhaps, plain, these, word}
+use Rattle.ir_grammar.specs.Items.{IsAttributes, IsItem, IsKeyword, Item, attributes_item, comdat_item, declaration, function, global_item, group, metadata_item, other, target_item, type_item}
+use Rattle.ir_grammar.specs.Phrases.{Phrase, ◌⨾◌, commas, each, mark, plain, these}
 use Rattle.ir_grammar.specs.Types.{AreFields, IsInt, IsResult, IsScalar, IsType}
 use Rattle.ir_grammar.specs.Values.{IsAddress, IsAligned, IsArg, IsInitial, IsPlace, IsTarget, IsTyped, IsValue, global, integer, local}
 use Rattle.ir_model.specs.Table.{callee_named}
@@ -27,7 +27,6 @@ use Rattle.ir_model.specs.declared.instr.Terminator.TheVariants as terms
 use Rattle.ir_model.specs.declared.module.Block.{Block}
 use Rattle.ir_model.specs.declared.module.Declaration.{Declaration}
 use Rattle.ir_model.specs.declared.module.Function.{Function}
-use Rattle.ir_model.specs.declared.module.GlobalItem.{GlobalItem}
 use Rattle.ir_model.specs.declared.module.TypeItem.{TypeItem}
 use Rattle.ir_model.specs.declared.operand.Arg.{Arg}
 use Rattle.ir_model.specs.declared.operand.Callee.{Callee}
@@ -41,7 +40,7 @@ use Rattle.ir_symbols.specs.declared.sym.Sym.{Sym}
 use Rattle.ir_symbols.specs.declared.sym.Sym.TheVariants as syms
 use Rattle.ir_symbols.specs.declared.word.Word.TheVariants as words
 use Rattle.name_order.specs.Shape.{Each}
-use Rattle.lowered_forms.proofs.row_names.Kept.{Keeps, KeepsIn, in_behind_comma, in_comma, in_each, in_listed, in_never, in_nothing, in_or, in_plain, in_seq, in_some, kept_any, kept_attr, kept_attributes, kept_commas, kept_curly, kept_each, kept_flag, kept_mark, kept_metadata, kept_never, kept_nothing, kept_or, kept_pairs, kept_perhaps, kept_round, kept_seq, kept_these, kept_word}
+use Rattle.lowered_forms.proofs.row_names.Kept.{Keeps, KeepsIn, in_behind_comma, in_comma, in_each, in_listed, in_never, in_nothing, in_or, in_plain, in_seq, in_some, kept_attr, kept_attributes, kept_commas, kept_curly, kept_each, kept_flag, kept_mark, kept_metadata, kept_never, kept_nothing, kept_or, kept_pairs, kept_perhaps, kept_round, kept_seq, kept_these, kept_word}
 
 module _ (G : Sym → Type 0) (H : Name → Type 0) (locals : (n : Name) → G (syms.Local (Some n)) → H n) (labels : (n : Name) → G (syms.Label (Some n)) → H n) (numbers : (k : ℕ) → k < 2 ^ 32 → H (Name.Number k)) where
   -- ---- types
