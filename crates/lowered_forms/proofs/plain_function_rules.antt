@@ -1,3 +1,4 @@
+pub mod Defined
 pub mod Edges
 pub mod Known
 pub mod Local

@@ -15,6 +15,7 @@ pub mod lowered_sources;
 pub mod part_edges;
 pub mod part_uses;
 pub mod plain_function_rules;
+pub mod printed_forms;
 pub mod row_names;
 pub mod slots_behind;
 pub mod split_rules;

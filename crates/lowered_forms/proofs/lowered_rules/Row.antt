@@ -73,7 +73,7 @@ pub record IsSomePart (s : Shape) (f g : Function) : Type 0 where
   pub part : Part
   pub is : IsPartOf s f part g
 
-some_part : (s : Shape) (f g : Function) (number : ℕ) → slice_get (parts_of s f) number ≡ Some g → IsSomePart s f g
+pub some_part : (s : Shape) (f g : Function) (number : ℕ) → slice_get (parts_of s f) number ≡ Some g → IsSomePart s f g
 some_part s f g zero e = let same : pruned (ramp_of s (ramp_source f)) ≡ g = cc in record { part = Part.Ramp; is = subst (IsPartOf s f Part.Ramp) same IsRamp }
 some_part s f g (suc zero) e = let same : pruned (later_part s Part.Resume s.resume_name f) ≡ g = cc in record { part = Part.Resume; is = subst (IsPartOf s f Part.Resume) same IsResume }
 some_part s f g (suc (suc zero)) e = let same : pruned (later_part s Part.Destroy s.destroy_name f) ≡ g = cc in record { part = Part.Destroy; is = subst (IsPartOf s f Part.Destroy) same IsDestroy }
@@ -115,7 +115,7 @@ module _ (ls : Layouts) (m : Module) (ready : IsReady ls m) where
           part_kept r.position l r.source g r.layout r.number r.stands c (is_ready.small r.layout r.given) is_ready e
       on false c e = plain_kept r.position l r.source g r.number r.stands c (ready.plain r.position r.source r.stands c) e
 
-  all_kept : AllKeepPlainRules n
+  pub all_kept : AllKeepPlainRules (split_module ls m)
   all_kept l g there = (function_kept l g there).rules
 
   nothing : calls_id_alone n ≡ true → NameNothingGone n

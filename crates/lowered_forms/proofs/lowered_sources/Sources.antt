@@ -52,7 +52,7 @@ pub record ComesFrom (m : Module) (k : ℕ) (g : Function) : Type 0 where
   pub stands : slice_get m.functions k ≡ Some source
   pub is : g ≡ early_function source
 
-comes_from : (m : Module) (k : ℕ) (g : Function) → slice_get (early_module m).functions k ≡ Some g → ComesFrom m k g
+pub comes_from : (m : Module) (k : ℕ) (g : Function) → slice_get (early_module m).functions k ≡ Some g → ComesFrom m k g
 comes_from m k g there = on (slice_get m.functions k) refl (sym (slice_get-map early_function m.functions k) ∙ there)
   where
     on : (o : Option Function) → slice_get m.functions k ≡ o → option_map early_function o ≡ Some g → ComesFrom m k g
@@ -70,7 +70,7 @@ row_listed g (y ∷ xs) n x (inl e) h = listed_left n (g y) (row_of g xs) (subst
 row_listed g (y ∷ xs) n x (inr l) h = listed_right n (g y) (row_of g xs) (row_listed g xs n x l h)
 
 -- results of instructions are positions of the table of names
-results_below : (k : ℕ) (f : Function) → HasTabledLocals k f → (v : ℕ) (b : Block) (i : Instr) → IsListed b f.blocks → IsListed i b.instrs → result_of i ≡ Some v → v < length f.names
+pub results_below : (k : ℕ) (f : Function) → HasTabledLocals k f → (v : ℕ) (b : Block) (i : Instr) → IsListed b f.blocks → IsListed i b.instrs → result_of i ≡ Some v → v < length f.names
 results_below k f tabled v b i at l makes =
     names_below k f tabled v
     (listed_right v (params_of f) (row_of block_names f.blocks)

@@ -200,7 +200,7 @@ module _ (m : Module) (k : ℕ) (f : Function) (begin : ℕ) (x : IsSplittable m
     -- ---- the rule
 
     -- a phi that is left fits the edges into its block
-    kept_phi_fits : (c : Block) (z : Phi) → IsListed c (pruned p).blocks → IsListed z c.phis → fits_edges (predecessors (pruned p) c.label) z.incoming ≡ true
+    pub kept_phi_fits : (c : Block) (z : Phi) → IsListed c (pruned p).blocks → IsListed z c.phis → fits_edges (predecessors (pruned p) c.label) z.incoming ≡ true
     kept_phi_fits c z l n =
         let d = kept_home c l in
         let w = from_mapped (kept_phi flags) d.before.phis z (subst (λ (b : Block). IsListed z b.phis) d.is n) in

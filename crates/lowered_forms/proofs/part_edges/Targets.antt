@@ -114,6 +114,14 @@ goes_on_label Part.Ramp p e = absurd (cc)
 goes_on_label Part.Resume p e = inl refl
 goes_on_label Part.Destroy p e = inr refl
 
+-- so many names of instructions
+pub instr_names_long : (n : ℕ) → length (instr_names n) ≡ n
+instr_names_long zero = refl
+instr_names_long (suc n) =
+    let e : length (instr_names (suc n)) ≡ length (instr_names n) + 1 = length-append (instr_names n) _ in
+    let d : length (instr_names n) ≡ n = instr_names_long n in
+    omega (arith, e, d)
+
 module _ (s : Shape) (part : Part) (h : Function) (ok : IsCuttable s part h) where
   -- a block of the part has the label
   abbrev IsThere : ℕ → Type 0
@@ -196,8 +204,8 @@ module _ (s : Shape) (part : Part) (h : Function) (ok : IsCuttable s part h) whe
       let d : length (suspend_names n) ≡ 3 * n = suspends_named n in
       omega (arith, e, d)
 
-  names_long : (names : List Name) (count : ℕ) → s.base ≡ length names → first_name s ≤ length (names_of s names count)
-  names_long names count same =
+  pub names_are_long : (names : List Name) (count : ℕ) → s.base ≡ length names → length (names_of s names count) ≡ first_name s + count
+  names_are_long names count same =
       let old : List Name = slice_set names s.begin frame_mark in
       let points : List Name = suspend_names (length s.suspends) in
       let a : length (names_of s names count) ≡ length ((old ++ mark_names) ++ points) + length (instr_names count) = length-append ((old ++ mark_names) ++ points) (instr_names count) in
@@ -205,7 +213,8 @@ module _ (s : Shape) (part : Part) (h : Function) (ok : IsCuttable s part h) whe
       let c : length (old ++ mark_names) ≡ length old + 6 = length-append old mark_names in
       let d : length old ≡ length names = set_length names s.begin frame_mark in
       let e : length points ≡ 3 * length s.suspends = suspends_named (length s.suspends) in
-      omega (arith, a, b, c, d, e, same)
+      let i : length (instr_names count) ≡ count = instr_names_long count in
+      omega (arith, a, b, c, d, e, i, same)
 
   -- ---- the part
 
@@ -213,10 +222,10 @@ module _ (s : Shape) (part : Part) (h : Function) (ok : IsCuttable s part h) whe
     abbrev count : ℕ
     count = next_after s part (origins_for s part h) (first_name s) h.blocks - first_name s
 
-    tabled_label : (c : Block) → IsListed c (whole s part h) → IsTabled p c.label
+    pub tabled_label : (c : Block) → IsListed c (whole s part h) → IsTabled p c.label
     tabled_label c l =
         let low : c.label < first_name s = label_low c l in
-        let long : first_name s ≤ length (names_of s h.names count) = names_long h.names count ok.base in
+        let long : length (names_of s h.names count) ≡ first_name s + count = names_are_long h.names count ok.base in
         let same : length p.names ≡ length (names_of s h.names count) = ap length names in
         omega (arith, low, long, same)
 

@@ -29,6 +29,7 @@ use Rattle.ir_model.specs.declared.operand.Intrinsic.{Intrinsic}
 use Rattle.local_rules.specs.Instrs.{on_instr}
 use Rattle.local_rules.specs.Intrinsics.{calls_inner, is_inner}
 use Rattle.name_rules.specs.Known.{is_defined, is_kind, is_label, is_value, names_unknown}
+use Rattle.lowered_forms.proofs.plain_function_rules.Defined.{defined_low}
 use Rattle.lowered_forms.proofs.plain_function_rules.Edges.{edges_turned}
 use Rattle.lowered_forms.proofs.plain_function_rules.Known.{locals_known, term_labels}
 use Rattle.lowered_forms.proofs.plain_function_rules.Local.{late_turned, marks_turned}
@@ -104,22 +105,11 @@ module _ (m : Module) (f : Function) (coroutine : f.coroutine ≡ false) where
 
 -- ---- labels stand in the table of names
 
-label_low : (ds : List Definition) (n limit : ℕ) → ((d : Definition) → IsListed d ds → d.name < limit) → is_defined true ds n ≡ true → n < limit
-label_low [] n limit low e = absurd (cc)
-label_low (d ∷ ds) n limit low e = on (is_kind true d && (d.name == n)) refl e (label_low ds n limit (λ x l. low x (inr l)))
-  where
-    on : (b : Bool) → (is_kind true d && (d.name == n)) ≡ b → (b || list_any (λ x. is_kind true x && (x.name == n)) ds) ≡ true → (is_defined true ds n ≡ true → n < limit) → n < limit
-    on true here h rest =
-        let same : d.name ≡ n = eqb-true d.name n (and_second (is_kind true d) (d.name == n) here) in
-        let high : d.name < limit = low d (inl refl) in
-        omega (arith, same, high)
-    on false here h rest = rest h
-
 module _ (m : Module) (k : ℕ) (f : Function) (tabled : HasTabledLocals k f) where
   no_ends : (ls : List ℕ) → list_all (is_label k f) ls ≡ true → AreNoEnds (plain_shape f) ls
   no_ends [] e = tt
   no_ends (n ∷ ls) e =
-      let low : n < length f.names = label_low (locals_of k f) n (length f.names) tabled (and_first (is_label k f n) (list_all (is_label k f) ls) e) in
+      let low : n < length f.names = defined_low true (locals_of k f) n (length f.names) tabled (and_first (is_label k f n) (list_all (is_label k f) ls) e) in
       (other_number n (length f.names) (λ same. let is : n ≡ length f.names = same in absurd (omega (arith, low, is))), no_ends ls (and_second (is_label k f n) (list_all (is_label k f) ls) e))
 
   no_end_blocks : (bs : List Block) → Each (PassesIn (names_unknown m (is_value k f) (is_label k f))) bs → Each (λ (b : Block). AreNoEnds (plain_shape f) (ending_labels b.term)) bs
@@ -128,16 +118,22 @@ module _ (m : Module) (k : ℕ) (f : Function) (tabled : HasTabledLocals k f) wh
 
 -- ---- the function
 
-pub turned_keeps : (m n : Module) (k l : ℕ) (f : Function) → HasPartsOf m n → slice_get m.functions k ≡ Some f → f.coroutine ≡ false → KeepsFunctionRules m k f → KeepsPlainRules n l (plain_of (plain_shape f) f)
-turned_keeps m n k l f h stands coroutine rules =
+-- the blocks, turned
+pub blocks_turned : (m : Module) (k : ℕ) (f : Function) → f.coroutine ≡ false → KeepsFunctionRules m k f → AreTurned (plain_shape f) (length f.names) f.blocks (plain_of (plain_shape f) f).blocks
+blocks_turned m k f coroutine rules =
     let s : Shape = plain_shape f in
     let g : Function = plain_of s f in
     let fits = no_either (either (on_instr (calls_inner f.coroutine)) (calls_otherwise m)) (breaks_values m (value_kind f) f.result) (parts_of k f)
     (no_either (on_instr (calls_inner f.coroutine)) (calls_otherwise m) (parts_of k f) rules.local.misplaced rules.calls) rules.local.values in
-    let blocks : AreTurned s (length f.names) f.blocks g.blocks =
     (all_turned s s.base (next_after s Part.Ramp [] s.base f.blocks) f.blocks (pieces_of s Part.Ramp [] s.base f.blocks) (cut_blocks s Part.Ramp [] s.base f.blocks)
     (outer_blocks m f coroutine f.blocks (all_pass (Fits m f) k f fits))
-    (no_end_blocks m k f rules.tabled f.blocks (all_pass (names_unknown m (is_value k f) (is_label k f)) k f rules.known))).0 in
+    (no_end_blocks m k f rules.tabled f.blocks (all_pass (names_unknown m (is_value k f) (is_label k f)) k f rules.known))).0
+
+pub turned_keeps : (m n : Module) (k l : ℕ) (f : Function) → HasPartsOf m n → slice_get m.functions k ≡ Some f → f.coroutine ≡ false → KeepsFunctionRules m k f → KeepsPlainRules n l (plain_of (plain_shape f) f)
+turned_keeps m n k l f h stands coroutine rules =
+    let s : Shape = plain_shape f in
+    let g : Function = plain_of s f in
+    let blocks : AreTurned s (length f.names) f.blocks g.blocks = blocks_turned m k f coroutine rules in
     let kept = plain_kept m n k l f h stands coroutine rules in
     let named = plain_named m n k l f h stands coroutine rules (locals_known s m k l f g (length f.names) blocks refl rules.known) in
     record {

@@ -1,6 +1,6 @@
 -- Phrases of the grammar leave behind them nothing but symbols that stood there: what holds of each before holds of each that is left.
-use Rattle.std.proofs.Common.{◌≡◌, ℕ, ◌⊎◌, inl, inr, List, [], ◌∷◌, ◌++◌, refl, sym, ap, subst}
-use Rattle.std.specs.Prelude.{Bool, true, false, Option, Some, None}
+use Rattle.std.proofs.Common.{inl, inr, List, [], ◌∷◌, ◌++◌, subst}
+use Rattle.std.specs.Prelude.{Bool, true, false}
 use Rattle.coro_base.specs.declared.name.Name.{Name}
 use Rattle.ir_grammar.specs.Attributes.{Attr, Balanced, IsAttr, any, any_integer, attributes, curly_text, empty, in_group, metadata, nested, other, pairs, plain_attr, presplit, round_text}
 use Rattle.ir_grammar.specs.Phrases.{Locals, Naming, Phrase, ◌⨾◌, ◌∥◌, behind_comma, comma, commas, each, flag, listed, mark, never, nothing, perhaps, plain, some, these, word}
@@ -16,10 +16,6 @@ module _ (G : Sym → Type 0) where
   -- the phrase keeps what holds of each symbol
   pub record Keeps (P : Phrase) : Type 0 where
     pub at : (ts rest : List Sym) → P ts rest → Each G ts → Each G rest
-
-  -- the same inside a function
-  pub record KeepsIn (P : Naming) : Type 0 where
-    pub at : (s end : Locals) → P s end → Each G s.1 → Each G end.1
 
   pub behind : (ws rest : List Sym) → Each G (ws ++ rest) → Each G rest
   behind [] rest h = h
@@ -105,41 +101,49 @@ module _ (G : Sym → Type 0) where
   pub kept_pairs : Keeps pairs
   kept_pairs = kept_any (kept_these (syms.Meta ∷ syms.Meta ∷ []))
 
-  -- ---- inside a function
+  -- ---- inside a function, where something holds of the names so far, too
 
-  pub in_plain : {P : Phrase} → Keeps P → KeepsIn (plain P)
-  in_plain a = record { at = λ s end h g. a.at s.1 end.1 h.1 g }
+  module _ (H : Name → Type 0) where
+    -- what holds of each name and of each symbol
+    abbrev pub Holds : Locals → Type 0
+    Holds s = Each H s.0 × Each G s.1
 
-  pub in_nothing : KeepsIn nothing
-  in_nothing = record { at = λ s end h g. subst (λ (x : Locals). Each G x.1) h g }
+    pub record KeepsIn (P : Naming) : Type 0 where
+      pub at : (s end : Locals) → P s end → Holds s → Holds end
 
-  pub in_never : KeepsIn never
-  in_never = record { at = λ s end h g. absurd h }
+    pub in_plain : {P : Phrase} → Keeps P → KeepsIn (plain P)
+    in_plain a = record { at = λ s end h g. (subst (Each H) h.0 g.0, a.at s.1 end.1 h.1 g.1) }
 
-  pub in_seq : {P Q : Naming} → KeepsIn P → KeepsIn Q → KeepsIn (P ⨾ Q)
-  in_seq a b = record { at = λ s end h g. b.at h.0 end h.2 (a.at s h.0 h.1 g) }
+    pub in_nothing : KeepsIn nothing
+    in_nothing = record { at = λ s end h g. subst Holds h g }
 
-  pub in_or : {P Q : Naming} → KeepsIn P → KeepsIn Q → KeepsIn (P ∥ Q)
-  in_or {P} {Q} a b = record { at = on }
-    where
-      on : (s end : Locals) → (P ∥ Q) s end → Each G s.1 → Each G end.1
-      on s end (inl h) g = a.at s end h g
-      on s end (inr h) g = b.at s end h g
+    pub in_never : KeepsIn never
+    in_never = record { at = λ s end h g. absurd h }
 
-  pub in_each : {A : Type 0} {P : A → Naming} → ((x : A) → KeepsIn (P x)) → (xs : List A) → KeepsIn (each P xs)
-  in_each h [] = in_nothing
-  in_each h (x ∷ xs) = in_seq (h x) (in_each h xs)
+    pub in_seq : {P Q : Naming} → KeepsIn P → KeepsIn Q → KeepsIn (P ⨾ Q)
+    in_seq a b = record { at = λ s end h g. b.at h.0 end h.2 (a.at s h.0 h.1 g) }
 
-  pub in_some : {A : Type 0} {P : A → Naming} → ((x : A) → KeepsIn (P x)) → (xs : List A) → KeepsIn (some P xs)
-  in_some h [] = in_never
-  in_some h (x ∷ xs) = in_seq (h x) (in_each h xs)
+    pub in_or : {P Q : Naming} → KeepsIn P → KeepsIn Q → KeepsIn (P ∥ Q)
+    in_or {P} {Q} a b = record { at = on }
+      where
+        on : (s end : Locals) → (P ∥ Q) s end → Holds s → Holds end
+        on s end (inl h) g = a.at s end h g
+        on s end (inr h) g = b.at s end h g
 
-  pub in_comma : KeepsIn comma
-  in_comma = in_plain (kept_mark marks.Comma)
+    pub in_each : {A : Type 0} {P : A → Naming} → ((x : A) → KeepsIn (P x)) → (xs : List A) → KeepsIn (each P xs)
+    in_each h [] = in_nothing
+    in_each h (x ∷ xs) = in_seq (h x) (in_each h xs)
 
-  pub in_behind_comma : {A : Type 0} {P : A → Naming} → ((x : A) → KeepsIn (P x)) → (x : A) → KeepsIn (behind_comma P x)
-  in_behind_comma h x = in_seq in_comma (h x)
+    pub in_some : {A : Type 0} {P : A → Naming} → ((x : A) → KeepsIn (P x)) → (xs : List A) → KeepsIn (some P xs)
+    in_some h [] = in_never
+    in_some h (x ∷ xs) = in_seq (h x) (in_each h xs)
 
-  pub in_listed : {A : Type 0} {P : A → Naming} → ((x : A) → KeepsIn (P x)) → (xs : List A) → KeepsIn (listed P xs)
-  in_listed h [] = in_never
-  in_listed {A} {P} h (x ∷ xs) = in_seq (h x) (in_each {P = behind_comma P} (in_behind_comma {P = P} h) xs)
+    pub in_comma : KeepsIn comma
+    in_comma = in_plain (kept_mark marks.Comma)
+
+    pub in_behind_comma : {A : Type 0} {P : A → Naming} → ((x : A) → KeepsIn (P x)) → (x : A) → KeepsIn (behind_comma P x)
+    in_behind_comma h x = in_seq in_comma (h x)
+
+    pub in_listed : {A : Type 0} {P : A → Naming} → ((x : A) → KeepsIn (P x)) → (xs : List A) → KeepsIn (listed P xs)
+    in_listed h [] = in_never
+    in_listed {A} {P} h (x ∷ xs) = in_seq (h x) (in_each {P = behind_comma P} (in_behind_comma {P = P} h) xs)

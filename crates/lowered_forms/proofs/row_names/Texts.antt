@@ -80,23 +80,30 @@ all_short (t ∷ ts) = (symbol_short t, all_short ts)
 
 -- ---- functions
 
+-- nothing is asked of other names
+abbrev AnyName : Name → Type 0
+AnyName n = Unit {0}
+
+kept_short : (types : List TypeItem) (groups : List (List ℕ)) (i : Item) → Keeps IsShortSym (IsItem types groups i)
+kept_short = kept_item IsShortSym AnyName (λ n g. tt) (λ n g. tt) (λ k l. tt)
+
 functions_short : (types : List TypeItem) (groups : List (List ℕ)) (is : List Item) (ts rest : List Sym) → each (IsItem types groups) is ts rest → Each IsShortSym ts → (k : ℕ) (f : Function) → slice_get (functions_of is) k ≡ Some f → IsShort f.name
 functions_short types groups [] ts rest h g k f there = absurd (cc)
 functions_short types groups (function x ∷ is) ts rest h g zero f there =
     let same : x ≡ f = cc in
-    subst (λ (y : Function). IsShort y.name) same (name_said IsShortSym types groups x ts h.0 h.1 g)
+    subst (λ (y : Function). IsShort y.name) same (name_said IsShortSym AnyName (λ n g. tt) (λ n g. tt) (λ k l. tt) types groups x ts h.0 h.1 g)
 functions_short types groups (function x ∷ is) ts rest h g (suc k) f there =
-    functions_short types groups is h.0 rest h.2 ((kept_item IsShortSym types groups (function x)).at ts h.0 h.1 g) k f there
+    functions_short types groups is h.0 rest h.2 ((kept_short types groups (function x)).at ts h.0 h.1 g) k f there
 functions_short types groups (type_item x ∷ is) ts rest h g k f there =
-    functions_short types groups is h.0 rest h.2 ((kept_item IsShortSym types groups (type_item x)).at ts h.0 h.1 g) k f there
+    functions_short types groups is h.0 rest h.2 ((kept_short types groups (type_item x)).at ts h.0 h.1 g) k f there
 functions_short types groups (global_item x ∷ is) ts rest h g k f there =
-    functions_short types groups is h.0 rest h.2 ((kept_item IsShortSym types groups (global_item x)).at ts h.0 h.1 g) k f there
+    functions_short types groups is h.0 rest h.2 ((kept_short types groups (global_item x)).at ts h.0 h.1 g) k f there
 functions_short types groups (declaration x ∷ is) ts rest h g k f there =
-    functions_short types groups is h.0 rest h.2 ((kept_item IsShortSym types groups (declaration x)).at ts h.0 h.1 g) k f there
+    functions_short types groups is h.0 rest h.2 ((kept_short types groups (declaration x)).at ts h.0 h.1 g) k f there
 functions_short types groups (group x ∷ is) ts rest h g k f there =
-    functions_short types groups is h.0 rest h.2 ((kept_item IsShortSym types groups (group x)).at ts h.0 h.1 g) k f there
+    functions_short types groups is h.0 rest h.2 ((kept_short types groups (group x)).at ts h.0 h.1 g) k f there
 functions_short types groups (other ∷ is) ts rest h g k f there =
-    functions_short types groups is h.0 rest h.2 ((kept_item IsShortSym types groups other).at ts h.0 h.1 g) k f there
+    functions_short types groups is h.0 rest h.2 ((kept_short types groups other).at ts h.0 h.1 g) k f there
 
 pub text_names_short : (text : List ℕ) (m : Module) → StandsFor text m → (k : ℕ) (f : Function) → slice_get m.functions k ≡ Some f → IsShort f.name
 text_names_short text m stands k f there =
