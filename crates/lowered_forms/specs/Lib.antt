@@ -5,6 +5,7 @@ pub mod framed_crossing
 pub mod framed_rules
 pub mod framed_shape
 pub mod lowered_rules
+pub mod names_apart
 pub mod part_uses
 pub mod printed_forms
 pub mod split_rules

@@ -16,7 +16,7 @@ use Rattle.value_cells.specs.Cells.{fetched_function}
 use Rattle.frame_rules.specs.split_names.Same.{HaveSameNames, naming}
 
 -- name, result, parameters and the mark of a coroutine are the same
-record IsHeadedAs (f g : Function) : Type 0 where
+pub record IsHeadedAs (f g : Function) : Type 0 where
   pub name : g.name ≡ f.name
   pub result : g.result ≡ f.result
   pub params : g.params ≡ f.params
@@ -55,7 +55,7 @@ placed_headed : (m : Module) (l : Layout) (f : Function) (c : Contents) (before 
 unfolding placed copied celled fetched_function
 placed_headed m l f c before = record { name = refl; result = refl; params = refl; coroutine = refl }
 
-framed_headed : (m : Module) (l : Layout) (f g : Function) → IsFramedCoroutine m l f g → IsHeadedAs f g
+pub framed_headed : (m : Module) (l : Layout) (f g : Function) → IsFramedCoroutine m l f g → IsHeadedAs f g
 framed_headed m l f g h = subst (IsHeadedAs f) (sym h.is) (placed_headed m l f h.contents h.before)
 
 map_joined : {A B : Type 0} (what : A → B) (xs ys : List A) → map what (xs ++ ys) ≡ map what xs ++ map what ys

@@ -1,0 +1,11 @@
+pub mod Different
+pub mod Words
+pub mod Numbered
+pub mod Exits
+pub mod Parts
+pub mod Steps
+pub mod Framed
+pub mod Split
+pub mod Texts
+pub mod Sources
+pub mod Lowered
