@@ -1,0 +1,29 @@
+-- A renumbered function breaks each rule at the same place.
+use Rattle.std.proofs.Common.{◌≡◌, ℕ, List, subst, sym}
+use Rattle.coro_base.specs.declared.name.Name.{Name}
+use Rattle.ir_model.specs.declared.module.Function.{Function}
+use Rattle.ir_model.specs.declared.module.Module.{Module}
+use Rattle.order_rules.proofs.Names.{definitions_same, known_same}
+use Rattle.order_rules.specs.Renumbered.{IsRenumbered, StaysApart, renumbered_function}
+use Rattle.order_rules.specs.Same.{HaveSameFaults}
+
+renumbered_same : (to : ℕ → ℕ) (names : List Name) → StaysApart to → (m : Module) (k : ℕ) (f : Function) → HaveSameFaults m k f (renumbered_function to names f)
+renumbered_same to names apart m k f =
+    record {
+      definitions = definitions_same to names apart k f;
+      known = known_same to names apart m k f;
+      depths = ?;
+      calls = ?;
+      values = ?;
+      closed_calls = ?;
+      extents = ?;
+      transfers = ?;
+      edges = ?;
+      uses = ?;
+      allocas = ?;
+      placed = ?;
+      marks = ?;
+    }
+
+pub all_same : (m : Module) (k : ℕ) (f g : Function) → IsRenumbered f g → HaveSameFaults m k f g
+all_same m k f g h = subst (HaveSameFaults m k f) (sym h.is) (renumbered_same h.to g.names h.apart m k f)
