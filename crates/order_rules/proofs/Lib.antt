@@ -4,4 +4,6 @@ pub mod Ordered
 pub mod Parts
 pub mod Contents
 pub mod Names
+pub mod Local
+pub mod Called
 pub mod Whole

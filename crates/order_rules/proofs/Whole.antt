@@ -3,6 +3,8 @@ use Rattle.std.proofs.Common.{◌≡◌, ℕ, List, subst, sym}
 use Rattle.coro_base.specs.declared.name.Name.{Name}
 use Rattle.ir_model.specs.declared.module.Function.{Function}
 use Rattle.ir_model.specs.declared.module.Module.{Module}
+use Rattle.order_rules.proofs.Called.{calls_same}
+use Rattle.order_rules.proofs.Local.{allocas_same, closed_same, depths_same, extents_same, marked_same, placed_same, transfers_same}
 use Rattle.order_rules.proofs.Names.{definitions_same, known_same}
 use Rattle.order_rules.specs.Renumbered.{IsRenumbered, StaysApart, renumbered_function}
 use Rattle.order_rules.specs.Same.{HaveSameFaults}
@@ -12,17 +14,17 @@ renumbered_same to names apart m k f =
     record {
       definitions = definitions_same to names apart k f;
       known = known_same to names apart m k f;
-      depths = ?;
-      calls = ?;
+      depths = depths_same to names m k f;
+      calls = calls_same to names m k f;
       values = ?;
-      closed_calls = ?;
-      extents = ?;
-      transfers = ?;
+      closed_calls = closed_same to names m k f;
+      extents = extents_same to names m k f;
+      transfers = transfers_same to names m k f;
       edges = ?;
       uses = ?;
-      allocas = ?;
-      placed = ?;
-      marks = ?;
+      allocas = allocas_same to names m k f;
+      placed = placed_same to names m k f;
+      marks = marked_same to names m k f apart;
     }
 
 pub all_same : (m : Module) (k : ℕ) (f g : Function) → IsRenumbered f g → HaveSameFaults m k f g
