@@ -6,4 +6,8 @@ pub mod Contents
 pub mod Names
 pub mod Local
 pub mod Called
+pub mod ValueKinds
+pub mod Values
+pub mod Edges
+pub mod Uses
 pub mod Whole

@@ -4,8 +4,11 @@ use Rattle.coro_base.specs.declared.name.Name.{Name}
 use Rattle.ir_model.specs.declared.module.Function.{Function}
 use Rattle.ir_model.specs.declared.module.Module.{Module}
 use Rattle.order_rules.proofs.Called.{calls_same}
+use Rattle.order_rules.proofs.Edges.{edges_same}
 use Rattle.order_rules.proofs.Local.{allocas_same, closed_same, depths_same, extents_same, marked_same, placed_same, transfers_same}
 use Rattle.order_rules.proofs.Names.{definitions_same, known_same}
+use Rattle.order_rules.proofs.Uses.{uses_same}
+use Rattle.order_rules.proofs.Values.{values_same}
 use Rattle.order_rules.specs.Renumbered.{IsRenumbered, StaysApart, renumbered_function}
 use Rattle.order_rules.specs.Same.{HaveSameFaults}
 
@@ -16,12 +19,12 @@ renumbered_same to names apart m k f =
       known = known_same to names apart m k f;
       depths = depths_same to names m k f;
       calls = calls_same to names m k f;
-      values = ?;
+      values = values_same to names apart m k f;
       closed_calls = closed_same to names m k f;
       extents = extents_same to names m k f;
       transfers = transfers_same to names m k f;
-      edges = ?;
-      uses = ?;
+      edges = edges_same to apart names k f;
+      uses = λ found. uses_same to apart names f k found;
       allocas = allocas_same to names m k f;
       placed = placed_same to names m k f;
       marks = marked_same to names m k f apart;
