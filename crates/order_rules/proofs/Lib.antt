@@ -11,3 +11,5 @@ pub mod Values
 pub mod Edges
 pub mod Uses
 pub mod Whole
+pub mod Accepted
+pub mod Modules

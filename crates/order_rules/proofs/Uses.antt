@@ -2,7 +2,7 @@
 use Rattle.std.proofs.Common.{◌≡◌, ℕ, suc, ◌+◌, List, [], ◌∷◌, ◌++◌, length, refl, sym, ap, ◌∙◌, subst, Option, Some, None}
 use Rattle.std.proofs.lemmas.List.{length-map, map-append}
 use Rattle.std.proofs.lemmas.Option.{slice_get-map}
-use Rattle.std.specs.Prelude.{map, option_map, option_to_list, slice_get, unwrap_or, ◌==◌}
+use Rattle.std.specs.Prelude.{◌↔◌, map, option_map, option_to_list, slice_get, unwrap_or, ◌==◌}
 use Rattle.block_paths.proofs.Elements.{listed_map, map_listed}
 use Rattle.block_paths.specs.Edges.{block_edges, edges_of_blocks}
 use Rattle.coro_base.specs.declared.name.Name.{Name}
@@ -189,5 +189,22 @@ module _ (to : ℕ → ℕ) where
     first_over _ _ (Here u us h) = Here (renumbered_use to u) (map (renumbered_use to) us) (undefined_forth u h)
     first_over _ _ (Later u us found never h) = Later (renumbered_use to u) (map (renumbered_use to) us) found (λ d. never (undefined_back u d)) (first_over us found h)
 
-    pub uses_same : (k : ℕ) (found : Option Place) → IsFirstUndefined f (uses_of k f) found → IsFirstUndefined g (uses_of k g) found
-    uses_same k found h = subst (λ (us : List Use). IsFirstUndefined g us found) (sym (blocks_over k 0 f.blocks)) (first_over (uses_of k f) found h)
+    -- the same of the uses that they came from
+    first_back : (us ws : List Use) (found : Option Place) → ws ≡ map (renumbered_use to) us → IsFirstUndefined g ws found → IsFirstUndefined f us found
+    first_back [] _ _ e Nowhere = Nowhere
+    first_back [] _ _ e (Here w ws h) = absurd (cc)
+    first_back [] _ _ e (Later w ws found never h) = absurd (cc)
+    first_back (u ∷ us) _ _ e Nowhere = absurd (cc)
+    first_back (u ∷ us) _ _ e (Here w ws h) =
+        let same : w ≡ renumbered_use to u = cc in
+        subst (λ (p : Place). IsFirstUndefined f (u ∷ us) (Some p)) (sym (ap (λ (x : Use). x.place) same)) (Here u us (undefined_back u (subst (IsUndefined g) same h)))
+    first_back (u ∷ us) _ _ e (Later w ws found never h) =
+        let same : w ≡ renumbered_use to u = cc in
+        let rest : ws ≡ map (renumbered_use to) us = cc in
+        Later u us found (λ d. never (subst (IsUndefined g) (sym same) (undefined_forth u d))) (first_back us ws found rest h)
+
+    pub uses_same : (k : ℕ) (found : Option Place) → IsFirstUndefined f (uses_of k f) found ↔ IsFirstUndefined g (uses_of k g) found
+    uses_same k found = (
+      λ h. subst (λ (us : List Use). IsFirstUndefined g us found) (sym (blocks_over k 0 f.blocks)) (first_over (uses_of k f) found h),
+      λ h. first_back (uses_of k f) (uses_of k g) found (blocks_over k 0 f.blocks) h,
+    )

@@ -1,5 +1,5 @@
 -- Functions that break each rule of plain functions at the same place.
-use Rattle.std.specs.Prelude.{◌≡◌, ℕ, [], Option}
+use Rattle.std.specs.Prelude.{◌≡◌, ◌↔◌, ℕ, [], Option}
 use Rattle.coro_base.specs.declared.outcome.Place.{Place}
 use Rattle.definite_use.specs.Undefined.{IsFirstUndefined}
 use Rattle.definite_use.specs.Uses.{uses_of}
@@ -31,7 +31,7 @@ pub record HaveSameFaults (m : Module) (k : ℕ) (f g : Function) : Type 0 where
   pub extents : first_past_extent Stage.Plain m k g ≡ first_past_extent Stage.Plain m k f
   pub transfers : first_wrong_transfer Stage.Plain k g ≡ first_wrong_transfer Stage.Plain k f
   pub edges : first_wrong_edge k g ≡ first_wrong_edge k f
-  pub uses : (found : Option Place) → IsFirstUndefined f (uses_of k f) found → IsFirstUndefined g (uses_of k g) found
+  pub uses : (found : Option Place) → IsFirstUndefined f (uses_of k f) found ↔ IsFirstUndefined g (uses_of k g) found
   pub allocas : first_late_alloca k g ≡ first_late_alloca k f
   pub placed : first_misplaced Stage.Plain k g ≡ first_misplaced Stage.Plain k f
   pub marks : first_other_mark m k g ≡ first_other_mark m k f

@@ -1,12 +1,14 @@
 //! That the rules of modules without coroutines go by no order of names.
 #![tactic(auto)]
 
-ghost use Rattle.std.specs.Prelude.{ℕ};
+ghost use Rattle.std.specs.Prelude.{ℕ, None};
+ghost use Rattle.ir_check.specs.Refused.{IsRefused};
 ghost use Rattle.ir_model.specs.declared.module.Function.{Function};
 ghost use Rattle.ir_model.specs.declared.module.Module.{Module};
-ghost use Rattle.name_order.specs.Order.{function_order};
-ghost use Rattle.name_order.specs.Shape.{IsFunction};
-ghost use Rattle.order_rules.specs.Apart.{AreApart};
+ghost use Rattle.name_order.specs.Order.{function_order, module_order};
+ghost use Rattle.name_order.specs.Shape.{IsFunction, IsShaped};
+ghost use Rattle.name_rules.specs.declared.stage.Stage.{Stage};
+ghost use Rattle.order_rules.specs.Apart.{AreApart, AreNamesApart};
 ghost use Rattle.order_rules.specs.Renumbered.{IsRenumbered};
 ghost use Rattle.order_rules.specs.Same.{HaveSameFaults};
 
@@ -18,4 +20,15 @@ pub fn ordered_functions_are_renumbered()
 /// A function whose locals stand at other positions, no two at one, breaks each rule of plain functions at the place where it did.
 pub fn renumbering_keeps_each_fault()
     ensures { (m : Module) (k : ℕ) (f g : Function) → IsRenumbered f g → HaveSameFaults m k f g }
+{}
+
+/// Where the names of each function's table are all different and its locals are positions of it, the order of the names breaks
+/// no rule: what the text of a plain module that is refused for nothing stands for is refused for nothing.
+pub fn names_in_order_break_no_rule()
+    ensures { (m : Module) → IsShaped m → AreNamesApart m → IsRefused Stage.Plain m None → IsRefused Stage.Plain (module_order m) None }
+{}
+
+/// Nor does it hide a broken one.
+pub fn names_in_order_hide_no_fault()
+    ensures { (m : Module) → IsShaped m → AreNamesApart m → IsRefused Stage.Plain (module_order m) None → IsRefused Stage.Plain m None }
 {}
