@@ -1,8 +1,7 @@
 -- What a plain module that is refused for nothing tells of its functions: none breaks a rule, and none is a coroutine.
-use Rattle.std.proofs.Common.{◌≡◌, ℕ, zero, suc, ◌+◌, ◌<◌, List, [], ◌∷◌, length, refl, sym, ap, ◌∙◌, subst, arith, Option, Some, None}
+use Rattle.std.proofs.Common.{◌≡◌, ℕ, zero, suc, ◌+◌, ◌<◌, List, [], ◌∷◌, length, refl, sym, subst, arith, Option, Some, None}
 use Rattle.std.proofs.lemmas.Option.{slice_get_within}
 use Rattle.std.specs.Prelude.{slice_get, unwrap_or}
-use Rattle.coro_base.specs.declared.outcome.Place.{Place}
 use Rattle.coro_base.specs.declared.rule.Rule.{Rule}
 use Rattle.definite_use.specs.Undefined.{IsFirstUndefined}
 use Rattle.definite_use.specs.Uses.{uses_of}
@@ -10,7 +9,7 @@ use Rattle.edge_rules.specs.Edges.{first_wrong_edge}
 use Rattle.frame_rules.proofs.plain_rules.Places.{both_later, both_refused, second_place_out}
 use Rattle.frame_rules.proofs.plain_rules.Sentences.{kept_by_functions}
 use Rattle.frame_rules.proofs.plain_rules.Told.{IsModuleLeft, in_module}
-use Rattle.frame_rules.specs.plain_rules.Kept.{AllKeepPlainRules, HasNoCoroutine, KeepsPlainRules}
+use Rattle.frame_rules.specs.plain_rules.Kept.{AllKeepPlainRules, HasNoCoroutine}
 use Rattle.function_parts.specs.Locals.{locals_of}
 use Rattle.function_parts.specs.Parts.{function_place, place_if}
 use Rattle.ir_check.specs.Faults.{HaveFaults, faults_at, no_faults}

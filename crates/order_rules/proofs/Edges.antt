@@ -2,7 +2,7 @@
 use Rattle.std.proofs.Common.{◌≡◌, ℕ, Bool, List, [], ◌∷◌, refl, ap, ◌∙◌, cond, Option, Some, None}
 use Rattle.std.proofs.lemmas.Option.{slice_get-map}
 use Rattle.std.specs.List.{list_all, list_any}
-use Rattle.std.specs.Prelude.{false, filter, if◌then◌else◌, map, not, option_map, slice_get, true, ◌&&◌, ◌==◌}
+use Rattle.std.specs.Prelude.{false, filter, if◌then◌else◌, map, not, option_map, true, ◌&&◌, ◌==◌}
 use Rattle.coro_base.specs.declared.name.Name.{Name}
 use Rattle.coro_base.specs.declared.outcome.Place.{Place}
 use Rattle.edge_rules.specs.Edges.{block_at, breaks_edges, differs, first_wrong_edge, fits_edges, has, incoming_labels, into_block, is_empty, is_entry, leads, predecessors}
@@ -15,7 +15,8 @@ use Rattle.ir_model.specs.declared.module.Function.{Function}
 use Rattle.ir_model.specs.declared.operand.Operand.{Operand}
 use Rattle.order_rules.proofs.Contents.{ending_labels_over, incoming_labels_over}
 use Rattle.order_rules.proofs.Parts.{equal_same, first_of_parts, renumbered_part}
-use Rattle.order_rules.proofs.Temp.{all_changed, any_same}
+use Rattle.first_pass_meaning.proofs.early_agreement.Lists.{any_same}
+use Rattle.first_pass_rules.proofs.early_elision.Lists.{all_changed}
 use Rattle.order_rules.specs.Renumbered.{StaysApart, renumbered_block, renumbered_function, renumbered_incoming, renumbered_operand}
 
 module _ (to : ℕ → ℕ) (apart : StaysApart to) where

@@ -1,4 +1,3 @@
-pub mod Temp
 pub mod Positions
 pub mod Ordered
 pub mod Parts

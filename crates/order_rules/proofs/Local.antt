@@ -1,9 +1,9 @@
 -- Rules that look at one part, or at types and allocas: a renumbered part keeps them where the part does (rules L1, Y3, Y4, Y5, F3, K1 and K13).
-use Rattle.std.proofs.Common.{◌≡◌, ℕ, ◌+◌, Bool, List, [], ◌∷◌, length, refl, sym, ap, ◌∙◌, Option, Some, None}
+use Rattle.std.proofs.Common.{◌≡◌, ℕ, ◌+◌, Bool, List, [], ◌∷◌, refl, ap, ◌∙◌, Option, Some, None}
 use Rattle.std.proofs.lemmas.List.{length-map}
 use Rattle.std.proofs.lemmas.Option.{slice_get-map}
 use Rattle.std.specs.List.{list_all}
-use Rattle.std.specs.Prelude.{false, if◌then◌else◌, map, not, option_map, slice_get, true, ◌&&◌, ◌==◌, ◌||◌}
+use Rattle.std.specs.Prelude.{if◌then◌else◌, map, not, option_map, ◌&&◌, ◌==◌, ◌||◌}
 use Rattle.coro_base.specs.declared.name.Name.{Name}
 use Rattle.coro_base.specs.declared.outcome.Place.{Place}
 use Rattle.function_parts.specs.Contents.{part_operands}
@@ -29,7 +29,7 @@ use Rattle.local_tables.specs.Tables.{first_in, or_first}
 use Rattle.name_rules.specs.declared.stage.Stage.{Stage}
 use Rattle.order_rules.proofs.Contents.{arg_types_same, operands_over, param_types_same, types_same}
 use Rattle.order_rules.proofs.Parts.{equal_same, first_of_parts, renumbered_part}
-use Rattle.order_rules.proofs.Temp.{all_changed}
+use Rattle.first_pass_rules.proofs.early_elision.Lists.{all_changed}
 use Rattle.order_rules.specs.Renumbered.{StaysApart, renumbered_arg, renumbered_block, renumbered_callee, renumbered_function, renumbered_instr, renumbered_operand, renumbered_phi, renumbered_term}
 use Rattle.type_rules.specs.Limits.{all_fit, breaks_limits, first_past, is_block_past, is_spot}
 

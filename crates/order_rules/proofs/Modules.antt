@@ -7,7 +7,7 @@ use Rattle.frame_rules.proofs.function_rules.Signatures.{plain_rules_by_signatur
 use Rattle.frame_rules.proofs.plain_rules.Accepted.{accepted}
 use Rattle.frame_rules.proofs.plain_rules.Told.{items_of_accepted}
 use Rattle.frame_rules.proofs.split_names.Items.{same_names_keep_items}
-use Rattle.frame_rules.specs.function_rules.Signatures.{HaveSameSignatures, Heading, heading}
+use Rattle.frame_rules.specs.function_rules.Signatures.{HaveSameSignatures, heading}
 use Rattle.frame_rules.specs.plain_rules.Kept.{AllKeepPlainRules, HasNoCoroutine, KeepsPlainRules}
 use Rattle.frame_rules.specs.split_names.Same.{HaveSameNames, naming}
 use Rattle.coro_base.specs.declared.name.Name.{Name}

@@ -1,5 +1,5 @@
 -- A function with its names in the order of their first occurrence is the function with its locals at other positions.
-use Rattle.std.proofs.Common.{◌≡◌, ℕ, List, [], ◌∷◌, append-nil, refl, sym, ap, ◌∙◌, Option, Some, None}
+use Rattle.std.proofs.Common.{◌≡◌, ℕ, List, [], ◌∷◌, append-nil, refl, sym, Option, Some, None}
 use Rattle.std.specs.Prelude.{map, option_map, slice_get}
 use Rattle.coro_base.specs.declared.name.Name.{Name}
 use Rattle.ir_model.specs.declared.instr.Case.{Case}
@@ -19,7 +19,7 @@ use Rattle.name_order.specs.Places.{each_order, local_order, placed, placed_if}
 use Rattle.name_order.specs.Shape.{Each, IsArg, IsBlock, IsCallee, IsCase, IsFunction, IsIncoming, IsInstr, IsOperand, IsParam, IsPhi, IsPlaced, IsSet, IsTerminator, Some_of}
 use Rattle.order_rules.proofs.Positions.{order_is, position_in, positions_stay_apart}
 use Rattle.order_rules.specs.Apart.{AreApart}
-use Rattle.order_rules.specs.Renumbered.{IsRenumbered, renumbered_arg, renumbered_block, renumbered_callee, renumbered_case, renumbered_function, renumbered_incoming, renumbered_instr, renumbered_operand, renumbered_param, renumbered_phi, renumbered_term}
+use Rattle.order_rules.specs.Renumbered.{IsRenumbered, renumbered_arg, renumbered_block, renumbered_callee, renumbered_case, renumbered_incoming, renumbered_instr, renumbered_operand, renumbered_param, renumbered_phi, renumbered_term}
 use Rattle.printed_grammar.proofs.Again.{Extends}
 use Rattle.printed_grammar.proofs.Names.{place_extends}
 

@@ -1,5 +1,5 @@
 -- Where the positions of a table of names go in another one: no two go to one where names stand once.
-use Rattle.std.proofs.Common.{◌≡◌, ℕ, suc, ◌+◌, ◌<◌, Bool, true, false, List, [], ◌∷◌, ◌++◌, length, refl, sym, ap, ◌∙◌, subst, arith, Option, Some, None}
+use Rattle.std.proofs.Common.{◌≡◌, ℕ, suc, ◌+◌, ◌<◌, Bool, true, false, List, [], ◌∷◌, ◌++◌, length, refl, sym, ap, ◌∙◌, arith, Option, Some, None}
 use Rattle.std.proofs.lemmas.Option.{slice_get_within}
 use Rattle.std.specs.Prelude.{if◌then◌else◌, option_map, slice_get, unwrap_or}
 use Rattle.coro_base.specs.declared.name.Name.{Name}
@@ -7,7 +7,8 @@ use Rattle.ir_model.specs.Names.{first_where, same_name}
 use Rattle.module_names.proofs.Tables.{same_name-same}
 use Rattle.name_order.specs.Places.{behind, local_order, placed, placed_if}
 use Rattle.name_order.specs.Shape.{IsPlaced}
-use Rattle.order_rules.proofs.Temp.{IsFound, same_name-itself, what_is_found}
+use Rattle.frame_rules.proofs.split_names.Lists.{what_is_found}
+use Rattle.frame_rules.proofs.split_names.Spellings.{same_name-itself}
 use Rattle.order_rules.specs.Apart.{AreApart}
 use Rattle.order_rules.specs.Renumbered.{StaysApart}
 use Rattle.printed_grammar.proofs.Again.{Extends}

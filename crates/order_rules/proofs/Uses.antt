@@ -1,5 +1,5 @@
 -- Uses in a renumbered function are undefined just where they were (rule F2).
-use Rattle.std.proofs.Common.{◌≡◌, ℕ, suc, ◌+◌, List, [], ◌∷◌, ◌++◌, length, refl, sym, ap, ◌∙◌, subst, Option, Some, None}
+use Rattle.std.proofs.Common.{◌≡◌, ℕ, ◌+◌, List, [], ◌∷◌, ◌++◌, length, refl, sym, ap, ◌∙◌, subst, Option, Some, None}
 use Rattle.std.proofs.lemmas.List.{length-map, map-append}
 use Rattle.std.proofs.lemmas.Option.{slice_get-map}
 use Rattle.std.specs.Prelude.{◌↔◌, map, option_map, option_to_list, slice_get, unwrap_or, ◌==◌}
@@ -12,7 +12,7 @@ use Rattle.definite_use.specs.Uses.{Use, block_uses, block_values, blocks_uses, 
 use Rattle.flow_solver.specs.Paths.{IsListed}
 use Rattle.function_parts.specs.Contents.{ending_operands, instr_operands, result_of}
 use Rattle.function_parts.specs.Parts.{instr_place}
-use Rattle.ir_model.specs.Names.{first_where, position_of}
+use Rattle.ir_model.specs.Names.{position_of}
 use Rattle.ir_model.specs.declared.instr.Incoming.{Incoming}
 use Rattle.ir_model.specs.declared.instr.Instr.{Instr}
 use Rattle.ir_model.specs.declared.instr.Phi.{Phi}
@@ -24,7 +24,7 @@ use Rattle.ir_model.specs.declared.operand.Operand.{Operand}
 use Rattle.ir_paths.specs.Paths.{targets}
 use Rattle.order_rules.proofs.Contents.{ending_labels_over, ending_over, instr_over, listed_over, maps_forget, maps_same, result_over}
 use Rattle.order_rules.proofs.Parts.{equal_same}
-use Rattle.order_rules.proofs.Temp.{first_same}
+use Rattle.first_pass_meaning.proofs.early_agreement.Modules.{first_same}
 use Rattle.order_rules.specs.Renumbered.{StaysApart, renumbered_block, renumbered_function, renumbered_incoming, renumbered_instr, renumbered_operand, renumbered_param, renumbered_phi, renumbered_term}
 
 abbrev renumbered_use : (ℕ → ℕ) → Use → Use

@@ -1,8 +1,8 @@
 -- The kind of a value of a renumbered function is that of the value.
 use Rattle.std.proofs.Common.{◌≡◌, ℕ, List, refl, Option, Some, None}
-use Rattle.std.specs.Prelude.{if◌then◌else◌, map, option_map, ◌==◌}
+use Rattle.std.specs.Prelude.{if◌then◌else◌, option_map}
 use Rattle.coro_base.specs.declared.name.Name.{Name}
-use Rattle.ir_model.specs.Ty.{Ty, ptr}
+use Rattle.ir_model.specs.Ty.{Ty}
 use Rattle.ir_model.specs.declared.instr.Instr.{Instr}
 use Rattle.ir_model.specs.declared.module.Block.{Block}
 use Rattle.ir_model.specs.declared.module.Function.{Function}
@@ -38,10 +38,7 @@ module _ (to : ℕ → ℕ) (apart : StaysApart to) (n : ℕ) where
   instr_over (Instr.Load r ty address align) = if_over r (kind_of ty)
   instr_over (Instr.Store arg address align) = refl
   instr_over (Instr.Gep r inbounds ty base indices) = if_over r Kind.Ptr
-  instr_over (Instr.Call r must_tail ty callee args) = λ i. call_over_with r (result_same callee ty i) i
-    where
-      call_over_with : (r : Option ℕ) (kind : Kind) → call_kind (option_map to r) kind (to n) ≡ call_kind r kind n
-      call_over_with = call_over
+  instr_over (Instr.Call r must_tail ty callee args) = λ i. call_over r (result_same callee ty i) i
 
   block_over : (b : Block) → block_kind (renumbered_block to b) (to n) ≡ block_kind b n
   block_over b = λ i.

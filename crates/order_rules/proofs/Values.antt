@@ -1,14 +1,12 @@
 -- Types of values in a renumbered function fit just where they did (rule Y1).
 use Rattle.std.proofs.Common.{◌≡◌, ℕ, Bool, List, [], ◌∷◌, refl, ap, ◌∙◌, Option, Some, None}
-use Rattle.std.specs.List.{list_all}
 use Rattle.std.specs.Prelude.{map, not, option_map, ◌&&◌, ◌||◌}
 use Rattle.coro_base.specs.declared.name.Name.{Name}
 use Rattle.coro_base.specs.declared.outcome.Place.{Place}
 use Rattle.function_parts.specs.Parts.{Ending, Head, OfInstr, OfPhi, Part, Signature}
 use Rattle.ir_model.specs.Layout.{same_type, unnamed}
-use Rattle.ir_model.specs.Ty.{Ty, Tys, array, field, int, named, none, ptr, structure, token}
+use Rattle.ir_model.specs.Ty.{Ty, array, int, named, ptr, structure, token}
 use Rattle.ir_model.specs.declared.instr.Case.{Case}
-use Rattle.ir_model.specs.declared.instr.Incoming.{Incoming}
 use Rattle.ir_model.specs.declared.instr.Instr.{Instr}
 use Rattle.ir_model.specs.declared.instr.Terminator.{Terminator}
 use Rattle.ir_model.specs.declared.module.Function.{Function}
@@ -20,15 +18,15 @@ use Rattle.ir_model.specs.declared.operand.Operand.{Operand}
 use Rattle.order_rules.proofs.Contents.{maps_forget}
 use Rattle.order_rules.proofs.ValueKinds.{kind_over}
 use Rattle.order_rules.proofs.Parts.{first_of_parts, renumbered_part}
-use Rattle.order_rules.proofs.Temp.{all_changed}
+use Rattle.first_pass_rules.proofs.early_elision.Lists.{all_changed}
 use Rattle.order_rules.specs.Renumbered.{StaysApart, renumbered_arg, renumbered_callee, renumbered_case, renumbered_function, renumbered_incoming, renumbered_instr, renumbered_operand, renumbered_param, renumbered_term}
 use Rattle.type_rules.specs.Wants.{is_int, is_token}
 use Rattle.value_rules.specs.Fits.{fits, fits_arg, fits_integer, fits_kind, fits_scalar, is_integer, is_scalar, is_tokenless}
 use Rattle.value_rules.specs.Geps.{field_number, field_of, indices_fit, inner_part, leads_in, only_if, part_of}
-use Rattle.value_rules.specs.Instrs.{both_fit, casts, compares, fits_call, fits_called, fits_instr, fits_result, fits_select, is_intrinsic, is_passed, is_save_or_none, is_saved, passes, suspends_on}
+use Rattle.value_rules.specs.Instrs.{both_fit, casts, compares, fits_call, fits_called, fits_instr, fits_result, is_intrinsic, is_passed, is_save_or_none, is_saved, passes, suspends_on}
 use Rattle.value_rules.specs.Kinds.{value_kind}
 use Rattle.value_rules.specs.Switches.{any_twice, bits_in, case_word, fits_case, fits_switch, is_constant, word_in}
-use Rattle.value_rules.specs.Values.{breaks_values, first_wrong_value, fits_ending, fits_part, fits_phi, fits_return, has_scalar, is_scalar_or_void, takes}
+use Rattle.value_rules.specs.Values.{breaks_values, first_wrong_value, fits_ending, fits_part, fits_return, has_scalar, is_scalar_or_void, takes}
 use Rattle.value_rules.specs.declared.kinds.Kind.{Kind}
 
 module _ (to : ℕ → ℕ) (kinds now : ℕ → Option Kind) (same : (n : ℕ) → now (to n) ≡ kinds n) where

@@ -1,5 +1,5 @@
 -- Functions whose locals stand at other positions of the table of names.
-use Rattle.std.specs.Prelude.{◌≡◌, ℕ, List, None, Some, Option, map, option_map}
+use Rattle.std.specs.Prelude.{◌≡◌, ℕ, List, map, option_map}
 use Rattle.coro_base.specs.declared.name.Name.{Name}
 use Rattle.ir_model.specs.declared.instr.Case.{Case}
 use Rattle.ir_model.specs.declared.instr.Incoming.{Incoming}

@@ -2,6 +2,8 @@
 #![tactic(auto)]
 
 ghost use Rattle.std.specs.Prelude.{ℕ, None};
+ghost use Rattle.frame_rules.specs.function_rules.Signatures.{HaveSameSignatures};
+ghost use Rattle.frame_rules.specs.plain_rules.Kept.{AllKeepPlainRules, HasNoCoroutine, KeepsPlainRules};
 ghost use Rattle.ir_check.specs.Refused.{IsRefused};
 ghost use Rattle.ir_model.specs.declared.module.Function.{Function};
 ghost use Rattle.ir_model.specs.declared.module.Module.{Module};
@@ -20,6 +22,17 @@ pub fn ordered_functions_are_renumbered()
 /// A function whose locals stand at other positions, no two at one, breaks each rule of plain functions at the place where it did.
 pub fn renumbering_keeps_each_fault()
     ensures { (m : Module) (k : ℕ) (f g : Function) → IsRenumbered f g → HaveSameFaults m k f g }
+{}
+
+/// The functions of a plain module that is refused for nothing break none of the rules of plain functions, and none is a coroutine.
+pub fn accepted_modules_keep_plain_rules()
+    ensures { (m : Module) → IsRefused Stage.Plain m None → AllKeepPlainRules m × HasNoCoroutine m }
+{}
+
+/// A function that breaks none of these rules in a module breaks none in another one with the same types, globals and declarations,
+/// whose functions are called alike.
+pub fn plain_rules_go_by_signatures()
+    ensures { (m n : Module) (k : ℕ) (f : Function) → HaveSameSignatures m n → KeepsPlainRules m k f → KeepsPlainRules n k f }
 {}
 
 /// Where the names of each function's table are all different and its locals are positions of it, the order of the names breaks
