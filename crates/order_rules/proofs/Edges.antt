@@ -7,6 +7,8 @@ use Rattle.coro_base.specs.declared.name.Name.{Name}
 use Rattle.coro_base.specs.declared.outcome.Place.{Place}
 use Rattle.edge_rules.specs.Edges.{block_at, breaks_edges, differs, first_wrong_edge, fits_edges, has, incoming_labels, into_block, is_empty, is_entry, leads, predecessors}
 use Rattle.edge_rules.specs.Operands.{same_operand}
+use Rattle.first_pass_meaning.proofs.early_agreement.Lists.{any_same}
+use Rattle.first_pass_rules.proofs.early_elision.Lists.{all_changed}
 use Rattle.function_parts.specs.Contents.{ending_labels}
 use Rattle.function_parts.specs.Parts.{Ending, Head, OfInstr, OfPhi, Part, Signature}
 use Rattle.ir_model.specs.declared.instr.Incoming.{Incoming}
@@ -15,8 +17,6 @@ use Rattle.ir_model.specs.declared.module.Function.{Function}
 use Rattle.ir_model.specs.declared.operand.Operand.{Operand}
 use Rattle.order_rules.proofs.Contents.{ending_labels_over, incoming_labels_over}
 use Rattle.order_rules.proofs.Parts.{equal_same, first_of_parts, renumbered_part}
-use Rattle.first_pass_meaning.proofs.early_agreement.Lists.{any_same}
-use Rattle.first_pass_rules.proofs.early_elision.Lists.{all_changed}
 use Rattle.order_rules.specs.Renumbered.{StaysApart, renumbered_block, renumbered_function, renumbered_incoming, renumbered_operand}
 
 module _ (to : ℕ → ℕ) (apart : StaysApart to) where

@@ -6,6 +6,7 @@ use Rattle.std.specs.List.{list_all}
 use Rattle.std.specs.Prelude.{if◌then◌else◌, map, not, option_map, ◌&&◌, ◌==◌, ◌||◌}
 use Rattle.coro_base.specs.declared.name.Name.{Name}
 use Rattle.coro_base.specs.declared.outcome.Place.{Place}
+use Rattle.first_pass_rules.proofs.early_elision.Lists.{all_changed}
 use Rattle.function_parts.specs.Contents.{part_operands}
 use Rattle.function_parts.specs.Parts.{Ending, Head, OfInstr, OfPhi, Part, Signature, first_part, parts_of}
 use Rattle.ir_model.specs.Layout.{size_of}
@@ -29,7 +30,6 @@ use Rattle.local_tables.specs.Tables.{first_in, or_first}
 use Rattle.name_rules.specs.declared.stage.Stage.{Stage}
 use Rattle.order_rules.proofs.Contents.{arg_types_same, operands_over, param_types_same, types_same}
 use Rattle.order_rules.proofs.Parts.{equal_same, first_of_parts, renumbered_part}
-use Rattle.first_pass_rules.proofs.early_elision.Lists.{all_changed}
 use Rattle.order_rules.specs.Renumbered.{StaysApart, renumbered_arg, renumbered_block, renumbered_callee, renumbered_function, renumbered_instr, renumbered_operand, renumbered_phi, renumbered_term}
 use Rattle.type_rules.specs.Limits.{all_fit, breaks_limits, first_past, is_block_past, is_spot}
 

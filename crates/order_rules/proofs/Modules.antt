@@ -2,6 +2,7 @@
 use Rattle.std.proofs.Common.{◌≡◌, ℕ, List, [], ◌∷◌, refl, sym, ap, ◌∙◌, subst, Option, Some, None}
 use Rattle.std.proofs.lemmas.Option.{slice_get-map}
 use Rattle.std.specs.Prelude.{map, option_map, slice_get}
+use Rattle.coro_base.specs.declared.name.Name.{Name}
 use Rattle.first_pass_rules.proofs.early_rules.Shaped.{function_shaped}
 use Rattle.frame_rules.proofs.function_rules.Signatures.{plain_rules_by_signatures}
 use Rattle.frame_rules.proofs.plain_rules.Accepted.{accepted}
@@ -10,7 +11,6 @@ use Rattle.frame_rules.proofs.split_names.Items.{same_names_keep_items}
 use Rattle.frame_rules.specs.function_rules.Signatures.{HaveSameSignatures, heading}
 use Rattle.frame_rules.specs.plain_rules.Kept.{AllKeepPlainRules, HasNoCoroutine, KeepsPlainRules}
 use Rattle.frame_rules.specs.split_names.Same.{HaveSameNames, naming}
-use Rattle.coro_base.specs.declared.name.Name.{Name}
 use Rattle.ir_check.specs.Refused.{IsRefused}
 use Rattle.ir_model.specs.Ty.{Ty}
 use Rattle.ir_model.specs.declared.module.Function.{Function}

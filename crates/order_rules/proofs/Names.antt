@@ -5,6 +5,8 @@ use Rattle.std.specs.List.{list_all}
 use Rattle.std.specs.Prelude.{Bool, Some, false, if◌then◌else◌, map, not, true, ◌&&◌, ◌==◌}
 use Rattle.coro_base.specs.declared.name.Name.{Name}
 use Rattle.coro_base.specs.declared.outcome.Place.{Place}
+use Rattle.first_pass_meaning.proofs.early_agreement.Lists.{any_same}
+use Rattle.first_pass_rules.proofs.early_elision.Lists.{all_changed}
 use Rattle.function_parts.specs.Contents.{part_labels, part_locals, part_operands}
 use Rattle.function_parts.specs.Locals.{is_head, local_at, locals_at, locals_in, locals_of}
 use Rattle.function_parts.specs.Parts.{Ending, Head, OfInstr, OfPhi, Part, Signature, parts_of}
@@ -18,8 +20,6 @@ use Rattle.name_rules.specs.Definitions.{first_twice, has_number}
 use Rattle.name_rules.specs.Known.{first_unknown, is_defined, is_kind, is_label, is_value, knows_called, knows_operand, knows_type, names_unknown}
 use Rattle.order_rules.proofs.Contents.{labels_over, locals_over, operands_over, types_same}
 use Rattle.order_rules.proofs.Parts.{equal_same, first_of_parts, parts_over, renumbered_part}
-use Rattle.first_pass_meaning.proofs.early_agreement.Lists.{any_same}
-use Rattle.first_pass_rules.proofs.early_elision.Lists.{all_changed}
 use Rattle.order_rules.specs.Renumbered.{StaysApart, renumbered_function, renumbered_operand}
 
 abbrev pub renumbered_definition : (ℕ → ℕ) → Definition → Definition

@@ -3,12 +3,12 @@ use Rattle.std.proofs.Common.{◌≡◌, ℕ, suc, ◌+◌, ◌<◌, Bool, true,
 use Rattle.std.proofs.lemmas.Option.{slice_get_within}
 use Rattle.std.specs.Prelude.{if◌then◌else◌, option_map, slice_get, unwrap_or}
 use Rattle.coro_base.specs.declared.name.Name.{Name}
+use Rattle.frame_rules.proofs.split_names.Lists.{what_is_found}
+use Rattle.frame_rules.proofs.split_names.Spellings.{same_name-itself}
 use Rattle.ir_model.specs.Names.{first_where, same_name}
 use Rattle.module_names.proofs.Tables.{same_name-same}
 use Rattle.name_order.specs.Places.{behind, local_order, placed, placed_if}
 use Rattle.name_order.specs.Shape.{IsPlaced}
-use Rattle.frame_rules.proofs.split_names.Lists.{what_is_found}
-use Rattle.frame_rules.proofs.split_names.Spellings.{same_name-itself}
 use Rattle.order_rules.specs.Apart.{AreApart}
 use Rattle.order_rules.specs.Renumbered.{StaysApart}
 use Rattle.printed_grammar.proofs.Again.{Extends}

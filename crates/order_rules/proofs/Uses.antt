@@ -9,6 +9,7 @@ use Rattle.coro_base.specs.declared.name.Name.{Name}
 use Rattle.coro_base.specs.declared.outcome.Place.{Place}
 use Rattle.definite_use.specs.Undefined.{Entry, Here, IsFirstUndefined, IsUndefined, Later, Next, Nowhere, ReachesWithout, params_of}
 use Rattle.definite_use.specs.Uses.{Use, block_uses, block_values, blocks_uses, incoming_use, incoming_uses, instr_uses, local_of, locals_in, made_by_instrs, made_by_phis, phi_uses, phi_values, use_of, uses_at, uses_of, values_at, values_in}
+use Rattle.first_pass_meaning.proofs.early_agreement.Modules.{first_same}
 use Rattle.flow_solver.specs.Paths.{IsListed}
 use Rattle.function_parts.specs.Contents.{ending_operands, instr_operands, result_of}
 use Rattle.function_parts.specs.Parts.{instr_place}
@@ -24,7 +25,6 @@ use Rattle.ir_model.specs.declared.operand.Operand.{Operand}
 use Rattle.ir_paths.specs.Paths.{targets}
 use Rattle.order_rules.proofs.Contents.{ending_labels_over, ending_over, instr_over, listed_over, maps_forget, maps_same, result_over}
 use Rattle.order_rules.proofs.Parts.{equal_same}
-use Rattle.first_pass_meaning.proofs.early_agreement.Modules.{first_same}
 use Rattle.order_rules.specs.Renumbered.{StaysApart, renumbered_block, renumbered_function, renumbered_incoming, renumbered_instr, renumbered_operand, renumbered_param, renumbered_phi, renumbered_term}
 
 abbrev renumbered_use : (ℕ → ℕ) → Use → Use

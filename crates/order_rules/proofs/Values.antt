@@ -3,6 +3,7 @@ use Rattle.std.proofs.Common.{◌≡◌, ℕ, Bool, List, [], ◌∷◌, refl, a
 use Rattle.std.specs.Prelude.{map, not, option_map, ◌&&◌, ◌||◌}
 use Rattle.coro_base.specs.declared.name.Name.{Name}
 use Rattle.coro_base.specs.declared.outcome.Place.{Place}
+use Rattle.first_pass_rules.proofs.early_elision.Lists.{all_changed}
 use Rattle.function_parts.specs.Parts.{Ending, Head, OfInstr, OfPhi, Part, Signature}
 use Rattle.ir_model.specs.Layout.{same_type, unnamed}
 use Rattle.ir_model.specs.Ty.{Ty, array, int, named, ptr, structure, token}
@@ -16,9 +17,8 @@ use Rattle.ir_model.specs.declared.operand.Callee.{Callee}
 use Rattle.ir_model.specs.declared.operand.Intrinsic.{Intrinsic}
 use Rattle.ir_model.specs.declared.operand.Operand.{Operand}
 use Rattle.order_rules.proofs.Contents.{maps_forget}
-use Rattle.order_rules.proofs.ValueKinds.{kind_over}
 use Rattle.order_rules.proofs.Parts.{first_of_parts, renumbered_part}
-use Rattle.first_pass_rules.proofs.early_elision.Lists.{all_changed}
+use Rattle.order_rules.proofs.ValueKinds.{kind_over}
 use Rattle.order_rules.specs.Renumbered.{StaysApart, renumbered_arg, renumbered_callee, renumbered_case, renumbered_function, renumbered_incoming, renumbered_instr, renumbered_operand, renumbered_param, renumbered_term}
 use Rattle.type_rules.specs.Wants.{is_int, is_token}
 use Rattle.value_rules.specs.Fits.{fits, fits_arg, fits_integer, fits_kind, fits_scalar, is_integer, is_scalar, is_tokenless}
