@@ -1,5 +1,5 @@
 pub mod Lists
-mod Spellings
+pub mod Spellings
 mod Unreserved
 mod Made
 pub mod Parts

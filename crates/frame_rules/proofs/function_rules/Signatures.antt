@@ -10,6 +10,7 @@ use Rattle.function_parts.specs.Contents.{part_labels, part_operands, part_types
 use Rattle.function_parts.specs.Parts.{OfInstr, Part, first_part, parts_of}
 use Rattle.frame_rules.specs.function_rules.Kept.{KeepsFunctionRules}
 use Rattle.frame_rules.specs.function_rules.Signatures.{HaveSameSignatures, Heading, heading}
+use Rattle.frame_rules.specs.plain_rules.Kept.{KeepsPlainRules}
 use Rattle.ir_model.specs.Layout.{unnamed}
 use Rattle.ir_model.specs.Names.{declaration_named, first_where, function_named, global_named, same_name}
 use Rattle.ir_model.specs.Table.{callee_named}
@@ -195,6 +196,22 @@ module _ (m : Module) (fs : List Function) (same : map heading fs ≡ map headin
     uses = h.uses;
   }
 
+  plain_same : (k : ℕ) (f : Function) → KeepsPlainRules m k f → KeepsPlainRules n k f
+  plain_same k f h = record {
+    definitions = h.definitions;
+    known = first_same (names_unknown n (is_value k f) (is_label k f)) (names_unknown m (is_value k f) (is_label k f)) (unknown_same (is_value k f) (is_label k f)) (parts_of k f) ∙ h.known;
+    depths = h.depths;
+    calls = first_same (calls_otherwise n) (calls_otherwise m) calls_same (parts_of k f) ∙ h.calls;
+    values = first_same (breaks_values n (value_kind f) f.result) (breaks_values m (value_kind f) f.result) (values_same (value_kind f) f.result) (parts_of k f) ∙ h.values;
+    closed_calls = first_same (on_instr (calls_closed n)) (on_instr (calls_closed m)) closed_calls_same (parts_of k f) ∙ h.closed_calls;
+    extents = h.extents;
+    transfers = h.transfers;
+    edges = h.edges;
+    uses = h.uses;
+    allocas = h.allocas;
+    marks = h.marks;
+  }
+
 -- the same functions in a module with the same types, globals and declarations
 pub go_by_signatures : (m n : Module) (k : ℕ) (f : Function) → HaveSameSignatures m n → KeepsFunctionRules m k f → KeepsFunctionRules n k f
 go_by_signatures m n k f same h =
@@ -204,3 +221,12 @@ go_by_signatures m n k f same h =
     let is : record { types = m.types; globals = m.globals; declarations = m.declarations; functions = n.functions } ≡ n =
     (λ i. record { types = types i; globals = globals i; declarations = declarations i; functions = n.functions }) in
     subst (λ (x : Module). KeepsFunctionRules x k f) is (rules_same m n.functions same.functions k f h)
+
+pub plain_rules_by_signatures : (m n : Module) (k : ℕ) (f : Function) → HaveSameSignatures m n → KeepsPlainRules m k f → KeepsPlainRules n k f
+plain_rules_by_signatures m n k f same h =
+    let types = sym same.types in
+    let globals = sym same.globals in
+    let declarations = sym same.declarations in
+    let is : record { types = m.types; globals = m.globals; declarations = m.declarations; functions = n.functions } ≡ n =
+    (λ i. record { types = types i; globals = globals i; declarations = declarations i; functions = n.functions }) in
+    subst (λ (x : Module). KeepsPlainRules x k f) is (plain_same m n.functions same.functions k f h)

@@ -35,14 +35,14 @@ names_free stage m definitions reserved =
           (first_place_out (place_if (is_reserved f.name || (is_source stage && is_taken m f)) (function_place k)) (own_local stage k f) (kept_by_functions (reserved_names stage m) m reserved k f there));
     }
 
-record IsModuleLeft (stage : Stage) (m : Module) : Type 0 where
-  depths : first_place (limits stage m) m ≡ None
-  definitions : first_place (second_definitions m) m ≡ None
-  known : first_place (unknown_names m) m ≡ None
-  reserved : first_place (reserved_names stage m) m ≡ None
-  types : first_place (other_types m) m ≡ None
+pub record IsModuleLeft (stage : Stage) (m : Module) : Type 0 where
+  pub depths : first_place (limits stage m) m ≡ None
+  pub definitions : first_place (second_definitions m) m ≡ None
+  pub known : first_place (unknown_names m) m ≡ None
+  pub reserved : first_place (reserved_names stage m) m ≡ None
+  pub types : first_place (other_types m) m ≡ None
 
-in_module : (stage : Stage) (m : Module) → module_refusal stage m ≡ None → IsModuleLeft stage m
+pub in_module : (stage : Stage) (m : Module) → module_refusal stage m ≡ None → IsModuleLeft stage m
 in_module stage m e =
     let types : Option Refusal = or_refusal Rule.Y2 (first_place (other_types m) m) None in
     let reserved : Option Refusal = or_refusal Rule.N3 (first_place (reserved_names stage m) m) types in

@@ -1,0 +1,14 @@
+pub mod Positions
+pub mod Ordered
+pub mod Parts
+pub mod Contents
+pub mod Names
+pub mod Local
+pub mod Called
+pub mod ValueKinds
+pub mod Values
+pub mod Edges
+pub mod Uses
+pub mod Whole
+pub mod Accepted
+pub mod Modules

@@ -1,0 +1,3 @@
+pub mod Apart
+pub mod Renumbered
+pub mod Same
