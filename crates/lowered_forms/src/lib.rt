@@ -13,6 +13,7 @@ pub mod framed_shape;
 pub mod lowered_rules;
 pub mod lowered_sources;
 pub mod names_apart;
+pub mod order_rules;
 pub mod part_edges;
 pub mod part_uses;
 pub mod plain_function_rules;
