@@ -24,7 +24,7 @@ use Rattle.lowered_forms.proofs.lowered_sources.Row.{all_accepted}
 use Rattle.lowered_forms.proofs.names_apart.Lowered.{lowered_apart}
 use Rattle.lowered_forms.proofs.order_rules.Modules.{order_breaks_none}
 use Rattle.lowered_forms.proofs.printed_forms.Lowered.{lowered_printable, lowered_shaped}
-use Rattle.lowered_forms.proofs.printed_forms.Text.{texts_spelled}
+use Rattle.lowered_forms.proofs.printed_forms.Text.{source_spelled}
 use Rattle.lowered_forms.specs.names_apart.Words.{AreFew}
 use Rattle.name_order.proofs.Modules.{stands_in_order}
 use Rattle.name_order.specs.Order.{module_order}
@@ -62,7 +62,7 @@ module _ (text : List ℕ) (bytes : AreBytes text) (m : Module) (stands : Stands
       (order_breaks_none made shaped apart accepted, stands_in_order made shaped (lowered_printable text m bytes stands a.refused share layouts a.laid d.framed d.is_framed))
 
   frames : AreFrames (map (frame_line m) layouts.coroutines)
-  frames = frames_are m layouts.coroutines (λ k f e. (texts_spelled text m bytes stands k f e).name) (λ k h. given_bounded m share layouts a.laid k (inl h))
+  frames = frames_are m layouts.coroutines (λ k f e. (source_spelled text m bytes stands k f e).name) (λ k h. given_bounded m share layouts a.laid k (inl h))
 
   done_is_read : AllFew l.«module».functions → StandsForPlain l.text
   done_is_read = subst (λ (x : Lowered). AllFew x.«module».functions → StandsForPlain x.text) (sym d.is) (λ few. record {

@@ -1,3 +1,4 @@
 pub mod Lowering
 pub mod NoCoroutine
 pub mod NoRule
+pub mod Printed

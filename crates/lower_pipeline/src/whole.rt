@@ -4,14 +4,16 @@ ghost use Rattle.std.specs.Prelude.{◌≡◌, IfOk, map, slice_get};
 ghost use Rattle.lower_pipeline.specs.Lowering.{IsDone, IsLowering, IsLoweringBy, IsModuleLowering, frame_line, lowered_by, lowered_text, name_of};
 ghost use Rattle.lower_pipeline.specs.NoCoroutine.{HasNoCoroutine};
 ghost use Rattle.lower_pipeline.specs.NoRule.{BreaksNoRule, IsFramed};
+ghost use Rattle.lower_pipeline.specs.Printed.{AllFew, HasFewNames, IsReadPlain};
 
 use crate::passes::{framed_module, lowered_module};
 use coro_base::{Data, FuncId, Items, Name, Options, Place, Rule};
 use frame_layout::{Layout, Layouts};
-use ir_model::Module;
+use ir_model::{Function, Module};
 use ir_parser::{Parsed, parse};
 use ir_printer::{FrameLine, print_frames, print_module};
 use module_acceptance::{Acceptance, accept};
+use printed_grammar::text_is_bytes;
 use std::alloc::{AllocError, Global};
 
 /// What the lowering of an accepted module gives: its text (a frame line per coroutine, then the canonical text of the
@@ -81,6 +83,15 @@ fn lowered_text(
     Ok(Items::from_vec(text))
 }
 
+/// Functions that lie in memory have fewer than 2^64 names each.
+fn names_are_few(functions: &[Function])
+    ensures { AllFew functions.now }
+{
+    for function in functions {
+        let _count = function.names.len();
+    }
+}
+
 /// Lowers a source whose framed form is told.
 fn lower_framed(
     alloc: Global,
@@ -88,9 +99,11 @@ fn lower_framed(
     layouts: Layouts,
     framed: Module,
 ) -> Result<Lowered, AllocError>
-    ensures { IfOk result (λ l. l ≡ lowered_by source layouts framed) }
+    ensures lowered { IfOk result (λ l. l ≡ lowered_by source layouts framed) }
+    ensures few { IfOk result (λ l. AllFew l.«module».functions) }
 {
     let module = lowered_module(alloc, &framed, &layouts)?;
+    names_are_few(module.functions.as_slice());
     let text = lowered_text(alloc, &source, &layouts, &module)?;
     Ok(Lowered {
         text,
@@ -105,7 +118,8 @@ fn lower_framed(
 /// Lowers an accepted source.
 #[tactic(auto, using(crate::proofs::Told::done_by))]
 fn lower_accepted(alloc: Global, source: Module, layouts: Layouts) -> Result<Lowered, AllocError>
-    ensures { IfOk result (λ l. IsDone source layouts l) }
+    ensures done { IfOk result (λ l. IsDone source layouts l) }
+    ensures few { IfOk result (λ l. AllFew l.«module».functions) }
 {
     let framed = framed_module(alloc, &source, &layouts)?;
     lower_framed(alloc, source, layouts, framed)
@@ -113,7 +127,8 @@ fn lower_accepted(alloc: Global, source: Module, layouts: Layouts) -> Result<Low
 
 /// What becomes of a source by its acceptance.
 fn lower_by(alloc: Global, source: Module, acceptance: Acceptance) -> Result<Lowering, AllocError>
-    ensures { IfOk result (λ l. IsLoweringBy source acceptance l) }
+    ensures lowered { IfOk result (λ l. IsLoweringBy source acceptance l) }
+    ensures few { IfOk result (λ l. HasFewNames l) }
 {
     match acceptance {
         Acceptance::Refused(refusal) => {
@@ -130,20 +145,24 @@ fn lower_by(alloc: Global, source: Module, acceptance: Acceptance) -> Result<Low
 pub fn lower_module(alloc: Global, source: Module, share: bool) -> Result<Lowering, AllocError>
     ensures lowered { IfOk result (λ l. IsModuleLowering share source l) }
     ensures plain { IfOk result (λ l. HasNoCoroutine l) }
+    ensures few { IfOk result (λ l. HasFewNames l) }
 {
     let acceptance = accept(alloc, &source, share)?;
     lower_by(alloc, source, acceptance)
 }
 
 /// Lowers a text. What is lowered has no coroutine left, neither calls nor declares a coro intrinsic, and breaks none of the rules of
-/// modules without coroutines; its framed form is a framed module.
-#[tactic(auto, using(crate::proofs::Told::syntax_is_told, crate::proofs::Told::module_is_told, crate::proofs::NoCoroutine::lowering_has_none, crate::proofs::NoRule::lowering_breaks_none, crate::proofs::NoRule::lowering_is_framed))]
+/// modules without coroutines; its framed form is a framed module. The text stands for a module that breaks none of these rules either,
+/// with the names of each function in the order of the text.
+#[tactic(auto, using(crate::proofs::Told::syntax_is_told, crate::proofs::Told::module_is_told, crate::proofs::NoCoroutine::lowering_has_none, crate::proofs::NoRule::lowering_breaks_none, crate::proofs::NoRule::lowering_is_framed, crate::proofs::Printed::lowering_is_read))]
 pub fn lower(alloc: Global, text: &[u8], options: Options) -> Result<Lowering, AllocError>
     ensures lowered { IfOk result (λ l. IsLowering options text.now l) }
     ensures plain { IfOk result (λ l. HasNoCoroutine l) }
     ensures accepted { IfOk result (λ l. BreaksNoRule l) }
     ensures framed { IfOk result (λ l. IsFramed l) }
+    ensures printed { IfOk result (λ l. IsReadPlain l) }
 {
+    text_is_bytes(text);
     match parse(alloc, text)? {
         Parsed::Syntax { items } => Ok(Lowering::Syntax(items)),
         Parsed::Module(source) => lower_module(alloc, source, options.share),
