@@ -1,5 +1,5 @@
 -- The edges of a part before blocks are left out lead to its blocks, and its labels are positions of its table of names.
-use Rattle.std.proofs.Common.{Bool, List, [], ap, arith, false, inl, inr, length, length-append, refl, subst, suc, sym, true, zero, ℕ, ⊎_elim, ◌*◌, ◌++◌, ◌+◌, ◌<◌, ◌∙◌, ◌∷◌, ◌≡◌, ◌≤◌, ◌⊎◌}
+use Rattle.std.proofs.Common.{Bool, List, [], ap, arith, false, inl, inr, length, length-append, refl, subst, suc, sym, true, zero, ℕ, ⊎_elim, ◌*◌, ◌++◌, ◌+◌, ◌<◌, ◌∙◌, ◌∷◌, ◌≡◌, ◌⊎◌}
 use Rattle.std.specs.Prelude.{None, Option, Some, if◌then◌else◌, map, slice_get, slice_set, unwrap_or, ◌-◌, ◌==◌}
 use Rattle.coro_base.specs.declared.name.Name.{Name}
 use Rattle.coro_split.specs.Parts.{back_block, case_of, cases_from, done_block, entry_term, frame_mark, instr_names, is_entered, mark_names, names_of, none_block, or_zero, origins_for, part_names, suspend_names}

@@ -1,7 +1,7 @@
 -- A function that is no coroutine breaks none of the rules of modules without coroutines, once it is turned.
-use Rattle.std.proofs.Common.{◌≡◌, inl, inr, ℕ, ◌<◌, Bool, true, false, List, [], ◌∷◌, length, refl, sym, ap, ◌∙◌, subst, arith, eqb-true}
-use Rattle.std.specs.List.{list_all, list_any}
-use Rattle.std.specs.Prelude.{None, Option, Some, is_none, not, slice_get, ◌==◌, ◌&&◌, ◌||◌}
+use Rattle.std.proofs.Common.{◌≡◌, ℕ, ◌<◌, Bool, true, false, List, [], ◌∷◌, length, refl, sym, ap, ◌∙◌, subst, arith}
+use Rattle.std.specs.List.{list_all}
+use Rattle.std.specs.Prelude.{None, Option, Some, is_none, not, slice_get, ◌&&◌, ◌||◌}
 use Rattle.coro_base.specs.declared.outcome.Place.{Place}
 use Rattle.coro_split.specs.Parts.{plain_of, plain_shape}
 use Rattle.coro_split.specs.Pieces.{next_after, pieces_of}
@@ -9,12 +9,10 @@ use Rattle.first_pass_rules.proofs.early_local_rules.Fitting.{either, no_either}
 use Rattle.first_pass_rules.proofs.early_local_rules.Rules.{and_first, and_second, holds}
 use Rattle.first_pass_rules.proofs.early_local_rules.Woven.{other_number}
 use Rattle.first_pass_rules.specs.early_rules.Named.{HasTabledLocals}
-use Rattle.flow_solver.specs.Paths.{IsListed}
 use Rattle.function_parts.specs.Contents.{ending_labels}
 use Rattle.function_parts.specs.Locals.{locals_of}
 use Rattle.function_parts.specs.Parts.{Ending, OfInstr, parts_of}
 use Rattle.function_parts.specs.Parts as parts
-use Rattle.function_parts.specs.declared.defined.Definition.{Definition}
 use Rattle.frame_rules.specs.function_rules.Kept.{KeepsFunctionRules}
 use Rattle.intrinsic_lowering.specs.declared.shape.Part.{Part}
 use Rattle.intrinsic_lowering.specs.declared.shape.Shape.{Shape}
@@ -28,7 +26,7 @@ use Rattle.ir_model.specs.declared.operand.Callee.{Callee}
 use Rattle.ir_model.specs.declared.operand.Intrinsic.{Intrinsic}
 use Rattle.local_rules.specs.Instrs.{on_instr}
 use Rattle.local_rules.specs.Intrinsics.{calls_inner, is_inner}
-use Rattle.name_rules.specs.Known.{is_defined, is_kind, is_label, is_value, names_unknown}
+use Rattle.name_rules.specs.Known.{is_label, is_value, names_unknown}
 use Rattle.lowered_forms.proofs.plain_function_rules.Defined.{defined_low}
 use Rattle.lowered_forms.proofs.plain_function_rules.Edges.{edges_turned}
 use Rattle.lowered_forms.proofs.plain_function_rules.Known.{locals_known, term_labels}

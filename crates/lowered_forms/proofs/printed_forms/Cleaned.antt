@@ -1,5 +1,5 @@
 -- The last pass leaves what can be written and is of the grammar.
-use Rattle.std.proofs.Common.{◌≡◌, Bool, true, false, List, [], ◌∷◌, ◌++◌, refl, sym, subst}
+use Rattle.std.proofs.Common.{Bool, true, false, List, [], ◌∷◌, ◌++◌}
 use Rattle.std.specs.Prelude.{filter, if◌then◌else◌, map}
 use Rattle.canonical_text.specs.BlockSymbols.{block_symbols, blocks_symbols, instrs_symbols, phis_symbols, term_symbols}
 use Rattle.canonical_text.specs.InstrSymbols.{instr_symbols}

@@ -1,7 +1,7 @@
 -- In a source that breaks no rule each phi has an operand, and the first block has no phis; nor has it where frames are built.
 use Rattle.std.proofs.Common.{◌≡◌, ℕ, ◌+◌, Bool, true, false, not, List, [], ◌∷◌, ◌++◌, length, refl, sym, ap, ◌∙◌, subst}
 use Rattle.std.specs.List.{list_all, list_any}
-use Rattle.std.specs.Prelude.{None, Option, Some, codes, map, slice_get, ◌&&◌}
+use Rattle.std.specs.Prelude.{None, Option, codes, map, slice_get}
 use Rattle.begin_copies.specs.BeginCopies.{copied_blocks, with_begin_copies}
 use Rattle.begin_copies.specs.declared.copying.Copying.{Copying}
 use Rattle.coro_base.specs.declared.name.Name.{Name}

@@ -1,6 +1,6 @@
 -- The row of passes, from the text of a source to the lowered module.
 use Rattle.std.proofs.Common.{◌≡◌, ℕ, zero, suc, Bool, true, false, List, [], ◌∷◌, ◌++◌, Ok, length, refl, sym, ap, ◌∙◌, subst}
-use Rattle.std.specs.Prelude.{None, Option, Some, if◌then◌else◌, slice_get}
+use Rattle.std.specs.Prelude.{None, Some, if◌then◌else◌, slice_get}
 use Rattle.canonical_text.specs.ItemSymbols.{IsPrintable, declaration_symbols, declarations_symbols, function_symbols, functions_symbols, global_item_symbols, global_items_symbols, type_items_symbols, types_symbols}
 use Rattle.canonical_text.specs.Marks.{close_round, open_round, word}
 use Rattle.canonical_text.specs.OperandSymbols.{global_symbol, result_symbols}

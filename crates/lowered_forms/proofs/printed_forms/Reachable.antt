@@ -1,7 +1,7 @@
 -- In a part of a coroutine whose first block has no phis each phi has an operand, since a block leads there, and the entry is left.
 use Rattle.std.proofs.Common.{◌≡◌, ℕ, ◌+◌, Bool, true, List, [], ◌∷◌, ◌++◌, refl, sym, ap, ◌∙◌, subst}
 use Rattle.std.specs.List.{list_all}
-use Rattle.std.specs.Prelude.{Some, map, slice_get, ◌&&◌}
+use Rattle.std.specs.Prelude.{Some, map, slice_get}
 use Rattle.coro_split.specs.Parts.{done_block, origins_for, part_blocks, part_names, with_allocas_first}
 use Rattle.coro_split.specs.Pieces.{next_after, pieced_phi, pieces_of}
 use Rattle.coro_split.specs.Reached.{is_flagged, kept_block, kept_phi, pruned, reached}

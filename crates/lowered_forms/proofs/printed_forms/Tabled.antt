@@ -1,10 +1,9 @@
 -- What the parts of a coroutine define are positions of their tables of names, and so is what a function that is no coroutine defines once it is turned.
-use Rattle.std.proofs.Common.{◌≡◌, ◌⊎◌, ⊎_elim, inl, inr, ℕ, zero, suc, ◌+◌, ◌-◌, ◌*◌, ◌<◌, ◌≤◌, Bool, true, false, List, [], ◌∷◌, ◌++◌, length, length-append, refl, sym, ap, ◌∙◌, subst, arith}
-use Rattle.std.proofs.lemmas.Bool.{cases_lt}
-use Rattle.std.specs.Prelude.{None, Option, Some, filter, if◌then◌else◌, map, slice_get, slice_set}
+use Rattle.std.proofs.Common.{◌≡◌, ⊎_elim, inl, inr, ℕ, ◌+◌, ◌-◌, ◌<◌, ◌≤◌, Bool, true, false, List, [], ◌∷◌, ◌++◌, length, length-append, refl, sym, ap, subst, arith}
+use Rattle.std.specs.Prelude.{None, Option, Some, filter, if◌then◌else◌, map}
 use Rattle.coro_base.specs.declared.name.Name.{Name}
-use Rattle.coro_split.specs.Parts.{allocas_of, back_blocks, cases_from, done_block, entry_instrs, frame_mark, head_blocks, instr_names, is_alloca, is_no_alloca, later_head, later_part, mark_names, names_of, origins_for, part_blocks, part_names, plain_of, plain_shape, ramp_of, ramp_source, suspend_names, with_allocas_first}
-use Rattle.coro_split.specs.Pieces.{is_begin, next_after, pass_block, pieced_phi, pieces_of}
+use Rattle.coro_split.specs.Parts.{allocas_of, back_blocks, done_block, head_blocks, instr_names, is_alloca, is_no_alloca, later_head, later_part, origins_for, part_blocks, part_names, plain_of, plain_shape, ramp_of, ramp_source, with_allocas_first}
+use Rattle.coro_split.specs.Pieces.{is_begin, next_after, pieced_phi, pieces_of}
 use Rattle.coro_split.specs.Reached.{is_flagged, kept_block, kept_blocks, kept_phi, pruned, reached}
 use Rattle.coro_split.specs.declared.origin.Origin.{Origin}
 use Rattle.definite_use.specs.Undefined.{params_of}
@@ -18,7 +17,7 @@ use Rattle.frame_rules.proofs.function_rules.Tabled.{tabled_by}
 use Rattle.frame_rules.proofs.woven_rules.Once.{names_below}
 use Rattle.intrinsic_lowering.specs.Cuts.{goes_on}
 use Rattle.intrinsic_lowering.specs.Lowered.{lowered, names_for, names_taken, number_of_save, save_or_none}
-use Rattle.intrinsic_lowering.specs.Shapes.{first_name, index_name, pass_label, shape_of, slot_name}
+use Rattle.intrinsic_lowering.specs.Shapes.{first_name, index_name, shape_of, slot_name}
 use Rattle.intrinsic_lowering.specs.declared.shape.Part.{Part}
 use Rattle.intrinsic_lowering.specs.declared.shape.Shape.{Shape}
 use Rattle.intrinsic_lowering.specs.declared.shape.SuspendPoint.{SuspendPoint}
