@@ -11,6 +11,7 @@ use Rattle.window_exits.specs.ExitBlocks.{exit_name, exit_names}
 use Rattle.window_exits.specs.declared.exit.Exit.{Exit}
 use Rattle.step_laws.specs.Changed.{Each}
 use Rattle.lowered_forms.proofs.names_apart.Different.{AreDifferent, IsNone}
+use Rattle.lowered_forms.proofs.names_apart.Numbered.{text_in}
 use Rattle.lowered_forms.proofs.names_apart.Words.{AreNew}
 use Rattle.lowered_forms.specs.names_apart.Words.{begins_with_one}
 
@@ -49,10 +50,6 @@ dot_within [] r h = h.0 refl
 dot_within (x ∷ d) r h = dot_within d r h.1
 
 -- ---- two labels
-
-abbrev text_in : Name → List ℕ
-text_in (Name.Number n) = []
-text_in (Name.Text t) = t
 
 abbrev behind_word : ℕ → ℕ → List ℕ
 behind_word s k = (decimal s ++ codes ".") ++ decimal k

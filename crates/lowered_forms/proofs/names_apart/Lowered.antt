@@ -15,9 +15,9 @@ use Rattle.ir_model.specs.declared.module.Function.{Function}
 use Rattle.ir_model.specs.declared.module.Module.{Module}
 use Rattle.name_rules.specs.declared.stage.Stage.{Stage}
 use Rattle.spill_reload.specs.Framed.{IsFramedForm}
+use Rattle.first_pass_meaning.proofs.early_agreement.Lists.{at_each, each_there}
 use Rattle.lowered_forms.proofs.lowered_sources.Positions.{Becomes, FramedBy, StandsAs, Unchanged, stands_as}
 use Rattle.lowered_forms.proofs.lowered_sources.Short.{not_both}
-use Rattle.lowered_forms.proofs.names_apart.Different.{each_at, each_from}
 use Rattle.lowered_forms.proofs.names_apart.Framed.{early_step, framed_step}
 use Rattle.lowered_forms.proofs.names_apart.Sources.{source_tables}
 use Rattle.lowered_forms.proofs.names_apart.Split.{IsApart, clean_apart, functions_apart}
@@ -54,6 +54,6 @@ module _ (m : Module) (layouts : List Layout) where
 pub lowered_apart : (text : List ℕ) (m : Module) → StandsFor text m → IsRefused Stage.Source m None → (layouts : Layouts) (n : Module) → IsFramedForm layouts (early_module m) n
     → AreNamesFew (clean_module (split_module layouts n)) → AreNamesApart (clean_module (split_module layouts n))
 lowered_apart text m stands accepted layouts n form few k f there =
-    let all = each_from IsSplitTable n.functions
+    let all = each_there IsSplitTable n.functions
     (λ i g at. ready_at m layouts.coroutines i g (source_tables text m stands accepted i) (stands_as (early_module m) layouts.coroutines form.functions.count (early_module m).functions n.functions form.functions.framed i g at)) in
-    each_at IsApart (map clean_function (split_functions layouts.coroutines n.functions)) (clean_apart (split_functions layouts.coroutines n.functions) (functions_apart layouts.coroutines n.functions all)) k f there (few k f there)
+    at_each IsApart (map clean_function (split_functions layouts.coroutines n.functions)) k f (clean_apart (split_functions layouts.coroutines n.functions) (functions_apart layouts.coroutines n.functions all)) there (few k f there)

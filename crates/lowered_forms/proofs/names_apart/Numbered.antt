@@ -11,7 +11,8 @@ use Rattle.module_names.proofs.Tables.{same_text-same}
 use Rattle.name_rules.specs.Reserved.{begins_with, name_begins}
 use Rattle.first_pass_meaning.proofs.early_agreement.Lists.{each_behind}
 use Rattle.step_laws.specs.Changed.{Each}
-use Rattle.lowered_forms.proofs.names_apart.Different.{AreDifferent, IsNone, different_behind, each_always, each_then}
+use Rattle.frame_rules.proofs.woven_rules.Operands.{each_all, each_turns}
+use Rattle.lowered_forms.proofs.names_apart.Different.{AreDifferent, IsNone, different_behind}
 use Rattle.lowered_forms.proofs.names_apart.Words.{AreNew, are_unlike, last_words, name_never_both}
 use Rattle.lowered_forms.specs.names_apart.Words.{begins_with_one}
 
@@ -52,7 +53,7 @@ begins_itself (x ∷ w) t = both (x == x) (begins_with w (w ++ t)) (eq-eqb x x r
     both true b e f = f
     both false b e f = e
 
-abbrev text_in : Name → List ℕ
+abbrev pub text_in : Name → List ℕ
 text_in (Name.Number n) = []
 text_in (Name.Text t) = t
 
@@ -80,7 +81,7 @@ row_begins : (ws : List (List ℕ)) (k : ℕ) → Each (λ n. begins_with_one ws
 row_begins [] k = tt
 row_begins (w ∷ ws) k = (
   subst (λ (b : Bool). (b || begins_with_one ws (numbered w k)) ≡ true) (sym (begins_itself w (decimal k))) refl,
-  each_then (λ n. begins_with_one ws n ≡ true) (λ n. begins_with_one (w ∷ ws) n ≡ true) (λ n e. last_words (w ∷ []) ws n e) (row ws k) (row_begins ws k),
+  each_turns (λ n. begins_with_one ws n ≡ true) (λ n. begins_with_one (w ∷ ws) n ≡ true) (λ n e. last_words (w ∷ []) ws n e) (row ws k) (row_begins ws k),
 )
 
 one_in_row : (v : List ℕ) (ws : List (List ℕ)) (k : ℕ) → list_all (are_unlike v) ws ≡ true → IsNone (numbered v k) (row ws k)
@@ -96,7 +97,7 @@ one_other_row v [] i j less small e = tt
 one_other_row v (w ∷ ws) i j less small e = let both = and_parts (is_pair v w) (list_all (is_pair v) ws) e in (pair_differs v w i j less small both.0, one_other_row v ws i j less small both.1)
 
 other_row : (vs ws : List (List ℕ)) (i j : ℕ) → i < j → j < 2 ^ 64 → are_pairs vs ws ≡ true → Each (λ y. Each (λ x. x ≡ y → ⊥) (row vs i)) (row ws j)
-other_row [] ws i j less small e = each_always (λ y. Unit {0}) (λ y. tt) (row ws j)
+other_row [] ws i j less small e = each_all (λ y. Unit {0}) (λ y. tt) (row ws j)
 other_row (v ∷ vs) ws i j less small e =
     let both = and_parts (list_all (is_pair v) ws) (are_pairs vs ws) e in
     paired (row ws j) (one_other_row v ws i j less small both.0) (other_row vs ws i j less small both.1)
@@ -108,7 +109,7 @@ other_row (v ∷ vs) ws i j less small e =
 -- ---- all rows
 
 other_rows : (ws : List (List ℕ)) (n k : ℕ) → n ≤ k → k < 2 ^ 64 → are_pairs ws ws ≡ true → Each (λ y. Each (λ x. x ≡ y → ⊥) (rows ws n)) (row ws k)
-other_rows ws zero k below small e = each_always (λ y. Unit {0}) (λ y. tt) (row ws k)
+other_rows ws zero k below small e = each_all (λ y. Unit {0}) (λ y. tt) (row ws k)
 other_rows ws (suc n) k below small e = joined (row ws k) (other_rows ws n k (omega arith) small e) (other_row ws ws n k (omega arith) small e)
   where
     joined : (ys : List Name) → Each (λ y. Each (λ x. x ≡ y → ⊥) (rows ws n)) ys → Each (λ y. Each (λ x. x ≡ y → ⊥) (row ws n)) ys → Each (λ y. Each (λ x. x ≡ y → ⊥) (rows ws n ++ row ws n)) ys

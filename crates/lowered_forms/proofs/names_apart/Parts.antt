@@ -8,7 +8,8 @@ use Rattle.window_exits.specs.ExitBlocks.{exit_names}
 use Rattle.window_exits.specs.declared.exit.Exit.{Exit}
 use Rattle.first_pass_meaning.proofs.early_agreement.Lists.{each_behind}
 use Rattle.step_laws.specs.Changed.{Each}
-use Rattle.lowered_forms.proofs.names_apart.Different.{AreDifferent, different_behind, different_set, each_both, each_set, each_then, tested}
+use Rattle.frame_rules.proofs.woven_rules.Operands.{each_turns}
+use Rattle.lowered_forms.proofs.names_apart.Different.{AreDifferent, different_behind, different_set, each_both, each_set, tested}
 use Rattle.lowered_forms.proofs.names_apart.Exits.{IsExitName, are_exit_names, exit_is_no_back, exits_new}
 use Rattle.lowered_forms.proofs.names_apart.Numbered.{digit_words, numbers_new, row, rows, rows_new}
 use Rattle.lowered_forms.proofs.names_apart.Words.{AreNew, are_all_unlike, are_own, is_other, more_words, new_behind, own_begins, table_behind, table_different, table_words, words_never_both}
@@ -65,13 +66,13 @@ module _ (names : List Name) (es : List Exit) (b : ℕ) (h : IsTableOf framed_wo
   backs : Each IsExitIfBack with_exits
   backs =
       each_behind IsExitIfBack names (exit_names 0 es)
-      (each_then (IsOfWords framed_words) IsExitIfBack framed_is_no_back names (table_words framed_words names h))
-      (each_then IsExitName IsExitIfBack (λ x e back. e) (exit_names 0 es) (are_exit_names 0 es))
+      (each_turns (IsOfWords framed_words) IsExitIfBack framed_is_no_back names (table_words framed_words names h))
+      (each_turns IsExitName IsExitIfBack (λ x e back. e) (exit_names 0 es) (are_exit_names 0 es))
 
   frame_is_other : Each (λ x. x ≡ frame_mark → ⊥) with_exits
   unfolding frame_mark
   frame_is_other =
-      each_then (IsOfWords exit_words) (λ x. x ≡ frame_mark → ⊥)
+      each_turns (IsOfWords exit_words) (λ x. x ≡ frame_mark → ⊥)
       (λ x ours. is_other exit_words (codes "$c.frame" ∷ []) x frame_mark refl refl ours refl) with_exits (table_words exit_words with_exits table)
 
   frame_before : IsBefore frame_mark
@@ -124,9 +125,9 @@ module _ (n count : ℕ) (few : n ≤ 2 ^ 64) (short : count ≤ 2 ^ 64) where
   all_behind : Each IsBehind (mark_names ++ (suspends ++ numbers))
   all_behind =
       each_behind IsBehind mark_names (suspends ++ numbers)
-      (each_then (λ y. begins_with_one mark_words y ≡ true) IsBehind (λ y e. word_behind mark_words y refl refl e) mark_names marks_new.words)
+      (each_turns (λ y. begins_with_one mark_words y ≡ true) IsBehind (λ y e. word_behind mark_words y refl refl e) mark_names marks_new.words)
       (each_behind IsBehind suspends numbers (suspends_behind n)
-      (each_then (λ y. begins_with_one digit_words y ≡ true) IsBehind (λ y e. word_behind digit_words y refl refl e) numbers (numbers_new count short).words))
+      (each_turns (λ y. begins_with_one digit_words y ≡ true) IsBehind (λ y e. word_behind digit_words y refl refl e) numbers (numbers_new count short).words))
 
 -- ---- all
 
@@ -136,6 +137,6 @@ parts_different names es b n count h exits suspends numbers =
     subst (λ (l : List Name). AreDifferent (before names es b h exits ++ (mark_names ++ l))) (λ i. sym (suspends_are n) i ++ sym (numbers_are count) i)
     (different_behind (before names es b h exits) (mark_names ++ (rows suspend_words n ++ rows (codes "$c." ∷ []) count)) (before_different names es b h exits)
     (behind_new n count suspends numbers).different
-    (each_then IsBehind (λ y. Each (λ x. x ≡ y → ⊥) (before names es b h exits))
-    (λ y other. each_then IsBefore (λ x. x ≡ y → ⊥) other (before names es b h exits) (all_before names es b h exits))
+    (each_turns IsBehind (λ y. Each (λ x. x ≡ y → ⊥) (before names es b h exits))
+    (λ y other. each_turns IsBefore (λ x. x ≡ y → ⊥) other (before names es b h exits) (all_before names es b h exits))
     (mark_names ++ (rows suspend_words n ++ rows (codes "$c." ∷ []) count)) (all_behind n count suspends numbers)))

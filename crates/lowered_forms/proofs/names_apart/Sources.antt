@@ -44,7 +44,8 @@ use Rattle.name_rules.specs.declared.stage.Stage.{Stage}
 use Rattle.step_laws.specs.Changed.{Each}
 use Rattle.type_rules.specs.Limits.{limits}
 use Rattle.type_rules.specs.Signatures.{other_types}
-use Rattle.lowered_forms.proofs.names_apart.Different.{apart_from, each_at}
+use Rattle.first_pass_meaning.proofs.early_agreement.Lists.{at_each}
+use Rattle.lowered_forms.proofs.names_apart.Different.{apart_from}
 use Rattle.lowered_forms.proofs.names_apart.Texts.{Holds, IsNamedByText, OfArg, OfBlock, OfCallee, OfCase, OfFunction, OfIncoming, OfInstruction, OfOperand, OfParam, OfPhi, OfTerminator, named_by_text}
 use Rattle.lowered_forms.specs.names_apart.Words.{IsTableOf}
 
@@ -251,7 +252,7 @@ own_name names i n there free own =
 
 pub source_tables : (text : List ℕ) (m : Module) → StandsFor text m → IsRefused Stage.Source m None → (k : ℕ) (f : Function) → slice_get m.functions k ≡ Some f → IsTableOf [] f.names
 source_tables text m stands accepted k f there =
-    let named = each_at IsNamedByText m.functions (named_by_text text m stands) k f there in
+    let named = at_each IsNamedByText m.functions k f (named_by_text text m stands) there in
     let free = named.all (is_free f.names) (function_holds m k f (is_free f.names) (defined_free f.names (locals_of k f) (no_own m accepted k f there)) (known m accepted k f there)) in
     record {
       apart = apart_from f.names named.different;

@@ -11,9 +11,8 @@ use Rattle.intrinsic_lowering.specs.declared.shape.Shape.{Shape}
 use Rattle.ir_model.specs.declared.module.Function.{Function}
 use Rattle.window_exits.specs.ExitBlocks.{with_exit_blocks}
 use Rattle.window_exits.specs.Exits.{exits_of}
-use Rattle.first_pass_meaning.proofs.early_agreement.Lists.{each_behind}
+use Rattle.first_pass_meaning.proofs.early_agreement.Lists.{at_each, each_behind}
 use Rattle.step_laws.specs.Changed.{Each}
-use Rattle.lowered_forms.proofs.names_apart.Different.{each_at}
 use Rattle.lowered_forms.proofs.names_apart.Steps.{part_apart, part_longer, plain_apart}
 use Rattle.lowered_forms.specs.names_apart.Apart.{AreApart}
 use Rattle.lowered_forms.specs.names_apart.Words.{AreFew, IsSplitTable, IsTableOf, framed_words}
@@ -55,7 +54,7 @@ split_apart l f h = on f.coroutine refl
     on false e = (plain_alone f (h.other e), tt)
 
 pub split_at : (l : Layout) (f : Function) → IsSplitTable f → (k : ℕ) (p : Function) → slice_get (split_function l f) k ≡ Some p → AreFew p.names → AreApart p.names
-split_at l f h k p there few = each_at IsApart (split_function l f) (split_apart l f h) k p there few
+split_at l f h k p there few = at_each IsApart (split_function l f) k p (split_apart l f h) there few
 
 pub functions_apart : (ls : List Layout) (fs : List Function) → Each IsSplitTable fs → Each IsApart (split_functions ls fs)
 functions_apart ls [] h = tt

@@ -30,7 +30,8 @@ use Rattle.ir_grammar.specs.Phrases.{Locals, ◌∥◌, behind_comma, each, list
 use Rattle.ir_grammar.specs.Text.{StandsFor}
 use Rattle.ir_grammar.specs.Values.{IsArg, IsNew, IsPlace, IsTarget, IsTyped, IsValue, local}
 use Rattle.step_laws.specs.Changed.{Each}
-use Rattle.lowered_forms.proofs.names_apart.Different.{AreDifferent, apart_from, different_behind, each_at}
+use Rattle.first_pass_meaning.proofs.early_agreement.Lists.{at_each}
+use Rattle.lowered_forms.proofs.names_apart.Different.{AreDifferent, apart_from, different_behind}
 use Rattle.lowered_forms.specs.names_apart.Apart.{AreNamesApart}
 
 -- ---- what holds of each local that stands in a part
@@ -327,4 +328,4 @@ pub named_by_text : (text : List ℕ) (m : Module) → StandsFor text m → Each
 named_by_text text m h = subst (λ (x : Module). Each IsNamedByText x.functions) (sym h.kept) (items_named (types_of h.items) (groups_of h.items) h.items (symbols_of text).symbols [] h.are)
 
 pub texts_apart : (text : List ℕ) (m : Module) → StandsFor text m → AreNamesApart m
-texts_apart text m h k f there = apart_from f.names (each_at IsNamedByText m.functions (named_by_text text m h) k f there).different
+texts_apart text m h k f there = apart_from f.names (at_each IsNamedByText m.functions k f (named_by_text text m h) there).different

@@ -5,9 +5,10 @@ use Rattle.std.specs.List.{list_all}
 use Rattle.std.proofs.lemmas.Bool.{and_parts}
 use Rattle.coro_base.specs.declared.name.Name.{Name}
 use Rattle.name_rules.specs.Reserved.{begins_with, name_begins}
-use Rattle.first_pass_meaning.proofs.early_agreement.Lists.{each_behind}
+use Rattle.first_pass_meaning.proofs.early_agreement.Lists.{at_each, each_behind, each_there}
 use Rattle.step_laws.specs.Changed.{Each}
-use Rattle.lowered_forms.proofs.names_apart.Different.{AreDifferent, apart_from, different_behind, different_from, each_at, each_from, each_then}
+use Rattle.frame_rules.proofs.woven_rules.Operands.{each_turns}
+use Rattle.lowered_forms.proofs.names_apart.Different.{AreDifferent, apart_from, different_behind, different_from}
 use Rattle.lowered_forms.specs.names_apart.Words.{IsOfWords, IsTableOf, begins_with_one}
 
 -- ---- words of which none begins with another
@@ -87,24 +88,20 @@ own_begins (w ∷ ws) n own e =
 
 -- ---- lists of words
 
+or_last : (a b : Bool) → b ≡ true → (a || b) ≡ true
+or_last true b h = refl
+or_last false b h = h
+
 pub first_words : (vs ws : List (List ℕ)) (n : Name) → begins_with_one vs n ≡ true → begins_with_one (vs ++ ws) n ≡ true
 first_words [] ws n e = absurd (cc)
 first_words (v ∷ vs) ws n e = elim (either (name_begins v n) (begins_with_one vs n) e) [
   | inl g ↦ subst (λ (b : Bool). (b || begins_with_one (vs ++ ws) n) ≡ true) (sym g) refl
-  | inr g ↦ later (name_begins v n) (begins_with_one (vs ++ ws) n) (first_words vs ws n g)
+  | inr g ↦ or_last (name_begins v n) (begins_with_one (vs ++ ws) n) (first_words vs ws n g)
 ]
-  where
-    later : (a b : Bool) → b ≡ true → (a || b) ≡ true
-    later true b h = refl
-    later false b h = h
 
 pub last_words : (vs ws : List (List ℕ)) (n : Name) → begins_with_one ws n ≡ true → begins_with_one (vs ++ ws) n ≡ true
 last_words [] ws n e = e
-last_words (v ∷ vs) ws n e = later (name_begins v n) (begins_with_one (vs ++ ws) n) (last_words vs ws n e)
-  where
-    later : (a b : Bool) → b ≡ true → (a || b) ≡ true
-    later true b h = refl
-    later false b h = h
+last_words (v ∷ vs) ws n e = or_last (name_begins v n) (begins_with_one (vs ++ ws) n) (last_words vs ws n e)
 
 -- ---- tables
 
@@ -117,10 +114,10 @@ pub table_different : (ws : List (List ℕ)) (names : List Name) → IsTableOf w
 table_different ws names h = different_from names h.apart
 
 pub table_words : (ws : List (List ℕ)) (names : List Name) → IsTableOf ws names → Each (IsOfWords ws) names
-table_words ws names h = each_from (IsOfWords ws) names h.words
+table_words ws names h = each_there (IsOfWords ws) names h.words
 
 pub table_of : (ws : List (List ℕ)) (names : List Name) → AreDifferent names → Each (IsOfWords ws) names → IsTableOf ws names
-table_of ws names d h = record { apart = apart_from names d; words = each_at (IsOfWords ws) names h }
+table_of ws names d h = record { apart = apart_from names d; words = λ i n there. at_each (IsOfWords ws) names i n h there }
 
 -- what begins with one of the new words is none of a table's names
 pub is_other : (old new : List (List ℕ)) (x y : Name) → are_all_unlike new old ≡ true → are_own new ≡ true → IsOfWords old x → begins_with_one new y ≡ true → x ≡ y → ⊥
@@ -133,22 +130,22 @@ table_behind old new names more unlike own h k =
     let ours = table_words old names h in
     table_of (new ++ old) (names ++ more)
     (different_behind names more (table_different old names h) k.different
-    (each_then (λ y. begins_with_one new y ≡ true) (λ y. Each (λ x. x ≡ y → ⊥) names)
-    (λ y begins. each_then (IsOfWords old) (λ x. x ≡ y → ⊥) (λ x o. is_other old new x y unlike own o begins) names ours) more k.words))
+    (each_turns (λ y. begins_with_one new y ≡ true) (λ y. Each (λ x. x ≡ y → ⊥) names)
+    (λ y begins. each_turns (IsOfWords old) (λ x. x ≡ y → ⊥) (λ x o. is_other old new x y unlike own o begins) names ours) more k.words))
     (each_behind (IsOfWords (new ++ old)) names more
-    (each_then (IsOfWords old) (IsOfWords (new ++ old)) (λ x o b. last_words new old x (o b)) names ours)
-    (each_then (λ y. begins_with_one new y ≡ true) (IsOfWords (new ++ old)) (λ y begins b. first_words new old y begins) more k.words))
+    (each_turns (IsOfWords old) (IsOfWords (new ++ old)) (λ x o b. last_words new old x (o b)) names ours)
+    (each_turns (λ y. begins_with_one new y ≡ true) (IsOfWords (new ++ old)) (λ y begins b. first_words new old y begins) more k.words))
 
 pub new_behind : (vs ws : List (List ℕ)) (xs ys : List Name) → are_all_unlike ws vs ≡ true → AreNew vs xs → AreNew ws ys → AreNew (vs ++ ws) (xs ++ ys)
 new_behind vs ws xs ys unlike h k =
     record {
       different = different_behind xs ys h.different k.different
-          (each_then (λ y. begins_with_one ws y ≡ true) (λ y. Each (λ x. x ≡ y → ⊥) xs)
-          (λ y begins. each_then (λ x. begins_with_one vs x ≡ true) (λ x. x ≡ y → ⊥)
+          (each_turns (λ y. begins_with_one ws y ≡ true) (λ y. Each (λ x. x ≡ y → ⊥) xs)
+          (λ y begins. each_turns (λ x. begins_with_one vs x ≡ true) (λ x. x ≡ y → ⊥)
           (λ x first same. words_never_both ws vs x (subst (λ (z : Name). begins_with_one ws z ≡ true) (sym same) begins) first unlike) xs h.words) ys k.words);
       words = each_behind (λ n. begins_with_one (vs ++ ws) n ≡ true) xs ys
-          (each_then (λ n. begins_with_one vs n ≡ true) (λ n. begins_with_one (vs ++ ws) n ≡ true) (first_words vs ws) xs h.words)
-          (each_then (λ n. begins_with_one ws n ≡ true) (λ n. begins_with_one (vs ++ ws) n ≡ true) (last_words vs ws) ys k.words);
+          (each_turns (λ n. begins_with_one vs n ≡ true) (λ n. begins_with_one (vs ++ ws) n ≡ true) (first_words vs ws) xs h.words)
+          (each_turns (λ n. begins_with_one ws n ≡ true) (λ n. begins_with_one (vs ++ ws) n ≡ true) (last_words vs ws) ys k.words);
     }
 
 -- a table of these words is one of more

@@ -1,13 +1,12 @@
 -- Names, results and types of parameters of the functions that the passes up to the framed form make.
-use Rattle.std.proofs.Common.{◌≡◌, ℕ, ◌+◌, Bool, true, false, List, [], ◌∷◌, ◌++◌, refl, sym, ap, ◌∙◌, subst}
+use Rattle.std.proofs.Common.{◌≡◌, ℕ, Bool, List, [], ◌∷◌, ◌++◌, refl, sym, ap, ◌∙◌, subst}
 use Rattle.std.specs.Prelude.{map}
-use Rattle.begin_copies.specs.BeginCopies.{with_begin_copies}
 use Rattle.coroutine_frames.specs.declared.contents.Contents.{Contents}
 use Rattle.first_pass_rules.proofs.early_local_rules.Turned.{turned_function}
 use Rattle.early_lower.specs.Early.{early_function, early_module}
 use Rattle.frame_layout.specs.declared.layout.Layout.{Layout}
 use Rattle.frame_layout.specs.declared.layout.Layouts.{Layouts}
-use Rattle.frame_rules.specs.function_rules.Signatures.{HaveSameSignatures, Heading, heading}
+use Rattle.frame_rules.specs.function_rules.Signatures.{HaveSameSignatures, heading}
 use Rattle.ir_model.specs.declared.module.Function.{Function}
 use Rattle.ir_model.specs.declared.module.Module.{Module}
 use Rattle.coro_base.specs.declared.name.Name.{Name}

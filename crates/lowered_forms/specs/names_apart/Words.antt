@@ -24,7 +24,7 @@ pub record IsTableOf (allowed : List (List ℕ)) (names : List Name) : Type 0 wh
 abbrev pub AreFew : List Name → Type 0
 AreFew names = length names < 2 ^ 64
 
--- each function of the module has so few, as all that lies in memory
+-- each function of the module has so few, as whatever lies in memory has
 abbrev pub AreNamesFew : Module → Type 0
 AreNamesFew m = (k : ℕ) (f : Function) → slice_get m.functions k ≡ Some f → AreFew f.names
 
