@@ -238,7 +238,7 @@ module _ (g : Given) where
       mode (Mode.GivenRamp v) o n result k = tt
       mode (Mode.Entering from label) o n result k = tt
 
-  begin_at_sound : (s : State) → IsSound g.code s → (mem : Value) (kind : Kind) → Good (begin_at g s mem kind)
+  pub begin_at_sound : (s : State) → IsSound g.code s → (mem : Value) (kind : Kind) → Good (begin_at g s mem kind)
   begin_at_sound s h mem kind =
       on_result (own s.world.memory mem (own_frame g s).size kind) (λ memory. and_then (found Cause.Begin (block_of mem)) (λ b. Ok (begun g (with_memory s memory) b 0)))
       (λ memory e. on_found Cause.Begin (block_of mem) (λ b. Ok (begun g (with_memory s memory) b 0))
@@ -342,12 +342,12 @@ module _ (g : Given) where
       gives_sound (change_own s (λ x. record x { released = true }) (own_instance s)) result v
       (change_sound s h (λ x. record x { released = true }) (λ x. refl) (λ x k. k) (own_instance s) refl)
 
-  finish_sound : (s : State) → IsSound g.code s → IsSound g.code (finish s)
+  pub finish_sound : (s : State) → IsSound g.code s → IsSound g.code (finish s)
   finish_sound s h =
       memory_sound g.code (change_own s (λ x. record x { status = Status.Finished }) (own_instance s)) (without_slots s.world.memory (slots_of (own_instance s)))
       (change_sound s h (λ x. record x { status = Status.Finished }) (λ x. refl) (λ x k. tt) (own_instance s) refl)
 
-  after_sound : (s : State) → IsSound g.code s → (result : Option ℕ) (mode : Mode) → Good (after_end s result mode)
+  pub after_sound : (s : State) → IsSound g.code s → (result : Option ℕ) (mode : Mode) → Good (after_end s result mode)
   after_sound s h result Mode.Resumed = return_sound s h None
   after_sound s h result Mode.Plain = gives_sound s result (truth_value false) h
   after_sound s h result Mode.Ramp = gives_sound s result (truth_value false) h
