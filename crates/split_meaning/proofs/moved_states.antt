@@ -6,7 +6,6 @@ pub mod Sleeping
 pub mod Frames
 pub mod Ending
 pub mod Actions
-pub mod Branches
 pub mod Steps
 pub mod Soundness
 pub mod Simulation

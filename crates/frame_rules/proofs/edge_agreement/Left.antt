@@ -67,7 +67,7 @@ module _ (f g : Function) (move : Point → Point) (threads : AreThreads f g mov
   abbrev AreMoved : List Window → List Window → Type 0
   AreMoved ws vs = ArePaired (IsMoved g move) ws vs
 
-  left_by : (ws vs : List Window) → AreMoved ws vs → (p q y : Point) → Has (nexts g (move p)) y → GoesTo g move q y → AreMoved (filter (leaves p q) ws) (filter (leaves (move p) y) vs)
+  pub left_by : (ws vs : List Window) → AreMoved ws vs → (p q y : Point) → Has (nexts g (move p)) y → GoesTo g move q y → AreMoved (filter (leaves p q) ws) (filter (leaves (move p) y) vs)
   left_by [] [] h p q y e b = tt
   left_by [] (v ∷ vs) h p q y e b = absurd h
   left_by (w ∷ ws) [] h p q y e b = absurd h
@@ -79,7 +79,7 @@ module _ (f g : Function) (move : Point → Point) (threads : AreThreads f g mov
       on false true s again = absurd (cc)
       on false false s again = again
 
-  none_by : (ws vs : List Window) → AreMoved ws vs → (q y : Point) → IsBetween g move (move q) y → filter (leaves y (move q)) vs ≡ []
+  pub none_by : (ws vs : List Window) → AreMoved ws vs → (q y : Point) → IsBetween g move (move q) y → filter (leaves y (move q)) vs ≡ []
   none_by [] [] h q y b = refl
   none_by [] (v ∷ vs) h q y b = absurd h
   none_by (w ∷ ws) [] h q y b = absurd h

@@ -36,7 +36,7 @@ module _ (test : Instr → Bool) where
       on true e = ap (λ (ps : List Point). record { block = c + block; at = at } ∷ ps) e
       on false e = e
 
-  shift_in : (c block : ℕ) (bs : List Block) → points_in test (c + block) bs ≡ map (shift c) (points_in test block bs)
+  pub shift_in : (c block : ℕ) (bs : List Block) → points_in test (c + block) bs ≡ map (shift c) (points_in test block bs)
   shift_in c block [] = refl
   shift_in c block (b ∷ bs) =
       let first = shift_from c block 0 b.instrs in

@@ -38,7 +38,7 @@ map_same f g h (x ∷ xs) =
     let rest = map_same f g h xs in
     λ j. h x j ∷ rest j
 
-running_is : (o : Outcome) → IsRunning o → o ≡ Outcome.Running
+pub running_is : (o : Outcome) → IsRunning o → o ≡ Outcome.Running
 running_is (Outcome.Returned v) h = absurd h
 running_is Outcome.Running h = refl
 running_is (Outcome.Undefined cause place) h = absurd h

@@ -26,7 +26,7 @@ use Rattle.first_pass_meaning.specs.sound_states.Named.{HasNamedParams}
 
 -- ---- the values at the entry
 
-length_none : (n : ℕ) → length (replicate {A = Option Value} n None) ≡ n
+pub length_none : (n : ℕ) → length (replicate {A = Option Value} n None) ≡ n
 length_none zero = refl
 length_none (suc n) = ap suc (length_none n)
 

@@ -48,11 +48,11 @@ module _ (f : Function) (at from : ℕ) where
       let z : l ≡ n + suc m.index = omega (arith, s) in
       inr (record { index = suc m.index; exit = m.exit; got = m.got; target = m.target; label = z; mark = m.mark })
 
-  one_cut : (n t : ℕ) (ts : List ℕ) (o : Option ℕ) → mark_of f at t ≡ o → Cut n (exit_to from t o ++ exits_to f at from ts) t (exit_label n o t)
+  pub one_cut : (n t : ℕ) (ts : List ℕ) (o : Option ℕ) → mark_of f at t ≡ o → Cut n (exit_to from t o ++ exits_to f at from ts) t (exit_label n o t)
   one_cut n t ts None e = inl (refl, e)
   one_cut n t ts (Some j) e = let z : n ≡ n + 0 = omega arith in inr (record { index = 0; exit = record { from = from; target = t; suspend = j }; got = refl; target = refl; label = z; mark = e })
 
-  later_cut : (n u : ℕ) (ts : List ℕ) (t l : ℕ) (o : Option ℕ) → Cut (after_exit n o) (exits_to f at from ts) t l → Cut n (exit_to from u o ++ exits_to f at from ts) t l
+  pub later_cut : (n u : ℕ) (ts : List ℕ) (t l : ℕ) (o : Option ℕ) → Cut (after_exit n o) (exits_to f at from ts) t l → Cut n (exit_to from u o ++ exits_to f at from ts) t l
   later_cut n u ts t l None c = c
   later_cut n u ts t l (Some j) c = further n j u (exits_to f at from ts) t l c
 

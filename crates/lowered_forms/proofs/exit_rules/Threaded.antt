@@ -97,7 +97,7 @@ module _ (m : Module) (func : ℕ) (f : Function) (rules : KeepsFunctionRules m 
                 let no : Some x.exit.suspend ≡ None = sym x.mark ∙ ap (mark_of f k) (sym label) ∙ none in
                 absurd (cc)
 
-    way : (k : ℕ) (b : Block) (t l : ℕ) → slice_get f.blocks k ≡ Some b → IsListed t (targets b.term) → CutOf k b t l → IsWay f (with_exit_blocks f) (moves f) k t l
+    pub way : (k : ℕ) (b : Block) (t l : ℕ) → slice_get f.blocks k ≡ Some b → IsListed t (targets b.term) → CutOf k b t l → IsWay f (with_exit_blocks f) (moves f) k t l
     way k b t l there listed (inl d) = inl d.0
     way k b t l there listed (inr x) = inr (over k b t l there listed x)
 

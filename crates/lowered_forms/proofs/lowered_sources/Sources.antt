@@ -64,13 +64,13 @@ comes_from m k g there = on (slice_get m.functions k) refl (sym (slice_get-map e
 same_coroutine : (f : Function) → (early_function f).coroutine ≡ f.coroutine
 same_coroutine f = (turned_function f).coroutine
 
-row_listed : {A : Type 0} (g : A → List ℕ) (xs : List A) (n : ℕ) (x : A) → IsListed x xs → IsListed n (g x) → IsListed n (row_of g xs)
+pub row_listed : {A : Type 0} (g : A → List ℕ) (xs : List A) (n : ℕ) (x : A) → IsListed x xs → IsListed n (g x) → IsListed n (row_of g xs)
 row_listed g [] n x l h = absurd l
 row_listed g (y ∷ xs) n x (inl e) h = listed_left n (g y) (row_of g xs) (subst (λ z. IsListed n (g z)) e h)
 row_listed g (y ∷ xs) n x (inr l) h = listed_right n (g y) (row_of g xs) (row_listed g xs n x l h)
 
 -- results of instructions are positions of the table of names
-results_below : (k : ℕ) (f : Function) → HasTabledLocals k f → (v : ℕ) (b : Block) (i : Instr) → IsListed b f.blocks → IsListed i b.instrs → result_of i ≡ Some v → v < length f.names
+pub results_below : (k : ℕ) (f : Function) → HasTabledLocals k f → (v : ℕ) (b : Block) (i : Instr) → IsListed b f.blocks → IsListed i b.instrs → result_of i ≡ Some v → v < length f.names
 results_below k f tabled v b i at l makes =
     names_below k f tabled v
     (listed_right v (params_of f) (row_of block_names f.blocks)

@@ -1,18 +1,20 @@
 -- Calls and returns, where functions have blocks on some of their edges.
-use Rattle.std.proofs.Common.{◌≡◌, ℕ, zero, suc, ◌+◌, ◌<◌, Bool, true, false, List, [], ◌∷◌, length, refl, sym, ap, ◌∙◌, subst}
+use Rattle.std.proofs.Common.{◌≡◌, ℕ, ◌<◌, Bool, true, false, List, [], ◌∷◌, length, refl, sym, ap, ◌∙◌, subst}
 use Rattle.std.proofs.lemmas.List.{replicate-append-replicate}
 use Rattle.std.specs.Prelude.{ℤ, Some, None, Ok, Err, Option, Result, map, option_map, replicate, unwrap_or, if◌then◌else◌}
 use Rattle.block_memory.specs.declared.pointer.Value.{Value}
 use Rattle.coro_base.specs.declared.cause.Cause.{Cause}
 use Rattle.coro_base.specs.declared.outcome.Outcome.{Outcome}
-use Rattle.coro_meaning.specs.Source.{called, enter, mode_of, pop, push, return, returned}
+use Rattle.coro_meaning.specs.Source.{called, enter, pop, push, return, returned}
 use Rattle.coro_meaning.specs.declared.state.Activation.{Activation}
 use Rattle.coro_meaning.specs.declared.state.Mode.{Mode}
 use Rattle.coro_meaning.specs.declared.state.State.{State}
 use Rattle.first_pass_meaning.proofs.save_agreement.Environments.{grown, params_grown, result_grown}
-use Rattle.first_pass_meaning.specs.save_agreement.Tokens.{Each, IsNamedResult}
+use Rattle.first_pass_meaning.specs.save_agreement.Tokens.{Each}
 use Rattle.first_pass_meaning.specs.sound_states.Named.{AreLocalsNamed, HasNamedParams}
 use Rattle.frame_layout.specs.declared.layout.Layout.{Layout}
+use Rattle.frame_rules.proofs.edge_states.Calls.{length_none}
+use Rattle.frame_rules.specs.edge_states.MovedState.{IsNamedBelow}
 use Rattle.framed_meaning.specs.Framed.{FramedGiven, enter_given, framed_given, given_call, given_ramp, last_value}
 use Rattle.ir_model.specs.Names.{function_at}
 use Rattle.ir_model.specs.declared.instr.Instr.{Instr}
@@ -21,20 +23,11 @@ use Rattle.ir_model.specs.declared.module.Module.{Module}
 use Rattle.ir_model.specs.declared.module.Param.{Param}
 use Rattle.ir_model.specs.declared.operand.Callee.{Callee}
 use Rattle.ordinary_step.specs.Results.{and_then}
-use Rattle.ordinary_step.specs.Step.{AtInstr, AtTerm, Fetched, Nowhere, entry_values, outcome_of, with_params}
+use Rattle.ordinary_step.specs.Step.{AtInstr, Fetched, entry_values, outcome_of, with_params}
 use Rattle.ordinary_step.specs.Values.{Env, arg_values}
 use Rattle.split_meaning.proofs.moved_states.Parts.{args_moved, function_moved, given_moved}
 use Rattle.split_meaning.specs.moved_states.MovedState.{moved_activation, moved_mode, moved_module, moved_result, moved_state}
 use Rattle.split_meaning.specs.moved_states.Moving.{KeepsKinds, Moves, Moving}
-
--- the name that a return sets is one of the activation's below
-abbrev pub IsNamedBelow : Option ℕ → List Activation → Type 0
-IsNamedBelow result [] = Unit {0}
-IsNamedBelow result (a ∷ below) = IsNamedResult (length a.values) result
-
-pub length_none : (n : ℕ) → length (replicate {A = Option Value} n None) ≡ n
-length_none zero = refl
-length_none (suc n) = ap suc (length_none n)
 
 module _ (mv : Moving) (kinds : KeepsKinds mv) (m : Module) where
   -- ---- the values at the entry

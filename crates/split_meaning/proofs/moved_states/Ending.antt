@@ -1,12 +1,12 @@
 -- Ends, frees, deallocations and promises, where functions have blocks on some of their edges.
-use Rattle.std.proofs.Common.{◌≡◌, ℕ, ◌+◌, Bool, true, false, List, [], ◌∷◌, length, refl, sym, ap, ◌∙◌, subst}
-use Rattle.std.specs.Prelude.{ℤ, Some, None, Ok, Err, Option, Result, map, not, option_map, if◌then◌else◌, ◌&&◌, ◌==◌}
+use Rattle.std.proofs.Common.{◌≡◌, ℕ, ◌+◌, Bool, true, false, List, length, refl, sym, ap, ◌∙◌, subst}
+use Rattle.std.specs.Prelude.{ℤ, Some, None, Ok, Err, Option, Result, not, if◌then◌else◌, ◌&&◌, ◌==◌}
 use Rattle.block_memory.specs.Memory.{disown}
 use Rattle.block_memory.specs.declared.block.MemoryBlock.{MemoryBlock}
 use Rattle.block_memory.specs.declared.pointer.Pointer.{Pointer}
 use Rattle.block_memory.specs.declared.pointer.Value.{Value}
 use Rattle.coro_base.specs.declared.cause.Cause.{Cause}
-use Rattle.coro_meaning.specs.Source.{after_end, change_own, deallocate, end_of, finish, if_let_go, let_go, may_be_freed, release, return, slots_of}
+use Rattle.coro_meaning.specs.Source.{after_end, change_own, deallocate, end_of, if_let_go, let_go, may_be_freed, release, slots_of}
 use Rattle.coro_meaning.specs.State.{address_in, frame_address_of, gives, instance_at, last_where, next, own_instance, with_instance, with_memory}
 use Rattle.coro_meaning.specs.declared.state.Activation.{Activation}
 use Rattle.coro_meaning.specs.declared.state.Instance.{Instance}
@@ -15,6 +15,7 @@ use Rattle.coro_meaning.specs.declared.state.State.{State}
 use Rattle.coro_meaning.specs.declared.state.Status.{Status}
 use Rattle.first_pass_meaning.specs.save_agreement.Tokens.{IsNamedResult}
 use Rattle.frame_layout.specs.declared.layout.Layout.{Layout}
+use Rattle.frame_rules.specs.edge_states.MovedState.{IsNamedBelow}
 use Rattle.framed_meaning.specs.Framed.{FramedGiven, disown_given, framed_finish, framed_frame_of_promise, framed_given, framed_promise, framed_promise_of_frame, freed_address, is_over, is_promise_at, is_stack_block, promise_offset}
 use Rattle.ir_model.specs.Names.{function_at}
 use Rattle.ir_model.specs.declared.module.Module.{Module}
@@ -23,7 +24,7 @@ use Rattle.ordinary_step.specs.Results.{and_then, found, ok_if}
 use Rattle.ordinary_step.specs.Step.{deallocated, without_slots}
 use Rattle.ordinary_step.specs.Values.{truth_value}
 use Rattle.source_program.specs.Given.{is_true}
-use Rattle.split_meaning.proofs.moved_states.Calls.{IsNamedBelow, return_moved}
+use Rattle.split_meaning.proofs.moved_states.Calls.{return_moved}
 use Rattle.split_meaning.proofs.moved_states.Sleeping.{gives_moved}
 use Rattle.split_meaning.proofs.moved_states.States.{found_moved, last_found, over_moved, own_moved, suspended_moved, with_instance_moved, with_number}
 use Rattle.split_meaning.specs.moved_states.MovedState.{moved_instance, moved_mode, moved_module, moved_result, moved_state}

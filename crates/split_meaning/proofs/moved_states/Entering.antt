@@ -1,8 +1,8 @@
 -- How blocks are entered and windows left, where functions have blocks on some of their edges.
-use Rattle.std.proofs.Common.{◌≡◌, ◌⊎◌, inl, inr, ℕ, zero, suc, ◌+◌, ◌<◌, Bool, true, false, List, [], ◌∷◌, ◌++◌, length, refl, sym, ap, ◌∙◌, subst}
+use Rattle.std.proofs.Common.{◌≡◌, ◌⊎◌, inl, inr, ℕ, ◌<◌, Bool, true, false, List, [], ◌∷◌, length, refl, sym, ap, ◌∙◌, subst}
 use Rattle.std.proofs.lemmas.List.{length-map}
 use Rattle.std.specs.List.{list_all}
-use Rattle.std.specs.Prelude.{ℤ, Some, None, Ok, Err, Option, Result, filter, map, replicate, slice_get}
+use Rattle.std.specs.Prelude.{ℤ, Some, None, Ok, Err, Option, Result, filter, map, slice_get}
 use Rattle.block_memory.specs.declared.pointer.Value.{Value}
 use Rattle.coro_base.specs.declared.cause.Cause.{Cause}
 use Rattle.coro_base.specs.declared.outcome.Outcome.{Outcome}
@@ -16,6 +16,7 @@ use Rattle.first_pass_meaning.proofs.save_agreement.Saves.{each_at}
 use Rattle.first_pass_meaning.specs.save_agreement.Tokens.{Each}
 use Rattle.first_pass_meaning.specs.sound_states.Named.{HasNamedPhis}
 use Rattle.frame_layout.specs.declared.layout.Layout.{Layout}
+use Rattle.frame_rules.specs.edge_states.MovedState.{IsOwnedBy}
 use Rattle.framed_meaning.specs.Framed.{FramedGiven, framed_advance, framed_given, framed_next, framed_step}
 use Rattle.ir_model.specs.Names.{function_at, position_of}
 use Rattle.ir_model.specs.declared.instr.Phi.{Phi}
@@ -23,7 +24,7 @@ use Rattle.ir_model.specs.declared.module.Block.{Block}
 use Rattle.ir_model.specs.declared.module.Function.{Function}
 use Rattle.ir_model.specs.declared.module.Module.{Module}
 use Rattle.ir_paths.specs.Paths.{entry_point}
-use Rattle.ir_paths.specs.Windows.{leaves, windows_of}
+use Rattle.ir_paths.specs.Windows.{leaves}
 use Rattle.ir_paths.specs.declared.point.Facts.{Facts}
 use Rattle.ir_paths.specs.declared.point.Point.{Point}
 use Rattle.ir_paths.specs.declared.point.Window.{Window}
@@ -35,11 +36,6 @@ use Rattle.split_meaning.proofs.moved_states.States.{may_leave_moved, own_moved,
 use Rattle.split_meaning.specs.moved_states.MovedState.{moved_activation, moved_instance, moved_module, moved_result, moved_state}
 use Rattle.split_meaning.specs.moved_states.Moving.{Goes, IsDirect, IsOver, KeepsKinds, Moves, Moving, moved_point}
 use Rattle.split_meaning.specs.moved_states.Near.{IsBefore, IsNear}
-
--- an instance is one of the topmost activation's function
-abbrev pub IsOwnedBy : State → Option (ℕ × Instance) → Type 0
-IsOwnedBy s None = Unit {0}
-IsOwnedBy s (Some y) = y.1.coroutine ≡ s.top.func
 
 module _ (mv : Moving) (kinds : KeepsKinds mv) (m : Module) (layouts : List Layout) (answers : List ℤ) where
   abbrev g : FramedGiven

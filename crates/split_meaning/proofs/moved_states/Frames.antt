@@ -1,5 +1,5 @@
 -- How a framed coroutine goes on behind a suspend, its slots and its begin, where functions have blocks on some of their edges.
-use Rattle.std.proofs.Common.{◌≡◌, ℕ, ◌+◌, ◌<◌, Bool, true, false, List, [], ◌∷◌, ◌++◌, length, refl, sym, ap, ◌∙◌, subst}
+use Rattle.std.proofs.Common.{◌≡◌, ℕ, Bool, true, false, List, [], ◌∷◌, ◌++◌, length, refl, sym, ap, ◌∙◌, subst}
 use Rattle.std.proofs.lemmas.List.{length-map, map-append, replicate-append-replicate}
 use Rattle.std.specs.List.{list_all}
 use Rattle.std.specs.Prelude.{ℤ, Some, None, Ok, Err, Option, Result, filter, is_none, map, not, option_and_then, option_map, replicate, slice_get, ◌&&◌, ◌||◌, ◌==◌}
@@ -10,7 +10,7 @@ use Rattle.block_memory.specs.declared.pointer.Pointer.{Pointer}
 use Rattle.block_memory.specs.declared.pointer.Value.{Value}
 use Rattle.coro_base.specs.declared.cause.Cause.{Cause}
 use Rattle.coro_meaning.specs.Source.{begin, begin_at, begun, is_among, new_instance, push, resumed, with_new_slots}
-use Rattle.coro_meaning.specs.State.{began_at, frame_address_of, gives, is_finished, own_frame, with_instance, with_memory, with_slots, with_status}
+use Rattle.coro_meaning.specs.State.{began_at, frame_address_of, gives, is_finished, own_frame, with_memory, with_slots, with_status}
 use Rattle.coro_meaning.specs.declared.state.Instance.{Instance}
 use Rattle.coro_meaning.specs.declared.state.Mode.{Mode}
 use Rattle.coro_meaning.specs.declared.state.State.{State}
@@ -19,8 +19,9 @@ use Rattle.first_pass_meaning.proofs.save_agreement.Environments.{grown, result_
 use Rattle.first_pass_meaning.proofs.save_agreement.Saves.{each_at}
 use Rattle.first_pass_meaning.proofs.sound_states.Fits.{result_length}
 use Rattle.first_pass_meaning.specs.save_agreement.Tokens.{Each, IsNamedResult}
-use Rattle.first_pass_meaning.specs.sound_states.Named.{AreLocalsNamed, HasNamedPhis, HasNamedResults}
+use Rattle.first_pass_meaning.specs.sound_states.Named.{AreLocalsNamed, HasNamedResults}
 use Rattle.frame_layout.specs.declared.layout.Layout.{Layout}
+use Rattle.frame_rules.proofs.edge_states.Calls.{length_none}
 use Rattle.framed_meaning.specs.Framed.{FramedGiven, alloca_from, alloca_of, are_finished_at, at_point, begin_given, begin_given_at, begin_name, continue_framed, enter_after, framed_begin, framed_facts, framed_given, framed_slot, has_size, reentry_values, with_mode}
 use Rattle.ir_model.specs.Names.{function_at, position_of}
 use Rattle.ir_model.specs.declared.instr.Instr.{Instr}
@@ -35,12 +36,11 @@ use Rattle.ordinary_step.specs.Results.{and_then, found, ok_if}
 use Rattle.ordinary_step.specs.Step.{block_of}
 use Rattle.ordinary_step.specs.Values.{Env, with_result}
 use Rattle.ordinary_step.specs.declared.world.Slot.{Slot}
-use Rattle.split_meaning.proofs.moved_states.Calls.{length_none}
 use Rattle.split_meaning.proofs.moved_states.Entering.{enters_direct}
 use Rattle.split_meaning.proofs.moved_states.Parts.{facts_are, facts_moved, function_moved}
 use Rattle.split_meaning.proofs.moved_states.Sleeping.{gives_moved}
-use Rattle.split_meaning.proofs.moved_states.States.{finished_moved, with_instance_moved, with_number}
-use Rattle.split_meaning.specs.moved_states.MovedState.{moved_activation, moved_instance, moved_mode, moved_module, moved_result, moved_state, moved_values}
+use Rattle.split_meaning.proofs.moved_states.States.{finished_moved, with_instance_moved}
+use Rattle.split_meaning.specs.moved_states.MovedState.{moved_activation, moved_instance, moved_mode, moved_module, moved_result, moved_state}
 use Rattle.split_meaning.specs.moved_states.Moving.{KeepsKinds, Moves, Moving, moved_point}
 use Rattle.split_meaning.specs.moved_states.Near.{EntersBy}
 use Rattle.step_laws.specs.Changed.{result_of}

@@ -1,14 +1,13 @@
 -- What stays in a module whose functions have blocks on some of their edges.
-use Rattle.std.proofs.Common.{◌≡◌, ℕ, zero, suc, ◌+◌, Bool, true, false, List, [], ◌∷◌, ◌++◌, length, refl, sym, ap, ◌∙◌}
+use Rattle.std.proofs.Common.{◌≡◌, ℕ, suc, ◌+◌, Bool, List, [], ◌∷◌, ◌++◌, refl, sym, ap, ◌∙◌}
 use Rattle.std.proofs.lemmas.List.{length-map}
 use Rattle.std.proofs.lemmas.Option.{slice_get-map}
-use Rattle.std.specs.Prelude.{ℤ, Some, None, Option, map, option_map, replicate, slice_get, unwrap_or, if◌then◌else◌, ◌&&◌}
+use Rattle.std.specs.Prelude.{Some, None, Option, map, option_map, replicate, slice_get, unwrap_or, if◌then◌else◌, ◌&&◌}
 use Rattle.block_memory.specs.declared.pointer.Pointer.{Pointer}
 use Rattle.block_memory.specs.declared.pointer.Value.{Value}
 use Rattle.coro_base.specs.declared.name.Name.{Name}
 use Rattle.first_pass_meaning.proofs.save_agreement.Environments.{grown, value_grown}
-use Rattle.frame_layout.specs.declared.layout.Layout.{Layout}
-use Rattle.framed_meaning.specs.Framed.{framed_facts, framed_given, given_ramp}
+use Rattle.framed_meaning.specs.Framed.{framed_facts, given_ramp}
 use Rattle.ir_model.specs.Names.{declaration_named, first_where, function_at, function_named, global_named, no_function, noalloc_of, same_name}
 use Rattle.ir_model.specs.Ty.{Ty}
 use Rattle.ir_model.specs.declared.module.Function.{Function}

@@ -1,5 +1,5 @@
 -- The framed runs of the module whose functions have blocks on some of their edges are those of the module.
-use Rattle.std.proofs.Common.{◌≡◌, ◌⊎◌, inl, inr, ℕ, ◌<◌, List, [], ◌∷◌, refl, sym, ap, ◌∙◌, subst, arith}
+use Rattle.std.proofs.Common.{◌≡◌, ◌⊎◌, inl, inr, ℕ, ◌<◌, List, [], refl, sym, ap, ◌∙◌, subst, arith}
 use Rattle.std.specs.Prelude.{ℤ, None, Ok, Err, Result, map}
 use Rattle.agreement.proofs.Lockstep.{Advance, IsBetween, ShowsSame, Simulates, lockstep_within}
 use Rattle.agreement.specs.Agreements.{AgreesWithin}
@@ -18,8 +18,9 @@ use Rattle.coro_meaning.specs.declared.state.State.{State}
 use Rattle.first_pass_meaning.specs.sound_states.Named.{AreLocalsNamed}
 use Rattle.frame_layout.specs.declared.layout.Layout.{Layout}
 use Rattle.frame_layout.specs.declared.layout.Layouts.{Layouts}
+use Rattle.frame_rules.proofs.edge_agreement.Points.{map_same}
+use Rattle.frame_rules.proofs.edge_simulation.Simulation.{running_is}
 use Rattle.framed_meaning.specs.Framed.{FramedAt, FramedGiven, framed_advance, framed_given, framed_next, framed_step}
-use Rattle.ir_model.specs.Names.{function_at}
 use Rattle.ir_model.specs.declared.module.GlobalItem.{GlobalItem}
 use Rattle.ir_model.specs.declared.module.Module.{Module}
 use Rattle.ordinary_step.specs.Runs.{seen_of}
@@ -33,17 +34,6 @@ use Rattle.split_meaning.proofs.moved_states.Steps.{step_near}
 use Rattle.split_meaning.specs.moved_states.MovedState.{moved_module, moved_state}
 use Rattle.split_meaning.specs.moved_states.Moving.{AllMove, KeepsKinds, Moving}
 use Rattle.split_meaning.specs.moved_states.Near.{HoldsIn, IsBefore, IsNear}
-
-map_same : {A B : Type 0} (f g : A → B) → ((x : A) → f x ≡ g x) → (xs : List A) → map f xs ≡ map g xs
-map_same f g h [] = refl
-map_same f g h (x ∷ xs) =
-    let rest = map_same f g h xs in
-    λ j. h x j ∷ rest j
-
-running_is : (o : Outcome) → IsRunning o → o ≡ Outcome.Running
-running_is (Outcome.Returned v) h = absurd h
-running_is Outcome.Running h = refl
-running_is (Outcome.Undefined cause place) h = absurd h
 
 module _ (mv : Moving) (kinds : KeepsKinds mv) (m : Module) (names : AreLocalsNamed m) (moves : AllMove mv m) (layouts : List Layout) (answers : List ℤ) where
   abbrev g : FramedGiven

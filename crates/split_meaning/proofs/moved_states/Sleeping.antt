@@ -12,6 +12,7 @@ use Rattle.coro_meaning.specs.declared.state.Status.{Status}
 use Rattle.first_pass_meaning.proofs.save_agreement.Environments.{result_grown}
 use Rattle.first_pass_meaning.specs.save_agreement.Tokens.{IsNamedResult}
 use Rattle.frame_layout.specs.declared.layout.Layout.{Layout}
+use Rattle.frame_rules.specs.edge_states.MovedState.{IsOwnedBy}
 use Rattle.framed_meaning.specs.Framed.{FramedGiven, framed_given}
 use Rattle.ir_model.specs.Names.{function_at}
 use Rattle.ir_model.specs.declared.module.Function.{Function}
@@ -22,7 +23,6 @@ use Rattle.ir_paths.specs.declared.point.Point.{Point}
 use Rattle.ordinary_step.specs.Results.{and_then, found, ok_if}
 use Rattle.ordinary_step.specs.Values.{Env, integer, truth_value}
 use Rattle.source_program.specs.Given.{has_final, is_final}
-use Rattle.split_meaning.proofs.moved_states.Entering.{IsOwnedBy}
 use Rattle.split_meaning.proofs.moved_states.Parts.{function_moved}
 use Rattle.split_meaning.proofs.moved_states.States.{found_moved, own_moved, with_instance_moved, with_number}
 use Rattle.split_meaning.specs.moved_states.MovedState.{moved_activation, moved_instance, moved_module, moved_result, moved_state, moved_status, moved_values}

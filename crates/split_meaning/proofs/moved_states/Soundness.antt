@@ -1,7 +1,7 @@
 -- A framed step keeps what holds in each state.
-use Rattle.std.proofs.Common.{◌≡◌, ℕ, ◌+◌, Bool, true, false, List, [], ◌∷◌, length, refl, sym, ap, ◌∙◌, subst}
+use Rattle.std.proofs.Common.{◌≡◌, ℕ, ◌+◌, Bool, true, false, List, [], ◌∷◌, length, refl, sym, ap, subst}
 use Rattle.std.specs.List.{list_all}
-use Rattle.std.specs.Prelude.{ℤ, Some, None, Ok, Err, Option, Result, is_none, map, not, option_map, slice_get, slice_set, unwrap_or, if◌then◌else◌, ◌&&◌, ◌==◌}
+use Rattle.std.specs.Prelude.{ℤ, Some, None, Ok, Err, Option, Result, is_none, not, option_map, slice_get, slice_set, unwrap_or, if◌then◌else◌, ◌&&◌, ◌==◌}
 use Rattle.block_memory.specs.Memory.{disown, own}
 use Rattle.block_memory.specs.declared.block.Kind.{Kind}
 use Rattle.block_memory.specs.declared.block.MemoryBlock.{MemoryBlock}
@@ -10,7 +10,7 @@ use Rattle.block_memory.specs.declared.pointer.Value.{Value}
 use Rattle.coro_base.specs.declared.cause.Cause.{Cause}
 use Rattle.coro_base.specs.declared.outcome.Outcome.{Outcome}
 use Rattle.coro_base.specs.declared.outcome.Word.{Word}
-use Rattle.coro_meaning.specs.Source.{Continues, Sleeper, after_end, begin, begin_at, begun, branch_leaving, called, change_own, deallocate, destroy, done_at, end_of, enter, enter_block, finish, first_state, go_to, if_let_go, let_go, left_windows, may_be_freed, may_leave, pop, push, release, resume, resumed, return, returned, save, save_for, sleeper_at, slots_of, suspend}
+use Rattle.coro_meaning.specs.Source.{after_end, begin, begin_at, begun, branch_leaving, called, change_own, deallocate, destroy, done_at, end_of, enter, enter_block, finish, first_state, go_to, if_let_go, let_go, left_windows, may_be_freed, may_leave, pop, push, release, resume, resumed, return, returned, save, save_for, sleeper_at, suspend}
 use Rattle.coro_meaning.specs.State.{frame_address_of, function_of, gives, instance_at, next, or_undefined, own_frame, own_instance, point_of, settled, with_instance, with_left, with_memory, with_slots, with_status, work_of}
 use Rattle.coro_meaning.specs.declared.state.Activation.{Activation}
 use Rattle.coro_meaning.specs.declared.state.Instance.{Instance}
@@ -19,13 +19,14 @@ use Rattle.coro_meaning.specs.declared.state.State.{State}
 use Rattle.coro_meaning.specs.declared.state.Status.{Status}
 use Rattle.first_pass_meaning.proofs.sound_states.Acts.{Good, after_sound, begin_at_sound, begin_sound, deallocate_sound, destroy_sound, done_sound, enter_sound, entered_sound, entry_length, finish_sound, free_sound, gives_sound, go_sound, next_sound, on_good, on_result, on_test, resume_sound, return_sound, save_sound, suspend_sound}
 use Rattle.first_pass_meaning.proofs.sound_states.Fits.{Fits, calls_at, fits, result_named, suspend_there}
-use Rattle.first_pass_meaning.proofs.sound_states.Kept.{IsGrown, activation_grown, below_grown, grown_set, instance_sound, memory_sound, moved_on, own_there, settled_sound, slots_sound, with_outcome}
+use Rattle.first_pass_meaning.proofs.sound_states.Kept.{IsGrown, activation_grown, below_grown, grown_set, instance_sound, memory_sound, moved_on, settled_sound, slots_sound, with_outcome}
 use Rattle.first_pass_meaning.proofs.sound_states.Steps.{first_sound}
 use Rattle.first_pass_meaning.specs.save_agreement.Tokens.{IsNamedResult}
 use Rattle.first_pass_meaning.specs.sound_states.Named.{AreLocalsNamed}
 use Rattle.first_pass_meaning.specs.sound_states.Sound.{IsSound, IsSuspendAt, KeepsSound}
 use Rattle.frame_layout.specs.declared.layout.Layout.{Layout}
-use Rattle.framed_meaning.specs.Framed.{FramedGiven, alloca_from, are_finished_at, at_point, begin_given, begin_given_at, continue_framed, disown_given, enter_after, enter_given, framed_act, framed_advance, framed_begin, framed_context, framed_coro, framed_finish, framed_given, framed_next, framed_promise, framed_slot, framed_step, freed_address, given_call, given_ramp, has_size, is_stack_block, last_value, reentry_values, with_mode}
+use Rattle.frame_rules.proofs.edge_states.Performs.{asleep}
+use Rattle.framed_meaning.specs.Framed.{FramedGiven, alloca_from, are_finished_at, at_point, begin_given_at, continue_framed, disown_given, enter_after, enter_given, framed_act, framed_advance, framed_begin, framed_context, framed_coro, framed_finish, framed_given, framed_next, framed_promise, framed_slot, framed_step, freed_address, given_call, given_ramp, has_size, is_stack_block, last_value, reentry_values, with_mode}
 use Rattle.ir_model.specs.Names.{function_at, position_of}
 use Rattle.ir_model.specs.declared.instr.Instr.{Instr}
 use Rattle.ir_model.specs.declared.module.Function.{Function}
@@ -38,13 +39,12 @@ use Rattle.ir_paths.specs.Windows.{destroy_label, label_at, operand_at, resume_l
 use Rattle.ir_paths.specs.declared.point.Point.{Point}
 use Rattle.ir_paths.specs.declared.point.Window.{Window}
 use Rattle.ordinary_step.specs.Results.{and_then, found, ok_if}
-use Rattle.ordinary_step.specs.Step.{Action, AtInstr, AtTerm, Coro, Deallocate, Done, Enter, Fetched, GoTo, NewSlot, Nowhere, Return, Stuck, action_of, block_of, deallocated, fetch, outcome_of, without_slots}
+use Rattle.ordinary_step.specs.Step.{Action, AtInstr, Coro, Deallocate, Done, Enter, Fetched, GoTo, NewSlot, Return, Stuck, action_of, block_of, deallocated, fetch, outcome_of}
 use Rattle.ordinary_step.specs.Values.{Env, arg_values, nth}
 use Rattle.ordinary_step.specs.declared.world.Slot.{Slot}
 use Rattle.source_program.specs.Given.{has_final, is_final}
 use Rattle.split_meaning.proofs.moved_states.Ending.{below_stays, top_stays}
 use Rattle.split_meaning.proofs.moved_states.Frames.{reentry_length}
-use Rattle.split_meaning.proofs.moved_states.Steps.{asleep}
 use Rattle.split_meaning.specs.moved_states.Moving.{Moves, Moving}
 use Rattle.split_meaning.specs.moved_states.Near.{EnterAll, Enters, EntersBy, HoldsIn, IsEntering}
 use Rattle.step_laws.specs.Changed.{result_at}

@@ -1,9 +1,8 @@
 -- Instances, and what they open of frames, where functions have blocks on some of their edges.
-use Rattle.std.proofs.Common.{◌≡◌, ℕ, zero, suc, ◌+◌, ◌-◌, Bool, true, false, List, [], ◌∷◌, refl, sym, ap, ◌∙◌}
+use Rattle.std.proofs.Common.{◌≡◌, ℕ, zero, suc, ◌+◌, Bool, true, List, [], ◌∷◌, refl, ap, ◌∙◌}
 use Rattle.std.proofs.lemmas.Option.{slice_get-map}
 use Rattle.std.specs.List.{list_all}
-use Rattle.std.specs.Prelude.{Some, None, Option, map, not, option_and_then, option_map, slice_get, slice_set, ◌&&◌, ◌||◌, ◌==◌, if◌then◌else◌}
-use Rattle.block_memory.specs.Memory.{Rights}
+use Rattle.std.specs.Prelude.{Some, None, Option, map, not, option_and_then, option_map, slice_get, ◌&&◌, ◌||◌, ◌==◌, if◌then◌else◌}
 use Rattle.block_memory.specs.declared.block.MemoryBlock.{MemoryBlock}
 use Rattle.block_memory.specs.declared.pointer.Pointer.{Pointer}
 use Rattle.block_memory.specs.declared.pointer.Value.{Value}
@@ -15,22 +14,15 @@ use Rattle.coro_meaning.specs.declared.state.Saved.{Saved}
 use Rattle.coro_meaning.specs.declared.state.State.{State}
 use Rattle.coro_meaning.specs.declared.state.Status.{Status}
 use Rattle.first_pass_meaning.proofs.save_agreement.Apart.{same_moved}
+use Rattle.frame_rules.proofs.edge_states.States.{map_set}
 use Rattle.framed_meaning.specs.Framed.{FramedGiven, covers, frame_rights, is_open, is_open_byte, is_over, judge_of, meets_in}
 use Rattle.ir_model.specs.Names.{function_at}
 use Rattle.ir_model.specs.declared.module.Function.{Function}
 use Rattle.ir_model.specs.declared.module.Module.{Module}
-use Rattle.ir_paths.specs.Paths.{same_point}
 use Rattle.ir_paths.specs.declared.point.Point.{Point}
 use Rattle.ir_paths.specs.declared.point.Window.{Window}
 use Rattle.split_meaning.specs.moved_states.MovedState.{moved_instance, moved_save, moved_state, moved_status}
 use Rattle.split_meaning.specs.moved_states.Moving.{Moving, moved_point}
-
--- ---- lists that are mapped
-
-map_set : {A B : Type 0} (f : A → B) (xs : List A) (i : ℕ) (x : A) → slice_set (map f xs) i (f x) ≡ map f (slice_set xs i x)
-map_set f [] i x = refl
-map_set f (y ∷ xs) zero x = refl
-map_set f (y ∷ xs) (suc i) x = let rest = map_set f xs i x in λ j. f y ∷ rest j
 
 module _ (mv : Moving) (m : Module) where
   abbrev now : Instance → Instance

@@ -1,5 +1,5 @@
 -- What a framed step does to a state, and to that of the module whose functions have blocks on some of their edges.
-use Rattle.std.proofs.Common.{◌≡◌, inl, ℕ, Bool, true, false, List, [], ◌∷◌, ◌++◌, length, refl, sym, ap, ◌∙◌, subst}
+use Rattle.std.proofs.Common.{◌≡◌, ℕ, Bool, true, false, List, [], ◌∷◌, length, refl, sym, ap, ◌∙◌, subst}
 use Rattle.std.specs.Prelude.{ℤ, pos, Some, None, Ok, Err, Option, Result, not, option_map, slice_get, unwrap_or, if◌then◌else◌, ◌==◌}
 use Rattle.block_memory.specs.declared.pointer.Value.{Value}
 use Rattle.coro_base.specs.declared.cause.Cause.{Cause}
@@ -7,19 +7,21 @@ use Rattle.coro_base.specs.declared.outcome.Outcome.{Outcome}
 use Rattle.coro_base.specs.declared.outcome.Word.{Word}
 use Rattle.coro_meaning.specs.Source.{Sleeper, destroy, frame_address, resume, return, sleeper_at}
 use Rattle.coro_meaning.specs.State.{function_of, gives, own_frame, own_instance, point_of, settled, work_of}
-use Rattle.coro_meaning.specs.declared.state.Activation.{Activation}
 use Rattle.coro_meaning.specs.declared.state.Instance.{Instance}
 use Rattle.coro_meaning.specs.declared.state.Mode.{Mode}
 use Rattle.coro_meaning.specs.declared.state.State.{State}
-use Rattle.first_pass_meaning.proofs.sound_states.Acts.{asleep_there}
 use Rattle.first_pass_meaning.proofs.sound_states.Fits.{Fits, calls_at, fits, result_named}
-use Rattle.first_pass_meaning.proofs.sound_states.Kept.{own_is, own_there}
 use Rattle.first_pass_meaning.specs.save_agreement.Tokens.{IsNamedResult}
 use Rattle.first_pass_meaning.specs.sound_states.Named.{AreLocalsNamed}
-use Rattle.first_pass_meaning.specs.sound_states.Sound.{AreSoundBelow, IsSound, IsSoundStatus, IsSuspendAt}
+use Rattle.first_pass_meaning.specs.sound_states.Sound.{IsSuspendAt}
 use Rattle.frame_layout.specs.declared.layout.Layout.{Layout}
+use Rattle.frame_rules.proofs.edge_states.Branches.{IsNoBranch, instr_none}
+use Rattle.frame_rules.proofs.edge_states.Performs.{asleep, below_of, own_of}
+use Rattle.frame_rules.specs.edge_agreement.Moved.{ArePaired}
+use Rattle.frame_rules.specs.edge_states.MovedState.{IsNamedBelow, IsOwnedBy}
+use Rattle.frame_rules.specs.edge_states.Ways.{AreFetched, TermsPaired}
 use Rattle.framed_meaning.specs.Framed.{FramedGiven, allocates, continue_framed, framed_act, framed_context, framed_coro, framed_given, framed_next, given_call}
-use Rattle.ir_model.specs.Names.{function_at, position_of}
+use Rattle.ir_model.specs.Names.{function_at}
 use Rattle.ir_model.specs.Ty.{int}
 use Rattle.ir_model.specs.declared.instr.Case.{Case}
 use Rattle.ir_model.specs.declared.instr.Instr.{Instr}
@@ -34,42 +36,17 @@ use Rattle.ordinary_step.specs.Step.{Action, AtInstr, AtTerm, Coro, Deallocate, 
 use Rattle.ordinary_step.specs.Values.{arg_value, arg_values, integer, nth, operand_value, truth_value}
 use Rattle.source_program.specs.Given.{is_final}
 use Rattle.split_meaning.proofs.moved_states.Actions.{action_moved}
-use Rattle.split_meaning.proofs.moved_states.Branches.{IsNoBranch, instr_none}
-use Rattle.split_meaning.proofs.moved_states.Calls.{IsNamedBelow, enter_moved, given_call_moved, return_moved}
+use Rattle.split_meaning.proofs.moved_states.Calls.{enter_moved, given_call_moved, return_moved}
 use Rattle.split_meaning.proofs.moved_states.Ending.{deallocate_moved, end_moved, free_moved, promise_moved}
-use Rattle.split_meaning.proofs.moved_states.Entering.{IsOwnedBy, go_to_near, near_same}
+use Rattle.split_meaning.proofs.moved_states.Entering.{go_to_near, near_same}
 use Rattle.split_meaning.proofs.moved_states.Frames.{begin_moved, continue_moved, slot_moved}
 use Rattle.split_meaning.proofs.moved_states.Parts.{args_moved, function_moved, operand_moved}
 use Rattle.split_meaning.proofs.moved_states.Sleeping.{done_moved, gives_moved, moved_sleeper, save_moved, sleeper_moved, sleeping, suspend_moved}
 use Rattle.split_meaning.proofs.moved_states.States.{own_moved, with_number}
 use Rattle.split_meaning.specs.moved_states.MovedState.{moved_action, moved_instance, moved_mode, moved_module, moved_result, moved_state, moved_values}
-use Rattle.split_meaning.specs.moved_states.Moving.{AreFetched, ArePaired, Goes, KeepsKinds, Moves, Moving, TermsPaired, moved_point}
-use Rattle.split_meaning.specs.moved_states.Near.{Enters, HoldsIn, IsNear}
+use Rattle.split_meaning.specs.moved_states.Moving.{Goes, KeepsKinds, Moves, Moving, moved_point}
+use Rattle.split_meaning.specs.moved_states.Near.{HoldsIn, IsNear}
 use Rattle.step_laws.specs.Changed.{result_at}
-
--- ---- what a sound state gives
-
-module _ (m : Module) (s : State) (h : IsSound m s) where
-  pub own_of : IsOwnedBy s (own_instance s)
-  own_of = on (own_instance s) refl
-    where
-      on : (o : Option (ℕ × Instance)) → own_instance s ≡ o → IsOwnedBy s o
-      on None e = tt
-      on (Some (i, x)) e =
-          let there = own_there s.instances s.top.instance i x e in
-          own_is s.instances s.top.func s.top.instance i x there.0 there.1 h.top.instance
-
-  pub below_of : IsNamedBelow s.top.result s.below
-  below_of = on s.below h.below
-    where
-      on : (below : List Activation) → AreSoundBelow m s.instances s.top.result below → IsNamedBelow s.top.result below
-      on [] b = tt
-      on (a ∷ below) b = b.0
-
-  pub asleep : (p : Value) (y : Sleeper) → sleeper_at s p ≡ Ok y → IsSuspendAt (function_at m y.instance.coroutine) y.suspend
-  asleep p y e =
-      let there = asleep_there s p y e in
-      (subst (IsSoundStatus m y.instance.coroutine) there.status (h.instances y.number y.instance there.got)).1
 
 module _ (mv : Moving) (kinds : KeepsKinds mv) (m : Module) (layouts : List Layout) (answers : List ℤ) (names : AreLocalsNamed m) (moves : (func : ℕ) → Moves mv (function_at m func)) where
   abbrev g : FramedGiven

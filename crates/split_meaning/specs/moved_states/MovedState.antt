@@ -1,5 +1,5 @@
 -- The state of a framed run, and that of the module whose functions have blocks on some of their edges.
-use Rattle.std.specs.Prelude.{ℕ, List, map, replicate, None, Some, Ok, Err, Option, Result, option_map, ◌++◌}
+use Rattle.std.specs.Prelude.{map, replicate, None, Ok, Err, Result, option_map, ◌++◌}
 use Rattle.coro_base.specs.declared.cause.Cause.{Cause}
 use Rattle.coro_meaning.specs.declared.state.Activation.{Activation}
 use Rattle.coro_meaning.specs.declared.state.Instance.{Instance}

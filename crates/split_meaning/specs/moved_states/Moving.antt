@@ -1,18 +1,17 @@
 -- What a pass makes of functions that puts blocks on some of their edges: where the blocks are then, and what it must leave as it is.
-use Rattle.std.specs.Prelude.{ℕ, Bool, true, false, List, [], length, map, filter, Some, None, Option, option_map, slice_get, ◌≡◌, ◌⊎◌, ◌+◌, ◌∷◌}
+use Rattle.std.specs.Prelude.{ℕ, List, [], length, map, filter, Some, option_map, slice_get, ◌≡◌, ◌⊎◌, ◌+◌}
 use Rattle.first_pass_meaning.specs.sound_states.Sound.{IsSuspendAt}
+use Rattle.frame_rules.specs.edge_states.Ways.{AreFetched}
 use Rattle.framed_meaning.specs.Framed.{alloca_from, begin_name}
 use Rattle.ir_model.specs.Names.{function_at, no_function, position_of}
-use Rattle.ir_model.specs.declared.instr.Case.{Case}
 use Rattle.ir_model.specs.declared.instr.Terminator.{Terminator}
-use Rattle.ir_model.specs.declared.module.Block.{Block}
 use Rattle.ir_model.specs.declared.module.Function.{Function}
 use Rattle.ir_model.specs.declared.module.Module.{Module}
 use Rattle.ir_paths.specs.Paths.{entry_point}
 use Rattle.ir_paths.specs.Slots.{allocas_of}
 use Rattle.ir_paths.specs.Windows.{label_at, leaves, suspend_of, windows_of}
 use Rattle.ir_paths.specs.declared.point.Point.{Point}
-use Rattle.ordinary_step.specs.Step.{AtInstr, AtTerm, Fetched, Nowhere, fetch, has_markers, label_of, phis_of}
+use Rattle.ordinary_step.specs.Step.{fetch, has_markers, label_of, phis_of}
 use Rattle.source_program.specs.Given.{has_final, is_final}
 
 -- ---- edges
@@ -41,31 +40,6 @@ pub record IsOver (f g : Function) (spot : ℕ → ℕ) (t l : ℕ) : Type 0 whe
 pub record Goes (f g : Function) (spot : ℕ → ℕ) (p : Point) (t l : ℕ) : Type 0 where
   pub way : IsDirect f g spot t l ⊎ IsOver f g spot t l
   pub left : saves_left g (at_spot spot p) (entry_point g l) ≡ map (at_spot spot) (saves_left f p (entry_point f t))
-
--- ---- what stands at a place
-
--- two lists have as many elements, and R holds of each pair
-abbrev pub ArePaired : {A B : Type 0} → (A → B → Type 0) → List A → List B → Type 0
-ArePaired R [] [] = Unit {0}
-ArePaired R [] (y ∷ ys) = ⊥
-ArePaired R (x ∷ xs) [] = ⊥
-ArePaired R (x ∷ xs) (y ∷ ys) = R x y × ArePaired R xs ys
-
--- terminators with the same operands, whose labels are related
-abbrev pub TermsPaired : (ℕ → ℕ → Type 0) → Terminator → Terminator → Type 0
-TermsPaired W (Terminator.Jump t) (Terminator.Jump l) = W t l
-TermsPaired W (Terminator.Branch x a b) (Terminator.Branch y c d) = (y ≡ x) × (W a c × W b d)
-TermsPaired W (Terminator.Switch x d cases) (Terminator.Switch y e others) = (y ≡ x) × (W d e × ArePaired (λ (k : Case) (j : Case). (j.arg ≡ k.arg) × W k.target j.target) cases others)
-TermsPaired W (Terminator.Ret v) (Terminator.Ret w) = w ≡ v
-TermsPaired W Terminator.Unreachable Terminator.Unreachable = Unit {0}
-TermsPaired W _ _ = ⊥
-
--- what stands at a place, and what stands there then: the same, or terminators whose labels are related
-abbrev pub AreFetched : (ℕ → ℕ → Type 0) → Fetched → Fetched → Type 0
-AreFetched W Nowhere Nowhere = Unit {0}
-AreFetched W (AtInstr i) (AtInstr j) = j ≡ i
-AreFetched W (AtTerm t) (AtTerm u) = TermsPaired W t u
-AreFetched W _ _ = ⊥
 
 -- ---- what is asked of a pass
 
