@@ -1,0 +1,6 @@
+pub mod Threading
+pub mod Windows
+pub mod Points
+pub mod Ways
+pub mod Exits
+pub mod Agreement

@@ -1,0 +1,11 @@
+pub mod Parts
+pub mod States
+pub mod Entering
+pub mod Calls
+pub mod Sleeping
+pub mod Frames
+pub mod Ending
+pub mod Actions
+pub mod Steps
+pub mod Soundness
+pub mod Simulation

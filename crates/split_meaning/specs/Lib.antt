@@ -1,0 +1,2 @@
+pub mod exit_states
+pub mod moved_states

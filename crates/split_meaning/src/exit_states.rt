@@ -1,0 +1,25 @@
+//! That blocks on the edges of coroutines that leave windows keep the meaning of framed modules.
+
+ghost use Rattle.std.specs.Prelude.{◌≡◌, ℕ, ℤ, List, true};
+ghost use Rattle.agreement.specs.Agreements.{AgreesWithin};
+ghost use Rattle.coro_base.specs.declared.outcome.Word.{Word};
+ghost use Rattle.first_pass_meaning.specs.sound_states.Named.{AreLocalsNamed};
+ghost use Rattle.frame_layout.specs.declared.layout.Layouts.{Layouts};
+ghost use Rattle.framed_meaning.specs.Framed.{FramedAt};
+ghost use Rattle.ir_model.specs.declared.module.Function.{Function};
+ghost use Rattle.ir_model.specs.declared.module.Module.{Module};
+ghost use Rattle.split_meaning.specs.exit_states.Exits.{AreExitsKept, KeepsExits, exits_split};
+ghost use Rattle.split_meaning.specs.moved_states.Moving.{IsMovedTo};
+ghost use Rattle.window_exits.specs.ExitBlocks.{with_exit_blocks};
+
+/// With blocks on the edges that leave windows the blocks of a coroutine are moved, and all else stays at its place in its block.
+pub fn exit_blocks_move_coroutines()
+    ensures { (m : Module) (k : ℕ) (f : Function) → f.coroutine ≡ true → KeepsExits m k f → (spot : ℕ → ℕ) × IsMovedTo f (with_exit_blocks f) spot }
+{}
+
+/// Where edges that leave windows have blocks, each framed run agrees within 2 with the run of the module: a step through an edge
+/// with a block becomes two, and each other one stays one. It asks that locals are positions of their functions' tables of names, and
+/// that coroutines break no rule of functions, and not K3, and that jumps alone lead to their blocks with phis.
+pub fn exit_blocks_keep_framed_meaning()
+    ensures { (m : Module) → AreLocalsNamed m → AreExitsKept m → (layouts : Layouts) (entry : ℕ) (args : List Word) (answers : List ℤ) → AgreesWithin 2 (FramedAt m layouts entry args answers) (FramedAt (exits_split m) layouts entry args answers) }
+{}

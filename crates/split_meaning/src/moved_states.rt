@@ -1,0 +1,33 @@
+//! Framed modules whose functions get blocks on some of their edges.
+
+ghost use Rattle.std.specs.Prelude.{◌≡◌, ℕ, ℤ, List};
+ghost use Rattle.agreement.specs.Agreements.{AgreesWithin};
+ghost use Rattle.coro_base.specs.declared.outcome.Outcome.{Outcome};
+ghost use Rattle.coro_base.specs.declared.outcome.Word.{Word};
+ghost use Rattle.coro_meaning.specs.State.{function_of};
+ghost use Rattle.coro_meaning.specs.declared.state.State.{State};
+ghost use Rattle.first_pass_meaning.specs.sound_states.Named.{AreLocalsNamed};
+ghost use Rattle.frame_layout.specs.declared.layout.Layout.{Layout};
+ghost use Rattle.frame_layout.specs.declared.layout.Layouts.{Layouts};
+ghost use Rattle.framed_meaning.specs.Framed.{FramedAt, framed_given, framed_next, framed_step};
+ghost use Rattle.ir_model.specs.declared.module.Module.{Module};
+ghost use Rattle.ordinary_step.specs.Step.{fetch};
+ghost use Rattle.split_meaning.specs.moved_states.MovedState.{moved_module, moved_state};
+ghost use Rattle.split_meaning.specs.moved_states.Moving.{AllMove, KeepsKinds, Moving};
+ghost use Rattle.split_meaning.specs.moved_states.Near.{HoldsIn, IsNear};
+
+/// A framed step keeps what holds in each state.
+pub fn framed_states_stay_sound()
+    ensures { (mv : Moving) (m : Module) → AreLocalsNamed m → AllMove mv m → (layouts : List Layout) (answers : List ℤ) (s : State) → HoldsIn mv m s → HoldsIn mv m (framed_step (framed_given m layouts answers) s) }
+{}
+
+/// Each step comes to where the module's comes, or one step before it.
+pub fn framed_steps_are_near()
+    ensures { (mv : Moving) (m : Module) → KeepsKinds mv → AreLocalsNamed m → AllMove mv m → (layouts : List Layout) (answers : List ℤ) (s : State) → HoldsIn mv m s → s.outcome ≡ Outcome.Running → IsNear mv m layouts answers (framed_next (framed_given m layouts answers) s (fetch (function_of (framed_given m layouts answers).given s) s.top.block s.top.at)) (framed_next (framed_given (moved_module mv m) layouts answers) (moved_state mv m s) (fetch (function_of (framed_given (moved_module mv m) layouts answers).given (moved_state mv m s)) (moved_state mv m s).top.block s.top.at)) }
+{}
+
+/// Where blocks that hold a jump alone come onto edges and leave no window, and all else stays at its place in its block, each framed
+/// run agrees within 2 with the run of the module.
+pub fn moves_keep_framed_meaning()
+    ensures { (mv : Moving) (m : Module) → KeepsKinds mv → AreLocalsNamed m → AllMove mv m → (layouts : Layouts) (entry : ℕ) (args : List Word) (answers : List ℤ) → AgreesWithin 2 (FramedAt m layouts entry args answers) (FramedAt (moved_module mv m) layouts entry args answers) }
+{}
