@@ -3,6 +3,7 @@
 ghost use Rattle.std.specs.Prelude.{◌≡◌, ℕ, Bool, List, None, Ok, Option, Some, slice_get};
 ghost use Rattle.begin_copies.specs.BeginCopies.{with_begin_copies};
 ghost use Rattle.canonical_text.specs.ItemSymbols.{IsPrintable, function_symbols};
+ghost use Rattle.canonical_text.specs.Items.{module_text};
 ghost use Rattle.canonical_text.specs.Written.{AreWritten};
 ghost use Rattle.coro_cleanup.specs.Cleanup.{clean_module};
 ghost use Rattle.coro_split.specs.Parts.{plain_of, plain_shape, split_module};
@@ -25,6 +26,7 @@ ghost use Rattle.lowered_forms.specs.printed_forms.Named.{AreItemsNamed};
 ghost use Rattle.lowered_forms.specs.printed_forms.Spelled.{IsSpelledFunction};
 ghost use Rattle.lowered_forms.specs.split_rules.Parted.{IsPartOf};
 ghost use Rattle.lowered_forms.specs.split_rules.Splittable.{IsSplittable};
+ghost use Rattle.name_order.specs.Order.{module_order};
 ghost use Rattle.name_order.specs.Shape.{IsFunction, IsShaped};
 ghost use Rattle.name_rules.specs.declared.stage.Stage.{Stage};
 ghost use Rattle.printed_grammar.specs.Bytes.{AreBytes};
@@ -96,4 +98,9 @@ pub fn spelled_functions_are_printable()
 pub fn lowered_sources_are_printable()
     ensures shaped { (text : List ℕ) (m : Module) → AreBytes text → StandsFor text m → IsRefused Stage.Source m None → (share : Bool) (layouts : Layouts) → AreLayouts m share (Ok layouts) → (n : Module) → IsFramedForm layouts (early_module m) n → IsShaped (clean_module (split_module layouts n)) }
     ensures printable { (text : List ℕ) (m : Module) → AreBytes text → StandsFor text m → IsRefused Stage.Source m None → (share : Bool) (layouts : Layouts) → AreLayouts m share (Ok layouts) → (n : Module) → IsFramedForm layouts (early_module m) n → IsPrintable (clean_module (split_module layouts n)) }
+{}
+
+/// So the text that is printed of it stands for it, with the names of each function in the order of their first occurrence.
+pub fn printed_texts_stand_for_lowered_modules()
+    ensures { (text : List ℕ) (m : Module) → AreBytes text → StandsFor text m → IsRefused Stage.Source m None → (share : Bool) (layouts : Layouts) → AreLayouts m share (Ok layouts) → (n : Module) → IsFramedForm layouts (early_module m) n → StandsFor (module_text (clean_module (split_module layouts n))) (module_order (clean_module (split_module layouts n))) }
 {}

@@ -2,6 +2,7 @@
 use Rattle.std.proofs.Common.{◌≡◌, ℕ, zero, suc, Bool, true, false, List, [], ◌∷◌, ◌++◌, Ok, length, refl, sym, ap, ◌∙◌, subst}
 use Rattle.std.specs.Prelude.{None, Some, if◌then◌else◌, slice_get}
 use Rattle.canonical_text.specs.ItemSymbols.{IsPrintable, declaration_symbols, declarations_symbols, function_symbols, functions_symbols, global_item_symbols, global_items_symbols, type_items_symbols, types_symbols}
+use Rattle.canonical_text.specs.Items.{module_text}
 use Rattle.canonical_text.specs.Marks.{close_round, open_round, word}
 use Rattle.canonical_text.specs.OperandSymbols.{global_symbol, result_symbols}
 use Rattle.canonical_text.specs.Written.{AreWritten}
@@ -52,7 +53,9 @@ use Rattle.lowered_forms.specs.lowered_rules.Ready.{IsReady}
 use Rattle.lowered_forms.specs.printed_forms.Filled.{HasFilledPhis, HasNoEntryPhis, IsFilled}
 use Rattle.lowered_forms.specs.printed_forms.Named.{AreItemsNamed}
 use Rattle.lowered_forms.specs.printed_forms.Spelled.{IsSpelledFunction}
+use Rattle.name_order.proofs.Modules.{stands_in_order}
 use Rattle.name_order.proofs.Shaped.{text_is_shaped}
+use Rattle.name_order.specs.Order.{module_order}
 use Rattle.name_order.specs.Shape as shape
 use Rattle.name_rules.specs.declared.stage.Stage.{Stage}
 use Rattle.printed_grammar.proofs.Again.{written_both}
@@ -300,3 +303,7 @@ module _ (text : List ℕ) (m : Module) (bytes : AreBytes text) (stands : Stands
       let declared : AreWritten (declarations_symbols c.declarations) = declarations_written n.declarations (subst (λ (ds : List Declaration). AreWritten (declarations_symbols ds)) (sym form.declarations) declared_written) in
       written_both (first ++ declarations_symbols c.declarations) (functions_symbols c.functions)
       (written_both first (declarations_symbols c.declarations) (written_both (type_items_symbols c.types) (global_items_symbols c.globals) types globals) declared) (functions_written split.functions all_stand)
+
+  -- so its canonical text stands for it, with names in order
+  pub lowered_stands : StandsFor (module_text (clean_module (split_module layouts n))) (module_order (clean_module (split_module layouts n)))
+  lowered_stands = stands_in_order (clean_module (split_module layouts n)) lowered_shaped lowered_printable
