@@ -4,3 +4,4 @@ pub mod Points
 pub mod Ways
 pub mod Exits
 pub mod Agreement
+pub mod Parted

@@ -3,12 +3,14 @@
 ghost use Rattle.std.specs.Prelude.{◌≡◌, ℕ, ℤ, List, true};
 ghost use Rattle.agreement.specs.Agreements.{AgreesWithin};
 ghost use Rattle.coro_base.specs.declared.outcome.Word.{Word};
+ghost use Rattle.coro_split.specs.Parts.{split_module};
 ghost use Rattle.first_pass_meaning.specs.sound_states.Named.{AreLocalsNamed};
 ghost use Rattle.frame_layout.specs.declared.layout.Layouts.{Layouts};
 ghost use Rattle.framed_meaning.specs.Framed.{FramedAt};
 ghost use Rattle.ir_model.specs.declared.module.Function.{Function};
 ghost use Rattle.ir_model.specs.declared.module.Module.{Module};
 ghost use Rattle.split_meaning.specs.exit_states.Exits.{AreExitsKept, KeepsExits, exits_split};
+ghost use Rattle.split_meaning.specs.exit_states.Parted.{parted_module};
 ghost use Rattle.split_meaning.specs.moved_states.Moving.{IsMovedTo};
 ghost use Rattle.window_exits.specs.ExitBlocks.{with_exit_blocks};
 
@@ -22,4 +24,10 @@ pub fn exit_blocks_move_coroutines()
 /// that coroutines break no rule of functions, and not K3, and that jumps alone lead to their blocks with phis.
 pub fn exit_blocks_keep_framed_meaning()
     ensures { (m : Module) → AreLocalsNamed m → AreExitsKept m → (layouts : Layouts) (entry : ℕ) (args : List Word) (answers : List ℤ) → AgreesWithin 2 (FramedAt m layouts entry args answers) (FramedAt (exits_split m) layouts entry args answers) }
+{}
+
+/// Splitting first puts these blocks, and then makes the parts.
+#[tactic(auto, using(crate::proofs::exit_states::Parted::split_parted))]
+pub fn splitting_begins_with_exit_blocks()
+    ensures { (ls : Layouts) (m : Module) → split_module ls m ≡ parted_module ls (exits_split m) }
 {}
