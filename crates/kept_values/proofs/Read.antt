@@ -152,7 +152,7 @@ given_intrinsic Intrinsic.CoroFrame result v h = h
 given_intrinsic Intrinsic.CoroSuspend result v h = h
 given_intrinsic Intrinsic.CoroDone result v h = h
 given_intrinsic Intrinsic.CoroPromise result v h = h
-given_intrinsic Intrinsic.CoroEnd result v h = absurd (cc)
+given_intrinsic Intrinsic.CoroEnd result v h = h
 given_intrinsic _ result v h = absurd (cc)
 
 given_allocator : (a : Allocator) (result : Option ℕ) (v : ℕ) → given_by_allocator a result ≡ Some v → result ≡ Some v

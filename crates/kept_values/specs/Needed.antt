@@ -64,6 +64,7 @@ given_by_intrinsic Intrinsic.CoroBegin result = result
 given_by_intrinsic Intrinsic.CoroFree result = result
 given_by_intrinsic Intrinsic.CoroFrame result = result
 given_by_intrinsic Intrinsic.CoroSuspend result = result
+given_by_intrinsic Intrinsic.CoroEnd result = result
 given_by_intrinsic Intrinsic.CoroDone result = result
 given_by_intrinsic Intrinsic.CoroPromise result = result
 given_by_intrinsic _ result = None
