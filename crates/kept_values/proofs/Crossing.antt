@@ -1,6 +1,6 @@
 -- What is needed behind a reached suspend crosses it.
 use Rattle.std.proofs.Common.{◌≡◌, ℕ, ◌+◌, ◌⊎◌, inl, inr, ⊎_elim, Bool, true, false, List, Option, Some, None, refl, sym, ap, subst, ℤ}
-use Rattle.std.specs.Prelude.{IsTrue}
+use Rattle.std.specs.Prelude.{IsTrue, slice_get}
 use Rattle.std.proofs.lemmas.Bool.{cases_eq}
 use Rattle.kept_values.specs.SuspendRules.{AllKeepSuspendRules, KeepsSuspendRules, IsCallAt, IsGivenBy, KeepsNeeded}
 use Rattle.kept_values.specs.Crossing.{AreDefinite, Crosses, IsDefinedBefore, IsDefinite, IsReachedWithout, KeepsCrossing, LeadsTo, across, after_without, along_without, by_instr, by_param, by_phi, first_without, is_param, is_remade, over, there}
@@ -18,7 +18,7 @@ use Rattle.ir_model.specs.declared.module.Function.{Function}
 use Rattle.ir_model.specs.declared.module.Module.{Module}
 use Rattle.ir_model.specs.declared.operand.Intrinsic.{Intrinsic}
 use Rattle.ir_paths.specs.declared.point.Point.{Point}
-use Rattle.ordinary_step.specs.Step.{AtInstr, AtTerm, Fetched, Nowhere, fetch}
+use Rattle.ordinary_step.specs.Step.{AtInstr, AtTerm, Fetched, Nowhere, fetch, phis_of}
 
 -- a path with one edge more
 more_over : (f : Function) (block at : ℕ) (i : Instr) → fetch f block at ≡ AtInstr i → {b a : ℕ} → LeadsTo f block at b a → LeadsTo f block (at + 1) b a
@@ -47,11 +47,12 @@ is_given (Some u) v = ⊎_elim (λ e. inl (ap Some e)) (λ ne. inr (λ (e : Some
 
 -- a reached point is reached without the definition, or it stands before
 pub split : (f : Function) (v : ℕ) {block at : ℕ} → IsReached f block at → IsReachedWithout f v block at ⊎ IsDefinedBefore f v block at
-split f v first = on (is_param f v) refl
+split f v first = on (is_param f v) (phis_give v (phis_of (slice_get f.blocks 0))) refl refl
   where
-    on : (b : Bool) → is_param f v ≡ b → IsReachedWithout f v 0 0 ⊎ IsDefinedBefore f v 0 0
-    on true e = inr (by_param e there)
-    on false e = inl (first_without e)
+    on : (b c : Bool) → is_param f v ≡ b → phis_give v (phis_of (slice_get f.blocks 0)) ≡ c → IsReachedWithout f v 0 0 ⊎ IsDefinedBefore f v 0 0
+    on true c e d = inr (by_param e there)
+    on false true e d = inr (by_phi 0 d there)
+    on false false e d = inl (first_without e d)
 split f v (after {block} {at} i e r) = on (split f v r) (is_given (given_by i) v)
   where
     on : IsReachedWithout f v block at ⊎ IsDefinedBefore f v block at → (given_by i ≡ Some v) ⊎ (given_by i ≡ Some v → ⊥) → IsReachedWithout f v block (at + 1) ⊎ IsDefinedBefore f v block (at + 1)

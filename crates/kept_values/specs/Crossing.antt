@@ -53,9 +53,9 @@ pub record KeepsCrossing (m : Module) (keep : Keep) : Type 0 where
 
 -- ---- F2
 
--- a path leads from the entry to a point with no definition of v on it
+-- a path leads from the entry to a point with no definition of v on it; a phi of the entry block is one there
 pub data IsReachedWithout (f : Function) (v : ℕ) : ℕ → ℕ → Type 0 where
-  first_without : IsFalse (is_param f v) → IsReachedWithout f v 0 0
+  first_without : IsFalse (is_param f v) → IsFalse (phis_give v (phis_of (slice_get f.blocks 0))) → IsReachedWithout f v 0 0
   after_without : {block at : ℕ} (i : Instr) → fetch f block at ≡ AtInstr i → (given_by i ≡ Some v → ⊥) → IsReachedWithout f v block at → IsReachedWithout f v block (at + 1)
   along_without : {block at : ℕ} (label : ℕ) → BranchesTo label (fetch f block at) → IsFalse (phis_give v (phis_at f label)) → IsReachedWithout f v block at → IsReachedWithout f v (position_of f label) 0
 
