@@ -1,0 +1,4 @@
+pub mod Tokens
+pub mod Scalars
+pub mod Definite
+pub mod Places
