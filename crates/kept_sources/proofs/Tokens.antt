@@ -56,7 +56,7 @@ no_result callee None h = other_fits
 no_result callee (Some t) h = absurd (cc)
 
 -- what coro.id and coro.save make
-token_typed : (t : Ty) → Rattle.type_rules.specs.Wants.is_token t ≡ true → t ≡ token
+pub token_typed : (t : Ty) → Rattle.type_rules.specs.Wants.is_token t ≡ true → t ≡ token
 token_typed (int w) h = absurd (cc)
 token_typed ptr h = absurd (cc)
 token_typed token h = refl
