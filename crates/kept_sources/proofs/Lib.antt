@@ -6,3 +6,5 @@ pub mod Suspends
 pub mod Behind
 pub mod Listed
 pub mod Windows
+pub mod Names
+pub mod Modules
