@@ -8,3 +8,5 @@ pub mod Listed
 pub mod Windows
 pub mod Names
 pub mod Modules
+pub mod EdgeNeeds
+pub mod EdgeWindows

@@ -8,8 +8,10 @@ ghost use Rattle.coro_meaning.specs.Source.{SourceAt};
 ghost use Rattle.coro_shape.specs.OneOfEach.{wrong_call};
 ghost use Rattle.coro_shape.specs.Switches.{wrong_switch};
 ghost use Rattle.early_lower.specs.Early.{early_module};
+ghost use Rattle.edge_blocks.specs.EdgeBlocks.{with_edge_blocks};
 ghost use Rattle.first_pass_rules.specs.early_path_rules.Paths.{KeepsPaths};
 ghost use Rattle.first_pass_rules.specs.early_path_rules.Shape.{KeepsShape};
+ghost use Rattle.frame_rules.specs.edge_states.MovedState.{KeepsEdges};
 ghost use Rattle.frame_rules.specs.function_rules.Kept.{KeepsFunctionRules};
 ghost use Rattle.ir_check.specs.Refused.{IsRefused};
 ghost use Rattle.ir_grammar.specs.Text.{StandsFor};
@@ -69,4 +71,9 @@ pub fn accepted_sources_have_plain_names()
 /// suspend, and what isn't a value that may cross, alone.
 pub fn accepted_early_sources_hand_on_what_crosses()
     ensures { (text : List ℕ) (m : Module) → StandsFor text m → IsRefused Stage.Source m None → (keep : Keep) → HandsOn (early_module m) keep → (sizes : List Frame) (entry : ℕ) (args : List Word) (answers : List ℤ) → AgreesWithin 2 (SourceAt m sizes entry args answers) (KeptAt (early_module m) keep sizes entry args answers) }
+{}
+
+/// A coroutine that keeps what is asked of saves, suspends and windows keeps it where its edges have blocks.
+pub fn edge_blocks_keep_suspend_rules()
+    ensures { (f : Function) → KeepsEdges f → KeepsSuspendRules f → KeepsSuspendRules (with_edge_blocks f) }
 {}
