@@ -1,0 +1,12 @@
+pub mod Tokens
+pub mod Scalars
+pub mod Definite
+pub mod Places
+pub mod Suspends
+pub mod Behind
+pub mod Listed
+pub mod Windows
+pub mod Names
+pub mod Modules
+pub mod EdgeNeeds
+pub mod EdgeWindows

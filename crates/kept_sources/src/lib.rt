@@ -1,0 +1,79 @@
+//! That sources that break no rule keep what is asked of values that a resume hands on.
+#![tactic(auto)]
+
+ghost use Rattle.std.specs.Prelude.{◌≡◌, ℕ, ℤ, List, None, Some, true};
+ghost use Rattle.agreement.specs.Agreements.{AgreesWithin};
+ghost use Rattle.coro_base.specs.declared.outcome.Word.{Word};
+ghost use Rattle.coro_meaning.specs.Source.{SourceAt};
+ghost use Rattle.coro_shape.specs.OneOfEach.{wrong_call};
+ghost use Rattle.coro_shape.specs.Switches.{wrong_switch};
+ghost use Rattle.early_lower.specs.Early.{early_module};
+ghost use Rattle.edge_blocks.specs.EdgeBlocks.{with_edge_blocks};
+ghost use Rattle.first_pass_rules.specs.early_path_rules.Paths.{KeepsPaths};
+ghost use Rattle.first_pass_rules.specs.early_path_rules.Shape.{KeepsShape};
+ghost use Rattle.frame_rules.specs.edge_states.MovedState.{KeepsEdges};
+ghost use Rattle.frame_rules.specs.function_rules.Kept.{KeepsFunctionRules};
+ghost use Rattle.ir_check.specs.Refused.{IsRefused};
+ghost use Rattle.ir_grammar.specs.Text.{StandsFor};
+ghost use Rattle.ir_model.specs.declared.module.Frame.{Frame};
+ghost use Rattle.ir_model.specs.declared.module.Function.{Function};
+ghost use Rattle.ir_model.specs.declared.module.Module.{Module};
+ghost use Rattle.ir_model.specs.declared.operand.Intrinsic.{Intrinsic};
+ghost use Rattle.ir_paths.specs.declared.point.Point.{Point};
+ghost use Rattle.kept_values.specs.Crossing.{AreDefinite, IsDefinite};
+ghost use Rattle.kept_values.specs.Handed.{HandsOn, HasPlainNames, HavePlainNames};
+ghost use Rattle.kept_values.specs.Kept.{Keep, KeptAt};
+ghost use Rattle.kept_values.specs.Needed.{IsNeededBehind, given_by};
+ghost use Rattle.kept_values.specs.SuspendRules.{AllKeepSuspendRules, IsCallAt, IsSwitched, KeepsSuspendRules};
+ghost use Rattle.name_rules.specs.declared.stage.Stage.{Stage};
+
+/// A function that breaks none of the rules of functions, F2 among them, reads no value before its definition.
+pub fn functions_are_definite()
+    ensures { (m : Module) (k : ℕ) (f : Function) → KeepsFunctionRules m k f → IsDefinite f }
+{}
+
+/// A suspend of a coroutine without fault of K3 is followed at once by its switch.
+pub fn suspends_are_switched()
+    ensures { (k : ℕ) (f : Function) → f.coroutine ≡ true → wrong_switch k f ≡ None → (s : Point) → IsCallAt Intrinsic.CoroSuspend f s → IsSwitched f s }
+{}
+
+/// What it makes isn't needed behind it.
+pub fn results_of_suspends_are_unread()
+    ensures { (k : ℕ) (f : Function) → f.coroutine ≡ true → wrong_switch k f ≡ None → (s : Point) (c : IsCallAt Intrinsic.CoroSuspend f s) (v : ℕ) → given_by c.instr ≡ Some v → IsNeededBehind f s v → ⊥ }
+{}
+
+/// A coroutine that breaks none of the rules of functions, of its calls and of paths keeps what is asked of saves, suspends and windows.
+pub fn coroutines_keep_suspend_rules()
+    ensures { (m : Module) (k : ℕ) (f : Function) → f.coroutine ≡ true → KeepsFunctionRules m k f → KeepsShape k f → KeepsPaths k f → KeepsSuspendRules f }
+{}
+
+/// A function that breaks none of the rules of functions, and as a coroutine none of its calls, keeps what is asked of names and of the end's block.
+pub fn functions_have_plain_names()
+    ensures { (m : Module) (k : ℕ) (f : Function) → KeepsFunctionRules m k f → (f.coroutine ≡ true → wrong_call k f ≡ None) → HasPlainNames f }
+{}
+
+/// What the first pass makes of a source that a text stands for and that breaks no rule keeps what is asked of saves, suspends and windows.
+pub fn accepted_sources_keep_suspend_rules()
+    ensures { (text : List ℕ) (m : Module) → StandsFor text m → IsRefused Stage.Source m None → AllKeepSuspendRules (early_module m) }
+{}
+
+/// It reads no value before its definition.
+pub fn accepted_sources_are_definite()
+    ensures { (text : List ℕ) (m : Module) → StandsFor text m → IsRefused Stage.Source m None → AreDefinite (early_module m) }
+{}
+
+/// It keeps what is asked of names and of the ends' blocks.
+pub fn accepted_sources_have_plain_names()
+    ensures { (text : List ℕ) (m : Module) → StandsFor text m → IsRefused Stage.Source m None → HavePlainNames (early_module m) }
+{}
+
+/// Each run of such a source agrees within 2 with the run of what the first pass makes of it, in which a resume hands on the values that cross its
+/// suspend, and what isn't a value that may cross, alone.
+pub fn accepted_early_sources_hand_on_what_crosses()
+    ensures { (text : List ℕ) (m : Module) → StandsFor text m → IsRefused Stage.Source m None → (keep : Keep) → HandsOn (early_module m) keep → (sizes : List Frame) (entry : ℕ) (args : List Word) (answers : List ℤ) → AgreesWithin 2 (SourceAt m sizes entry args answers) (KeptAt (early_module m) keep sizes entry args answers) }
+{}
+
+/// A coroutine that keeps what is asked of saves, suspends and windows keeps it where its edges have blocks.
+pub fn edge_blocks_keep_suspend_rules()
+    ensures { (f : Function) → KeepsEdges f → KeepsSuspendRules f → KeepsSuspendRules (with_edge_blocks f) }
+{}
