@@ -10,3 +10,4 @@ pub mod Names
 pub mod Modules
 pub mod EdgeNeeds
 pub mod EdgeWindows
+pub mod Whole

@@ -11,7 +11,7 @@ ghost use Rattle.early_lower.specs.Early.{early_module};
 ghost use Rattle.edge_blocks.specs.EdgeBlocks.{with_edge_blocks};
 ghost use Rattle.first_pass_rules.specs.early_path_rules.Paths.{KeepsPaths};
 ghost use Rattle.first_pass_rules.specs.early_path_rules.Shape.{KeepsShape};
-ghost use Rattle.frame_rules.specs.edge_states.MovedState.{KeepsEdges};
+ghost use Rattle.frame_rules.specs.edge_states.MovedState.{KeepsEdges, edges_split};
 ghost use Rattle.frame_rules.specs.function_rules.Kept.{KeepsFunctionRules};
 ghost use Rattle.ir_check.specs.Refused.{IsRefused};
 ghost use Rattle.ir_grammar.specs.Text.{StandsFor};
@@ -76,4 +76,25 @@ pub fn accepted_early_sources_hand_on_what_crosses()
 /// A coroutine that keeps what is asked of saves, suspends and windows keeps it where its edges have blocks.
 pub fn edge_blocks_keep_suspend_rules()
     ensures { (f : Function) → KeepsEdges f → KeepsSuspendRules f → KeepsSuspendRules (with_edge_blocks f) }
+{}
+
+/// So does what the first pass makes of a source that a text stands for and that breaks no rule, where its coroutines' edges have blocks.
+pub fn accepted_edges_keep_suspend_rules()
+    ensures { (text : List ℕ) (m : Module) → StandsFor text m → IsRefused Stage.Source m None → AllKeepSuspendRules (edges_split (early_module m)) }
+{}
+
+/// Nor is a value read there before its definition.
+pub fn accepted_edges_are_definite()
+    ensures { (text : List ℕ) (m : Module) → StandsFor text m → IsRefused Stage.Source m None → AreDefinite (edges_split (early_module m)) }
+{}
+
+/// What is asked of names and of the ends' blocks is kept there, too.
+pub fn accepted_edges_have_plain_names()
+    ensures { (text : List ℕ) (m : Module) → StandsFor text m → IsRefused Stage.Source m None → HavePlainNames (edges_split (early_module m)) }
+{}
+
+/// Each run of a source that a text stands for and that breaks no rule agrees within 4 with the run, where saves are written out and edges have blocks, in
+/// which a resume hands on the values that cross its suspend, and what isn't a value that may cross, alone.
+pub fn accepted_sources_hand_on_what_crosses()
+    ensures { (text : List ℕ) (m : Module) → StandsFor text m → IsRefused Stage.Source m None → (keep : Keep) → HandsOn (edges_split (early_module m)) keep → (sizes : List Frame) (entry : ℕ) (args : List Word) (answers : List ℤ) → AgreesWithin 4 (SourceAt m sizes entry args answers) (KeptAt (edges_split (early_module m)) keep sizes entry args answers) }
 {}
