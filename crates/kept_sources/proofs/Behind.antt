@@ -1,10 +1,10 @@
 -- What is needed behind a suspend is used behind it in the sense of K7, where what defines the value gives it.
-use Rattle.std.proofs.Common.{◌≡◌, ◌<◌, ◌⊎◌, inl, inr, ⊎_elim, ℕ, zero, suc, ◌+◌, Bool, true, false, List, [], ◌∷◌, length, Option, Some, None, refl, sym, ap, ◌∙◌, subst, arith}
-use Rattle.std.specs.Prelude.{IsTrue, IsFalse, slice_get, ◌==◌, ◌||◌, if◌then◌else◌}
-use Rattle.std.specs.List.{list_any}
+use Rattle.std.proofs.Common.{◌≡◌, ◌<◌, ◌⊎◌, inl, inr, ℕ, ◌+◌, Bool, true, false, List, [], ◌∷◌, length, Option, Some, None, refl, sym, ap, ◌∙◌, subst, arith}
+use Rattle.std.specs.Prelude.{IsTrue, slice_get, ◌==◌, ◌||◌, if◌then◌else◌}
 use Rattle.definite_use.specs.Uses.{Use, block_values, local_of, locals_in, phi_values, use_of, uses_of, values_at, values_in}
 use Rattle.first_pass_meaning.proofs.early_agreement.Lists.{equal_numbers, get_within, not_equal}
-use Rattle.first_pass_meaning.proofs.early_agreement.Uses.{AreOfBlock, block_edge, instr_use, none_made, of_block, of_phis, result_spelt, stands_in, three_kinds, use_at}
+use Rattle.first_pass_meaning.proofs.early_agreement.Uses.{AreOfBlock, block_edge, instr_use, none_made, of_block, of_phis, stands_in, three_kinds, use_at}
+use Rattle.first_pass_meaning.proofs.save_simulation.Suspending.{fetch_at}
 use Rattle.first_pass_meaning.specs.early_agreement.Regular.{is_call_at, is_result, makes, passes}
 use Rattle.flow_solver.specs.Paths.{IsListed}
 use Rattle.function_parts.specs.Contents.{ending_operands, instr_operands}
@@ -21,12 +21,11 @@ use Rattle.ir_model.specs.declared.operand.Operand.{Operand}
 use Rattle.ir_paths.specs.Paths.{targets}
 use Rattle.ir_paths.specs.Windows.{destroy_label, end_block, instr_at, instr_in, is_call_of, resume_label}
 use Rattle.ir_paths.specs.declared.point.Point.{Point}
-use Rattle.kept_sources.proofs.Places.{IsEnd, any_local, branch_there, fetched, instr_there, point, term_there}
+use Rattle.kept_sources.proofs.Places.{IsEnd, any_local, branch_there, instr_there, point, term_there}
 use Rattle.kept_values.proofs.Read.{end_reads_nothing, listed_by_name, made_phi, read_here}
 use Rattle.kept_values.specs.Needed.{BranchesTo, IsNeeded, IsNeededBehind, IsNeededOn, PassesBy, enter, given_by, label_of_block, next, phi, phis_at, phis_give, phis_read, read, reads_at}
 use Rattle.ordinary_step.specs.Step.{AtInstr, AtTerm, Fetched, Nowhere, fetch, incoming_from, label_of, phis_of}
 use Rattle.step_laws.specs.Changed.{Each, result_of}
-use Rattle.suspend_crossing.specs.Paths.{used_by}
 use Rattle.window_values.specs.Kept.{InBlock, IsUsedBehind, Next as NextBlock, OnEdge as OnOwnEdge, Own, ReachesBehind, TakesFrom, own_blocks, phis_in}
 
 each_listed : {A : Type 0} (xs ys : List A) → ((x : A) → IsListed x xs → IsListed x ys) → Each (λ x. IsListed x ys) xs
@@ -123,7 +122,7 @@ module _ (k : ℕ) (f : Function) (v : ℕ) (labels : (j : ℕ) (b : Block) → 
     where
       on : (o : Option Instr) → instr_at f (point block at) ≡ o → passes (is_call_of Intrinsic.CoroEnd) o ≡ true → ⊥
       on None d h = absurd (cc)
-      on (Some i) d h = let no : AtInstr i ≡ AtTerm t = sym (fetched f (point block at) i d) ∙ e in absurd (cc)
+      on (Some i) d h = let no : AtInstr i ≡ AtTerm t = sym (fetch_at f (point block at) i d) ∙ e in absurd (cc)
 
   -- ---- uses
 

@@ -1,9 +1,8 @@
 -- Where no use is undefined (rule F2), nothing is read before its definition.
-use Rattle.std.proofs.Common.{◌≡◌, ◌<◌, ◌≤◌, ◌⊎◌, inl, inr, ⊎_elim, ℕ, zero, suc, ◌+◌, Bool, true, false, List, [], ◌∷◌, length, Option, Some, None, refl, sym, ap, ◌∙◌, subst, arith}
-use Rattle.std.specs.Prelude.{IsTrue, IsFalse, map, slice_get, ◌==◌}
-use Rattle.std.specs.List.{list_any}
+use Rattle.std.proofs.Common.{◌≡◌, ◌<◌, ◌≤◌, ◌⊎◌, inl, inr, ⊎_elim, ℕ, ◌+◌, Bool, true, false, [], length, Option, Some, None, refl, sym, ap, ◌∙◌, subst, arith}
+use Rattle.std.specs.Prelude.{IsTrue, slice_get, ◌==◌}
 use Rattle.definite_use.specs.Undefined.{Entry, IsUndefined, Next as NextBlock, ReachesWithout, params_of}
-use Rattle.definite_use.specs.Uses.{Use, block_values, local_of, locals_in, phi_values, use_of, uses_of, values_at, values_in}
+use Rattle.definite_use.specs.Uses.{Use, block_values, locals_in, phi_values, use_of, uses_of, values_at, values_in}
 use Rattle.first_pass_meaning.proofs.early_agreement.Lists.{at_each, each_there, equal_numbers, get_within, not_equal}
 use Rattle.first_pass_meaning.proofs.early_agreement.Uses.{AreOfBlock, block_edge, instr_use, none_made, none_undefined, of_block, of_phis, result_spelt, stands_in, three_kinds, use_at}
 use Rattle.first_pass_meaning.specs.early_agreement.Regular.{is_result, makes, passes}
@@ -20,25 +19,22 @@ use Rattle.frame_rules.specs.woven_rules.Pairs.{times}
 use Rattle.function_parts.specs.Contents.{ending_operands, instr_operands, result_of as part_result}
 use Rattle.function_parts.specs.Locals.{locals_of}
 use Rattle.function_parts.specs.Parts.{OfInstr, instr_place}
-use Rattle.ir_model.specs.Names.{is_local, position_of}
+use Rattle.ir_model.specs.Names.{position_of}
 use Rattle.ir_model.specs.declared.instr.Instr.{Instr}
-use Rattle.ir_model.specs.declared.instr.Phi.{Phi}
 use Rattle.ir_model.specs.declared.instr.Terminator.{Terminator}
 use Rattle.ir_model.specs.declared.module.Block.{Block}
 use Rattle.ir_model.specs.declared.module.Function.{Function}
 use Rattle.ir_model.specs.declared.module.Module.{Module}
-use Rattle.ir_model.specs.declared.operand.Callee.{Callee}
-use Rattle.ir_model.specs.declared.operand.Operand.{Operand}
 use Rattle.ir_paths.specs.Paths.{targets}
 use Rattle.ir_paths.specs.Windows.{instr_at, instr_in}
 use Rattle.ir_paths.specs.declared.point.Point.{Point}
-use Rattle.kept_sources.proofs.Places.{IsEnd, any_local, any_param, branch_there, instr_there, point, term_there}
+use Rattle.kept_sources.proofs.Places.{any_local, any_param, branch_there, instr_there, point, term_there}
 use Rattle.kept_sources.proofs.Scalars.{IsScalarValue, instr_reads, phis_reads, term_reads}
 use Rattle.kept_sources.proofs.Tokens.{FitsCallee, IsNoScalar, ungiven_kind}
 use Rattle.kept_values.proofs.Read.{listed_by_name, made_phi, read_here}
 use Rattle.kept_values.specs.Crossing.{IsDefinite, IsReachedWithout, after_without, along_without, first_without, is_param}
 use Rattle.kept_values.specs.Needed.{BranchesTo, given_by, label_of_block, phis_at, phis_give, phis_read, reads_at}
-use Rattle.ordinary_step.specs.Step.{AtInstr, AtTerm, Fetched, Nowhere, fetch, incoming_from, label_of, phis_of}
+use Rattle.ordinary_step.specs.Step.{AtInstr, AtTerm, Fetched, Nowhere, fetch, label_of, phis_of}
 use Rattle.step_laws.specs.Changed.{Each, result_of}
 use Rattle.suspend_crossing.specs.Paths.{used_by}
 use Rattle.type_rules.specs.Signatures.{calls_otherwise, fits_callee}

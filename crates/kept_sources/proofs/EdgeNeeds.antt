@@ -1,7 +1,7 @@
 -- What is needed where edges have blocks is needed in the function.
-use Rattle.std.proofs.Common.{◌≡◌, ◌<◌, ◌⊎◌, inl, inr, ⊎_elim, ℕ, zero, suc, ◌+◌, Bool, true, false, List, [], ◌∷◌, length, Option, Some, None, refl, sym, ap, ◌∙◌, subst, arith}
-use Rattle.std.specs.Prelude.{IsFalse, IsTrue, filter_map, map, slice_get, unwrap_or, ◌==◌, ◌||◌}
-use Rattle.edge_blocks.specs.EdgeBlocks.{edge_block, incoming_on, split_phi, split_term, with_edge_blocks}
+use Rattle.std.proofs.Common.{◌≡◌, ◌<◌, inl, inr, ℕ, suc, ◌+◌, Bool, true, false, List, [], ◌∷◌, length, Option, Some, None, refl, sym, ap, ◌∙◌, subst}
+use Rattle.std.specs.Prelude.{map, slice_get, unwrap_or, ◌==◌, ◌||◌}
+use Rattle.edge_blocks.specs.EdgeBlocks.{split_phi, split_term, with_edge_blocks}
 use Rattle.edge_blocks.specs.Edges.{edges_at, ends_in_suspend, has_phis, phi_flags}
 use Rattle.edge_blocks.specs.declared.edge.Edge.{Edge}
 use Rattle.flow_solver.specs.Paths.{IsListed}
@@ -14,12 +14,11 @@ use Rattle.frame_rules.proofs.edge_block_rules.EdgeUses.{label_there}
 use Rattle.frame_rules.proofs.edge_block_rules.Homes.{edge_from, edge_target, edge_there, own_block, own_there, target_low}
 use Rattle.frame_rules.proofs.edge_block_rules.Labels.{label_to_edge}
 use Rattle.frame_rules.proofs.edge_block_rules.Standing.{BothInstr, BothNowhere, BothTerm, IsBranch, StandAlike, branch_home, fetch_edge, only_target, place_of_target, stand_alike}
-use Rattle.frame_rules.specs.edge_agreement.Labels.{HasNamedLabels, IsAmong, IsSplit}
+use Rattle.frame_rules.specs.edge_agreement.Labels.{HasNamedLabels, IsSplit}
 use Rattle.frame_rules.specs.edge_agreement.Phis.{AreLabelsOnce}
 use Rattle.frame_rules.specs.edge_agreement.Spots.{moved, table_of}
 use Rattle.frame_rules.specs.edge_states.MovedState.{IsSwitch}
 use Rattle.ir_model.specs.Names.{is_local, position_of}
-use Rattle.ir_model.specs.declared.instr.Instr.{Instr}
 use Rattle.ir_model.specs.declared.instr.Phi.{Phi}
 use Rattle.ir_model.specs.declared.instr.Terminator.{Terminator}
 use Rattle.ir_model.specs.declared.module.Block.{Block}
@@ -28,10 +27,10 @@ use Rattle.ir_paths.specs.Paths.{targets}
 use Rattle.ir_paths.specs.Slots.{occurs_in_term}
 use Rattle.ir_paths.specs.Windows.{label_at, label_of_term}
 use Rattle.ir_paths.specs.declared.point.Point.{Point}
-use Rattle.kept_sources.proofs.Suspends.{name_listed}
+use Rattle.path_facts.proofs.Chained.{listed-name}
 use Rattle.kept_values.proofs.Read.{listed_by_name}
 use Rattle.kept_values.specs.Needed.{BranchesTo, IsNeeded, IsNeededBehind, IsNeededOn, PassesBy, enter, label_of_block, next, phi, phis_at, phis_give, phis_read, read, reads_at}
-use Rattle.ordinary_step.specs.Step.{AtInstr, AtTerm, Fetched, Nowhere, fetch, incoming_from, label_of, phis_of}
+use Rattle.ordinary_step.specs.Step.{AtInstr, AtTerm, Fetched, Nowhere, fetch, label_of, phis_of}
 use Rattle.suspend_crossing.specs.Paths.{BranchesTo as LeadsOn}
 
 listed_branch : (label : ℕ) (x : Fetched) → BranchesTo label x → LeadsOn label x
@@ -42,7 +41,7 @@ listed_branch label (AtTerm t) h = listed_by_name (targets t) label h
 named_branch : (label : ℕ) (x : Fetched) → LeadsOn label x → BranchesTo label x
 named_branch label Nowhere h = h
 named_branch label (AtInstr i) h = h
-named_branch label (AtTerm t) h = name_listed label (targets t) h
+named_branch label (AtTerm t) h = listed-name label (targets t) h
 
 occurs_split : (v : ℕ) (flags : List Bool) (resumes : Bool) (n : ℕ) (t : Terminator) → occurs_in_term v (split_term flags resumes n t) ≡ occurs_in_term v t
 occurs_split v flags resumes n (Terminator.Jump label) = refl
@@ -131,7 +130,7 @@ module _ (f : Function) (named : HasNamedLabels f) (once : AreLabelsOnce f) (v :
         on (Some c) d =
             let label : c.label ≡ e.target = label_there f e.target (position_of f e.target) c refl d in
             let split : phis_read v e.label (map (split_phi (edges_at (table_of f) e.target)) c.phis) ≡ true =
-                subst (λ (n : ℕ). phis_read v e.label (map (split_phi (edges_at (table_of f) n)) c.phis) ≡ true) label (sym (ap (λ (o : Option Block). phis_read v e.label (phis_of o)) (own_there f (position_of f e.target) c d)) ∙ now) in
+            subst (λ (n : ℕ). phis_read v e.label (map (split_phi (edges_at (table_of f) n)) c.phis) ≡ true) label (sym (ap (λ (o : Option Block). phis_read v e.label (phis_of o)) (own_there f (position_of f e.target) c d)) ∙ now) in
             sym (ap (λ (n : ℕ). phis_read v n c.phis) old_label) ∙ sym (phis_over c.phis) ∙ split
 
   -- ---- needs

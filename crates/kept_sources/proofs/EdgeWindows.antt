@@ -1,9 +1,8 @@
 -- Where a coroutine's edges have blocks it keeps what is asked of saves, suspends and windows, if it did.
-use Rattle.std.proofs.Common.{◌≡◌, ◌⊎◌, inl, inr, ⊎_elim, ℕ, zero, suc, ◌+◌, Bool, true, false, List, [], ◌∷◌, length, Option, Some, None, refl, sym, ap, ◌∙◌, subst, arith}
-use Rattle.std.specs.Prelude.{IsFalse, IsTrue, option_map, slice_get, ◌||◌}
+use Rattle.std.proofs.Common.{◌≡◌, ◌⊎◌, inl, inr, ⊎_elim, ℕ, ◌+◌, Bool, true, false, List, [], ◌∷◌, length, Option, Some, None, refl, sym, ap, ◌∙◌, subst}
+use Rattle.std.specs.Prelude.{option_map, slice_get, ◌||◌}
 use Rattle.edge_blocks.specs.EdgeBlocks.{split_term, with_edge_blocks}
 use Rattle.edge_blocks.specs.Edges.{ends_in_suspend, phi_flags}
-use Rattle.edge_blocks.specs.declared.edge.Edge.{Edge}
 use Rattle.first_pass_meaning.proofs.early_agreement.Uses.{stands_in}
 use Rattle.first_pass_meaning.proofs.save_agreement.Apart.{same_moved}
 use Rattle.frame_rules.proofs.edge_agreement.Blocks.{own_number, spot}

@@ -1,9 +1,8 @@
 -- Modules whose functions break no rule keep what is asked, and so do what the first pass makes of accepted sources.
-use Rattle.std.proofs.Common.{◌≡◌, ◌⊎◌, ℕ, Bool, true, false, List, [], Option, Some, None, refl, sym, ap, ◌∙◌, subst, ℤ}
-use Rattle.std.specs.Prelude.{IsTrue, slice_get, unwrap_or}
+use Rattle.std.proofs.Common.{◌≡◌, ℕ, Bool, true, false, List, Option, Some, None, refl, ℤ}
+use Rattle.std.specs.Prelude.{slice_get, unwrap_or}
 use Rattle.agreement.proofs.Compose.{compose_within}
 use Rattle.agreement.specs.Agreements.{AgreesWithin}
-use Rattle.agreement.specs.Machines.{Seen}
 use Rattle.coro_base.specs.declared.outcome.Word.{Word}
 use Rattle.coro_meaning.specs.Source.{SourceAt}
 use Rattle.coro_shape.specs.OneOfEach.{wrong_call}
@@ -20,14 +19,13 @@ use Rattle.frame_rules.specs.function_rules.Kept.{AllKeepFunctionRules, KeepsFun
 use Rattle.ir_check.specs.Refused.{IsRefused}
 use Rattle.ir_grammar.specs.Text.{StandsFor}
 use Rattle.ir_model.specs.Names.{function_at, no_function}
-use Rattle.ir_model.specs.declared.instr.Instr.{Instr}
 use Rattle.ir_model.specs.declared.module.Frame.{Frame}
 use Rattle.ir_model.specs.declared.module.Function.{Function}
 use Rattle.ir_model.specs.declared.module.Module.{Module}
 use Rattle.ir_model.specs.declared.operand.Intrinsic.{Intrinsic}
 use Rattle.ir_paths.specs.declared.point.Point.{Point}
 use Rattle.kept_sources.proofs.Definite.{definite}
-use Rattle.kept_sources.proofs.Names.{StaysInside, end_inside, none_outside, plain_names, save_inside, suspend_inside}
+use Rattle.kept_sources.proofs.Names.{StaysInside, none_outside, plain_names, save_inside, suspend_inside}
 use Rattle.kept_sources.proofs.Windows.{coroutine_keeps}
 use Rattle.kept_values.proofs.Handed.{handed_agrees}
 use Rattle.kept_values.specs.Crossing.{AreDefinite, IsDefinite}
@@ -36,7 +34,7 @@ use Rattle.kept_values.specs.Kept.{Keep, KeptAt}
 use Rattle.kept_values.specs.SuspendRules.{AllKeepSuspendRules, IsCallAt, KeepsSuspendRules}
 use Rattle.name_order.proofs.Shaped.{text_is_shaped}
 use Rattle.name_rules.specs.declared.stage.Stage.{Stage}
-use Rattle.ordinary_step.specs.Step.{AtInstr, AtTerm, Nowhere}
+use Rattle.ordinary_step.specs.Step.{AtInstr, Nowhere}
 
 -- ---- where there is no function
 

@@ -1,51 +1,49 @@
 -- Functions without fault of N1, K1, K2, Y1 and Y2 keep what is asked of names and of the end's block.
-use Rattle.std.proofs.Common.{◌≡◌, ◌⊎◌, inl, inr, ⊎_elim, ℕ, zero, suc, ◌+◌, Bool, true, false, List, [], ◌∷◌, length, Option, Some, None, refl, sym, ap, ◌∙◌, subst, arith}
-use Rattle.std.proofs.lemmas.Bool.{cases_eq}
+use Rattle.std.proofs.Common.{◌≡◌, ⊎_elim, ℕ, suc, ◌+◌, Bool, true, false, List, [], ◌∷◌, length, Option, Some, None, refl, sym, ap, ◌∙◌, subst, arith}
 use Rattle.std.specs.List.{list_all, list_any}
-use Rattle.std.specs.Prelude.{not, option_map, slice_get, unwrap_or, ◌==◌, ◌&&◌, ◌||◌, if◌then◌else◌}
+use Rattle.std.specs.Prelude.{option_map, slice_get, unwrap_or, ◌==◌, ◌&&◌, ◌||◌, if◌then◌else◌}
 use Rattle.coro_base.specs.declared.outcome.Place.{Place}
 use Rattle.coro_shape.specs.OneOfEach.{calls_of, is_right_instr, wrong_call}
 use Rattle.coro_shape.specs.declared.one_of_each.Calls.{Calls}
 use Rattle.first_pass_meaning.proofs.early_agreement.Lists.{at_each, equal_numbers}
 use Rattle.first_pass_meaning.proofs.early_agreement.Uses.{result_spelt, stands_in}
-use Rattle.first_pass_meaning.specs.early_agreement.Regular.{is_call_at, passes}
-use Rattle.first_pass_rules.proofs.early_local_rules.Rules.{and_first, and_second}
+use Rattle.first_pass_meaning.proofs.save_simulation.Suspending.{fetch_at}
+use Rattle.first_pass_meaning.specs.early_agreement.Regular.{passes}
+use Rattle.first_pass_rules.proofs.early_local_rules.Rules.{and_first}
 use Rattle.first_pass_rules.proofs.early_rules.Ends.{end_first}
-use Rattle.first_pass_rules.proofs.early_rules.Locals.{listed_either, no_param, no_phi, own_label, phi_names, same_instr}
+use Rattle.first_pass_rules.proofs.early_rules.Locals.{listed_either, no_param, no_phi, own_label, same_instr}
 use Rattle.first_pass_rules.proofs.early_rules.Once.{right_call}
 use Rattle.flow_solver.specs.Paths.{IsListed}
 use Rattle.frame_rules.proofs.cell_rules.Keepable.{FoundBlock, FoundInstr, FoundParam, FoundPhi, blocks_found, distinct_listed, param_listed, params_found, phi_listed}
 use Rattle.frame_rules.proofs.cell_rules.PartFacts.{block_passes}
 use Rattle.frame_rules.specs.function_rules.Kept.{KeepsFunctionRules}
 use Rattle.function_parts.specs.Contents.{result_of}
-use Rattle.function_parts.specs.Parts.{OfInstr, instr_place}
+use Rattle.function_parts.specs.Parts.{instr_place}
 use Rattle.ir_model.specs.Names.{first_where, same_intrinsic}
 use Rattle.ir_model.specs.Ty.{Ty, token}
 use Rattle.ir_model.specs.declared.instr.Instr.{Instr}
 use Rattle.ir_model.specs.declared.instr.Phi.{Phi}
-use Rattle.ir_model.specs.declared.instr.Terminator.{Terminator}
 use Rattle.ir_model.specs.declared.module.Block.{Block}
 use Rattle.ir_model.specs.declared.module.Function.{Function}
 use Rattle.ir_model.specs.declared.module.Module.{Module}
 use Rattle.ir_model.specs.declared.operand.Allocator.{Allocator}
-use Rattle.ir_model.specs.declared.operand.Arg.{Arg}
 use Rattle.ir_model.specs.declared.operand.Callee.{Callee}
 use Rattle.ir_model.specs.declared.operand.Intrinsic.{Intrinsic}
 use Rattle.ir_paths.specs.Windows.{end_block, instr_at, instr_in, is_call_of}
 use Rattle.kept_sources.proofs.Definite.{call_fits, instr_fits}
-use Rattle.kept_sources.proofs.Places.{fetched, instr_there, point, term_there}
+use Rattle.kept_sources.proofs.Places.{instr_there, point}
 use Rattle.kept_sources.proofs.Tokens.{FitsCallee, token_typed}
 use Rattle.kept_values.specs.Handed.{HasPlainNames}
 use Rattle.kept_values.specs.Needed.{given_by, given_by_allocator, given_by_intrinsic}
 use Rattle.local_rules.specs.Intrinsics.{calls_inner, is_inner, misplaces}
 use Rattle.name_rules.specs.declared.stage.Stage.{Stage}
-use Rattle.ordinary_step.specs.Step.{AtInstr, AtTerm, Fetched, Nowhere, fetch, fetch_in, phis_of}
+use Rattle.ordinary_step.specs.Step.{AtInstr, AtTerm, Nowhere, fetch, fetch_in, phis_of}
 use Rattle.step_laws.specs.Changed.{result_of as changed_result}
-use Rattle.suspend_crossing.specs.Values.{all_defined, blocks_defined, distinct, is_apart, is_token_result, params_defined, values_of}
-use Rattle.type_rules.specs.Signatures.{are_wanted, fits_named, is_result}
+use Rattle.suspend_crossing.specs.Values.{all_defined, blocks_defined, is_apart, is_token_result, params_defined, values_of}
+use Rattle.type_rules.specs.Signatures.{are_wanted, is_result}
 use Rattle.type_rules.specs.Wants.{allocator_params, allocator_result, intrinsic_params, intrinsic_result}
 use Rattle.type_rules.specs.declared.wants.Basic.{Basic}
-use Rattle.value_rules.specs.Instrs.{fits_call, fits_called, fits_instr, fits_result, passes as passes_arg}
+use Rattle.value_rules.specs.Instrs.{fits_called, fits_instr, fits_result, passes as passes_arg}
 use Rattle.value_rules.specs.Kinds.{value_kind}
 use Rattle.value_rules.specs.declared.kinds.Kind.{Kind}
 use Rattle.window_rules.specs.Points.{phi_count, phis_in}
@@ -131,13 +129,9 @@ there_any test (x ∷ is) h = on (test x) refl h (there_any test is)
     on true e k rest = record { at = 0; instr = x; stands = refl; passed = e }
     on false e k rest = let y = rest k in record { at = suc y.at; instr = y.instr; stands = y.stands; passed = y.passed }
 
-both_first : (a b : Bool) → (a && b) ≡ true → a ≡ true
-both_first true b e = refl
-both_first false b e = absurd (cc)
-
 -- the end is right where it is the first of its block, phis counted
 right_first : (c : Calls) (k block n : ℕ) (i : Instr) → is_call_of Intrinsic.CoroEnd i ≡ true → is_right_instr c (instr_place k block n) i ≡ true → n ≡ 0
-right_first c k block n (Instr.Call result must_tail ty (Callee.Intrinsic Intrinsic.CoroEnd) args) e h = equal_numbers n 0 (both_first (n == 0) _ h)
+right_first c k block n (Instr.Call result must_tail ty (Callee.Intrinsic Intrinsic.CoroEnd) args) e h = equal_numbers n 0 (and_first (n == 0) _ h)
 right_first c k block n _ e h = absurd (cc)
 
 no_phis : (ps : List Phi) → length ps + 0 ≡ 0 → ps ≡ []
@@ -182,7 +176,7 @@ module _ (m : Module) (k : ℕ) (f : Function) (rules : KeepsFunctionRules m k f
   no_end_block outside None e = refl
   no_end_block outside (Some b) e =
       let x = end_in b e in
-      absurd (none_outside outside (end_block f) x.at x.instr Intrinsic.CoroEnd end_inside (fetched f (point (end_block f) x.at) x.instr (ap (λ (o : Option Block). instr_in o x.at) e ∙ x.stands)) x.passed)
+      absurd (none_outside outside (end_block f) x.at x.instr Intrinsic.CoroEnd end_inside (fetch_at f (point (end_block f) x.at) x.instr (ap (λ (o : Option Block). instr_in o x.at) e ∙ x.stands)) x.passed)
 
   -- ---- what is given
 
@@ -243,7 +237,7 @@ module _ (m : Module) (k : ℕ) (f : Function) (rules : KeepsFunctionRules m k f
     the_end = first_is (instr_at f (point (end_block f) 0)) refl (end_first k f coroutine calls)
 
     end_fetched : fetch f (end_block f) 0 ≡ AtInstr the_end.0
-    end_fetched = fetched f (point (end_block f) 0) the_end.0 the_end.1.0
+    end_fetched = fetch_at f (point (end_block f) 0) the_end.0 the_end.1.0
 
     end_phis : phis_of (slice_get f.blocks (end_block f)) ≡ []
     end_phis =

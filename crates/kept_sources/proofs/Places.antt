@@ -1,10 +1,10 @@
 -- What stands at a place, by blocks.
-use Rattle.std.proofs.Common.{◌≡◌, ◌<◌, inl, inr, ⊎_elim, ℕ, zero, suc, ◌+◌, Bool, true, false, List, [], ◌∷◌, length, Option, Some, None, refl, sym, ap, ◌∙◌, subst, arith}
+use Rattle.std.proofs.Common.{◌≡◌, inl, inr, ℕ, Bool, true, false, List, [], ◌∷◌, length, Some, refl, sym, ap, ◌∙◌}
 use Rattle.std.specs.List.{list_any}
-use Rattle.std.specs.Prelude.{map, slice_get, ◌==◌, ◌||◌, ◌⊎◌}
-use Rattle.definite_use.specs.Uses.{local_of, locals_in}
+use Rattle.std.specs.Prelude.{map, slice_get, ◌==◌, ◌||◌}
+use Rattle.definite_use.specs.Uses.{locals_in}
 use Rattle.first_pass_meaning.proofs.early_agreement.Fits.{AnInstr, ATerm, Nothing, Stands, stands}
-use Rattle.first_pass_meaning.proofs.early_agreement.Lists.{equal_numbers, itself}
+use Rattle.first_pass_meaning.proofs.early_agreement.Lists.{itself}
 use Rattle.flow_solver.specs.Paths.{IsListed}
 use Rattle.ir_model.specs.Names.{is_local}
 use Rattle.ir_model.specs.declared.instr.Instr.{Instr}
@@ -13,10 +13,10 @@ use Rattle.ir_model.specs.declared.module.Block.{Block}
 use Rattle.ir_model.specs.declared.module.Function.{Function}
 use Rattle.ir_model.specs.declared.module.Param.{Param}
 use Rattle.ir_model.specs.declared.operand.Operand.{Operand}
-use Rattle.ir_paths.specs.Windows.{instr_at, instr_in}
+use Rattle.ir_paths.specs.Windows.{instr_at}
 use Rattle.ir_paths.specs.declared.point.Point.{Point}
 use Rattle.kept_values.specs.Needed.{BranchesTo}
-use Rattle.ordinary_step.specs.Step.{AtInstr, AtTerm, Fetched, Nowhere, fetch, fetch_in, fetch_or}
+use Rattle.ordinary_step.specs.Step.{AtInstr, AtTerm, Fetched, Nowhere, fetch}
 
 abbrev pub point : ℕ → ℕ → Point
 point block at = record { block = block; at = at }
@@ -28,13 +28,6 @@ instr_there f block at i e = on (fetch f block at) (stands f (point block at)) e
     on _ Nothing d = absurd (cc)
     on _ (AnInstr j h) d = let same : j ≡ i = cc in h ∙ ap Some same
     on _ (ATerm b there last none) d = absurd (cc)
-
-pub fetched : (f : Function) (p : Point) (i : Instr) → instr_at f p ≡ Some i → fetch f p.block p.at ≡ AtInstr i
-fetched f p i e = on (slice_get f.blocks p.block) e
-  where
-    on : (o : Option Block) → instr_in o p.at ≡ Some i → fetch_in o p.at ≡ AtInstr i
-    on None d = absurd (cc)
-    on (Some b) d = ap (λ (o : Option Instr). fetch_or o (p.at == length b.instrs) b.term) d
 
 -- the terminator of a block, behind its instructions
 pub record IsEnd (f : Function) (block at : ℕ) (t : Terminator) : Type 0 where

@@ -1,6 +1,6 @@
 -- What a step reads is of an integer type or an address (rules Y1 and Y2), so it is no token.
-use Rattle.std.proofs.Common.{◌≡◌, ◌⊎◌, inl, inr, ⊎_elim, ℕ, zero, suc, Bool, true, false, List, [], ◌∷◌, Option, Some, None, refl, sym, ap, ◌∙◌, subst}
-use Rattle.std.specs.List.{list_all, list_any}
+use Rattle.std.proofs.Common.{◌≡◌, ⊎_elim, ℕ, Bool, true, false, List, [], ◌∷◌, Option, Some, None, refl, ap, ◌∙◌}
+use Rattle.std.specs.List.{list_all}
 use Rattle.std.specs.Prelude.{◌==◌, ◌&&◌, ◌||◌, if◌then◌else◌}
 use Rattle.first_pass_meaning.proofs.early_agreement.Lists.{equal_numbers}
 use Rattle.first_pass_rules.proofs.early_local_rules.Rules.{and_first, and_second}
@@ -9,23 +9,22 @@ use Rattle.coro_base.specs.declared.ops.Pred.{Pred}
 use Rattle.ir_model.specs.Layout.{same_type}
 use Rattle.ir_model.specs.Names.{is_local}
 use Rattle.ir_model.specs.Ty.{Ty, array, int, named, ptr, structure, token}
-use Rattle.ir_model.specs.declared.instr.Case.{Case}
 use Rattle.ir_model.specs.declared.instr.Incoming.{Incoming}
 use Rattle.ir_model.specs.declared.instr.Instr.{Instr}
 use Rattle.ir_model.specs.declared.instr.Phi.{Phi}
 use Rattle.ir_model.specs.declared.instr.Terminator.{Terminator}
 use Rattle.ir_model.specs.declared.module.Module.{Module}
-use Rattle.ir_model.specs.declared.operand.Allocator.{Allocator}
 use Rattle.ir_model.specs.declared.operand.Arg.{Arg}
 use Rattle.ir_model.specs.declared.operand.Callee.{Callee}
 use Rattle.ir_model.specs.declared.operand.Intrinsic.{Intrinsic}
 use Rattle.ir_model.specs.declared.operand.Operand.{Operand}
+use Rattle.ir_paths.proofs.Search.{either}
 use Rattle.ir_paths.specs.Slots.{is_in_args, occurs_in_term}
 use Rattle.ir_paths.specs.Windows.{operand_at}
 use Rattle.kept_sources.proofs.Tokens.{FitsCallee}
 use Rattle.kept_values.specs.Needed.{phis_read, reads, reads_intrinsic}
 use Rattle.ordinary_step.specs.Step.{incoming_from}
-use Rattle.type_rules.specs.Signatures.{are_wanted, fits_callee, is_result}
+use Rattle.type_rules.specs.Signatures.{are_wanted, is_result}
 use Rattle.type_rules.specs.Wants.{any, intrinsic_params, intrinsic_result, is_basic, is_int, is_ptr, is_token, meets}
 use Rattle.type_rules.specs.declared.wants.Basic.{Basic}
 use Rattle.type_rules.specs.declared.wants.Wanted.{Wanted}
@@ -34,10 +33,6 @@ use Rattle.value_rules.specs.Instrs.{both_fit, casts, compares, fits_call, fits_
 use Rattle.step_laws.specs.Changed.{Each}
 use Rattle.value_rules.specs.Values.{fits_ending, fits_phi, takes}
 use Rattle.value_rules.specs.declared.kinds.Kind.{Kind}
-
-either_true : (a b : Bool) → (a || b) ≡ true → (a ≡ true) ⊎ (b ≡ true)
-either_true true b e = inl refl
-either_true false b e = inr e
 
 module _ (kinds : ℕ → Option Kind) (v : ℕ) where
   -- v is of an integer type or an address
@@ -64,7 +59,7 @@ module _ (kinds : ℕ → Option Kind) (v : ℕ) where
   by_two t x y s e h = ⊎_elim
       (λ k. by_operand t x s k (and_first (fits kinds t x) (fits kinds t y) h))
       (λ k. by_operand t y s k (and_second (fits kinds t x) (fits kinds t y) h))
-      (either_true (is_local v x) (is_local v y) e)
+      (either (is_local v x) (is_local v y) e)
 
   integer_scalar : (t : Ty) → is_integer t ≡ true → is_scalar t ≡ true
   integer_scalar t h = ap (λ (b : Bool). b || is_ptr t) h
@@ -104,7 +99,7 @@ module _ (kinds : ℕ → Option Kind) (v : ℕ) where
       let own = and_first (passes kinds callee a) (list_all (passes kinds callee) args) h in
       by_operand a.ty a.value (passed_scalar callee a.ty none (and_first (is_passed callee a.ty) (fits_arg kinds a) own)) k (and_second (is_passed callee a.ty) (fits_arg kinds a) own))
       (λ k. in_passed callee args none (and_second (passes kinds callee a) (list_all (passes kinds callee) args) h) k)
-      (either_true (is_local v a.value) (is_in_args v args) e)
+      (either (is_local v a.value) (is_in_args v args) e)
 
   -- a basic type that isn't that of tokens
   abbrev is_scalar_basic : Basic → Bool
@@ -134,7 +129,7 @@ module _ (kinds : ℕ → Option Kind) (v : ℕ) where
   basic_scalar Basic.I8 t s h = int_scalar 8 t h
   basic_scalar Basic.I32 t s h = int_scalar 32 t h
   basic_scalar Basic.I64 t s h = int_scalar 64 t h
-  basic_scalar Basic.Size t s h = ⊎_elim (λ e. int_scalar 32 t e) (λ e. int_scalar 64 t e) (either_true (is_int 32 t) (is_int 64 t) h)
+  basic_scalar Basic.Size t s h = ⊎_elim (λ e. int_scalar 32 t e) (λ e. int_scalar 64 t e) (either (is_int 32 t) (is_int 64 t) h)
 
   abbrev are_scalar_basic : List Wanted → Bool
   are_scalar_basic ws = list_all (λ w. is_scalar_basic w.ty) ws
@@ -153,7 +148,7 @@ module _ (kinds : ℕ → Option Kind) (v : ℕ) where
     wanted_in (w ∷ ws) (a ∷ args) s h p e = ⊎_elim
         (λ k. wanted_own w ws a args (and_first (is_scalar_basic w.ty) (are_scalar_basic ws) s) h p k)
         (λ k. wanted_in ws args (and_second (is_scalar_basic w.ty) (are_scalar_basic ws) s) (and_second (is_basic w.ty a.ty && meets w.value a.value) (are_wanted ws args) h) (and_second (passes kinds callee a) (list_all (passes kinds callee) args) p) k)
-        (either_true (is_local v a.value) (is_in_args v args) e)
+        (either (is_local v a.value) (is_in_args v args) e)
 
     first_in : (args : List Arg) → is_local v (operand_at args 0) ≡ true → is_in_args v args ≡ true
     first_in [] e = absurd (cc)
@@ -186,7 +181,7 @@ module _ (kinds : ℕ → Option Kind) (v : ℕ) where
       let own = and_first (fits_integer kinds a) (list_all (fits_integer kinds) args) h in
       by_operand a.ty a.value (integer_scalar a.ty (and_first (is_integer a.ty) (fits_arg kinds a) own)) k (and_second (is_integer a.ty) (fits_arg kinds a) own))
       (λ k. in_integers args (and_second (fits_integer kinds a) (list_all (fits_integer kinds) args) h) k)
-      (either_true (is_local v a.value) (is_in_args v args) e)
+      (either (is_local v a.value) (is_in_args v args) e)
 
   -- ---- instructions
 
@@ -203,8 +198,8 @@ module _ (kinds : ℕ → Option Kind) (v : ℕ) where
       let both = and_second (same_type a.ty b.ty) (fits_scalar kinds a && fits_scalar kinds b) rest in
       ⊎_elim
       (λ k. by_operand (int 1) x refl k (and_first (fits kinds (int 1) x) _ h))
-      (λ k. ⊎_elim (λ l. by_arg a l (and_first (fits_scalar kinds a) (fits_scalar kinds b) both)) (λ l. by_arg b l (and_second (fits_scalar kinds a) (fits_scalar kinds b) both)) (either_true (is_local v a.value) (is_local v b.value) k))
-      (either_true (is_local v x) (is_local v a.value || is_local v b.value) e)
+      (λ k. ⊎_elim (λ l. by_arg a l (and_first (fits_scalar kinds a) (fits_scalar kinds b) both)) (λ l. by_arg b l (and_second (fits_scalar kinds a) (fits_scalar kinds b) both)) (either (is_local v a.value) (is_local v b.value) k))
+      (either (is_local v x) (is_local v a.value || is_local v b.value) e)
   instr_reads m (Instr.Cast name op nneg arg to) h c e =
       by_operand arg.ty arg.value (cast_scalar op arg.ty to (and_first (casts op arg.ty to) (fits_arg kinds arg) h)) e (and_second (casts op arg.ty to) (fits_arg kinds arg) h)
   instr_reads m (Instr.Alloca name ty align) h c e = absurd (cc)
@@ -212,11 +207,11 @@ module _ (kinds : ℕ → Option Kind) (v : ℕ) where
   instr_reads m (Instr.Store arg p align) h c e = ⊎_elim
       (λ k. by_arg arg k (and_first (fits_scalar kinds arg) (fits kinds ptr p) h))
       (λ k. by_operand ptr p refl k (and_second (fits_scalar kinds arg) (fits kinds ptr p) h))
-      (either_true (is_local v arg.value) (is_local v p) e)
+      (either (is_local v arg.value) (is_local v p) e)
   instr_reads m (Instr.Gep name inbounds ty base indices) h c e = ⊎_elim
       (λ k. by_operand ptr base refl k (and_second (is_tokenless ty) (fits kinds ptr base) (and_first (is_tokenless ty && fits kinds ptr base) _ h)))
       (λ k. in_integers indices (and_first (list_all (fits_integer kinds) indices) _ (and_second (is_tokenless ty && fits kinds ptr base) _ h)) k)
-      (either_true (is_local v base) (is_in_args v indices) e)
+      (either (is_local v base) (is_in_args v indices) e)
   instr_reads m (Instr.Call r must_tail ty (Callee.Named n) args) h c e = in_passed (Callee.Named n) args refl (call_args r ty (Callee.Named n) args h) e
   instr_reads m (Instr.Call r must_tail ty (Callee.Allocator a) args) h c e = in_passed (Callee.Allocator a) args refl (call_args r ty (Callee.Allocator a) args h) e
   instr_reads m (Instr.Call r must_tail ty (Callee.Intrinsic i) args) h c e =
@@ -224,7 +219,7 @@ module _ (kinds : ℕ → Option Kind) (v : ℕ) where
   instr_reads m (Instr.Call r must_tail ty (Callee.Local f) args) h c e = ⊎_elim
       (λ k. by_operand ptr (Operand.Local f) refl k (and_first (fits kinds ptr (Operand.Local f)) (list_all (passes kinds (Callee.Local f)) args) (and_second (fits_result (Callee.Local f) ty r) _ h)))
       (λ k. in_passed (Callee.Local f) args refl (call_args r ty (Callee.Local f) args h) k)
-      (either_true (v == f) (is_in_args v args) e)
+      (either (v == f) (is_in_args v args) e)
 
   -- ---- terminators and phis
 
@@ -252,4 +247,4 @@ module _ (kinds : ℕ → Option Kind) (v : ℕ) where
   phis_reads from (p ∷ ps) h e = ⊎_elim
       (λ k. incoming_reads p.ty from p.incoming (and_first (is_scalar p.ty) (list_all (takes kinds p.ty) p.incoming) h.0) (and_second (is_scalar p.ty) (list_all (takes kinds p.ty) p.incoming) h.0) k)
       (λ k. phis_reads from ps h.1 k)
-      (either_true (is_local v (incoming_from p.incoming from)) (phis_read v from ps) e)
+      (either (is_local v (incoming_from p.incoming from)) (phis_read v from ps) e)

@@ -1,17 +1,17 @@
 -- A suspend is followed at once by its switch, which alone uses what it makes (rule K3).
-use Rattle.std.proofs.Common.{◌≡◌, ◌<◌, ◌⊎◌, inl, inr, ⊎_elim, ℕ, zero, suc, ◌+◌, Bool, true, false, List, [], ◌∷◌, ◌++◌, length, Option, Some, None, refl, sym, ap, ◌∙◌, subst, arith}
+use Rattle.std.proofs.Common.{◌≡◌, ◌<◌, ◌⊎◌, inl, inr, ℕ, zero, suc, ◌+◌, Bool, true, false, List, [], ◌∷◌, length, Option, Some, None, refl, sym, ap, ◌∙◌, subst, arith}
 use Rattle.std.proofs.lemmas.Bool.{cases_eq}
-use Rattle.std.specs.List.{list_any}
-use Rattle.std.specs.Prelude.{IsTrue, map, option_to_list, slice_get, ◌==◌, ◌&&◌, ◌||◌, if◌then◌else◌}
+use Rattle.std.specs.Prelude.{IsTrue, map, slice_get, ◌==◌, ◌||◌, if◌then◌else◌}
 use Rattle.coro_shape.specs.Switches.{end_label, is_switch_on, wrong_switch}
 use Rattle.coro_shape.specs.Uses.{phi_operands}
-use Rattle.definite_use.specs.Uses.{local_of, locals_in}
+use Rattle.definite_use.specs.Uses.{locals_in}
 use Rattle.first_pass_meaning.proofs.early_agreement.Lists.{equal_numbers, itself}
 use Rattle.first_pass_meaning.proofs.early_agreement.Uses.{StandsIn, stands_in}
+use Rattle.flow_solver.proofs.Lists.{listed_at}
 use Rattle.flow_solver.specs.Paths.{IsListed}
 use Rattle.frame_rules.proofs.edge_block_rules.CaseLabels.{switch_target}
 use Rattle.frame_rules.specs.edge_states.MovedState.{IsSwitch}
-use Rattle.function_parts.specs.Contents.{ending_operands, instr_operands}
+use Rattle.function_parts.specs.Contents.{ending_operands}
 use Rattle.ir_model.specs.Names.{is_local, position_of}
 use Rattle.ir_model.specs.declared.instr.Incoming.{Incoming}
 use Rattle.ir_model.specs.declared.instr.Instr.{Instr}
@@ -24,7 +24,7 @@ use Rattle.ir_model.specs.declared.operand.Intrinsic.{Intrinsic}
 use Rattle.ir_model.specs.declared.operand.Operand.{Operand}
 use Rattle.ir_paths.specs.Paths.{targets}
 use Rattle.ir_paths.specs.Slots.{has_name}
-use Rattle.ir_paths.specs.Windows.{call_result, destroy_label, is_call_of, label_at, label_of_term, resume_label}
+use Rattle.ir_paths.specs.Windows.{call_result, is_call_of, label_at, label_of_term}
 use Rattle.ir_paths.specs.declared.point.Point.{Point}
 use Rattle.kept_sources.proofs.Places.{IsEnd, instr_there, point, term_there}
 use Rattle.kept_values.proofs.Read.{read_here}
@@ -33,16 +33,7 @@ use Rattle.kept_values.specs.Needed.{IsNeededBehind, given_by, phis_at, phis_rea
 use Rattle.kept_values.specs.SuspendRules.{IsCallAt, IsSwitched}
 use Rattle.lowered_forms.proofs.part_uses.Switched.{IsSwitched as IsSuspendSwitched, not_in_instr, not_in_phi, not_switched_on, switched as suspend_switched}
 use Rattle.ordinary_step.specs.Step.{AtInstr, AtTerm, Fetched, Nowhere, fetch, fetch_in, fetch_or, incoming_from, phis_of}
-use Rattle.suspend_crossing.specs.Paths.{used_by}
-
-pub name_listed : (v : ℕ) (vs : List ℕ) → IsListed v vs → has_name vs v ≡ true
-name_listed v [] h = absurd h
-name_listed v (u ∷ vs) (inl e) = ap (λ (b : Bool). b || has_name vs v) (ap (λ (k : ℕ). u == k) e ∙ itself u)
-name_listed v (u ∷ vs) (inr h) = later (u == v) (name_listed v vs h)
-  where
-    later : (b : Bool) → has_name vs v ≡ true → (b || has_name vs v) ≡ true
-    later true k = refl
-    later false k = k
+use Rattle.path_facts.proofs.Chained.{listed-name}
 
 switch_is : (v : ℕ) (end : Option ℕ) (t : Terminator) → is_switch_on v end t ≡ true → IsSwitch t
 switch_is v end (Terminator.Switch arg default cases) e = tt
@@ -67,8 +58,8 @@ pub switched_by : (f : Function) (s : Point) (b : Block) → slice_get f.blocks 
 switched_by f s b e last is = record {
   term = b.term;
   stands = behind_last f s.block (s.at + 1) b e last;
-  to_resume = subst (λ (n : ℕ). IsTrue (has_name (targets b.term) n)) (sym (ap (label_at 0) e)) (name_listed (label_of_term 0 b.term) (targets b.term) (switch_target 0 b.term is));
-  to_destroy = subst (λ (n : ℕ). IsTrue (has_name (targets b.term) n)) (sym (ap (label_at 1) e)) (name_listed (label_of_term 1 b.term) (targets b.term) (switch_target 1 b.term is));
+  to_resume = subst (λ (n : ℕ). IsTrue (has_name (targets b.term) n)) (sym (ap (label_at 0) e)) (listed-name (label_of_term 0 b.term) (targets b.term) (switch_target 0 b.term is));
+  to_destroy = subst (λ (n : ℕ). IsTrue (has_name (targets b.term) n)) (sym (ap (label_at 1) e)) (listed-name (label_of_term 1 b.term) (targets b.term) (switch_target 1 b.term is));
 }
 
 -- ---- what phis take
@@ -115,11 +106,6 @@ taker v from (p ∷ ps) h = on (is_local v (incoming_from p.incoming from)) refl
     on true e k again = record { phi = p; listed = inl refl; takes = taken_in v from p.incoming e }
     on false e k again = let x = again k in record { phi = x.phi; listed = inr x.listed; takes = x.takes }
 
-instr_listed : (is : List Instr) (at : ℕ) (i : Instr) → slice_get is at ≡ Some i → IsListed i is
-instr_listed [] at i e = absurd (cc)
-instr_listed (x ∷ is) zero i e = let same : i ≡ x = cc in inl same
-instr_listed (x ∷ is) (suc at) i e = inr (instr_listed is at i e)
-
 given_suspend : (i : Instr) → is_call_of Intrinsic.CoroSuspend i ≡ true → given_by i ≡ call_result i
 given_suspend (Instr.Call result must_tail ty (Callee.Intrinsic Intrinsic.CoroSuspend) args) e = refl
 given_suspend _ e = absurd (cc)
@@ -142,7 +128,7 @@ module _ (k : ℕ) (f : Function) (coroutine : f.coroutine ≡ true) (switches :
         on Nowhere e r = absurd (cc)
         on (AtInstr i) e r =
             let x = stands_in f (point block at) i (instr_there f block at i e) in
-            absurd (not_in_instr k f coroutine switches s.block s.at where_it_is.block c.instr where_it_is.got own block x.block i x.got (instr_listed x.block.instrs at i x.stands) (cases_eq block s.block) (read_here own.value (AtInstr i) r))
+            absurd (not_in_instr k f coroutine switches s.block s.at where_it_is.block c.instr where_it_is.got own block x.block i x.got (listed_at x.block.instrs at i x.stands) (cases_eq block s.block) (read_here own.value (AtInstr i) r))
         on (AtTerm t) e r = by (cases_eq block s.block)
           where
             x : IsEnd f block at t

@@ -11,10 +11,10 @@ use Rattle.ir_model.specs.declared.operand.Arg.{Arg}
 use Rattle.ir_model.specs.declared.operand.Callee.{Callee}
 use Rattle.ir_model.specs.declared.operand.Intrinsic.{Intrinsic}
 use Rattle.kept_values.specs.Needed.{given_by, given_by_allocator, given_by_intrinsic}
-use Rattle.type_rules.specs.Signatures.{are_wanted, fits_callee, fits_named, is_result}
+use Rattle.type_rules.specs.Signatures.{are_wanted, fits_callee, is_result}
 use Rattle.type_rules.specs.Wants.{allocator_params, allocator_result, intrinsic_params, intrinsic_result}
 use Rattle.value_rules.specs.Fits.{fits_kind, is_scalar}
-use Rattle.value_rules.specs.Kinds.{instr_kind, kind_if, result_kind}
+use Rattle.value_rules.specs.Kinds.{instr_kind, result_kind}
 use Rattle.value_rules.specs.declared.kinds.Kind.{Kind}
 
 -- a kind that is of no integer type and no address

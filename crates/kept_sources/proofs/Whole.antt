@@ -11,7 +11,7 @@ use Rattle.edge_blocks.specs.EdgeBlocks.{with_edge_blocks}
 use Rattle.first_pass_rules.proofs.early_path_rules.RenamedOperands.{map_was}
 use Rattle.frame_rules.proofs.edge_block_rules.Modules.{modules_kept}
 use Rattle.frame_rules.proofs.edge_sources.Accepted.{accepted_agree_split, accepted_kept}
-use Rattle.frame_rules.specs.edge_states.MovedState.{Keeps, KeepsEdges, edge_function, edges_split}
+use Rattle.frame_rules.specs.edge_states.MovedState.{Keeps, edge_function, edges_split}
 use Rattle.frame_rules.specs.function_rules.Kept.{AllKeepFunctionRules}
 use Rattle.ir_check.specs.Refused.{IsRefused}
 use Rattle.ir_grammar.specs.Text.{StandsFor}

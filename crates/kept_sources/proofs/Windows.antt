@@ -1,7 +1,6 @@
 -- A coroutine without fault of K2, K3, K6 and K7 keeps what is asked of saves, suspends and windows.
-use Rattle.std.proofs.Common.{◌≡◌, ◌⊎◌, inl, inr, ⊎_elim, ℕ, zero, suc, ◌+◌, Bool, true, false, List, [], ◌∷◌, length, Option, Some, None, refl, sym, ap, ◌∙◌, subst, arith}
-use Rattle.std.specs.List.{cons_option, filter_map}
-use Rattle.std.specs.Prelude.{IsFalse, IsTrue, option_and_then, option_map, slice_get, map, ◌==◌, ◌||◌, if◌then◌else◌}
+use Rattle.std.proofs.Common.{◌≡◌, ◌⊎◌, inl, inr, ℕ, suc, Bool, true, false, List, [], ◌∷◌, Option, Some, None, refl, sym, ap, ◌∙◌, subst}
+use Rattle.std.specs.Prelude.{slice_get, map, ◌==◌, ◌||◌}
 use Rattle.coro_shape.specs.OneOfEach.{wrong_call}
 use Rattle.coro_shape.specs.Switches.{wrong_switch}
 use Rattle.first_pass_meaning.proofs.early_agreement.Lists.{equal_numbers}
@@ -9,14 +8,13 @@ use Rattle.first_pass_meaning.proofs.early_agreement.Outside.{none_breaks}
 use Rattle.first_pass_meaning.proofs.early_agreement.Uses.{result_spelt, stands_in}
 use Rattle.first_pass_rules.proofs.early_path_rules.Holding.{of_parts}
 use Rattle.first_pass_rules.proofs.early_rules.Ends.{end_first}
-use Rattle.first_pass_rules.proofs.early_rules.Locals.{no_phi, own_label, phi_names, same_instr}
+use Rattle.first_pass_rules.proofs.early_rules.Locals.{no_phi, own_label, same_instr}
 use Rattle.first_pass_rules.specs.early_path_rules.Paths.{KeepsPaths}
 use Rattle.first_pass_rules.specs.early_path_rules.Shape.{KeepsShape}
 use Rattle.flow_solver.specs.Paths.{IsListed}
 use Rattle.frame_rules.specs.function_rules.Kept.{KeepsFunctionRules}
 use Rattle.function_parts.specs.Locals.{locals_of}
-use Rattle.function_parts.specs.Parts.{OfInstr, OfPhi, Part, instr_place, parts_of}
-use Rattle.coro_base.specs.declared.outcome.Place.{Place}
+use Rattle.function_parts.specs.Parts.{parts_of}
 use Rattle.ir_model.specs.declared.instr.Instr.{Instr}
 use Rattle.ir_model.specs.declared.instr.Phi.{Phi}
 use Rattle.ir_model.specs.declared.module.Block.{Block}
@@ -26,7 +24,7 @@ use Rattle.ir_model.specs.declared.operand.Callee.{Callee}
 use Rattle.ir_model.specs.declared.operand.Intrinsic.{Intrinsic}
 use Rattle.ir_paths.proofs.Search.{led_to-complete, led_to-sound}
 use Rattle.ir_paths.specs.Paths.{IsPath, Leads, has_point, led_to}
-use Rattle.ir_paths.specs.Windows.{IsInWindow, call_result, instr_at, is_call_of, is_suspend_of, points_from, points_in, points_where, saves_of, suspend_of}
+use Rattle.ir_paths.specs.Windows.{IsInWindow, instr_at, is_call_of, points_where, saves_of, suspend_of}
 use Rattle.ir_paths.specs.declared.point.Point.{Point}
 use Rattle.kept_sources.proofs.Behind.{used_behind}
 use Rattle.kept_sources.proofs.Listed.{only_one, pair_listed, point_listed}

@@ -25,7 +25,7 @@ pub record HasPlainNames (f : Function) : Type 0 where
   pub end_has_no_phis : phis_of (slice_get f.blocks (end_block f)) ≡ []
   -- N1: a label is that of one block
   pub labels : (block : ℕ) (b : Block) → slice_get f.blocks block ≡ Some b → position_of f b.label ≡ block
-  -- N1 and Y2: what defines a value that is no token gives one
+  -- N1, Y1 and Y2: what defines a value that is no token gives one
   pub given : (v block at : ℕ) (i : Instr) → IsListed v (values_of f) → fetch f block at ≡ AtInstr i → result_of i ≡ Some v → given_by i ≡ Some v
 
 abbrev pub HavePlainNames : Module → Type 0
