@@ -1,7 +1,6 @@
 -- What a command answers to the bytes of its input.
 use Rattle.std.specs.Prelude.{◌≡◌, ℕ, Bool, true, false, not, List, [], map, max, min, codes, ℤ, Some, None, Option, is_some, slice_get, ◌&&◌, ◌+◌, ◌∷◌, if◌then◌else◌}
 use Rattle.agreement.specs.Machines.{Seen}
-use Rattle.coro_base.specs.declared.outcome.Event.{Event}
 use Rattle.coro_base.specs.declared.outcome.Outcome.{Outcome}
 use Rattle.coro_base.specs.declared.outcome.Place.{Place}
 use Rattle.coro_base.specs.declared.outcome.Word.{Word}
@@ -139,15 +138,11 @@ run_verdict (Outcome.Undefined cause place) = Verdict.Undefined
 abbrev pub seen_answer : Module → Seen → Answer
 seen_answer m seen = shown (run_verdict seen.outcome) (seen_text m seen)
 
--- the events and the outcome of a run
-abbrev pub shown_run : Module → List Event → Outcome → Answer
-shown_run m events outcome = shown (run_verdict outcome) (run_text m events outcome)
-
 -- the events and the outcome of a run of a module without coroutines
 abbrev pub plain_run : Module → List ℤ → EntryCall → ℕ → Answer
 plain_run code answers call steps =
     let s = plain_state_at (record { code = code; answers = answers }) call.func call.args steps in
-    shown_run code s.world.events s.outcome
+    shown (run_verdict s.outcome) (run_text code s.world.events s.outcome)
 
 -- what is seen of a module without coroutines after so many steps
 abbrev pub run_answer : Module → List ℤ → EntryCall → ℕ → Answer
@@ -200,7 +195,7 @@ sizes_of layouts = map size_of layouts.coroutines
 -- the events and the outcome of a run of a source with these facts
 abbrev pub source_run : Given → EntryCall → ℕ → Answer
 source_run g call steps =
-    let s = state_at g call.func call.args steps in shown_run g.code s.world.events s.outcome
+    let s = state_at g call.func call.args steps in shown (run_verdict s.outcome) (run_text g.code s.world.events s.outcome)
 
 -- what is seen of a source after so many steps
 abbrev pub source_answer : Module → List Frame → List ℤ → EntryCall → ℕ → Answer
@@ -231,7 +226,7 @@ IsSourceAnswer (Parsed.Module m) w a = IsMadeOfAcceptance m (not w.plain) (sourc
 -- the events and the outcome of a run of a framed module with these facts
 abbrev pub framed_run : FramedGiven → EntryCall → ℕ → Answer
 framed_run g call steps =
-    let s = framed_state_at g call.func call.args steps in shown_run g.given.code s.world.events s.outcome
+    let s = framed_state_at g call.func call.args steps in shown (run_verdict s.outcome) (run_text g.given.code s.world.events s.outcome)
 
 -- what is seen of a framed module after so many steps
 abbrev pub framed_answer : Module → Layouts → List ℤ → EntryCall → ℕ → Answer

@@ -1,13 +1,13 @@
 //! Runs of modules.
 
 ghost use Rattle.std.specs.Prelude.{◌≡◌, IfOk, map};
-ghost use Rattle.coro_cli.specs.Answers.{run_verdict, shown_run, plain_run, run_answer, not_callable, run_module, size_of, sizes_of, source_run, source_answer, source_or, framed_run, framed_answer, run_framed, entry_call};
+ghost use Rattle.coro_cli.specs.Answers.{run_verdict, plain_run, run_answer, not_callable, run_module, size_of, sizes_of, source_run, source_answer, source_or, framed_run, framed_answer, run_framed, entry_call};
 ghost use Rattle.framed_facts.specs.FramedFacts.{given_with};
 
 use crate::entry::entry_call;
 use crate::texts::{shown, told};
 use crate::verdict::{Answer, EntryCall, Verdict};
-use coro_base::{Event, Items, Outcome};
+use coro_base::{Items, Outcome};
 use coro_meaning::SourceMachine;
 use coro_report::{not_callable_text, run_text};
 use coro_words::RunWords;
@@ -30,19 +30,6 @@ fn run_verdict(outcome: Outcome) -> Verdict
     }
 }
 
-/// The events and the outcome of a run.
-fn shown_run(
-    alloc: Global,
-    code: &Module,
-    events: &[Event],
-    outcome: Outcome,
-) -> Result<Answer, AllocError>
-    ensures { IfOk result (λ a. a ≡ shown_run code.now events.now outcome) }
-{
-    let text = run_text(alloc, code, events, outcome)?;
-    Ok(shown(alloc, run_verdict(outcome), Items::from_vec(text)))
-}
-
 /// The entry isn't callable.
 pub fn not_callable(alloc: Global, entry: &[u8]) -> Result<Answer, AllocError>
     ensures { IfOk result (λ a. a ≡ not_callable entry.now) }
@@ -62,7 +49,8 @@ fn plain_run(
 {
     let mut machine = PlainMachine::start(alloc, code, call.func, call.args.as_slice(), answers)?;
     let outcome = machine.run(steps)?;
-    shown_run(alloc, machine.code(), machine.events(), outcome)
+    let text = run_text(alloc, machine.code(), machine.events(), outcome)?;
+    Ok(shown(alloc, run_verdict(outcome), Items::from_vec(text)))
 }
 
 /// What is seen of a run of a module without coroutines.
@@ -119,7 +107,8 @@ fn source_run(
     let args = call.args.as_slice();
     let mut machine = SourceMachine::start(alloc, source, sizes, facts, call.func, args, answers)?;
     let outcome = machine.run(steps)?;
-    shown_run(alloc, machine.code(), machine.events(), outcome)
+    let text = run_text(alloc, machine.code(), machine.events(), outcome)?;
+    Ok(shown(alloc, run_verdict(outcome), Items::from_vec(text)))
 }
 
 /// What is seen of a run of a source.
@@ -179,7 +168,8 @@ fn framed_run(
         alloc, framed, layouts, facts, call.func, args, answers,
     )?;
     let outcome = machine.run(steps)?;
-    shown_run(alloc, machine.code(), machine.events(), outcome)
+    let text = run_text(alloc, machine.code(), machine.events(), outcome)?;
+    Ok(shown(alloc, run_verdict(outcome), Items::from_vec(text)))
 }
 
 /// What is seen of a run of a framed module.
