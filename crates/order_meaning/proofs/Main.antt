@@ -21,7 +21,7 @@ use Rattle.name_order.specs.Shape.{Each, IsBlock, IsFunction, IsInstr, IsParam, 
 use Rattle.order_meaning.proofs.Moved.{IsHeld, IsHeldResult}
 use Rattle.order_meaning.proofs.Placed.{ordered_placed}
 use Rattle.order_meaning.proofs.Simulation.{agrees}
-use Rattle.order_meaning.proofs.States.{HeldIn, HeldResultIn, IsBlockHeld, IsOrdered}
+use Rattle.order_meaning.proofs.States.{HeldIn, IsBlockHeld, IsOrdered}
 use Rattle.order_meaning.specs.Held.{HoldsResults, IsBlockPlaced, IsParamPlaced, IsPhiPlaced, SetsPlaced}
 use Rattle.plain_meaning.specs.Plain.{PlainAt}
 use Rattle.step_laws.specs.Changed.{result_of}
@@ -55,9 +55,10 @@ module _ (to : ℕ → ℕ) (names all : List Name) where
   instr_held (Instr.Call (Some r) must_tail ty callee args) h k = held r h.0 k
 
   block_held : (b : Block) → IsBlock names b → IsBlockPlaced all (renumbered_block to b) → Each (λ (p : Phi). IsHeld to (length names) (length all) p.result) b.phis × Each (λ (i : Instr). IsHeldResult to (length names) (length all) (result_of i)) b.instrs
-  block_held b h k =
-      (each_both (IsPhi names) (λ (p : Phi). IsHeld to (length names) (length all) p.result) (IsPhiPlaced all) (renumbered_phi to) (λ p x y. held p.result x.0 y) b.phis h.1 k.0,
-      each_both (IsInstr names) (λ (i : Instr). IsHeldResult to (length names) (length all) (result_of i)) (SetsPlaced all) (renumbered_instr to) instr_held b.instrs h.2 k.1)
+  block_held b h k = (
+    each_both (IsPhi names) (λ (p : Phi). IsHeld to (length names) (length all) p.result) (IsPhiPlaced all) (renumbered_phi to) (λ p x y. held p.result x.0 y) b.phis h.1 k.0,
+    each_both (IsInstr names) (λ (i : Instr). IsHeldResult to (length names) (length all) (result_of i)) (SetsPlaced all) (renumbered_instr to) instr_held b.instrs h.2 k.1,
+  )
 
 function_ordered : (f : Function) → IsFunction f → AreApart f.names → IsOrdered f
 function_ordered f h apart =
