@@ -1,8 +1,7 @@
 -- An instruction whose locals stand at other names does the same, with its values at those names.
-use Rattle.std.proofs.Common.{◌≡◌, ℕ, Bool, true, false, List, [], ◌∷◌, length, Option, Some, None, Result, Ok, Err, refl, sym, ap, ◌∙◌}
+use Rattle.std.proofs.Common.{◌≡◌, ℕ, Bool, true, false, List, Option, Some, None, Result, Ok, Err, refl, ap}
 use Rattle.std.specs.Prelude.{ℤ, ◌==◌, map, slice_get, option_map, if◌then◌else◌}
-use Rattle.block_memory.specs.Memory.{Rights, compare, copy, end, fresh}
-use Rattle.block_memory.specs.declared.block.Kind.{Kind}
+use Rattle.block_memory.specs.Memory.{Rights, compare, copy}
 use Rattle.block_memory.specs.declared.block.MemoryBlock.{MemoryBlock}
 use Rattle.block_memory.specs.declared.pointer.Pointer.{Pointer}
 use Rattle.block_memory.specs.declared.pointer.Value.{Value}
@@ -24,8 +23,8 @@ use Rattle.ir_model.specs.declared.operand.Intrinsic.{Intrinsic}
 use Rattle.ir_model.specs.declared.operand.Operand.{Operand}
 use Rattle.lowered_forms.specs.order_rules.Renumbered.{StaysApart, renumbered_arg, renumbered_callee, renumbered_case, renumbered_instr, renumbered_operand, renumbered_term}
 use Rattle.order_meaning.proofs.Moved.{AreFoundAlike, AreMoved, IsHeld, IsHeldResult, args_moved, indices_moved, operand_moved, result_moved, set_moved, target_moved, with_functions}
-use Rattle.ordinary_step.specs.Step.{Action, AtInstr, AtTerm, Context, Coro, Deallocate, Done, Enter, Fetched, GoTo, NewSlot, Nowhere, Return, Stuck, Work, action_of, alloca, allocated, allocator_call, branch, by_pred, call, compared, done, fits_function, has_markers, if_alignment, indirect_call, instr_action, intrinsic_call, is_alignment, named_call, observed, set_memory, set_value, switch, target_of, term_action, with_length, words_of}
-use Rattle.ordinary_step.specs.Values.{Env, address, arg_value, arg_values, distance, element, indices_of, nth, operand_value, pointer_to, truth_value, value_in, value_of, with_value}
+use Rattle.ordinary_step.specs.Step.{Action, AtInstr, AtTerm, Context, Coro, Deallocate, Done, Enter, Fetched, GoTo, NewSlot, Nowhere, Return, Stuck, Work, action_of, alloca, allocated, allocator_call, branch, by_pred, call, compared, done, fits_function, has_markers, if_alignment, indirect_call, instr_action, intrinsic_call, is_alignment, named_call, observed, set_memory, set_value, switch, term_action, with_length, words_of}
+use Rattle.ordinary_step.specs.Values.{Env, address, arg_values, indices_of, nth, operand_value, truth_value, value_in, value_of, with_value}
 use Rattle.ordinary_step.specs.declared.world.Slot.{Slot}
 use Rattle.ordinary_step.specs.declared.world.World.{World}
 use Rattle.step_laws.proofs.Kept.{distance_kept}

@@ -21,7 +21,7 @@ use Rattle.name_order.specs.Shape.{Each, IsBlock, IsFunction, IsInstr, IsParam, 
 use Rattle.order_meaning.proofs.Moved.{IsHeld, IsHeldResult}
 use Rattle.order_meaning.proofs.Placed.{ordered_placed}
 use Rattle.order_meaning.proofs.Simulation.{agrees}
-use Rattle.order_meaning.proofs.States.{HeldIn, HeldResultIn, IsBlockHeld, IsOrdered}
+use Rattle.order_meaning.proofs.States.{HeldIn, IsBlockHeld, IsOrdered}
 use Rattle.order_meaning.specs.Held.{HoldsResults, IsBlockPlaced, IsParamPlaced, IsPhiPlaced, SetsPlaced}
 use Rattle.plain_meaning.specs.Plain.{PlainAt}
 use Rattle.step_laws.specs.Changed.{result_of}

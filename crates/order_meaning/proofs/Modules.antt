@@ -1,12 +1,13 @@
 -- A module with the names of its functions in order: what stands where, and under which labels.
-use Rattle.std.proofs.Common.{◌≡◌, ℕ, suc, Bool, true, false, List, [], ◌∷◌, length, refl, sym, ap, ◌∙◌, subst, Option, Some, None}
+use Rattle.std.proofs.Common.{◌≡◌, ℕ, suc, Bool, true, false, List, [], ◌∷◌, length, refl, ap, ◌∙◌, Option, Some, None}
 use Rattle.std.proofs.lemmas.List.{length-map}
-use Rattle.std.proofs.lemmas.Option.{slice_get-map, slice_get_within}
+use Rattle.std.proofs.lemmas.Option.{slice_get-map}
 use Rattle.std.specs.List.{list_any}
 use Rattle.std.specs.Prelude.{◌&&◌, ◌==◌, if◌then◌else◌, map, option_map, slice_get, unwrap_or}
 use Rattle.coro_base.specs.declared.name.Name.{Name}
 use Rattle.coro_cleanup.proofs.Kept.{any_mapped, first_mapped}
-use Rattle.ir_model.specs.Names.{block_labelled, first_where, function_at, function_named, is_local, no_function, position_of, same_name}
+use Rattle.ir_model.specs.Layout.{same_type}
+use Rattle.ir_model.specs.Names.{first_where, function_at, is_local, no_function, position_of, same_name}
 use Rattle.ir_model.specs.Ty.{Ty}
 use Rattle.ir_model.specs.declared.instr.Instr.{Instr}
 use Rattle.ir_model.specs.declared.module.Block.{Block}
@@ -22,7 +23,7 @@ use Rattle.name_order.specs.Order.{function_order, module_order, param_order}
 use Rattle.name_order.specs.Places.{each_order}
 use Rattle.order_meaning.proofs.Actions.{AreLike, renumbered_here}
 use Rattle.order_meaning.proofs.Moved.{AreFoundAlike}
-use Rattle.ordinary_step.specs.Step.{Fetched, fetch, fetch_in, fetch_or, fits_function, fits_params, has_markers, is_lifetime, is_marker_of}
+use Rattle.ordinary_step.specs.Step.{fetch, fetch_in, fetch_or, fits_function, fits_params, has_markers, is_lifetime, is_marker_of, same_result}
 
 -- ---- one function
 
@@ -105,7 +106,7 @@ params_fit : (to : ℕ → ℕ) (names : List Name) (args : List Arg) (ps : List
 params_fit to names [] [] ns = refl
 params_fit to names [] (p ∷ ps) ns = refl
 params_fit to names (a ∷ args) [] ns = refl
-params_fit to names (a ∷ args) (p ∷ ps) ns = ap (λ (b : Bool). Rattle.ir_model.specs.Layout.same_type a.ty p.ty && b) (params_fit to names args ps (param_order names p ns).1)
+params_fit to names (a ∷ args) (p ∷ ps) ns = ap (λ (b : Bool). same_type a.ty p.ty && b) (params_fit to names args ps (param_order names p ns).1)
 
 pub fits_there : (m : Module) (to : ℕ → ℕ) (ty : Option Ty) (args : List Arg) (func : ℕ) → fits_function ty (map (renumbered_arg to) args) (slice_get (map function_order m.functions) func) ≡ fits_function ty args (slice_get m.functions func)
 fits_there m to ty args func =
@@ -113,7 +114,7 @@ fits_there m to ty args func =
   where
     on : (o : Option Function) → fits_function ty (map (renumbered_arg to) args) (option_map function_order o) ≡ fits_function ty args o
     on None = refl
-    on (Some f) = ap (λ (b : Bool). Rattle.ordinary_step.specs.Step.same_result ty f.result && b) (params_fit to f.names args f.params [])
+    on (Some f) = ap (λ (b : Bool). same_result ty f.result && b) (params_fit to f.names args f.params [])
 
 pub are_like : (m : Module) (f : Function) (ren : IsRenumbered f (function_order f)) → AreLike m (map function_order m.functions) f (function_order f) ren.to
 are_like m f ren = record {

@@ -1,5 +1,5 @@
 -- What a function sets has its place in the names in the order of their first occurrence.
-use Rattle.std.proofs.Common.{◌≡◌, ℕ, List, [], ◌∷◌, ◌++◌, append-nil, append_assoc, refl, sym, ap, ◌∙◌, subst, Option, Some, None}
+use Rattle.std.proofs.Common.{◌≡◌, ℕ, List, [], ◌∷◌, append-nil, sym, Option, Some, None}
 use Rattle.std.specs.Prelude.{slice_get}
 use Rattle.coro_base.specs.declared.name.Name.{Name}
 use Rattle.ir_model.specs.declared.instr.Case.{Case}
@@ -20,7 +20,6 @@ use Rattle.name_order.specs.Shape.{Each, IsBlock, IsFunction, IsInstr, IsParam, 
 use Rattle.order_meaning.specs.Held.{HoldsResults, IsBlockPlaced, IsParamPlaced, IsPhiPlaced, SetsPlaced}
 use Rattle.printed_grammar.proofs.Again.{Extends}
 use Rattle.printed_grammar.proofs.Names.{place_extends, place_found}
-use Rattle.step_laws.specs.Changed.{result_of}
 
 each_of : {A : Type 0} (P : A → Type 0) (xs : List A) → Some_of P xs → Each P xs
 each_of P [] h = absurd h

@@ -1,6 +1,6 @@
 -- A run and that with the names in order go side by side, one step with one.
-use Rattle.std.proofs.Common.{◌≡◌, ℕ, zero, suc, ◌+◌, ◌<◌, inl, inr, Bool, true, false, List, [], ◌∷◌, length, Option, Some, None, Result, Ok, Err, refl, sym, ap, ◌∙◌, subst, arith}
-use Rattle.std.specs.Prelude.{ℤ, if◌then◌else◌, map, option_map, slice_get, unwrap_or}
+use Rattle.std.proofs.Common.{◌≡◌, ℕ, inl, List, [], ◌∷◌, length, Option, Some, None, Result, Ok, Err, refl, sym, ap, ◌∙◌, subst, arith}
+use Rattle.std.specs.Prelude.{ℤ, if◌then◌else◌, map, slice_get}
 use Rattle.agreement.proofs.Lockstep.{Advance, ShowsSame, Simulates, lockstep_within}
 use Rattle.agreement.specs.Agreements.{AgreesWithin}
 use Rattle.agreement.specs.Machines.{IsFine, IsRunning, Machine}
@@ -21,17 +21,15 @@ use Rattle.ir_model.specs.declared.module.GlobalItem.{GlobalItem}
 use Rattle.ir_model.specs.declared.module.Module.{Module}
 use Rattle.ir_model.specs.declared.operand.Operand.{Operand}
 use Rattle.name_order.specs.Order.{function_order, module_order}
-use Rattle.order_meaning.proofs.Actions.{MovedAction, action_moved, renumbered_here}
+use Rattle.order_meaning.proofs.Actions.{MovedAction, action_moved}
 use Rattle.order_meaning.proofs.Modules.{are_like, fetch_same, found_alike, function_there}
 use Rattle.order_meaning.proofs.Moved.{operand_moved}
 use Rattle.order_meaning.proofs.States.{Goes, IsOrdered, Related, act_goes, entered, given_by, instr_held, state_like}
 use Rattle.ordinary_step.specs.Runs.{SeenEvent, seen_event, seen_of}
-use Rattle.ordinary_step.specs.Step.{Action, Context, Fetched, Work, action_of, entry_values, fetch, fetch_in, global_block, is_alignment}
-use Rattle.ordinary_step.specs.Values.{Env, access_of, operand_value, stored}
+use Rattle.ordinary_step.specs.Step.{Action, Fetched, action_of, entry_values, fetch, fetch_in, global_block, is_alignment}
+use Rattle.ordinary_step.specs.Values.{access_of, operand_value, stored}
 use Rattle.plain_meaning.specs.Plain.{PlainAt, PlainGiven, plain_act, plain_advance, plain_context, plain_first, plain_function, plain_or_undefined, plain_step, plain_work}
-use Rattle.plain_meaning.specs.declared.state.PlainActivation.{PlainActivation}
 use Rattle.plain_meaning.specs.declared.state.PlainState.{PlainState}
-use Rattle.step_laws.specs.Changed.{result_at}
 
 module _ (m : Module) (answers : List ℤ) (ordered : (func : ℕ) → IsOrdered (function_at m func)) where
   abbrev n : Module

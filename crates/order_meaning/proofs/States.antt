@@ -1,13 +1,11 @@
 -- States of a run and of that with the names in order: values, slots and results at other names.
-use Rattle.std.proofs.Common.{◌≡◌, ℕ, zero, suc, ◌+◌, ◌<◌, Bool, true, false, List, [], ◌∷◌, length, Option, Some, None, Result, Ok, Err, refl, sym, ap, ◌∙◌, subst, arith}
+use Rattle.std.proofs.Common.{◌≡◌, ℕ, zero, suc, ◌+◌, Bool, true, false, List, [], ◌∷◌, length, Option, Some, None, Result, Ok, Err, refl, sym, ap, ◌∙◌, subst}
 use Rattle.std.proofs.lemmas.List.{length-replicate}
-use Rattle.std.proofs.lemmas.Option.{slice_get-map, slice_get_within}
 use Rattle.std.specs.Prelude.{ℤ, ◌==◌, if◌then◌else◌, map, option_map, replicate, slice_get, unwrap_or}
-use Rattle.block_memory.specs.Memory.{killed, owner_rights}
+use Rattle.block_memory.specs.Memory.{killed}
 use Rattle.block_memory.specs.declared.block.MemoryBlock.{MemoryBlock}
 use Rattle.block_memory.specs.declared.pointer.Value.{Value}
 use Rattle.coro_base.specs.declared.cause.Cause.{Cause}
-use Rattle.coro_base.specs.declared.name.Name.{Name}
 use Rattle.coro_base.specs.declared.outcome.Outcome.{Outcome}
 use Rattle.ir_model.specs.Names.{function_at, is_noalloc, position_of}
 use Rattle.ir_model.specs.declared.instr.Instr.{Instr}
@@ -17,7 +15,7 @@ use Rattle.ir_model.specs.declared.module.Function.{Function}
 use Rattle.ir_model.specs.declared.module.Module.{Module}
 use Rattle.ir_model.specs.declared.module.Param.{Param}
 use Rattle.ir_model.specs.declared.operand.Intrinsic.{Intrinsic}
-use Rattle.lowered_forms.specs.order_rules.Renumbered.{IsRenumbered, renumbered_block, renumbered_function, renumbered_param, renumbered_phi}
+use Rattle.lowered_forms.specs.order_rules.Renumbered.{IsRenumbered, renumbered_block, renumbered_function}
 use Rattle.name_order.specs.Order.{function_order, module_order}
 use Rattle.name_order.specs.Shape.{Each}
 use Rattle.order_meaning.proofs.Actions.{MovedAction, moved_slot}
@@ -27,8 +25,7 @@ use Rattle.ordinary_step.specs.Results.{and_then}
 use Rattle.ordinary_step.specs.Step.{Action, Coro, Deallocate, Done, Enter, GoTo, NewSlot, Return, Stuck, Work, deallocated, entry_values, fetch, fetch_in, fetch_or, label_of, outcome_of, phis_of, risen, set_memory, values_in, without_slots}
 use Rattle.ordinary_step.specs.Values.{Env, value_in, with_result}
 use Rattle.ordinary_step.specs.declared.world.Slot.{Slot}
-use Rattle.ordinary_step.specs.declared.world.World.{World}
-use Rattle.plain_meaning.specs.Plain.{PlainGiven, counted, plain_act, plain_call, plain_called, plain_coro, plain_function, plain_given_back, plain_go_to, plain_pop, plain_returned, plain_settled, plain_slot, plain_work}
+use Rattle.plain_meaning.specs.Plain.{PlainGiven, counted, plain_act, plain_call, plain_called, plain_coro, plain_go_to, plain_pop, plain_returned, plain_settled, plain_work}
 use Rattle.plain_meaning.specs.declared.state.PlainActivation.{PlainActivation}
 use Rattle.plain_meaning.specs.declared.state.PlainState.{PlainState}
 use Rattle.step_laws.specs.Changed.{result_at, result_of}
