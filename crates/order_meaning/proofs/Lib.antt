@@ -5,3 +5,4 @@ pub mod States
 pub mod Simulation
 pub mod Placed
 pub mod Main
+pub mod Printed
