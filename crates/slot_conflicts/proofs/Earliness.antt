@@ -1,12 +1,14 @@
 -- Slots used before begin, by words.
-use Rattle.std.proofs.Common.{◌≡◌, ℕ, zero, suc, ◌+◌, ◌<◌, ◌≤◌, ◌⊎◌, Bool, true, false, List, [], ◌∷◌, ◌++◌, Some, None, Option, refl, sym, ap, ◌∙◌, subst, ⊎_elim, inl, inr, arith, eq-eqb}
+use Rattle.std.proofs.Common.{◌≡◌, ℕ, zero, suc, ◌+◌, ◌<◌, ◌≤◌, ◌⊎◌, Bool, true, false, List, [], ◌∷◌, ◌++◌, Some, None, Option, refl, sym, ap, ◌∙◌, subst, ⊎_elim, inl, inr, arith, eq-eqb, length, map}
 use Rattle.std.specs.Prelude.{bit_or, slice_get, if◌then◌else◌, ◌==◌}
 use Rattle.std.proofs.lemmas.Bool.{eqb-true, false≢true}
+use Rattle.std.proofs.lemmas.List.{length-map}
 use Rattle.bit_reach.specs.Bits.{HasBit}
 use Rattle.block_paths.proofs.Elements.{listed_append}
 use Rattle.block_paths.specs.Words.{word_at}
 use Rattle.flow_solver.proofs.Lists.{listed_at, listed_front, place_of}
 use Rattle.flow_solver.specs.Paths.{IsListed}
+use Rattle.ir_model.specs.declared.module.Block.{Block}
 use Rattle.ir_model.specs.declared.module.Function.{Function}
 use Rattle.ir_paths.specs.declared.point.Point.{Point}
 use Rattle.point_graph.specs.Rows.{is_marked}
@@ -20,7 +22,7 @@ use Rattle.slot_uses.proofs.Spotting.{HasEdge, edge_told, use_told}
 use Rattle.slot_uses.specs.Spots.{IsUse, Spot, point_at}
 use Rattle.slot_uses.specs.Spots.Spot.{At, On}
 use Rattle.slot_uses.specs.Told.{AreAddressWords}
-use Rattle.slot_uses.specs.Words.{edge_words, phi_uses, use_rows}
+use Rattle.slot_uses.specs.Words.{edge_words, phi_uses, use_row, use_rows, used, with_term}
 use Rattle.slot_uses.specs.declared.edge.EdgeWord.{EdgeWord}
 use Rattle.slot_uses.specs.declared.edge.PhiUse.{PhiUse}
 use Rattle.window_rules.specs.Sets.{AreThose}
@@ -176,10 +178,25 @@ are_early f slots words before known set = record { each = λ c slot lt is. (to 
     from : (c slot : ℕ) → c < 64 → slice_get slots c ≡ Some slot → IsUsedEarly f slot → HasBit (early_edges f before (early_rows before 0 0 (use_rows words f)) (edge_words words (phi_uses f))) c
     from c slot lt is x = from_spot c slot lt is x.spot x.is_use x.is_early
 
-pub early_made : (f : Function) (slots words names : List ℕ) (before : List (List Bool)) (uses : List PhiUse) (rows marks : List (List ℕ)) (edges on_edges : List EdgeWord) (early word : ℕ) → AreAddressWords f slots words → AreThose (IsBeforeBegin f) before → uses ≡ phi_uses f → names ≡ words →
-    rows ≡ use_rows names f → edges ≡ edge_words names uses → marks ≡ rows → early ≡ early_rows before 0 0 marks → on_edges ≡ edges → word ≡ early_edges f before early on_edges → AreEarly f slots word
-early_made f slots words names before uses rows marks edges on_edges early word known set uses_are names_are rows_are edges_are marks_are early_is on_edges_are is =
+pub early_made : (f : Function) (slots words names : List ℕ) (before : List (List Bool)) (uses : List PhiUse) (blocks : List Block) (edges on_edges : List EdgeWord) (early word : ℕ) → AreAddressWords f slots words → AreThose (IsBeforeBegin f) before → uses ≡ phi_uses f → names ≡ words →
+    edges ≡ edge_words names uses → blocks ≡ f.blocks → early ≡ early_rows before 0 0 (map (use_row names) blocks) → on_edges ≡ edges → word ≡ early_edges f before early on_edges → AreEarly f slots word
+early_made f slots words names before uses blocks edges on_edges early word known set uses_are names_are edges_are blocks_are early_is on_edges_are is =
     subst (AreEarly f slots)
-    (sym (is ∙ ap (λ (w : ℕ). early_edges f before w on_edges) (early_is ∙ ap (early_rows before 0 0) (marks_are ∙ rows_are ∙ ap (λ (n : List ℕ). use_rows n f) names_are))
+    (sym (is ∙ ap (λ (w : ℕ). early_edges f before w on_edges) (early_is ∙ ap (λ (bs : List Block). early_rows before 0 0 (map (use_row names) bs)) blocks_are ∙ ap (λ (n : List ℕ). early_rows before 0 0 (use_rows n f)) names_are)
     ∙ ap (early_edges f before (early_rows before 0 0 (use_rows words f))) (on_edges_are ∙ edges_are ∙ ap (edge_words names) uses_are ∙ ap (λ (n : List ℕ). edge_words n (phi_uses f)) names_are)))
     (are_early f slots words before known set)
+
+-- the last of a row stands behind the others
+pub row_ends : (before : List (List Bool)) (block at word : ℕ) (ws : List ℕ) (w : ℕ) → early_row before block at word (ws ++ w ∷ []) ≡ bit_or (early_row before block at word ws) (word_if (is_marked before (record { block = block; at = at + length ws })) w)
+row_ends before block at word [] w = let z : at ≡ at + 0 = omega arith in ap (λ (k : ℕ). bit_or word (word_if (is_marked before (record { block = block; at = k })) w)) z
+row_ends before block at word (x ∷ ws) w =
+    let s : at + 1 + length ws ≡ at + suc (length ws) = omega arith in
+    row_ends before block (at + 1) (bit_or word (word_if (is_marked before (record { block = block; at = at })) x)) ws w
+    ∙ ap (λ (k : ℕ). bit_or (early_row before block (at + 1) (bit_or word (word_if (is_marked before (record { block = block; at = at })) x)) ws) (word_if (is_marked before (record { block = block; at = k })) w)) s
+
+pub block_made : (before : List (List Bool)) (block first : ℕ) (words : List ℕ) (b : Block) (n word : ℕ) → word ≡ early_row before block 0 first (map (used words) b.instrs) → n ≡ length b.instrs →
+    bit_or word (word_if (is_marked before (record { block = block; at = n })) (with_term words 0 b.term)) ≡ early_row before block 0 first (use_row words b)
+block_made before block first words b n word is long =
+    ap (λ (w : ℕ). bit_or w (word_if (is_marked before (record { block = block; at = n })) (with_term words 0 b.term))) is
+    ∙ ap (λ (k : ℕ). bit_or (early_row before block 0 first (map (used words) b.instrs)) (word_if (is_marked before (record { block = block; at = k })) (with_term words 0 b.term))) (long ∙ sym (length-map b.instrs (used words)))
+    ∙ sym (row_ends before block 0 first (map (used words) b.instrs) (with_term words 0 b.term))

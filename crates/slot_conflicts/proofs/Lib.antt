@@ -1,6 +1,7 @@
 pub mod Order
 pub mod Places
 pub mod Rows
+pub mod Marking
 pub mod Starting
 pub mod Suspending
 pub mod Frames

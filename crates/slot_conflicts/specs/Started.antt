@@ -1,5 +1,5 @@
 -- Where a slot may be alive from a start of it on, by words.
-use Rattle.std.specs.Prelude.{◌≡◌, ◌↔◌, ◌<◌, ◌++◌, ℕ, List, [], ◌∷◌, bit_or, map, slice_get, Some, IsTrue}
+use Rattle.std.specs.Prelude.{◌≡◌, ◌↔◌, ◌<◌, ◌++◌, ℕ, List, [], ◌∷◌, bit_or, map, slice_get, Some, Option, IsTrue}
 use Rattle.bit_reach.specs.Bits.{HasBit}
 use Rattle.ir_model.specs.declared.instr.Instr.{Instr}
 use Rattle.ir_model.specs.declared.module.Block.{Block}
@@ -11,7 +11,10 @@ use Rattle.point_reach.specs.Reached.{IsPointOf, word_at_point}
 use Rattle.point_reach.specs.declared.question.Pass.{Pass}
 use Rattle.slot_lifetime.specs.Alive.{markers_of}
 use Rattle.slot_uses.specs.Uses.{ends_of, starts_of}
+use Rattle.slot_uses.specs.Markers.{marker_word}
 use Rattle.slot_uses.specs.Words.{marked}
+use Rattle.slot_uses.specs.declared.markers.Mark.{Mark}
+use Rattle.slot_uses.specs.declared.markers.Marker.{Marker}
 
 -- a path leads to the point from a start of the slot without an end of it between
 pub record IsStarted (f : Function) (slot : ℕ) (p : Point) : Type 0 where
@@ -42,6 +45,16 @@ pass_row names b = map (pass_of names) b.instrs ++ no_pass ∷ []
 
 abbrev pub pass_rows : List ℕ → Function → List (List Pass)
 pass_rows names f = map (pass_row names) f.blocks
+
+-- the same by the markers of a function
+abbrev pub marked_pass : List ℕ → Option Mark → Pass
+marked_pass names m = record { stops = marker_word Marker.End names m; begins = marker_word Marker.Start names m }
+
+abbrev pub marked_row : List ℕ → List (Option Mark) → List Pass
+marked_row names marks = map (marked_pass names) marks ++ no_pass ∷ []
+
+abbrev pub marked_passes : List ℕ → List (List (Option Mark)) → List (List Pass)
+marked_passes names rows = map (marked_row names) rows
 
 -- ---- words
 

@@ -1,19 +1,20 @@
 //! Slots that are used before begin.
 
-ghost use Rattle.std.specs.Prelude.{◌≡◌, ◌≤◌, IfOk, OnOk, length};
+ghost use Rattle.std.specs.Prelude.{◌≡◌, ◌≤◌, IfOk, OnOk, length, map};
 ghost use Rattle.point_graph.specs.Reached.{IsGraphOf};
 ghost use Rattle.slot_conflicts.specs.Early.{AreEarly, early_edges as early_on_edges, early_row as early_in_row, early_rows as early_in_rows, word_if as word_where};
 ghost use Rattle.slot_rules.specs.Early.{IsBeforeBegin, end_at as end_of_block};
-ghost use Rattle.slot_uses.specs.Words.{phi_uses as uses_of_phis};
+ghost use Rattle.point_graph.specs.Rows.{is_marked};
+ghost use Rattle.slot_uses.specs.Words.{phi_uses as uses_of_phis, use_row as row_of_uses, used as used_by};
 ghost use Rattle.window_rules.specs.Sets.{AreThose};
 
 use coro_base::{BlockId, Items, ValueId};
 use coro_calls::CallOf;
 use function_parts::next;
-use ir_model::{Function, Intrinsic};
+use ir_model::{Block, Function, Instr, Intrinsic};
 use ir_paths::Point;
 use point_graph::PointGraph;
-use slot_uses::{EdgeWord, PhiUse, address_words, edge_words, use_rows};
+use slot_uses::{EdgeWord, PhiUse, address_words, edge_words, used, with_term};
 use std::alloc::{AllocError, Global};
 use window_rules::{PointSet, points_where, without_begin};
 
@@ -42,26 +43,62 @@ fn word_if(is_early: bool, word: u64) -> u64
     if is_early { word } else { 0 }
 }
 
-fn early_row(before: &PointSet, block: BlockId, first: u64, row: &[u64]) -> Result<u64, AllocError>
-    ensures { IfOk result (λ word. word ≡ early_in_row before.now block 0 first row.now) }
+/// What an instruction uses, if it stands at a marked point.
+fn early_use(before: &PointSet, point: Point, words: &[u64], instr: &Instr) -> u64
+    ensures { result ≡ word_where (is_marked before.now point) (used_by words.now instr.now) }
+{
+    if before.has(point) {
+        used(words, instr)
+    } else {
+        0
+    }
+}
+
+fn early_instrs(
+    before: &PointSet,
+    block: BlockId,
+    first: u64,
+    words: &[u64],
+    instrs: &[Instr],
+) -> Result<u64, AllocError>
+    ensures { IfOk result (λ word. word ≡ early_in_row before.now block 0 first (map (used_by words.now) instrs.now)) }
 {
     let mut word = first;
     let mut at = 0;
-    for one in row {
-        word |= word_if(before.has(Point { block, at }), *one);
+    for instr in instrs {
+        word |= early_use(before, Point { block, at }, words, instr);
         at = next(at)?;
     }
     Ok(word)
 }
 
-fn early_rows(before: &PointSet, rows: &[Items<u64>]) -> Result<u64, AllocError>
-    ensures { IfOk result (λ word. word ≡ early_in_rows before.now 0 0 rows.now) }
+fn early_block(
+    before: &PointSet,
+    block: BlockId,
+    first: u64,
+    words: &[u64],
+    text: &Block,
+) -> Result<u64, AllocError>
+    ensures { IfOk result (λ word. word ≡ early_in_row before.now block 0 first (row_of_uses words.now text.now)) }
+{
+    let instrs = text.instrs.as_slice();
+    let word = early_instrs(before, block, first, words, instrs)?;
+    let end = Point {
+        block,
+        at: instrs.len(),
+    };
+    Ok(word | word_if(before.has(end), with_term(words, 0, &text.term)))
+}
+
+/// What stands at marked points and uses names.
+fn early_blocks(before: &PointSet, words: &[u64], blocks: &[Block]) -> Result<u64, AllocError>
+    ensures { IfOk result (λ word. word ≡ early_in_rows before.now 0 0 (map (row_of_uses words.now) blocks.now)) }
 {
     let mut word = 0;
-    let mut block = 0;
-    for row in rows {
-        word = early_row(before, block, word, row.as_slice())?;
-        block = next(block)?;
+    let mut at = 0;
+    for block in blocks {
+        word = early_block(before, at, word, words, block)?;
+        at = next(at)?;
     }
     Ok(word)
 }
@@ -104,10 +141,9 @@ pub fn early_word(
 {
     let words = address_words(alloc, function, slots)?;
     let names = words.as_slice();
-    let rows = use_rows(alloc, function, names)?;
     let edges = edge_words(alloc, names, uses)?;
-    let marks = rows.as_slice();
-    let early = early_rows(before, marks)?;
+    let blocks = function.blocks.as_slice();
+    let early = early_blocks(before, names, blocks)?;
     let on_edges = edges.as_slice();
     let word = early_edges(function, before, early, on_edges);
     Ok(word)

@@ -7,6 +7,7 @@ ghost use Rattle.slot_conflicts.specs.Known.{IsFrameAt, IsKnown, TellsChunk, Are
 ghost use Rattle.slot_conflicts.specs.Looked.{AreLooked};
 ghost use Rattle.slot_lifetime.specs.Classes.{AreClasses};
 ghost use Rattle.slot_rules.specs.Early.{IsBeforeBegin};
+ghost use Rattle.slot_uses.specs.Markers.{mark_rows as rows_of_marks};
 ghost use Rattle.slot_uses.specs.Words.{phi_uses as uses_of_phis};
 ghost use Rattle.window_rules.specs.Sets.{AreThose};
 
@@ -21,7 +22,7 @@ use ir_model::Function;
 use ir_paths::Point;
 use point_graph::PointGraph;
 use slot_lifetime::SlotClass;
-use slot_uses::{PhiUse, chunk_of, phi_uses, slots_of};
+use slot_uses::{Mark, PhiUse, chunk_of, mark_rows, phi_uses, slots_of};
 use std::alloc::{AllocError, Global};
 use window_rules::PointSet;
 
@@ -77,16 +78,18 @@ fn chunk_facts(
     before: &PointSet,
     looked: &[Point],
     uses: &[PhiUse],
+    marks: &Items<Items<Option<Mark>>>,
     slots: &[ValueId],
 ) -> Result<Chunk, AllocError>
     requires graph { graph.now ≡ graph_of function.now }
+    requires marks { marks.now ≡ rows_of_marks function.now }
     requires before { AreThose (IsBeforeBegin function.now) before.now }
     requires looked { AreLooked function.now looked.now }
     requires uses { uses.now ≡ uses_of_phis function.now }
     requires slots { length slots.now ≤ 64 }
     ensures { IfOk result (TellsChunk function.now looked.now slots.now) }
 {
-    let here = started_slots(alloc, function, graph, slots)?;
+    let here = started_slots(alloc, function, graph, marks, slots)?;
     let early = early_word(alloc, function, before, uses, slots)?;
     let loose = here.marked & (early ^ u64::MAX);
     let seen = seen_words(alloc, &here.rows, loose, looked)?;
@@ -108,6 +111,7 @@ fn all_chunks(
 {
     let graph = block_graph(alloc, function)?;
     let uses = phi_uses(alloc, function)?;
+    let marks = mark_rows(alloc, function)?;
     let mut chunks = Items::new(alloc);
     for chunk in 0..chunks_of(slots.len()) {
         let here = chunk_of(slots, chunk);
@@ -118,6 +122,7 @@ fn all_chunks(
             before,
             looked,
             uses.as_slice(),
+            &marks,
             here,
         )?;
         chunks.push(facts)?;

@@ -2,13 +2,14 @@
 
 ghost use Rattle.std.specs.Prelude.{◌≡◌, ◌≤◌, IfOk, length};
 ghost use Rattle.block_paths.specs.Edges.{graph_of};
-ghost use Rattle.slot_conflicts.specs.Started.{AreStarted, HaveMarkers, pass_of as pass_between, pass_row as row_of_passes, pass_rows as rows_of_passes, row_word as word_of_row, rows_word as word_of_rows};
+ghost use Rattle.slot_uses.specs.Markers.{mark_rows as rows_of_marks};
+ghost use Rattle.slot_conflicts.specs.Started.{AreStarted, HaveMarkers, marked_pass as pass_of_mark, marked_passes as passes_of_marks, marked_row as row_of_passes, pass_rows as rows_of_passes, row_word as word_of_row, rows_word as word_of_rows};
 
 use coro_base::{Items, ValueId};
 use flow_solver::Graph;
-use ir_model::{Block, Function, Instr, Intrinsic};
+use ir_model::Function;
 use point_reach::{Pass, Passes, reached_points};
-use slot_uses::{marked, slot_words};
+use slot_uses::{Mark, Marker, marker_word, slot_words};
 use std::alloc::{AllocError, Global};
 
 /// Where up to 64 slots may be alive from their starts on, for each point a word, and the slots that have markers.
@@ -21,22 +22,21 @@ pub struct Started {
 // ---- passes
 
 /// What a point does: paths of a slot begin behind its starts and end at its ends.
-fn pass_of(names: &[u64], instr: &Instr) -> Pass
-    ensures { result ≡ pass_between names.now instr.now }
+fn pass_of(names: &[u64], mark: Option<Mark>) -> Pass
+    ensures { result ≡ pass_of_mark names.now mark }
 {
     Pass {
-        stops: marked(Intrinsic::LifetimeEnd, names, instr),
-        begins: marked(Intrinsic::LifetimeStart, names, instr),
+        stops: marker_word(Marker::End, names, mark),
+        begins: marker_word(Marker::Start, names, mark),
     }
 }
 
-fn pass_row(alloc: Global, names: &[u64], block: &Block) -> Result<Items<Pass>, AllocError>
-    ensures { IfOk result (λ row. row ≡ row_of_passes names.now block.now) }
+fn pass_row(alloc: Global, names: &[u64], marks: &[Option<Mark>]) -> Result<Items<Pass>, AllocError>
+    ensures { IfOk result (λ row. row ≡ row_of_passes names.now marks.now) }
 {
-    let instrs = block.instrs.as_slice();
-    let mut row = Vec::with_capacity(alloc, instrs.len() + 1)?;
-    for instr in instrs {
-        row.push(pass_of(names, instr))?;
+    let mut row = Vec::with_capacity(alloc, marks.len() + 1)?;
+    for mark in marks {
+        row.push(pass_of(names, *mark))?;
     }
     row.push(Pass {
         stops: 0,
@@ -45,20 +45,31 @@ fn pass_row(alloc: Global, names: &[u64], block: &Block) -> Result<Items<Pass>, 
     Ok(Items::from_vec(row))
 }
 
-/// What the points of a function do.
+fn passes_by(
+    alloc: Global,
+    names: &[u64],
+    marks: &[Items<Option<Mark>>],
+) -> Result<Items<Items<Pass>>, AllocError>
+    ensures { IfOk result (λ rows. rows ≡ passes_of_marks names.now marks.now) }
+{
+    let mut rows = Vec::with_capacity(alloc, marks.len())?;
+    for row in marks {
+        rows.push(pass_row(alloc, names, row.as_slice())?)?;
+    }
+    Ok(Items::from_vec(rows))
+}
+
+/// What the points of a function do, by its markers.
 fn pass_rows(
     alloc: Global,
     names: &[u64],
     function: &Function,
+    marks: &Items<Items<Option<Mark>>>,
 ) -> Result<Items<Items<Pass>>, AllocError>
+    requires { marks.now ≡ rows_of_marks function.now }
     ensures { IfOk result (λ rows. rows ≡ rows_of_passes names.now function.now) }
 {
-    let blocks = function.blocks.as_slice();
-    let mut rows = Vec::with_capacity(alloc, blocks.len())?;
-    for block in blocks {
-        rows.push(pass_row(alloc, names, block)?)?;
-    }
-    Ok(Items::from_vec(rows))
+    passes_by(alloc, names, marks.as_slice())
 }
 
 // ---- words
@@ -90,15 +101,17 @@ pub fn started_slots(
     alloc: Global,
     function: &Function,
     graph: &Graph,
+    marks: &Items<Items<Option<Mark>>>,
     slots: &[ValueId],
 ) -> Result<Started, AllocError>
+    requires marks { marks.now ≡ rows_of_marks function.now }
     requires graph { graph.now ≡ graph_of function.now }
     requires slots { length slots.now ≤ 64 }
     ensures rows { IfOk result (λ s. AreStarted function.now slots.now s.rows) }
     ensures marked { IfOk result (λ s. HaveMarkers function.now slots.now s.marked) }
 {
     let words = slot_words(alloc, slots)?;
-    let rows = pass_rows(alloc, words.as_slice(), function)?;
+    let rows = pass_rows(alloc, words.as_slice(), function, marks)?;
     let marked = rows_word(rows.as_slice());
     let passes = Passes {
         rows,

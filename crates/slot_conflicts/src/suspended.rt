@@ -9,6 +9,7 @@ ghost use Rattle.slot_conflicts.specs.Known.{chunk_slots};
 ghost use Rattle.slot_conflicts.specs.Pairs.{AreUpTo};
 ghost use Rattle.slot_conflicts.specs.Suspended.{TellSlot, TellSuspends, alive_word as word_alive};
 ghost use Rattle.slot_lifetime.specs.Classes.{AreClasses, suspends as suspends_of};
+ghost use Rattle.slot_uses.specs.Markers.{mark_rows as rows_of_marks};
 ghost use Rattle.window_rules.specs.Points.{begins};
 ghost use Rattle.window_rules.specs.Sets.{AreThose};
 
@@ -24,7 +25,7 @@ use ir_model::{Function, Intrinsic};
 use ir_paths::Point;
 use point_graph::PointGraph;
 use slot_lifetime::SlotClass;
-use slot_uses::chunk_of;
+use slot_uses::{Mark, chunk_of, mark_rows};
 use std::alloc::{AllocError, Global};
 use window_rules::{PointSet, points_where, reached_set};
 
@@ -60,17 +61,19 @@ fn suspend_words(
     alloc: Global,
     function: &Function,
     graph: &Graph,
+    marks: &Items<Items<Option<Mark>>>,
     behind: &PointSet,
     suspends: &[Point],
     slots: &[ValueId],
 ) -> Result<Vec<u64>, AllocError>
     requires graph { graph.now ≡ graph_of function.now }
+    requires marks { marks.now ≡ rows_of_marks function.now }
     requires behind { AreThose (IsReached function.now (begins function.now) []) behind.now }
     requires suspends { suspends.now ≡ suspends_of function.now }
     requires slots { length slots.now ≤ 64 }
     ensures { IfOk result (λ words. TellSuspends function.now slots.now words.items) }
 {
-    let here = started_slots(alloc, function, graph, slots)?;
+    let here = started_slots(alloc, function, graph, marks, slots)?;
     let words = alive_words(alloc, &here, behind, suspends)?;
     Ok(words)
 }
@@ -143,12 +146,14 @@ fn push_slots(
 #[derive(Drop)]
 pub struct Suspended {
     pub graph: Graph,
+    pub marks: Items<Items<Option<Mark>>>,
     pub behind: PointSet,
     pub suspends: Items<Point>,
 }
 
 pub fn suspended_of(alloc: Global, function: &Function) -> Result<Suspended, AllocError>
     ensures graph { IfOk result (λ s. s.graph ≡ graph_of function.now) }
+    ensures marks { IfOk result (λ s. s.marks ≡ rows_of_marks function.now) }
     ensures behind { IfOk result (λ s. AreThose (IsReached function.now (begins function.now) []) s.behind) }
     ensures suspends { IfOk result (λ s. s.suspends ≡ suspends_of function.now) }
 {
@@ -162,6 +167,7 @@ pub fn suspended_of(alloc: Global, function: &Function) -> Result<Suspended, All
     let begins = points_where(alloc, &begin, function)?;
     Ok(Suspended {
         graph: block_graph(alloc, function)?,
+        marks: mark_rows(alloc, function)?,
         behind: reached_set(alloc, &mut points, function, begins.as_slice(), &[])?,
         suspends: points_where(alloc, &suspend, function)?,
     })
@@ -178,6 +184,7 @@ pub fn push_chunk(
     pairs: &mut Items<(usize, usize)>,
 ) -> Result<(), AllocError>
     requires graph { known.now.graph ≡ graph_of function.now }
+    requires marks { known.now.marks ≡ rows_of_marks function.now }
     requires behind { AreThose (IsReached function.now (begins function.now) []) known.now.behind }
     requires suspends { known.now.suspends ≡ suspends_of function.now }
     requires classes { AreClasses function.now classes.now }
@@ -188,7 +195,15 @@ pub fn push_chunk(
 {
     let here = chunk_of(slots, chunk);
     let suspends = known.suspends.as_slice();
-    let words = suspend_words(alloc, function, &known.graph, &known.behind, suspends, here)?;
+    let words = suspend_words(
+        alloc,
+        function,
+        &known.graph,
+        &known.marks,
+        &known.behind,
+        suspends,
+        here,
+    )?;
     let count = slots.len();
     push_slots(function, classes, count, chunk, words.as_slice(), pairs)
 }

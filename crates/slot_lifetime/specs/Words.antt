@@ -16,6 +16,7 @@ use Rattle.slot_lifetime.specs.declared.chunk.Chunk.{Chunk}
 use Rattle.slot_lifetime.specs.declared.plan.Plan.{Plan}
 use Rattle.slot_rules.specs.Closed.{IsInSomeWindow}
 use Rattle.slot_uses.specs.Told.{AreAddressWords, AreSlotWords}
+use Rattle.slot_uses.specs.Markers.{mark_rows}
 use Rattle.slot_uses.specs.Words.{blocks_word, edge_words, marker_rows, name_word, phi_uses, use_rows}
 use Rattle.slot_uses.specs.declared.edge.EdgeWord.{EdgeWord}
 use Rattle.window_rules.specs.Sets.{AreThose}
@@ -51,6 +52,7 @@ pub record IsPlanOf (f : Function) (p : Plan) : Type 0 where
   pub end : p.end ≡ end_block f
   pub ways : p.ways ≡ ways_of f
   pub phis : p.phis ≡ phi_uses f
+  pub marks : p.marks ≡ mark_rows f
   pub promise : p.promise ≡ promise_of f
   pub suspends : p.suspends ≡ call_rows Intrinsic.CoroSuspend all_bits f
   pub after : AreAfterRows f p.after

@@ -6,9 +6,9 @@ ghost use Rattle.slot_lifetime.specs.Words.{IsChunkOf, IsPlanOf};
 use crate::plan::Plan;
 use crate::rows::Rows;
 use coro_base::{Items, ValueId};
-use ir_model::{Function, Intrinsic};
+use ir_model::Function;
 use slot_uses::{
-    EdgeWord, address_words, edge_words, escaped_word, marker_rows, slot_words, use_rows,
+    EdgeWord, Marker, address_words, edge_words, escaped_word, marker_rows, slot_words, use_rows,
 };
 use std::alloc::{AllocError, Global};
 
@@ -45,7 +45,7 @@ pub fn chunk_words(
     let uses = use_rows(alloc, function, addresses.as_slice())?;
     let edges = edge_words(alloc, addresses.as_slice(), plan.phis.as_slice())?;
     let escaped = escaped_word(function, addresses.as_slice());
-    let starts = marker_rows(alloc, Intrinsic::LifetimeStart, function, own.as_slice())?;
+    let starts = marker_rows(alloc, Marker::Start, function, own.as_slice(), &plan.marks)?;
     Ok(Chunk {
         own: Items::from_vec(own),
         addresses: Items::from_vec(addresses),

@@ -12,7 +12,7 @@ use crate::rows::{
 use crate::ways::{edges_word, ways_word};
 use coro_base::ValueId;
 use ir_model::{Function, Intrinsic};
-use slot_uses::{EdgeWord, marker_rows, name_word};
+use slot_uses::{EdgeWord, Marker, marker_rows, name_word};
 use std::alloc::{AllocError, Global};
 
 /// What stands at points and on edges, and has a question of the words there.
@@ -140,7 +140,7 @@ fn alive_rows(
     ensures { IfOk result (AreAliveRows function.now chunk.now) }
 {
     let own = chunk.own.as_slice();
-    let ends = marker_rows(alloc, Intrinsic::LifetimeEnd, function, own)?;
+    let ends = marker_rows(alloc, Marker::End, function, own, &plan.marks)?;
     let births = birth_rows(alloc, function, chunk, &ends)?;
     let escaped = chunk.escaped;
     coming_rows(alloc, function, &plan.graph, &births, &[], &ends, escaped)

@@ -26,7 +26,7 @@ use ir_paths::{Point, Window};
 use path_facts::windows_of;
 use point_graph::PointGraph;
 use point_reach::{Passes, reached_points};
-use slot_uses::{EdgeWord, PhiUse, phi_uses};
+use slot_uses::{EdgeWord, Mark, PhiUse, mark_rows, phi_uses};
 use std::alloc::{AllocError, Global};
 use window_rules::{PointSet, instr_at, points_where};
 
@@ -41,6 +41,8 @@ pub struct Plan {
     pub ways: Items<(BlockId, BlockId)>,
     /// What phis take.
     pub phis: Items<PhiUse>,
+    /// The lifetime markers.
+    pub marks: Items<Items<Option<Mark>>>,
     /// The alloca that coro.id names.
     pub promise: Option<ValueId>,
     /// Rows with all bits at the suspends.
@@ -220,6 +222,7 @@ pub fn plan_of(alloc: Global, function: &Function) -> Result<Plan, AllocError>
         end,
         ways,
         phis: phi_uses(alloc, function)?,
+        marks: mark_rows(alloc, function)?,
         promise: promise_of(alloc, function)?,
         suspends,
         own,

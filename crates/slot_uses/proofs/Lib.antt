@@ -3,6 +3,7 @@ pub mod Marks
 pub mod Occurring
 pub mod Exposing
 pub mod RowWords
+pub mod Marking
 pub mod Points
 pub mod Telling
 pub mod Addressing

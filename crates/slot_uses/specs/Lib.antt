@@ -1,4 +1,5 @@
 pub mod Uses
 pub mod Spots
 pub mod Words
+pub mod Markers
 pub mod Told

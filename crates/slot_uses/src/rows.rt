@@ -1,11 +1,11 @@
 //! For each block a row of words: one for each instruction, and one for the terminator.
 
 ghost use Rattle.std.specs.Prelude.{◌≡◌, IfOk};
-ghost use Rattle.slot_uses.specs.Words.{marker_row as row_of_markers, marker_rows as rows_of_markers, use_row as row_of_uses, use_rows as rows_of_uses};
+ghost use Rattle.slot_uses.specs.Words.{use_row as row_of_uses, use_rows as rows_of_uses};
 
-use crate::words::{marked, used, with_term};
+use crate::words::{used, with_term};
 use coro_base::Items;
-use ir_model::{Block, Function, Intrinsic};
+use ir_model::{Block, Function};
 use std::alloc::{AllocError, Global};
 
 fn use_row(alloc: Global, words: &[u64], block: &Block) -> Result<Items<u64>, AllocError>
@@ -33,41 +33,6 @@ pub fn use_rows(
     let mut rows = Vec::with_capacity(alloc, blocks.len())?;
     for block in blocks {
         rows.push(use_row(alloc, words, block)?)?;
-    }
-    Ok(Items::from_vec(rows))
-}
-
-fn marker_row(
-    alloc: Global,
-    marker: Intrinsic,
-    words: &[u64],
-    block: &Block,
-) -> Result<Items<u64>, AllocError>
-    ensures { IfOk result (λ row. row ≡ row_of_markers marker words.now block.now) }
-{
-    let instrs = block.instrs.as_slice();
-    let mut row = Vec::with_capacity(alloc, instrs.len() + 1)?;
-    for instr in instrs {
-        row.push(marked(marker, words, instr))?;
-    }
-    row.push(0)?;
-    Ok(Items::from_vec(row))
-}
-
-/// For each block, and for each of its instructions and its terminator, the word of the pointer of a marker that stands
-/// there.
-pub fn marker_rows(
-    alloc: Global,
-    marker: Intrinsic,
-    function: &Function,
-    words: &[u64],
-) -> Result<Items<Items<u64>>, AllocError>
-    ensures { IfOk result (λ rows. rows ≡ rows_of_markers marker words.now function.now) }
-{
-    let blocks = function.blocks.as_slice();
-    let mut rows = Vec::with_capacity(alloc, blocks.len())?;
-    for block in blocks {
-        rows.push(marker_row(alloc, marker, words, block)?)?;
     }
     Ok(Items::from_vec(rows))
 }

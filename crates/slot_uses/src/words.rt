@@ -2,12 +2,10 @@
 
 ghost use Rattle.std.specs.Prelude.{◌≡◌, if◌then◌else◌};
 ghost use Rattle.ir_paths.specs.Slots.{is_memcpy as is_memcpy_callee, is_no_use as is_no_use_callee};
-ghost use Rattle.ir_paths.specs.Windows.{call_operand};
 ghost use Rattle.slot_uses.specs.Uses.{is_no_use_in as is_no_use_instr};
-ghost use Rattle.slot_uses.specs.Words.{callee_word as word_of_callee, exposed as exposed_by, marked as marked_by, name_word as word_of_name, occurring as occurring_in, used as used_by, with_args as word_with_args, with_operand as word_with_operand, with_term as word_with_term};
+ghost use Rattle.slot_uses.specs.Words.{callee_word as word_of_callee, exposed as exposed_by, name_word as word_of_name, occurring as occurring_in, used as used_by, with_args as word_with_args, with_operand as word_with_operand, with_term as word_with_term};
 
 use coro_base::ValueId;
-use coro_calls::{is_call_of, operand_of};
 use ir_model::{Arg, Callee, Instr, Intrinsic, Operand, Terminator};
 
 /// The word of a name, empty where there is none.
@@ -154,28 +152,5 @@ pub fn with_term(words: &[u64], word: u64, term: &Terminator) -> u64
         Terminator::Ret(None) => word,
         Terminator::Ret(Some(arg)) => with_operand(words, word, &arg.value),
         Terminator::Unreachable => word,
-    }
-}
-
-fn second_word(words: &[u64], instr: &Instr) -> u64
-    ensures { result ≡ word_with_operand words.now 0 (call_operand instr.now 1) }
-{
-    match instr {
-        Instr::Call { args, .. } => match operand_of(args.as_slice(), 1) {
-            None => 0,
-            Some(operand) => with_operand(words, 0, operand),
-        },
-        _ => 0,
-    }
-}
-
-/// The word of the pointer of a marker, empty for what is no such marker.
-pub fn marked(marker: Intrinsic, words: &[u64], instr: &Instr) -> u64
-    ensures { result ≡ marked_by marker words.now instr.now }
-{
-    if is_call_of(marker, instr) {
-        second_word(words, instr)
-    } else {
-        0
     }
 }
