@@ -14,18 +14,18 @@ use Rattle.point_reach.specs.Rows.{all_bits}
 use Rattle.slot_conflicts.proofs.Places.{map_some, some_map, word_of_some, word_some}
 use Rattle.slot_conflicts.specs.Conflicts.{IsUsedEarly}
 use Rattle.slot_conflicts.specs.Early.{AreEarly}
-use Rattle.slot_conflicts.specs.Known.{AreChunks, AreMet, AreMetFor, IsSeen, TellsChunk, chunk_slots, seen_at, seen_word}
+use Rattle.slot_conflicts.specs.Known.{AreChunks, AreMet, AreMetFor, AreSpotsAt, IsSeen, TellsChunk, chunk_slots, seen_at, seen_word}
 use Rattle.slot_conflicts.specs.Looked.{AreLooked}
-use Rattle.slot_conflicts.specs.Meeting.{AreMeetings}
+use Rattle.slot_conflicts.specs.Meeting.{AreMeetings, spots_from}
 use Rattle.slot_conflicts.specs.Started.{AreStarted, HaveMarkers}
 use Rattle.slot_conflicts.specs.declared.facts.Chunk.{Chunk}
 use Rattle.slot_lifetime.specs.Alive.{markers_of}
 
 -- ---- one chunk
 
-pub chunk_tells : (f : Function) (looked : List Point) (slots : List ℕ) (rows : List (List ℕ)) (marked early loose : ℕ) (seen : List ℕ) → AreLooked f looked → AreStarted f slots rows → HaveMarkers f slots marked → AreEarly f slots early →
-    loose ≡ bit_and marked (bit_xor early all_bits) → seen ≡ map (seen_word rows loose) looked → TellsChunk f looked slots (record { loose = loose; seen = seen })
-chunk_tells f looked slots rows marked early loose seen are_looked started markers are_early loose_is seen_is = record { loose = is_loose; tight = is_tight; seen = λ c slot k lt is h. (to c slot k lt is h, from c slot k lt is h) }
+pub chunk_tells : (f : Function) (looked : List Point) (slots : List ℕ) (rows : List (List ℕ)) (marked early loose : ℕ) (seen spots : List ℕ) → AreLooked f looked → AreStarted f slots rows → HaveMarkers f slots marked → AreEarly f slots early →
+    loose ≡ bit_and marked (bit_xor early all_bits) → seen ≡ map (seen_word rows loose) looked → spots ≡ spots_from 0 seen → TellsChunk f looked slots (record { loose = loose; seen = seen; spots = spots })
+chunk_tells f looked slots rows marked early loose seen spots are_looked started markers are_early loose_is seen_is spots_are = record { loose = is_loose; tight = is_tight; seen = λ c slot k lt is h. (to c slot k lt is h, from c slot k lt is h); spots = spots_are }
   where
     two : (c : ℕ) → HasBit loose c → HasBit marked c × HasBit (bit_xor early all_bits) c
     two c h = both_bits marked (bit_xor early all_bits) c (subst (λ (w : ℕ). HasBit w c) loose_is h)
@@ -86,6 +86,13 @@ more_chunks f looked chunks next chunk n here slots is len slots_are here_is tel
 
 pub all_in_chunks : (slots : List ℕ) (f : Function) (count n : ℕ) (chunks : List Chunk) → slots ≡ allocas_of f → length slots ≤ count * 64 → count ≤ n → length chunks ≡ n → (i : ℕ) → i < length (allocas_of f) → i / 64 < length chunks
 all_in_chunks slots f count n chunks slots_are le more len i lt = let same = ap length slots_are in omega (arith, same, le, more, len, lt)
+
+pub chunk_spots : (f : Function) (looked : List Point) (chunks : List Chunk) (k : ℕ) → AreChunks f looked chunks → AreSpotsAt chunks k
+chunk_spots f looked chunks k known = by (slice_get chunks k) refl
+  where
+    by : (o : Option Chunk) → slice_get chunks k ≡ o → unwrap_or (option_map (λ (x : Chunk). x.spots) o) [] ≡ spots_from 0 (unwrap_or (option_map (λ (x : Chunk). x.seen) o) [])
+    by None e = refl
+    by (Some chunk) e = (known.each k chunk e).spots
 
 -- ---- meetings
 

@@ -8,6 +8,7 @@ pub mod Frames
 pub mod Looking
 pub mod Earliness
 pub mod Meetings
+pub mod Spotting
 pub mod Chunks
 pub mod Deciding
 pub mod Parting

@@ -9,7 +9,7 @@ use Rattle.ir_paths.specs.declared.point.Point.{Point}
 use Rattle.point_reach.specs.Reached.{row_of, word_at_point}
 use Rattle.slot_conflicts.specs.Conflicts.{IsFrameSlotAt, IsUsedEarly}
 use Rattle.slot_conflicts.specs.Looked.{AreLooked}
-use Rattle.slot_conflicts.specs.Meeting.{AreMeetings}
+use Rattle.slot_conflicts.specs.Meeting.{AreMeetings, spots_from}
 use Rattle.slot_conflicts.specs.Started.{IsStarted}
 use Rattle.slot_conflicts.specs.declared.facts.Chunk.{Chunk}
 use Rattle.slot_conflicts.specs.declared.facts.Known.{Known}
@@ -33,11 +33,13 @@ pub record IsSeen (f : Function) (slot : ℕ) (looked : List Point) (k : ℕ) : 
   pub is_point : slice_get looked k ≡ Some point
   pub is_started : IsStarted f slot point
 
--- which slots of the chunk have markers and aren't used before begin, and which of these are started at the points looked at
+-- which slots of the chunk have markers and aren't used before begin, which of these are started at the points looked at, and at
+-- which of the points there are any
 pub record TellsChunk (f : Function) (looked : List Point) (slots : List ℕ) (chunk : Chunk) : Type 0 where
   pub loose : (c slot : ℕ) → c < 64 → slice_get slots c ≡ Some slot → HasBit chunk.loose c → (markers_of f slot ≡ [] → ⊥) × (IsUsedEarly f slot → ⊥)
   pub tight : (c slot : ℕ) → c < 64 → slice_get slots c ≡ Some slot → (HasBit chunk.loose c → ⊥) → (markers_of f slot ≡ []) ⊎ IsUsedEarly f slot
   pub seen : (c slot k : ℕ) → c < 64 → slice_get slots c ≡ Some slot → HasBit chunk.loose c → HasBit (word_at chunk.seen k) c ↔ IsSeen f slot looked k
+  pub spots : chunk.spots ≡ spots_from 0 chunk.seen
 
 -- the chunks of the first slots
 pub record AreChunks (f : Function) (looked : List Point) (chunks : List Chunk) : Type 0 where
@@ -58,6 +60,13 @@ seen_word rows loose p = bit_and (word_at_point rows p) loose
 
 abbrev pub seen_at : List Chunk → ℕ → List ℕ
 seen_at chunks k = unwrap_or (option_map (λ x. x.seen) (slice_get chunks k)) []
+
+abbrev pub spots_at : List Chunk → ℕ → List ℕ
+spots_at chunks k = unwrap_or (option_map (λ x. x.spots) (slice_get chunks k)) []
+
+-- the spots of a chunk are those of its words
+abbrev pub AreSpotsAt : List Chunk → ℕ → Type 0
+AreSpotsAt chunks k = spots_at chunks k ≡ spots_from 0 (seen_at chunks k)
 
 abbrev pub loose_at : List Chunk → ℕ → ℕ
 loose_at chunks k = unwrap_or (option_map (λ x. x.loose) (slice_get chunks k)) 0

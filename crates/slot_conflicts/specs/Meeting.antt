@@ -1,5 +1,5 @@
 -- Who is alive with whom at the points looked at, by words.
-use Rattle.std.specs.Prelude.{◌≡◌, ◌↔◌, ◌⊎◌, ◌<◌, ℕ, Bool, List, length, ◌==◌, ◌&&◌, ◌||◌}
+use Rattle.std.specs.Prelude.{◌≡◌, ◌↔◌, ◌⊎◌, ◌<◌, ◌+◌, ◌++◌, ◌∷◌, ℕ, Bool, List, [], length, if◌then◌else◌, ◌==◌, ◌&&◌, ◌||◌}
 use Rattle.bit_reach.specs.Bits.{HasBit}
 use Rattle.block_paths.specs.Words.{word_at}
 
@@ -12,6 +12,16 @@ pub record Meet (one other : List ℕ) (c d : ℕ) : Type 0 where
 -- for each bit of the one words the bits of the others that it meets
 pub record AreMeetings (one other words : List ℕ) : Type 0 where
   pub each : (c d : ℕ) → c < 64 → HasBit (word_at words c) d ↔ Meet one other c d
+
+-- ---- the positions of the words that aren't empty
+
+abbrev pub spot_if : ℕ → ℕ → List ℕ
+spot_if at word = if word == 0 then [] else at ∷ []
+
+-- the first word's position is a number
+abbrev pub spots_from : ℕ → List ℕ → List ℕ
+spots_from at [] = []
+spots_from at (word ∷ words) = spot_if at word ++ spots_from (at + 1) words
 
 -- ---- one position after the other
 

@@ -14,6 +14,7 @@ ghost use Rattle.window_rules.specs.Sets.{AreThose};
 use crate::bits::{chunks_of, word_at_point};
 use crate::early::{before_begin, early_word};
 use crate::looked::looked_points;
+use crate::spots::spots_of;
 use crate::started::started_slots;
 use block_paths::block_graph;
 use coro_base::{Items, ValueId};
@@ -32,6 +33,8 @@ use window_rules::PointSet;
 pub struct Chunk {
     pub loose: u64,
     pub seen: Items<u64>,
+    /// The positions of the words of `seen` that aren't empty, in order.
+    pub spots: Items<usize>,
 }
 
 /// The slots of a function: how many there are, their classes, and what is known of each chunk of 64.
@@ -93,7 +96,8 @@ fn chunk_facts(
     let early = early_word(alloc, function, before, uses, slots)?;
     let loose = here.marked & (early ^ u64::MAX);
     let seen = seen_words(alloc, &here.rows, loose, looked)?;
-    Ok(Chunk { loose, seen })
+    let spots = spots_of(alloc, seen.as_slice())?;
+    Ok(Chunk { loose, seen, spots })
 }
 
 fn all_chunks(

@@ -11,6 +11,7 @@ mod looked;
 mod meeting;
 mod pairs;
 mod parts;
+mod spots;
 mod started;
 mod suspended;
 

@@ -1,8 +1,8 @@
 //! Who is alive with whom.
 
 ghost use Rattle.std.specs.Prelude.{◌≡◌, ◌≤◌, IfOk, length};
-ghost use Rattle.slot_conflicts.specs.Known.{AreMetFor, seen_at as seen_of_chunk};
-ghost use Rattle.slot_conflicts.specs.Meeting.{AreMeetings, HaveMet, are_of as are_of_those};
+ghost use Rattle.slot_conflicts.specs.Known.{AreMetFor, AreSpotsAt, seen_at as seen_of_chunk, spots_at as spots_of_chunk};
+ghost use Rattle.slot_conflicts.specs.Meeting.{AreMeetings, HaveMet, are_of as are_of_those, spots_from};
 
 use crate::bits::{has_bit, word_at};
 use crate::facts::Chunk;
@@ -29,16 +29,23 @@ fn are_of(one: u64, other: u64, last_one: u64, last_other: u64) -> bool
     one == 0 || other == 0 || (one == last_one && other == last_other)
 }
 
-/// For each of 64 slots those of 64 others that are alive with it at one of the points looked at.
-fn meetings(alloc: Global, one: &[u64], other: &[u64]) -> Result<Items<u64>, AllocError>
+/// For each of 64 slots those of 64 others that are alive with it at one of the points looked at. The spots are the positions of
+/// the points at which any of the 64 are alive: no others are gone over.
+fn meetings(
+    alloc: Global,
+    one: &[u64],
+    spots: &[usize],
+    other: &[u64],
+) -> Result<Items<u64>, AllocError>
+    requires { spots.now ≡ spots_from 0 one.now }
     ensures { IfOk result (AreMeetings one.now other.now) }
 {
     let mut words = Items::from_vec(vec![in alloc; 0; 64]?);
     let mut last_x = 0;
     let mut last_y = 0;
-    for at in 0..one.len() {
-        let x = word_at(one, at);
-        let y = word_at(other, at);
+    for spot in spots {
+        let x = word_at(one, *spot);
+        let y = word_at(other, *spot);
         if !are_of(x, y, last_x, last_y) {
             meet(&mut words, x, y);
             last_x = x;
@@ -57,6 +64,16 @@ fn seen_at(chunks: &Items<Chunk>, at: usize) -> &[u64]
     }
 }
 
+/// The positions of the points at which any slots of a chunk are alive.
+fn spots_at(chunks: &Items<Chunk>, at: usize) -> &[usize]
+    ensures { result.now ≡ spots_of_chunk chunks.now at }
+{
+    match chunks.get(at) {
+        None => &[],
+        Some(chunk) => chunk.spots.as_slice(),
+    }
+}
+
 /// The meetings of a chunk with another; a chunk before it isn't looked at.
 fn meetings_from(
     alloc: Global,
@@ -64,12 +81,18 @@ fn meetings_from(
     one: usize,
     other: usize,
 ) -> Result<Items<u64>, AllocError>
+    requires { AreSpotsAt chunks.now one }
     ensures { IfOk result (λ words. one ≤ other → AreMeetings (seen_of_chunk chunks.now one) (seen_of_chunk chunks.now other) words) }
 {
     if other < one {
         Ok(Items::new(alloc))
     } else {
-        meetings(alloc, seen_at(chunks, one), seen_at(chunks, other))
+        meetings(
+            alloc,
+            seen_at(chunks, one),
+            spots_at(chunks, one),
+            seen_at(chunks, other),
+        )
     }
 }
 
@@ -79,6 +102,7 @@ pub fn all_meetings(
     chunks: &Items<Chunk>,
     one: usize,
 ) -> Result<Items<Items<u64>>, AllocError>
+    requires { AreSpotsAt chunks.now one }
     ensures { IfOk result (AreMetFor chunks.now one (length chunks.now)) }
 {
     let mut met = Items::new(alloc);

@@ -1,5 +1,6 @@
 use Rattle.std.proofs.Common.{◌≡◌, ◌+◌, ◌*◌, sym, subst, length, arith}
 use Rattle.std.specs.Prelude.{min}
+use Rattle.slot_conflicts.proofs.Chunks.{chunk_spots}
 use Rattle.slot_conflicts.proofs.Order.{rows_so_far}
 use Rattle.slot_conflicts.proofs.Places.{chunk_ends, same_chunk}
 use Rattle.slot_conflicts.specs.Conflicts.{ConflictAt}
@@ -8,6 +9,9 @@ use Rattle.slot_conflicts.proofs.answer.push_chunk.Goals as goal
 
 pub overflow_mul-start : goal.overflow_mul-start
 overflow_mul-start c = omega arith
+
+pub all_meetings-requires : goal.all_meetings-requires
+all_meetings-requires c = chunk_spots c.args.function.now c.requires.known.looked c.args.known.now.chunks c.args.chunk c.requires.known.are_chunks
 
 pub push_slot-requires-clause-met : goal.push_slot-requires-clause-met
 push_slot-requires-clause-met c =
