@@ -67,8 +67,8 @@ pub fn accepted_sources_have_plain_names()
     ensures { (text : List ℕ) (m : Module) → StandsFor text m → IsRefused Stage.Source m None → HavePlainNames (early_module m) }
 {}
 
-/// Each run of such a source agrees within 2 with the run of what the first pass makes of it, in which a resume hands on the values that cross its
-/// suspend, and what isn't a value that may cross, alone.
+/// Each run of such a source agrees within 2 with each run of what the first pass makes of it in which a resume hands on at least the values that
+/// cross its suspend and what isn't a value that may cross.
 pub fn accepted_early_sources_hand_on_what_crosses()
     ensures { (text : List ℕ) (m : Module) → StandsFor text m → IsRefused Stage.Source m None → (keep : Keep) → HandsOn (early_module m) keep → (sizes : List Frame) (entry : ℕ) (args : List Word) (answers : List ℤ) → AgreesWithin 2 (SourceAt m sizes entry args answers) (KeptAt (early_module m) keep sizes entry args answers) }
 {}
@@ -93,8 +93,8 @@ pub fn accepted_edges_have_plain_names()
     ensures { (text : List ℕ) (m : Module) → StandsFor text m → IsRefused Stage.Source m None → HavePlainNames (edges_split (early_module m)) }
 {}
 
-/// Each run of a source that a text stands for and that breaks no rule agrees within 4 with the run, where saves are written out and edges have blocks, in
-/// which a resume hands on the values that cross its suspend, and what isn't a value that may cross, alone.
+/// Each run of a source that a text stands for and that breaks no rule agrees within 4 with each run, where saves are written out and edges have blocks,
+/// in which a resume hands on at least the values that cross its suspend and what isn't a value that may cross.
 pub fn accepted_sources_hand_on_what_crosses()
     ensures { (text : List ℕ) (m : Module) → StandsFor text m → IsRefused Stage.Source m None → (keep : Keep) → HandsOn (edges_split (early_module m)) keep → (sizes : List Frame) (entry : ℕ) (args : List Word) (answers : List ℤ) → AgreesWithin 4 (SourceAt m sizes entry args answers) (KeptAt (edges_split (early_module m)) keep sizes entry args answers) }
 {}

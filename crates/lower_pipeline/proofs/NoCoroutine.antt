@@ -35,7 +35,7 @@ use Rattle.ir_model.specs.declared.operand.Operand.{Operand}
 use Rattle.ir_parser.specs.Parse.{read_module}
 use Rattle.ir_parser.specs.declared.text.Parsed.{Parsed}
 use Rattle.lower_pipeline.specs.Lowering.{IsDone, IsLowering, IsLoweringBy, IsLoweringOf, lowered_module}
-use Rattle.lower_pipeline.specs.NoCoroutine.{HasNoCoroutine, has_no_coroutine}
+use Rattle.lower_pipeline.specs.NoCoroutine.{LeavesNoCoroutine, has_no_coroutine}
 use Rattle.lower_pipeline.specs.declared.whole.Lowered.{Lowered}
 use Rattle.lower_pipeline.specs.declared.whole.Lowering.{Lowering}
 use Rattle.module_acceptance.specs.declared.accepting.Acceptance.{Acceptance}
@@ -313,24 +313,24 @@ lowered_has_none ls m = both _ _ (all_ordinary ls m) (module_freed (split_module
 
 -- ---- the lowering of a text
 
-done_has_none : (m : Module) (ls : Layouts) (l : Lowered) → IsDone m ls l → HasNoCoroutine (Lowering.Done l)
+done_has_none : (m : Module) (ls : Layouts) (l : Lowered) → IsDone m ls l → LeavesNoCoroutine (Lowering.Done l)
 done_has_none m ls l h = ap (λ (x : Lowered). has_no_coroutine x.«module») h.is ∙ lowered_has_none ls h.framed
 
-by_has_none : (m : Module) (a : Acceptance) (l : Lowering) → IsLoweringBy m a l → HasNoCoroutine l
-by_has_none m (Acceptance.Refused r) l h = subst (λ (x : Lowering). HasNoCoroutine x) (sym h) tt
+by_has_none : (m : Module) (a : Acceptance) (l : Lowering) → IsLoweringBy m a l → LeavesNoCoroutine l
+by_has_none m (Acceptance.Refused r) l h = subst (λ (x : Lowering). LeavesNoCoroutine x) (sym h) tt
 by_has_none m (Acceptance.Accepted ls) (Lowering.Done l) h = done_has_none m ls l h
 by_has_none m (Acceptance.Accepted ls) (Lowering.Syntax items) h = absurd h
 by_has_none m (Acceptance.Accepted ls) (Lowering.Refused n rule place) h = absurd h
 
-text_has_none : (share : Bool) (p : Parsed) (l : Lowering) → IsLoweringOf share p l → HasNoCoroutine l
-text_has_none share (Parsed.Syntax items) l h = subst (λ (x : Lowering). HasNoCoroutine x) (sym h) tt
+text_has_none : (share : Bool) (p : Parsed) (l : Lowering) → IsLoweringOf share p l → LeavesNoCoroutine l
+text_has_none share (Parsed.Syntax items) l h = subst (λ (x : Lowering). LeavesNoCoroutine x) (sym h) tt
 text_has_none share (Parsed.Module m) l h = by_has_none m h.acceptance l h.comes
 
-pub lowering_has_none : {E : Type 0} (options : Options) (text : List ℕ) (r : Result Lowering E) → IfOk r (λ l. IsLowering options text l) → IfOk r (λ l. HasNoCoroutine l)
+pub lowering_has_none : {E : Type 0} (options : Options) (text : List ℕ) (r : Result Lowering E) → IfOk r (λ l. IsLowering options text l) → IfOk r (λ l. LeavesNoCoroutine l)
 unfolding IsLowering
 lowering_has_none options text (Ok l) h = text_has_none options.share (read_module text) l h
 lowering_has_none options text (Err x) h = h
 
-pub lowering_by_has_none : {E : Type 0} (m : Module) (a : Acceptance) (r : Result Lowering E) → IfOk r (λ l. IsLoweringBy m a l) → IfOk r (λ l. HasNoCoroutine l)
+pub lowering_by_has_none : {E : Type 0} (m : Module) (a : Acceptance) (r : Result Lowering E) → IfOk r (λ l. IsLoweringBy m a l) → IfOk r (λ l. LeavesNoCoroutine l)
 lowering_by_has_none m a (Ok l) h = by_has_none m a l h
 lowering_by_has_none m a (Err x) h = h

@@ -21,11 +21,11 @@ use Rattle.lower_pipeline.specs.declared.whole.Lowered.{Lowered}
 use Rattle.lower_pipeline.specs.declared.whole.Lowering.{Lowering}
 use Rattle.lowered_forms.proofs.frame_numbers.Numbers.{IsBounded, given_bounded}
 use Rattle.lowered_forms.proofs.lowered_sources.Row.{all_accepted}
-use Rattle.lowered_forms.proofs.names_apart.Lowered.{lowered_apart}
-use Rattle.lowered_forms.proofs.order_rules.Modules.{order_breaks_none}
-use Rattle.lowered_forms.proofs.printed_forms.Lowered.{lowered_printable, lowered_shaped}
-use Rattle.lowered_forms.proofs.printed_forms.Text.{source_spelled}
-use Rattle.lowered_forms.specs.names_apart.Words.{AreFew}
+use Rattle.printed_modules.proofs.names_apart.Lowered.{lowered_apart}
+use Rattle.printed_modules.proofs.order_rules.Modules.{order_breaks_none}
+use Rattle.printed_modules.proofs.printed_forms.Lowered.{lowered_printable, lowered_shaped}
+use Rattle.printed_modules.proofs.printed_forms.Text.{source_spelled}
+use Rattle.printed_modules.specs.names_apart.Words.{AreFew}
 use Rattle.name_order.proofs.Modules.{stands_in_order}
 use Rattle.name_order.specs.Order.{module_order}
 use Rattle.name_rules.specs.declared.stage.Stage.{Stage}
@@ -64,9 +64,8 @@ module _ (text : List ℕ) (bytes : AreBytes text) (m : Module) (stands : Stands
   frames : AreFrames (map (frame_line m) layouts.coroutines)
   frames = frames_are m layouts.coroutines (λ k f e. (source_spelled text m bytes stands k f e).name) (λ k h. given_bounded m share layouts a.laid k (inl h))
 
-  done_is_read : AllFew l.«module».functions → StandsForPlain l.text
-  done_is_read = subst (λ (x : Lowered). AllFew x.«module».functions → StandsForPlain x.text) (sym d.is) (λ few. record {
-    read = module_order made;
+  done_is_read : AllFew l.«module».functions → StandsForPlain l.«module» l.text
+  done_is_read = subst (λ (x : Lowered). AllFew x.«module».functions → StandsForPlain x.«module» x.text) (sym d.is) (λ few. record {
     stands = stands_behind (map (frame_line m) layouts.coroutines) (module_text made) (module_order made) frames (by_parts few).1;
     accepted = (by_parts few).0;
   })
@@ -76,10 +75,10 @@ together A B (Lowering.Done x) h k = h k
 together A B (Lowering.Syntax items) h k = tt
 together A B (Lowering.Refused m rule place) h k = tt
 
-both : {E : Type 0} (r : Result Lowering E) → IfOk r (λ l. OfLowered (λ x. AllFew x.«module».functions → StandsForPlain x.text) l) → IfOk r (λ l. HasFewNames l) → IfOk r (λ l. IsReadPlain l)
-both (Ok l) h k = together (λ x. AllFew x.«module».functions) (λ x. StandsForPlain x.text) l h k
+both : {E : Type 0} (r : Result Lowering E) → IfOk r (λ l. OfLowered (λ x. AllFew x.«module».functions → StandsForPlain x.«module» x.text) l) → IfOk r (λ l. HasFewNames l) → IfOk r (λ l. IsReadPlain l)
+both (Ok l) h k = together (λ x. AllFew x.«module».functions) (λ x. StandsForPlain x.«module» x.text) l h k
 both (Err e) h k = h
 
 pub lowering_is_read : {E : Type 0} (options : Options) (text : List ℕ) → AreBytes text → (r : Result Lowering E) → IfOk r (λ l. IsLowering options text l) → IfOk r (λ l. HasFewNames l) → IfOk r (λ l. IsReadPlain l)
 lowering_is_read options text bytes r h few =
-    both r (lowering_holds (λ x. AllFew x.«module».functions → StandsForPlain x.text) options text (λ m stands share layouts l a d. done_is_read text bytes m stands share layouts l a d) r h) few
+    both r (lowering_holds (λ x. AllFew x.«module».functions → StandsForPlain x.«module» x.text) options text (λ m stands share layouts l a d. done_is_read text bytes m stands share layouts l a d) r h) few

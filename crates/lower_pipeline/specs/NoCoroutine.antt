@@ -11,5 +11,5 @@ abbrev pub has_no_coroutine : Module → Bool
 has_no_coroutine m = list_all (λ f. not f.coroutine) m.functions && is_free_module m
 
 -- the lowered module, where there is one, is such a module
-abbrev pub HasNoCoroutine : Lowering → Type 0
-HasNoCoroutine = OfLowered (λ l. has_no_coroutine l.«module» ≡ true)
+abbrev pub LeavesNoCoroutine : Lowering → Type 0
+LeavesNoCoroutine = OfLowered (λ l. has_no_coroutine l.«module» ≡ true)

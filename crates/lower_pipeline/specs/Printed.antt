@@ -6,18 +6,18 @@ use Rattle.ir_model.specs.declared.module.Function.{Function}
 use Rattle.ir_model.specs.declared.module.Module.{Module}
 use Rattle.lower_pipeline.specs.Lowering.{OfLowered}
 use Rattle.lower_pipeline.specs.declared.whole.Lowering.{Lowering}
-use Rattle.lowered_forms.specs.names_apart.Words.{AreFew}
+use Rattle.printed_modules.specs.names_apart.Words.{AreFew}
+use Rattle.name_order.specs.Order.{module_order}
 use Rattle.name_rules.specs.declared.stage.Stage.{Stage}
 
--- the text stands for a module that breaks none of the rules of modules without coroutines
-pub record StandsForPlain (text : List ℕ) : Type 0 where
-  pub read : Module
-  pub stands : StandsFor text read
-  pub accepted : IsRefused Stage.Plain read None
+-- the text stands for the module with the names of each function in the order of their first occurrence, and that breaks none of the rules of modules without coroutines
+pub record StandsForPlain (m : Module) (text : List ℕ) : Type 0 where
+  pub stands : StandsFor text (module_order m)
+  pub accepted : IsRefused Stage.Plain (module_order m) None
 
--- the text of what is lowered, where there is one, does
+-- the text of what is lowered, where there is one, stands for what is lowered
 abbrev pub IsReadPlain : Lowering → Type 0
-IsReadPlain = OfLowered (λ l. StandsForPlain l.text)
+IsReadPlain = OfLowered (λ l. StandsForPlain l.«module» l.text)
 
 -- each of the functions has fewer than 2 ^ 64 names
 abbrev pub AllFew : List Function → Type 0

@@ -2,7 +2,7 @@
 
 ghost use Rattle.std.specs.Prelude.{◌≡◌, IfOk, map, slice_get};
 ghost use Rattle.lower_pipeline.specs.Lowering.{IsDone, IsLowering, IsLoweringBy, IsModuleLowering, frame_line, lowered_by, lowered_text, name_of};
-ghost use Rattle.lower_pipeline.specs.NoCoroutine.{HasNoCoroutine};
+ghost use Rattle.lower_pipeline.specs.NoCoroutine.{LeavesNoCoroutine};
 ghost use Rattle.lower_pipeline.specs.NoRule.{BreaksNoRule, IsFramed};
 ghost use Rattle.lower_pipeline.specs.Printed.{AllFew, HasFewNames, IsReadPlain};
 
@@ -144,7 +144,7 @@ fn lower_by(alloc: Global, source: Module, acceptance: Acceptance) -> Result<Low
 #[tactic(auto, using(crate::proofs::Told::lowered_as, crate::proofs::NoCoroutine::lowering_by_has_none))]
 pub fn lower_module(alloc: Global, source: Module, share: bool) -> Result<Lowering, AllocError>
     ensures lowered { IfOk result (λ l. IsModuleLowering share source l) }
-    ensures plain { IfOk result (λ l. HasNoCoroutine l) }
+    ensures plain { IfOk result (λ l. LeavesNoCoroutine l) }
     ensures few { IfOk result (λ l. HasFewNames l) }
 {
     let acceptance = accept(alloc, &source, share)?;
@@ -152,12 +152,12 @@ pub fn lower_module(alloc: Global, source: Module, share: bool) -> Result<Loweri
 }
 
 /// Lowers a text. What is lowered has no coroutine left, neither calls nor declares a coro intrinsic, and breaks none of the rules of
-/// modules without coroutines; its framed form is a framed module. The text stands for a module that breaks none of these rules either,
-/// with the names of each function in the order of the text.
+/// modules without coroutines; its framed form is a framed module. The text stands for what is lowered, with the names of each
+/// function in the order of their first occurrence, and that breaks none of these rules either.
 #[tactic(auto, using(crate::proofs::Told::syntax_is_told, crate::proofs::Told::module_is_told, crate::proofs::NoCoroutine::lowering_has_none, crate::proofs::NoRule::lowering_breaks_none, crate::proofs::NoRule::lowering_is_framed, crate::proofs::Printed::lowering_is_read))]
 pub fn lower(alloc: Global, text: &[u8], options: Options) -> Result<Lowering, AllocError>
     ensures lowered { IfOk result (λ l. IsLowering options text.now l) }
-    ensures plain { IfOk result (λ l. HasNoCoroutine l) }
+    ensures plain { IfOk result (λ l. LeavesNoCoroutine l) }
     ensures accepted { IfOk result (λ l. BreaksNoRule l) }
     ensures framed { IfOk result (λ l. IsFramed l) }
     ensures printed { IfOk result (λ l. IsReadPlain l) }

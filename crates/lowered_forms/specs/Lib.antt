@@ -5,10 +5,7 @@ pub mod framed_crossing
 pub mod framed_rules
 pub mod framed_shape
 pub mod lowered_rules
-pub mod names_apart
-pub mod order_rules
 pub mod part_uses
-pub mod printed_forms
 pub mod split_rules
 pub mod unnamed_intrinsics
 pub mod unused_frames

@@ -1,0 +1,5 @@
+use Rattle.printed_modules.proofs.order_rules.Whole.{all_same}
+use Rattle.printed_modules.proofs.order_rules.renumbering_keeps_each_fault.Goals as goal
+
+pub returns : goal.returns
+returns c = all_same

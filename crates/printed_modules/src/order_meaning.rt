@@ -1,0 +1,42 @@
+//! That a run of a module without coroutines goes by no order of names.
+
+ghost use Rattle.std.specs.Prelude.{Bool, ℕ, ℤ, List, None, Ok};
+ghost use Rattle.agreement.specs.Agreements.{AgreesWithin};
+ghost use Rattle.canonical_text.specs.Items.{module_text};
+ghost use Rattle.coro_base.specs.declared.outcome.Word.{Word};
+ghost use Rattle.coro_cleanup.specs.Cleanup.{clean_module};
+ghost use Rattle.coro_split.specs.Parts.{split_module};
+ghost use Rattle.coroutine_frames.specs.Frames.{AreLayouts};
+ghost use Rattle.early_lower.specs.Early.{early_module};
+ghost use Rattle.frame_layout.specs.declared.layout.Layouts.{Layouts};
+ghost use Rattle.ir_check.specs.Refused.{IsRefused};
+ghost use Rattle.ir_grammar.specs.Text.{StandsFor};
+ghost use Rattle.ir_model.specs.declared.module.Function.{Function};
+ghost use Rattle.ir_model.specs.declared.module.Module.{Module};
+ghost use Rattle.printed_modules.specs.names_apart.Apart.{AreNamesApart};
+ghost use Rattle.printed_modules.specs.names_apart.Words.{AreNamesFew};
+ghost use Rattle.name_order.specs.Order.{function_order, module_order};
+ghost use Rattle.name_order.specs.Shape.{IsFunction, IsShaped};
+ghost use Rattle.name_rules.specs.declared.stage.Stage.{Stage};
+ghost use Rattle.printed_modules.specs.order_meaning.Held.{HoldsResults};
+ghost use Rattle.plain_meaning.specs.Plain.{PlainAt};
+ghost use Rattle.printed_grammar.specs.Bytes.{AreBytes};
+ghost use Rattle.spill_reload.specs.Framed.{IsFramedForm};
+
+/// What a function sets has its place in the table of names that stand in the order of their first occurrence.
+pub fn ordered_names_are_placed()
+    ensures { (f : Function) → IsFunction f → HoldsResults (function_order f) }
+{}
+
+/// Each run of a module without coroutines agrees within 1 with the run of it with the names of each function in the order of their first occurrence.
+pub fn names_in_order_keep_meaning()
+    ensures { (m : Module) → IsShaped m → AreNamesApart m → (entry : ℕ) (args : List Word) (answers : List ℤ) → AgreesWithin 1 (PlainAt m entry args answers) (PlainAt (module_order m) entry args answers) }
+{}
+
+/// Each run of what is lowered of a source that breaks no rule agrees within 1 with the run of what the text that is printed of it stands for.
+pub fn printed_names_keep_meaning()
+    ensures { (text : List ℕ) (m : Module) → AreBytes text → StandsFor text m → IsRefused Stage.Source m None → (share : Bool) (layouts : Layouts) → AreLayouts m share (Ok layouts) → (n : Module) → IsFramedForm layouts (early_module m) n
+        → AreNamesFew (clean_module (split_module layouts n)) → (entry : ℕ) (args : List Word) (answers : List ℤ)
+        → StandsFor (module_text (clean_module (split_module layouts n))) (module_order (clean_module (split_module layouts n)))
+        × AgreesWithin 1 (PlainAt (clean_module (split_module layouts n)) entry args answers) (PlainAt (module_order (clean_module (split_module layouts n))) entry args answers) }
+{}
