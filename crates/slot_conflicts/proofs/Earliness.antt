@@ -8,6 +8,7 @@ use Rattle.block_paths.proofs.Elements.{listed_append}
 use Rattle.block_paths.specs.Words.{word_at}
 use Rattle.flow_solver.proofs.Lists.{listed_at, listed_front, place_of}
 use Rattle.flow_solver.specs.Paths.{IsListed}
+use Rattle.ir_model.specs.declared.instr.Instr.{Instr}
 use Rattle.ir_model.specs.declared.module.Block.{Block}
 use Rattle.ir_model.specs.declared.module.Function.{Function}
 use Rattle.ir_paths.specs.declared.point.Point.{Point}
@@ -194,9 +195,11 @@ row_ends before block at word (x ∷ ws) w =
     row_ends before block (at + 1) (bit_or word (word_if (is_marked before (record { block = block; at = at })) x)) ws w
     ∙ ap (λ (k : ℕ). bit_or (early_row before block (at + 1) (bit_or word (word_if (is_marked before (record { block = block; at = at })) x)) ws) (word_if (is_marked before (record { block = block; at = k })) w)) s
 
-pub block_made : (before : List (List Bool)) (block first : ℕ) (words : List ℕ) (b : Block) (n word : ℕ) → word ≡ early_row before block 0 first (map (used words) b.instrs) → n ≡ length b.instrs →
+pub block_made : (before : List (List Bool)) (block first : ℕ) (words : List ℕ) (b : Block) (instrs : List Instr) (n word : ℕ) → instrs ≡ b.instrs → word ≡ early_row before block 0 first (map (used words) instrs) → n ≡ length instrs →
     bit_or word (word_if (is_marked before (record { block = block; at = n })) (with_term words 0 b.term)) ≡ early_row before block 0 first (use_row words b)
-block_made before block first words b n word is long =
-    ap (λ (w : ℕ). bit_or w (word_if (is_marked before (record { block = block; at = n })) (with_term words 0 b.term))) is
-    ∙ ap (λ (k : ℕ). bit_or (early_row before block 0 first (map (used words) b.instrs)) (word_if (is_marked before (record { block = block; at = k })) (with_term words 0 b.term))) (long ∙ sym (length-map b.instrs (used words)))
-    ∙ sym (row_ends before block 0 first (map (used words) b.instrs) (with_term words 0 b.term))
+block_made before block first words b instrs n word same is long =
+    let ws : List ℕ = map (used words) b.instrs in
+    let z : length ws ≡ 0 + length ws = omega arith in
+    ap (λ (w : ℕ). bit_or w (word_if (is_marked before (record { block = block; at = n })) (with_term words 0 b.term))) (is ∙ ap (λ (xs : List Instr). early_row before block 0 first (map (used words) xs)) same)
+    ∙ ap (λ (k : ℕ). bit_or (early_row before block 0 first ws) (word_if (is_marked before (record { block = block; at = k })) (with_term words 0 b.term))) (long ∙ ap (λ (xs : List Instr). length xs) same ∙ sym (length-map b.instrs (used words)) ∙ z)
+    ∙ sym (row_ends before block 0 first ws (with_term words 0 b.term))

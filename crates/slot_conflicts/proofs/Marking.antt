@@ -13,10 +13,13 @@ use Rattle.slot_uses.specs.Words.{marked}
 use Rattle.slot_uses.specs.declared.markers.Mark.{Mark}
 use Rattle.slot_uses.specs.declared.markers.Marker.{Marker}
 
+abbrev both : ℕ → ℕ → Pass
+both a b = record { stops = a; begins = b }
+
 pass_tells : (names : List ℕ) (i : Instr) → marked_pass names (mark_of i) ≡ pass_of names i
 pass_tells names i =
-    ap (λ (w : ℕ). record { stops = w; begins = marker_word Marker.Start names (mark_of i) } : Pass) (mark_tells names i Marker.End)
-    ∙ ap (λ (w : ℕ). record { stops = marked Intrinsic.LifetimeEnd names i; begins = w } : Pass) (mark_tells names i Marker.Start)
+    ap (λ (w : ℕ). both w (marker_word Marker.Start names (mark_of i))) (mark_tells names i Marker.End)
+    ∙ ap (λ (w : ℕ). both (marked Intrinsic.LifetimeEnd names i) w) (mark_tells names i Marker.Start)
 
 instrs_tell : (names : List ℕ) (is : List Instr) → map (marked_pass names) (map mark_of is) ≡ map (pass_of names) is
 instrs_tell names [] = refl

@@ -1,4 +1,3 @@
-use Rattle.std.proofs.Common.{ℕ}
 use Rattle.slot_conflicts.proofs.Frames.{frame_told}
 use Rattle.slot_conflicts.proofs.facts.is_frame.Goals as goal
 

@@ -1,4 +1,3 @@
-use Rattle.std.proofs.Common.{◌<◌, length, arith}
 use Rattle.slot_conflicts.proofs.Spotting.{next_spot}
 use Rattle.slot_conflicts.specs.Meeting.{spots_from}
 use Rattle.slot_conflicts.proofs.spots.spots_of.Goals as goal
