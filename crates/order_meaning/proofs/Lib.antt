@@ -6,3 +6,4 @@ pub mod Simulation
 pub mod Placed
 pub mod Main
 pub mod Printed
+pub mod Cleaned

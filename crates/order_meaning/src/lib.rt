@@ -41,3 +41,9 @@ pub fn printed_names_keep_meaning()
         → StandsFor (module_text (clean_module (split_module layouts n))) (module_order (clean_module (split_module layouts n)))
         × AgreesWithin 1 (PlainAt (clean_module (split_module layouts n)) entry args answers) (PlainAt (module_order (clean_module (split_module layouts n))) entry args answers) }
 {}
+
+/// Each run of what splitting gives of a source that breaks no rule agrees within 1 with the run of what is lowered of it.
+pub fn cleaned_sources_keep_meaning()
+    ensures { (text : List ℕ) (m : Module) → StandsFor text m → IsRefused Stage.Source m None → (share : Bool) (layouts : Layouts) → AreLayouts m share (Ok layouts) → (n : Module) → IsFramedForm layouts (early_module m) n
+        → (entry : ℕ) (args : List Word) (answers : List ℤ) → AgreesWithin 1 (PlainAt (split_module layouts n) entry args answers) (PlainAt (clean_module (split_module layouts n)) entry args answers) }
+{}
