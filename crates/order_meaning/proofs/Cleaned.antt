@@ -11,7 +11,7 @@ use Rattle.frame_layout.specs.declared.layout.Layouts.{Layouts}
 use Rattle.ir_check.specs.Refused.{IsRefused}
 use Rattle.ir_grammar.specs.Text.{StandsFor}
 use Rattle.ir_model.specs.declared.module.Module.{Module}
-use Rattle.lowered_forms.proofs.cleanable_sources.Whole.{sources_cleanable}
+use Rattle.lowered_forms.proofs.cleanable_sources.Sources.{sources_cleanable}
 use Rattle.name_rules.specs.declared.stage.Stage.{Stage}
 use Rattle.plain_meaning.specs.Plain.{PlainAt}
 use Rattle.spill_reload.specs.Framed.{IsFramedForm}

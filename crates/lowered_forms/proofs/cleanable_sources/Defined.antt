@@ -1,5 +1,5 @@
 -- A function whose operands name globals and functions of a module alone, and that calls no coro intrinsic as other functions are, is as the last pass asks.
-use Rattle.std.proofs.Common.{◌≡◌, ℕ, Bool, true, List, [], ◌∷◌, refl, ap, ◌∙◌, subst}
+use Rattle.std.proofs.Common.{◌≡◌, ℕ, Bool, true, false, List, [], ◌∷◌, refl, ap, ◌∙◌, subst}
 use Rattle.std.specs.List.{list_all}
 use Rattle.std.specs.Prelude.{None, is_some, map, not, ◌||◌}
 use Rattle.coro_base.specs.declared.name.Name.{Name}
@@ -23,14 +23,14 @@ use Rattle.ir_model.specs.declared.module.GlobalItem.{GlobalItem}
 use Rattle.ir_model.specs.declared.module.Module.{Module}
 use Rattle.ir_model.specs.declared.operand.Callee.{Callee}
 use Rattle.ir_model.specs.declared.operand.Operand.{Operand}
+use Rattle.ir_paths.proofs.Search.{or_right}
 use Rattle.local_rules.specs.Addresses.{calls_indirectly, first_function_pointer, is_no_function, points_to_functions}
-use Rattle.lowered_forms.proofs.split_rules.Modules.{either}
 use Rattle.lowered_forms.proofs.split_rules.Outside.{calls_pass, names_other, none_other, operands_pass, passes}
 use Rattle.lowered_forms.proofs.split_rules.Passed.{PassingBlock, Passes, blocks_pass}
 use Rattle.lowered_forms.proofs.unnamed_intrinsics.Early.{calls_free}
 use Rattle.lowered_forms.specs.unnamed_intrinsics.Unnamed.{NamesNoIntrinsic, names_intrinsic}
-use Rattle.step_laws.specs.Changed.{Each, callee_at, named_callee, operands_of, operands_of_term}
 use Rattle.ordinary_step.specs.Step.{AtInstr}
+use Rattle.step_laws.specs.Changed.{Each, callee_at, named_callee, operands_of, operands_of_term}
 
 -- the name of a defined function or of a global
 abbrev pub is_there : Module → Name → Bool
@@ -40,7 +40,7 @@ is_there m x = is_some (function_named m x) || is_some (global_named m x)
 
 module _ (m n : Module) (globals : n.globals ≡ m.globals) where
   operand_there : (x : Operand) → is_no_function m x ≡ true → passes (is_there n) x ≡ true
-  operand_there (Operand.Global y) e = either (is_some (function_named n y)) (is_some (global_named n y)) (ap (λ (gs : List GlobalItem). is_some (first_where (λ g. same_name g.name y) gs)) globals ∙ e)
+  operand_there (Operand.Global y) e = or_right (is_some (function_named n y)) (is_some (global_named n y)) (ap (λ (gs : List GlobalItem). is_some (first_where (λ g. same_name g.name y) gs)) globals ∙ e)
   operand_there (Operand.Local v) e = refl
   operand_there (Operand.Number z) e = refl
   operand_there Operand.True e = refl

@@ -1,11 +1,9 @@
 -- A module whose coroutines may be split is as the last pass asks, once it is split.
 use Rattle.std.proofs.Common.{◌≡◌, ℕ, zero, suc, Bool, true, false, List, [], ◌∷◌, refl, ap, subst}
-use Rattle.std.specs.Prelude.{None, Ok, Option, Some, is_some, slice_get, if◌then◌else◌, ◌||◌}
+use Rattle.std.specs.Prelude.{None, Option, Some, is_some, slice_get, if◌then◌else◌, ◌||◌}
 use Rattle.coro_base.specs.declared.name.Name.{Name}
 use Rattle.coro_cleanup.specs.Cleanable.{IsCleanable, IsCleanableFunction, IsDefined}
 use Rattle.coro_split.specs.Parts.{marked_parts, plain_of, plain_shape, split_module}
-use Rattle.coroutine_frames.specs.Frames.{AreLayouts}
-use Rattle.early_lower.specs.Early.{early_module}
 use Rattle.first_pass_rules.proofs.early_local_rules.Rules.{and_second, holds}
 use Rattle.frame_layout.specs.declared.layout.Layout.{Layout}
 use Rattle.frame_layout.specs.declared.layout.Layouts.{Layouts}
@@ -14,24 +12,20 @@ use Rattle.frame_rules.specs.split_names.Parts.{HasPart, HasPartsOf}
 use Rattle.function_parts.specs.Parts.{first_part, parts_of}
 use Rattle.intrinsic_lowering.specs.Shapes.{shape_of}
 use Rattle.intrinsic_lowering.specs.declared.shape.Shape.{Shape}
-use Rattle.ir_check.specs.Refused.{IsRefused}
-use Rattle.ir_grammar.specs.Text.{StandsFor}
 use Rattle.ir_model.specs.Names.{function_named, global_named}
 use Rattle.ir_model.specs.Ty.{Ty}
 use Rattle.ir_model.specs.declared.module.Function.{Function}
 use Rattle.ir_model.specs.declared.module.GlobalItem.{GlobalItem}
 use Rattle.ir_model.specs.declared.module.Module.{Module}
 use Rattle.ir_model.specs.declared.operand.Operand.{Operand}
+use Rattle.ir_paths.proofs.Search.{or_right}
 use Rattle.local_rules.specs.Intrinsics.{misplaces}
 use Rattle.lowered_forms.proofs.cleanable_sources.Defined.{function_cleanable, function_there, is_there}
 use Rattle.lowered_forms.proofs.lowered_rules.Row.{some_part}
 use Rattle.lowered_forms.proofs.lowered_rules.Whence.{ComesBy, comes_by}
-use Rattle.lowered_forms.proofs.lowered_sources.Row.{is_ready}
-use Rattle.lowered_forms.proofs.split_rules.Modules.{either}
 use Rattle.lowered_forms.proofs.split_rules.Outside.{parts_pass, turned_passes}
 use Rattle.lowered_forms.specs.lowered_rules.Ready.{IsCoroutineReady, IsPlainReady, IsReady}
 use Rattle.name_rules.specs.declared.stage.Stage.{Stage}
-use Rattle.spill_reload.specs.Framed.{IsFramedForm}
 use Rattle.step_laws.specs.Changed.{Each}
 use Rattle.value_rules.specs.Initials.{fits_initial}
 use Rattle.type_rules.specs.Wants.{is_ptr}
@@ -50,7 +44,7 @@ module _ (ls : Layouts) (m : Module) (ready : IsReady ls m) where
 
   -- an initial value is no function's address (Y1), and the split module has the same globals
   global_defined : (t : Ty) (x : Operand) → fits_initial m t x ≡ true → IsDefined n x
-  global_defined t (Operand.Global y) e = either (is_some (function_named n y)) (is_some (global_named n y)) (and_second (is_ptr t) (is_some (global_named m y)) e)
+  global_defined t (Operand.Global y) e = or_right (is_some (function_named n y)) (is_some (global_named n y)) (and_second (is_ptr t) (is_some (global_named m y)) e)
   global_defined t _ e = tt
 
   -- ---- functions
@@ -94,6 +88,3 @@ module _ (ls : Layouts) (m : Module) (ready : IsReady ls m) where
         globals = each_standing (λ (g : GlobalItem). IsDefined n g.init) m.globals (λ k g there. global_defined g.ty g.init (holds (fits_initial m g.ty g.init) (ready.items.initials.globals k g there)));
         functions = each_standing (IsCleanableFunction n) n.functions functions_cleanable;
       }
-
-pub sources_cleanable : (text : List ℕ) (m : Module) → StandsFor text m → IsRefused Stage.Source m None → (share : Bool) (layouts : Layouts) → AreLayouts m share (Ok layouts) → (n : Module) → IsFramedForm layouts (early_module m) n → IsCleanable (split_module layouts n)
-sources_cleanable text m stands accepted share layouts laid n form = split_cleanable layouts n (is_ready text m stands accepted share layouts laid n form)
