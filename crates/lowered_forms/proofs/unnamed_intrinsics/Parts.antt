@@ -53,8 +53,9 @@ Unbroken k f rule = first_part rule (parts_of k f) ≡ None
 pub parts_free : (m n : Module) (k l : ℕ) (layout : Layout) (part : Part) (f g : Function) → HasPartsOf m n → slice_get m.functions k ≡ Some f → f.coroutine ≡ true → IsPartOf (shape_of f layout) f part g → NamesNoIntrinsic k f → NamesNoIntrinsic l g
 parts_free m n k l layout part f g h stands coroutine is e =
     let s : Shape = shape_of f layout in
-    let own = (free_name s.resume_name (h.resumes k f stands coroutine).is_free, free_name s.destroy_name (h.destroys k f stands coroutine).is_free) in
-    subst (Unbroken l g) rule_same (parts_pass is_kept s part k l f g own is (subst (Unbroken k f) (sym rule_same) e))
+    let resume : is_kept s.resume_name ≡ true = free_name s.resume_name (h.resumes k f stands coroutine).is_free in
+    let destroy : is_kept s.destroy_name ≡ true = free_name s.destroy_name (h.destroys k f stands coroutine).is_free in
+    subst (Unbroken l g) rule_same (parts_pass is_kept s part k l f g (resume, destroy) is (subst (Unbroken k f) (sym rule_same) e))
 
 pub turned_free : (m : Module) (k l : ℕ) (f : Function) → f.coroutine ≡ false → KeepsFunctionRules m k f → NamesNoIntrinsic k f → NamesNoIntrinsic l (plain_of (plain_shape f) f)
 turned_free m k l f coroutine rules e =
