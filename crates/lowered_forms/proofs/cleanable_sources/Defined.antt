@@ -30,7 +30,7 @@ use Rattle.lowered_forms.proofs.split_rules.Passed.{PassingBlock, Passes, blocks
 use Rattle.lowered_forms.proofs.unnamed_intrinsics.Early.{calls_free}
 use Rattle.lowered_forms.specs.unnamed_intrinsics.Unnamed.{NamesNoIntrinsic, names_intrinsic}
 use Rattle.ordinary_step.specs.Step.{AtInstr}
-use Rattle.step_laws.specs.Changed.{Each, callee_at, named_callee, operands_of, operands_of_term}
+use Rattle.step_laws.specs.Changed.{Each, callee_at, named_callee, operands_of_term}
 
 -- the name of a defined function or of a global
 abbrev pub is_there : Module → Name → Bool

@@ -1,7 +1,7 @@
 -- A test of the functions and globals that a function names: what a coroutine's parts name passes it where the function's operands and the parts' own names do.
-use Rattle.std.proofs.Common.{◌≡◌, ℕ, ℤ, zero, suc, pos, ◌+◌, ◌≤◌, Bool, true, false, List, [], ◌∷◌, ◌++◌, refl, sym, ap, ◌∙◌, length, arith}
+use Rattle.std.proofs.Common.{◌≡◌, ℕ, ℤ, zero, suc, pos, ◌+◌, Bool, true, false, List, [], ◌∷◌, ◌++◌, refl, sym, ap, ◌∙◌, arith}
 use Rattle.std.specs.List.{list_all}
-use Rattle.std.specs.Prelude.{None, Option, Some, map, not, slice_get, ◌&&◌, ◌||◌, if◌then◌else◌}
+use Rattle.std.specs.Prelude.{None, Option, Some, map, not, slice_get, ◌&&◌, if◌then◌else◌}
 use Rattle.coro_base.specs.declared.name.Name.{Name}
 use Rattle.coro_base.specs.declared.outcome.Place.{Place}
 use Rattle.coro_split.specs.Parts.{case_of, cases_from, entry_term, is_entered, plain_of, plain_shape}
