@@ -18,3 +18,4 @@ pub mod Reached
 pub mod Pruned
 pub mod Locals
 pub mod Laws
+pub mod Outside

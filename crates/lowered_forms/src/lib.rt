@@ -4,6 +4,7 @@
 pub mod begin_order;
 pub mod cell_crossing;
 pub mod cleanable_names;
+pub mod cleanable_sources;
 pub mod edge_block_shape;
 pub mod exit_rules;
 pub mod frame_numbers;

@@ -2,6 +2,7 @@
 //! in the order of their first occurrence, by which neither the rules nor the meaning of modules without coroutines go.
 #![tactic(auto)]
 
+pub mod cleaned_sources;
 pub mod names_apart;
 pub mod order_meaning;
 pub mod order_rules;

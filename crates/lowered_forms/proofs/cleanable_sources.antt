@@ -1,0 +1,3 @@
+pub mod Defined
+pub mod Whole
+pub mod Sources

@@ -1,0 +1,22 @@
+//! That the last pass keeps the meaning of what splitting gives of a source that breaks no rule.
+
+ghost use Rattle.std.specs.Prelude.{Bool, ℕ, ℤ, List, None, Ok};
+ghost use Rattle.agreement.specs.Agreements.{AgreesWithin};
+ghost use Rattle.coro_base.specs.declared.outcome.Word.{Word};
+ghost use Rattle.coro_cleanup.specs.Cleanup.{clean_module};
+ghost use Rattle.coro_split.specs.Parts.{split_module};
+ghost use Rattle.coroutine_frames.specs.Frames.{AreLayouts};
+ghost use Rattle.early_lower.specs.Early.{early_module};
+ghost use Rattle.frame_layout.specs.declared.layout.Layouts.{Layouts};
+ghost use Rattle.ir_check.specs.Refused.{IsRefused};
+ghost use Rattle.ir_grammar.specs.Text.{StandsFor};
+ghost use Rattle.ir_model.specs.declared.module.Module.{Module};
+ghost use Rattle.name_rules.specs.declared.stage.Stage.{Stage};
+ghost use Rattle.plain_meaning.specs.Plain.{PlainAt};
+ghost use Rattle.spill_reload.specs.Framed.{IsFramedForm};
+
+/// Each run of what splitting gives of a source that breaks no rule agrees within 1 with the run of what is lowered of it.
+pub fn cleaned_sources_keep_meaning()
+    ensures { (text : List ℕ) (m : Module) → StandsFor text m → IsRefused Stage.Source m None → (share : Bool) (layouts : Layouts) → AreLayouts m share (Ok layouts) → (n : Module) → IsFramedForm layouts (early_module m) n
+        → (entry : ℕ) (args : List Word) (answers : List ℤ) → AgreesWithin 1 (PlainAt (split_module layouts n) entry args answers) (PlainAt (clean_module (split_module layouts n)) entry args answers) }
+{}
