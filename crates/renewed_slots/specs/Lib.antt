@@ -1,0 +1,4 @@
+pub mod Renewed
+pub mod LocalSlot
+pub mod RestartedSlots
+pub mod EscapedRestart
