@@ -2,3 +2,4 @@ pub mod Renewed
 pub mod LocalSlot
 pub mod RestartedSlots
 pub mod EscapedRestart
+pub mod Muted

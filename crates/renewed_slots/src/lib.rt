@@ -1,6 +1,10 @@
 //! A resumed activation may make its local slots anew: the second step on the way from the meaning of sources to that of framed modules.
 #![tactic(auto)]
 
+ghost use Rattle.std.specs.Prelude.{ℕ, Bool, false, length, ◌≡◌};
+ghost use Rattle.ordinary_step.specs.Step.{Context, Fetched, Work, action_of};
+ghost use Rattle.renewed_slots.specs.Muted.{IsShownOperand, muted_action, muted_work};
+ghost use Rattle.step_laws.specs.Changed.{Each, operands_at};
 ghost use Rattle.renewed_slots.specs.LocalSlot as local_slot;
 ghost use Rattle.renewed_slots.specs.RestartedSlots as restarted_slots;
 ghost use Rattle.renewed_slots.specs.EscapedRestart as escaped_restart;
@@ -11,4 +15,9 @@ pub fn renewed_runs()
     ensures local_slot { local_slot.Computes }
     ensures restarted_slots { restarted_slots.Computes }
     ensures escaped_restart { escaped_restart.Computes }
+{}
+
+/// An ordinary step does the same where blocks have ended into which none of its operands leads.
+pub fn ended_blocks_are_not_seen()
+    ensures { (hides : ℕ → Bool) (c : Context) (w : Work) (here : Fetched) → hides (length w.world.memory) ≡ false → Each (IsShownOperand hides c w) (operands_at here) → action_of c (muted_work hides w) here ≡ muted_action hides (action_of c w here) }
 {}

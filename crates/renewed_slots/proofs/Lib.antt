@@ -1,0 +1,2 @@
+pub mod Muted
+pub mod MutedSteps
