@@ -1,2 +1,4 @@
 pub mod Muted
 pub mod MutedSteps
+pub mod Shown
+pub mod ShownSteps

@@ -3,3 +3,4 @@ pub mod LocalSlot
 pub mod RestartedSlots
 pub mod EscapedRestart
 pub mod Muted
+pub mod Shown

@@ -4,6 +4,7 @@
 ghost use Rattle.std.specs.Prelude.{ℕ, Bool, false, length, ◌≡◌};
 ghost use Rattle.ordinary_step.specs.Step.{Context, Fetched, Work, action_of};
 ghost use Rattle.renewed_slots.specs.Muted.{IsShownOperand, muted_action, muted_work};
+ghost use Rattle.renewed_slots.specs.Shown.{AreShownBlocks, IsShownAction, spread_at};
 ghost use Rattle.step_laws.specs.Changed.{Each, operands_at};
 ghost use Rattle.renewed_slots.specs.LocalSlot as local_slot;
 ghost use Rattle.renewed_slots.specs.RestartedSlots as restarted_slots;
@@ -20,4 +21,9 @@ pub fn renewed_runs()
 /// An ordinary step does the same where blocks have ended into which none of its operands leads.
 pub fn ended_blocks_are_not_seen()
     ensures { (hides : ℕ → Bool) (c : Context) (w : Work) (here : Fetched) → hides (length w.world.memory) ≡ false → Each (IsShownOperand hides c w) (operands_at here) → action_of c (muted_work hides w) here ≡ muted_action hides (action_of c w here) }
+{}
+
+/// An ordinary step spreads no pointer into some blocks, where none of the operands that it may spread is one.
+pub fn pointers_are_not_spread()
+    ensures { (hides : ℕ → Bool) (c : Context) (w : Work) (here : Fetched) → hides (length w.world.memory) ≡ false → AreShownBlocks hides w.world.memory → Each (IsShownOperand hides c w) (spread_at here) → IsShownAction hides w.values (action_of c w here) }
 {}
