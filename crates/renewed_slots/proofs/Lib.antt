@@ -2,3 +2,5 @@ pub mod Muted
 pub mod MutedSteps
 pub mod Shown
 pub mod ShownSteps
+pub mod Sets
+pub mod Steps

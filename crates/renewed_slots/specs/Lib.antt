@@ -4,3 +4,4 @@ pub mod RestartedSlots
 pub mod EscapedRestart
 pub mod Muted
 pub mod Shown
+pub mod Steps
