@@ -4,3 +4,4 @@ pub mod Shown
 pub mod ShownSteps
 pub mod Sets
 pub mod Steps
+pub mod Places

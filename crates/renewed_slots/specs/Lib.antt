@@ -5,3 +5,4 @@ pub mod EscapedRestart
 pub mod Muted
 pub mod Shown
 pub mod Steps
+pub mod Places

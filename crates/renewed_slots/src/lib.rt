@@ -1,7 +1,13 @@
 //! A resumed activation may make its local slots anew: the second step on the way from the meaning of sources to that of framed modules.
 #![tactic(auto)]
 
-ghost use Rattle.std.specs.Prelude.{ℕ, Bool, true, false, List, length, ◌≡◌};
+ghost use Rattle.std.specs.Prelude.{ℕ, Bool, true, false, List, length, slice_get, Some, None, ◌≡◌, ◌≢◌, ◌≤◌, ◌<◌, ◌^◌, ◌++◌, ◌==◌};
+ghost use Rattle.block_memory.specs.Memory.{is_live, killed_block, with_block};
+ghost use Rattle.block_memory.specs.declared.block.MemoryBlock.{MemoryBlock as Block};
+ghost use Rattle.memory_embedding.specs.Pointers.{Extends};
+ghost use Rattle.renewed_slots.specs.Places.{AreStanding, HasFewer, IsBlank, IsFree, IsReady, hiding, unseen};
+ghost use Rattle.renewed_slots.specs.Muted.{muted};
+ghost use Rattle.step_embedding.specs.Making.{whole_home};
 ghost use Rattle.block_memory.specs.Memory.{owner_rights};
 ghost use Rattle.memory_embedding.specs.Pointers.{Home, home_of};
 ghost use Rattle.renewed_slots.specs.Steps.{AreOver, GoesOver, IsRead, given_at};
@@ -35,4 +41,15 @@ pub fn pointers_are_not_spread()
 /// where what the instruction reads stands in the target; whatever its other names have, they keep it.
 pub fn read_steps_are_carried()
     ensures { (homes : List Home) (hides : ℕ → Bool) (c : Context) (w x : Work) (here : Fetched) → c.rights ≡ owner_rights → AreOver homes hides w.world x.world → ((b : ℕ) → hides b ≡ true → (home_of homes b).is_seen ≡ false) → hides (length w.world.memory) ≡ false → IsRead homes c w.values x.values here → GoesOver homes hides (given_at here) w x (action_of c w here) (action_of c x here) }
+{}
+
+/// A block of undefined bytes comes to stand in a block of the target that is ready for it; a block to which no pointer leads may be hidden, and the target
+/// may have more blocks, and give back those in which nothing stands; and pointers to a block are no longer about where no byte is part of one.
+pub fn places_change()
+    ensures seated { (homes more : List Home) (m k n : List Block) (b c : ℕ) (y : Block) → Extends homes more → length homes ≤ length more → b < length more → ((d : ℕ) → d ≢ b → home_of more d ≡ home_of homes d) → home_of more b ≡ whole_home c → slice_get n c ≡ Some y → y.owned ≡ None → y.size < 2 ^ 64 → ((d : ℕ) → d ≢ b → slice_get k d ≡ slice_get m d) → ((x : Block) → slice_get k b ≡ Some x → x.size ≤ y.size) → ((x : Block) → slice_get k b ≡ Some x → is_live x.life ≡ true → IsBlank x × IsReady n c x) → IsFree homes m b c → AreStanding homes m n → AreStanding more k n }
+    ensures hidden { (homes : List Home) (hides : ℕ → Bool) (m k n : List Block) (b : ℕ) → (home_of homes b).is_seen ≡ false → ((d : ℕ) → d ≢ b → slice_get k d ≡ slice_get m d) → ((x : Block) → slice_get k b ≡ Some x → (y : Block) × (slice_get m b ≡ Some y) × (y.size ≡ x.size)) → AreStanding homes (muted hides m) n → AreStanding homes (muted (hiding hides b) k) n }
+    ensures fewer { (homes : List Home) (m k n : List Block) → HasFewer homes m k n → AreStanding homes m n → AreStanding homes k n }
+    ensures grown { (homes : List Home) (m n k : List Block) → ((b : ℕ) → (home_of homes b).is_seen ≡ true → (y : Block) × (slice_get n (home_of homes b).block ≡ Some y)) → AreStanding homes m n → AreStanding homes m (n ++ k) }
+    ensures given_back { (homes : List Home) (m n : List Block) (c : ℕ) → ((b : ℕ) (x : Block) → slice_get m b ≡ Some x → is_live x.life ≡ true → (home_of homes b).block ≢ c) → AreStanding homes m n → AreStanding homes m (with_block n c killed_block) }
+    ensures forgotten { (homes more : List Home) (m n : List Block) (b : ℕ) → length more ≡ length homes → ((d : ℕ) → d ≢ b → home_of more d ≡ home_of homes d) → home_of more b ≡ unseen (home_of homes b) → AreShownBlocks (λ d. d == b) m → AreStanding homes m n → AreStanding more m n }
 {}
