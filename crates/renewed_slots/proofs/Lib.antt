@@ -5,3 +5,4 @@ pub mod ShownSteps
 pub mod Sets
 pub mod Steps
 pub mod Places
+pub mod Ahead

@@ -6,3 +6,4 @@ pub mod Muted
 pub mod Shown
 pub mod Steps
 pub mod Places
+pub mod Ahead

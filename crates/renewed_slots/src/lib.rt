@@ -1,7 +1,7 @@
 //! A resumed activation may make its local slots anew: the second step on the way from the meaning of sources to that of framed modules.
 #![tactic(auto)]
 
-ghost use Rattle.std.specs.Prelude.{ℕ, Bool, true, false, List, length, slice_get, Some, None, ◌≡◌, ◌≢◌, ◌≤◌, ◌<◌, ◌^◌, ◌++◌, ◌==◌};
+ghost use Rattle.std.specs.Prelude.{ℕ, Bool, true, false, List, length, slice_get, Some, None, ◌≡◌, ◌≢◌, ◌≤◌, ◌<◌, ◌^◌, ◌++◌, ◌==◌, IsTrue};
 ghost use Rattle.block_memory.specs.Memory.{is_live, killed_block, with_block};
 ghost use Rattle.block_memory.specs.declared.block.MemoryBlock.{MemoryBlock as Block};
 ghost use Rattle.memory_embedding.specs.Pointers.{Extends};
@@ -15,6 +15,17 @@ ghost use Rattle.ordinary_step.specs.Step.{Context, Fetched, Work, action_of};
 ghost use Rattle.renewed_slots.specs.Muted.{IsShownOperand, muted_action, muted_work};
 ghost use Rattle.renewed_slots.specs.Shown.{AreShownBlocks, IsShownAction, spread_at};
 ghost use Rattle.step_laws.specs.Changed.{Each, operands_at};
+ghost use Rattle.ir_model.specs.Names.{position_of};
+ghost use Rattle.ir_model.specs.declared.module.Function.{Function};
+ghost use Rattle.ir_paths.specs.Paths.{entry_point, has_point};
+ghost use Rattle.ir_paths.specs.Slots.{is_escaped};
+ghost use Rattle.ir_paths.specs.Windows.{end_block};
+ghost use Rattle.ir_paths.specs.declared.point.Point.{Point};
+ghost use Rattle.renewed_slots.specs.Ahead.{IsUsedAhead, IsUsedBefore, IsUsedBehind, WasUsed};
+ghost use Rattle.slot_lifetime.specs.Alive.{MayBeAlive};
+ghost use Rattle.slot_lifetime.specs.Classes.{NeedsFrame, parting, suspends};
+ghost use Rattle.slot_uses.specs.Spots.{IsBehind, IsStart, Spot};
+ghost use Rattle.window_rules.specs.Windows.{own_edges};
 ghost use Rattle.renewed_slots.specs.LocalSlot as local_slot;
 ghost use Rattle.renewed_slots.specs.RestartedSlots as restarted_slots;
 ghost use Rattle.renewed_slots.specs.EscapedRestart as escaped_restart;
@@ -52,4 +63,13 @@ pub fn places_change()
     ensures grown { (homes : List Home) (m n k : List Block) → ((b : ℕ) → (home_of homes b).is_seen ≡ true → (y : Block) × (slice_get n (home_of homes b).block ≡ Some y)) → AreStanding homes m n → AreStanding homes m (n ++ k) }
     ensures given_back { (homes : List Home) (m n : List Block) (c : ℕ) → ((b : ℕ) (x : Block) → slice_get m b ≡ Some x → is_live x.life ≡ true → (home_of homes b).block ≢ c) → AreStanding homes m n → AreStanding homes m (with_block n c killed_block) }
     ensures forgotten { (homes more : List Home) (m n : List Block) (b : ℕ) → length more ≡ length homes → ((d : ℕ) → d ≢ b → home_of more d ≡ home_of homes d) → home_of more b ≡ unseen (home_of homes b) → AreShownBlocks (λ d. d == b) m → AreStanding homes m n → AreStanding more m n }
+{}
+
+/// Where a resumed activation may come to a use of a slot, the use stands behind the suspend; a local slot that was used has no such use there, is started there only if
+/// it isn't escaped, and isn't alive at the suspend if it is.
+pub fn local_slots_are_parted()
+    ensures behind { (f : Function) (slot : ℕ) (s : Point) (label : ℕ) → has_point (own_edges f s) (entry_point f label) ≡ true → (position_of f label ≡ end_block f → ⊥) → IsUsedAhead f slot (position_of f label) 0 → IsUsedBehind f slot s }
+    ensures unused { (f : Function) (slot : ℕ) → (¬ NeedsFrame f slot) → (s : Point) → IsTrue (has_point (suspends f) s) → WasUsed f slot s → IsUsedBehind f slot s → ⊥ }
+    ensures unstarted { (f : Function) (slot : ℕ) → (¬ NeedsFrame f slot) → IsTrue (is_escaped f slot) → (s : Point) → IsTrue (has_point (suspends f) s) → WasUsed f slot s → (spot : Spot) → IsStart f slot spot → IsBehind f s (parting (is_escaped f slot) f slot) spot → ⊥ }
+    ensures dead { (f : Function) (slot : ℕ) → (¬ NeedsFrame f slot) → IsTrue (is_escaped f slot) → (s : Point) → IsTrue (has_point (suspends f) s) → IsUsedBefore f slot s → MayBeAlive f slot s → ⊥ }
 {}
