@@ -6,3 +6,4 @@ pub mod Sets
 pub mod Steps
 pub mod Places
 pub mod Ahead
+pub mod Ready

@@ -22,6 +22,7 @@ ghost use Rattle.ir_paths.specs.Slots.{is_escaped};
 ghost use Rattle.ir_paths.specs.Windows.{end_block};
 ghost use Rattle.ir_paths.specs.declared.point.Point.{Point};
 ghost use Rattle.renewed_slots.specs.Ahead.{IsUsedAhead, IsUsedBefore, IsUsedBehind, WasUsed};
+ghost use Rattle.renewed_slots.specs.Ready.{IsUsing, Place, faded, shown_of, stood};
 ghost use Rattle.slot_lifetime.specs.Alive.{MayBeAlive};
 ghost use Rattle.slot_lifetime.specs.Classes.{NeedsFrame, parting, suspends};
 ghost use Rattle.slot_uses.specs.Spots.{IsBehind, IsStart, Spot};
@@ -72,4 +73,11 @@ pub fn local_slots_are_parted()
     ensures unused { (f : Function) (slot : ℕ) → (¬ NeedsFrame f slot) → (s : Point) → IsTrue (has_point (suspends f) s) → WasUsed f slot s → IsUsedBehind f slot s → ⊥ }
     ensures unstarted { (f : Function) (slot : ℕ) → (¬ NeedsFrame f slot) → IsTrue (is_escaped f slot) → (s : Point) → IsTrue (has_point (suspends f) s) → WasUsed f slot s → (spot : Spot) → IsStart f slot spot → IsBehind f s (parting (is_escaped f slot) f slot) spot → ⊥ }
     ensures dead { (f : Function) (slot : ℕ) → (¬ NeedsFrame f slot) → IsTrue (is_escaped f slot) → (s : Point) → IsTrue (has_point (suspends f) s) → IsUsedBefore f slot s → MayBeAlive f slot s → ⊥ }
+{}
+
+/// An ordinary step that uses slots is made by the target in the same way, where each of their blocks stands in a block that is its own, or comes to stand there
+/// because it holds nothing and no pointer is about into it; no pointer into the blocks of a set is spread, and pointers into them are no longer about afterwards.
+pub fn slot_steps_are_carried()
+    ensures step { (homes : List Home) (hides quiet : ℕ → Bool) (ps : List Place) (c : Context) (w x : Work) (here : Fetched) → c.rights ≡ owner_rights → IsUsing homes hides quiet ps c w x here → GoesOver (stood homes ps) (shown_of hides ps) (given_at here) w x (action_of c w here) (action_of c x here) × IsShownAction quiet w.values (action_of c w here) }
+    ensures faded { (quiet hides : ℕ → Bool) (homes : List Home) (m n : List Block) (ps : List Place) → Each (λ (p : Place). p.block < length homes) ps → AreShownBlocks quiet m → AreStanding homes (muted hides m) n → AreStanding (faded quiet homes ps) (muted hides m) n }
 {}
