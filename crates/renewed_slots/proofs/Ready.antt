@@ -73,18 +73,22 @@ module _ (homes more : List Home) (m n : List MemoryBlock) (b c : ℕ) (y : Memo
             places = subst (λ (p : ℕ × ℕ). (i j : ℕ) → i < x.size → j < z.size → owner_rights.is_comparable d x i ≡ true → owner_rights.is_comparable k z j ≡ true → p.0 + i ≢ p.1 + j) (λ i. ((sym (place d) i).1, (sym (place k) i).1)) a.places;
           };
     };
-    nulls = record { each = λ d o seen e. ⊎_elim
-        (λ is. subst (λ i. may_compare_at owner_rights (home_of more i).block (slice_get n (home_of more i).block) (moved o (home_of more i).offset) ≡ true) (sym is)
-        (subst (λ (q : Home). may_compare_at owner_rights q.block (slice_get n q.block) (moved o q.offset) ≡ true) (sym here)
-        (ap (λ z. may_compare_at owner_rights c z (moved o 0)) there ∙ unowned_compares c y (moved o 0) owner)))
-        (λ ne. subst (λ (q : Home). may_compare_at owner_rights q.block (slice_get n q.block) (moved o q.offset) ≡ true) (sym (others d ne)) (st.nulls.each d o (ap (λ (q : Home). q.is_seen) (sym (others d ne)) ∙ seen) e))
-        (cases_eq d b) };
-    bounds = record { each = λ d x seen is. ⊎_elim
-        (λ e. subst (λ i. HasBounds n (home_of more i) x.size) (sym e)
-        (subst (λ (q : Home). HasBounds n q x.size) (sym here)
-        (record { block = y; there = there; fits = subst (λ l. l ≤ y.size) (sym (from_start x.size)) (room x (ap (slice_get m) (sym e) ∙ is)); small = small })))
-        (λ ne. subst (λ (q : Home). HasBounds n q x.size) (sym (others d ne)) (st.bounds.each d x (ap (λ (q : Home). q.is_seen) (sym (others d ne)) ∙ seen) is))
-        (cases_eq d b) };
+    nulls = record {
+      each = λ d o seen e. ⊎_elim
+          (λ is. subst (λ i. may_compare_at owner_rights (home_of more i).block (slice_get n (home_of more i).block) (moved o (home_of more i).offset) ≡ true) (sym is)
+          (subst (λ (q : Home). may_compare_at owner_rights q.block (slice_get n q.block) (moved o q.offset) ≡ true) (sym here)
+          (ap (λ z. may_compare_at owner_rights c z (moved o 0)) there ∙ unowned_compares c y (moved o 0) owner)))
+          (λ ne. subst (λ (q : Home). may_compare_at owner_rights q.block (slice_get n q.block) (moved o q.offset) ≡ true) (sym (others d ne)) (st.nulls.each d o (ap (λ (q : Home). q.is_seen) (sym (others d ne)) ∙ seen) e))
+          (cases_eq d b);
+    };
+    bounds = record {
+      each = λ d x seen is. ⊎_elim
+          (λ e. subst (λ i. HasBounds n (home_of more i) x.size) (sym e)
+          (subst (λ (q : Home). HasBounds n q x.size) (sym here)
+          (record { block = y; there = there; fits = subst (λ l. l ≤ y.size) (sym (from_start x.size)) (room x (ap (slice_get m) (sym e) ∙ is)); small = small })))
+          (λ ne. subst (λ (q : Home). HasBounds n q x.size) (sym (others d ne)) (st.bounds.each d x (ap (λ (q : Home). q.is_seen) (sym (others d ne)) ∙ seen) is))
+          (cases_eq d b);
+    };
   }
 
 -- ---- one place

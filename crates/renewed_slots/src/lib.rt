@@ -1,8 +1,10 @@
 //! A resumed activation may make its local slots anew: the second step on the way from the meaning of sources to that of framed modules.
 #![tactic(auto)]
 
-ghost use Rattle.std.specs.Prelude.{ℕ, Bool, true, false, List, length, slice_get, Some, None, ◌≡◌, ◌≢◌, ◌≤◌, ◌<◌, ◌^◌, ◌++◌, ◌==◌, IsTrue};
-ghost use Rattle.block_memory.specs.Memory.{is_live, killed_block, with_block};
+ghost use Rattle.std.specs.Prelude.{ℕ, Bool, true, false, List, length, slice_get, Some, None, ◌≡◌, ◌≢◌, ◌≤◌, ◌<◌, ◌^◌, ◌++◌, ◌∷◌, [], ◌==◌, IsTrue, if◌then◌else◌};
+ghost use Rattle.block_memory.specs.Memory.{end, fresh, is_live, killed_block, same_kind, start, with_block};
+ghost use Rattle.block_memory.specs.declared.block.Kind.{Kind as TheKind};
+ghost use Rattle.memory_embedding.specs.Standing.{blank_block};
 ghost use Rattle.block_memory.specs.declared.block.MemoryBlock.{MemoryBlock as Block};
 ghost use Rattle.memory_embedding.specs.Pointers.{Extends};
 ghost use Rattle.renewed_slots.specs.Places.{AreStanding, HasFewer, IsBlank, IsFree, IsReady, hiding, unseen};
@@ -55,7 +57,7 @@ pub fn read_steps_are_carried()
     ensures { (homes : List Home) (hides : ℕ → Bool) (c : Context) (w x : Work) (here : Fetched) → c.rights ≡ owner_rights → AreOver homes hides w.world x.world → ((b : ℕ) → hides b ≡ true → (home_of homes b).is_seen ≡ false) → hides (length w.world.memory) ≡ false → IsRead homes c w.values x.values here → GoesOver homes hides (given_at here) w x (action_of c w here) (action_of c x here) }
 {}
 
-/// A block of undefined bytes comes to stand in a block of the target that is ready for it; a block to which no pointer leads may be hidden, and the target
+/// A block of undefined bytes comes to stand in a block of the target that is ready for it, and so does a new one, whose block in the target lives at once; a block to which no pointer leads may be hidden, and the target
 /// may have more blocks, and give back those in which nothing stands; and pointers to a block are no longer about where no byte is part of one.
 pub fn places_change()
     ensures seated { (homes more : List Home) (m k n : List Block) (b c : ℕ) (y : Block) → Extends homes more → length homes ≤ length more → b < length more → ((d : ℕ) → d ≢ b → home_of more d ≡ home_of homes d) → home_of more b ≡ whole_home c → slice_get n c ≡ Some y → y.owned ≡ None → y.size < 2 ^ 64 → ((d : ℕ) → d ≢ b → slice_get k d ≡ slice_get m d) → ((x : Block) → slice_get k b ≡ Some x → x.size ≤ y.size) → ((x : Block) → slice_get k b ≡ Some x → is_live x.life ≡ true → IsBlank x × IsReady n c x) → IsFree homes m b c → AreStanding homes m n → AreStanding more k n }
@@ -63,6 +65,8 @@ pub fn places_change()
     ensures fewer { (homes : List Home) (m k n : List Block) → HasFewer homes m k n → AreStanding homes m n → AreStanding homes k n }
     ensures grown { (homes : List Home) (m n k : List Block) → ((b : ℕ) → (home_of homes b).is_seen ≡ true → (y : Block) × (slice_get n (home_of homes b).block ≡ Some y)) → AreStanding homes m n → AreStanding homes m (n ++ k) }
     ensures given_back { (homes : List Home) (m n : List Block) (c : ℕ) → ((b : ℕ) (x : Block) → slice_get m b ≡ Some x → is_live x.life ≡ true → (home_of homes b).block ≢ c) → AreStanding homes m n → AreStanding homes m (with_block n c killed_block) }
+    ensures made { (homes : List Home) (m n : List Block) (x : Block) (kind : TheKind) → length homes ≡ length m → x.size < 2 ^ 64 → IsBlank x → same_kind kind TheKind.Constant ≡ false → ((b : ℕ) → (home_of homes b).is_seen ≡ true → (y : Block) × (slice_get n (home_of homes b).block ≡ Some y)) → AreStanding homes m n → AreStanding (homes ++ whole_home (length n) ∷ []) (m ++ x ∷ []) (n ++ blank_block x.size x.align kind ∷ []) }
+    ensures lives { (n : List Block) (size align : ℕ) (kind : TheKind) (marked : Bool) → start (if marked then end (fresh n size align kind) (length n) else fresh n size align kind) (length n) ≡ fresh n size align kind }
     ensures forgotten { (homes more : List Home) (m n : List Block) (b : ℕ) → length more ≡ length homes → ((d : ℕ) → d ≢ b → home_of more d ≡ home_of homes d) → home_of more b ≡ unseen (home_of homes b) → AreShownBlocks (λ d. d == b) m → AreStanding homes m n → AreStanding more m n }
 {}
 

@@ -1,4 +1,5 @@
-use Rattle.renewed_slots.proofs.Places.{fewer_stand, forgotten, grown, hidden_stand, killed_away, seated}
+use Rattle.renewed_slots.proofs.Made.{made_together}
+use Rattle.renewed_slots.proofs.Places.{fewer_stand, forgotten, grown, hidden_stand, killed_away, made_live, seated}
 use Rattle.renewed_slots.proofs.places_change.Goals as goal
 
 pub returns-clause-seated : goal.returns-clause-seated
@@ -15,6 +16,12 @@ returns-clause-grown c = grown
 
 pub returns-clause-given_back : goal.returns-clause-given_back
 returns-clause-given_back c = killed_away
+
+pub returns-clause-made : goal.returns-clause-made
+returns-clause-made c = λ homes m n x kind known small blank writable there st. made_together homes m n x kind known small blank writable there st
+
+pub returns-clause-lives : goal.returns-clause-lives
+returns-clause-lives c = made_live
 
 pub returns-clause-forgotten : goal.returns-clause-forgotten
 returns-clause-forgotten c = forgotten
