@@ -8,3 +8,4 @@ pub mod Places
 pub mod Ahead
 pub mod Ready
 pub mod Made
+pub mod Steady

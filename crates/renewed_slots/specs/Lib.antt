@@ -8,3 +8,4 @@ pub mod Steps
 pub mod Places
 pub mod Ahead
 pub mod Ready
+pub mod SlotRules

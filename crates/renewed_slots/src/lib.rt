@@ -18,7 +18,14 @@ ghost use Rattle.renewed_slots.specs.Muted.{IsShownOperand, muted_action, muted_
 ghost use Rattle.renewed_slots.specs.Shown.{AreShownBlocks, IsShownAction, spread_at};
 ghost use Rattle.step_laws.specs.Changed.{Each, operands_at};
 ghost use Rattle.ir_model.specs.Names.{position_of};
+ghost use Rattle.ir_model.specs.Ty.{Ty};
 ghost use Rattle.ir_model.specs.declared.module.Function.{Function};
+ghost use Rattle.ir_model.specs.declared.module.Module.{Module};
+ghost use Rattle.ir_model.specs.declared.operand.Arg.{Arg as TheArg};
+ghost use Rattle.memory_embedding.specs.Pointers.{IsValue};
+ghost use Rattle.ordinary_step.specs.Values.{Env, arg_value, distance, indices_of};
+ghost use Rattle.renewed_slots.specs.SlotRules.{AreSteady};
+ghost use Rattle.step_embedding.specs.Related.{IsSameDistance};
 ghost use Rattle.ir_paths.specs.Paths.{entry_point, has_point};
 ghost use Rattle.ir_paths.specs.Slots.{is_escaped};
 ghost use Rattle.ir_paths.specs.Windows.{end_block};
@@ -84,4 +91,9 @@ pub fn local_slots_are_parted()
 pub fn slot_steps_are_carried()
     ensures step { (homes : List Home) (hides quiet : ℕ → Bool) (ps : List Place) (c : Context) (w x : Work) (here : Fetched) → c.rights ≡ owner_rights → IsUsing homes hides quiet ps c w x here → GoesOver (stood homes ps) (shown_of hides ps) (given_at here) w x (action_of c w here) (action_of c x here) × IsShownAction quiet w.values (action_of c w here) }
     ensures faded { (quiet hides : ℕ → Bool) (homes : List Home) (m n : List Block) (ps : List Place) → Each (λ (p : Place). p.block < length homes) ps → AreShownBlocks quiet m → AreStanding homes (muted hides m) n → AreStanding (faded quiet homes ps) (muted hides m) n }
+{}
+
+/// A getelementptr whose indices into structures are literals has the same distance where its indices stand for those of the source.
+pub fn steady_distances_are_kept()
+    ensures { (homes : List Home) (m : Module) (env other : Env) (ty : Ty) (args : List TheArg) → AreSteady m ty args → Each (λ (a : TheArg). IsValue homes (arg_value m env a) (arg_value m other a)) args → IsSameDistance (distance m ty (indices_of m env args)) (distance m ty (indices_of m other args)) }
 {}
