@@ -22,7 +22,7 @@ use Rattle.window_values.specs.Kept.{front}
 
 -- ---- edges
 
-same_itself : (p : Point) → same_point p p ≡ true
+pub same_itself : (p : Point) → same_point p p ≡ true
 same_itself p = (λ i. eq_itself p.block i && (p.at == p.at)) ∙ eq_itself p.at
 
 found_first : (p : Point) (ps : List Point) → has_point (p ∷ ps) p ≡ true
@@ -36,7 +36,7 @@ entry_found f label (l ∷ ls) h = on (λ e. entry_found f label ls e) (either (
     on ih (inl e) = or_left (same_point (entry_point f label) (entry_point f l)) _ (let is : l ≡ label = grind arith in ap (λ k. same_point (entry_point f label) (entry_point f k)) is ∙ same_itself (entry_point f label))
     on ih (inr e) = or_right (same_point (entry_point f label) (entry_point f l)) _ (ih e)
 
-get_within : {A : Type 0} (xs : List A) (k : ℕ) (x : A) → slice_get xs k ≡ Some x → nat_lt k (length xs) ≡ true
+pub get_within : {A : Type 0} (xs : List A) (k : ℕ) (x : A) → slice_get xs k ≡ Some x → nat_lt k (length xs) ≡ true
 get_within [] k x e = absurd (cc)
 get_within (y ∷ xs) zero x e = grind arith
 get_within (y ∷ xs) (suc k) x e = let h = get_within xs k x e in grind arith
@@ -88,6 +88,9 @@ branch_edge f block at label h = record { edge = on (slice_get f.blocks block) h
 
 -- ---- lists of points
 
+pub not_in_either : (a b : Bool) → a ≡ false → b ≡ false → (a || (b || false)) ≡ false
+not_in_either a b h k = (λ i. h i || (k i || false))
+
 found_append : (xs ys : List Point) (p : Point) → has_point xs p ≡ false → has_point ys p ≡ false → has_point (xs ++ ys) p ≡ false
 found_append [] ys p h k = k
 found_append (x ∷ xs) ys p h k = let n = neither (same_point p x) (has_point xs p) h in ap (λ t. t || has_point (xs ++ ys) p) n.0 ∙ found_append xs ys p n.1 k
@@ -124,7 +127,7 @@ path_more : (f : Function) (avoided : List Point) (p : Point) (between : List Po
 path_more f avoided p [] v w h out edge = (h, out, edge)
 path_more f avoided p (u ∷ between) v w h out edge = (h.0, h.1, path_more f avoided u between v w h.2 out edge)
 
-leads_more : (f : Function) (avoided : List Point) (p v w : Point) → Leads f avoided p v → has_point avoided v ≡ false → has_point (nexts f v) w ≡ true → Leads f avoided p w
+pub leads_more : (f : Function) (avoided : List Point) (p v w : Point) → Leads f avoided p v → has_point avoided v ≡ false → has_point (nexts f v) w ≡ true → Leads f avoided p w
 leads_more f avoided p v w h out edge = record { between = h.between ++ v ∷ []; is_path = path_more f avoided p h.between v w h.is_path out edge }
 
 path_less : (f : Function) (xs ys : List Point) (p : Point) (between : List Point) (q : Point) → IsPath f (xs ++ ys) p between q → IsPath f ys p between q

@@ -9,3 +9,4 @@ pub mod Ahead
 pub mod Ready
 pub mod Made
 pub mod Steady
+pub mod Left

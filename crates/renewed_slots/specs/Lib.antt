@@ -9,3 +9,4 @@ pub mod Places
 pub mod Ahead
 pub mod Ready
 pub mod SlotRules
+pub mod Left

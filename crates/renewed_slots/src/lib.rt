@@ -1,7 +1,7 @@
 //! A resumed activation may make its local slots anew: the second step on the way from the meaning of sources to that of framed modules.
 #![tactic(auto)]
 
-ghost use Rattle.std.specs.Prelude.{ℕ, Bool, true, false, List, length, slice_get, Some, None, ◌≡◌, ◌≢◌, ◌≤◌, ◌<◌, ◌^◌, ◌++◌, ◌∷◌, [], ◌==◌, IsTrue, if◌then◌else◌};
+ghost use Rattle.std.specs.Prelude.{ℕ, Bool, true, false, List, length, slice_get, Some, None, ◌≡◌, ◌≢◌, ◌≤◌, ◌<◌, ◌^◌, ◌++◌, ◌∷◌, [], ◌==◌, IsTrue, if◌then◌else◌, ◌+◌};
 ghost use Rattle.block_memory.specs.Memory.{end, fresh, is_live, killed_block, same_kind, start, with_block};
 ghost use Rattle.block_memory.specs.declared.block.Kind.{Kind as TheKind};
 ghost use Rattle.memory_embedding.specs.Standing.{blank_block};
@@ -13,7 +13,7 @@ ghost use Rattle.step_embedding.specs.Making.{whole_home};
 ghost use Rattle.block_memory.specs.Memory.{owner_rights};
 ghost use Rattle.memory_embedding.specs.Pointers.{Home, home_of};
 ghost use Rattle.renewed_slots.specs.Steps.{AreOver, GoesOver, IsRead, given_at};
-ghost use Rattle.ordinary_step.specs.Step.{Context, Fetched, Work, action_of};
+ghost use Rattle.ordinary_step.specs.Step.{AtInstr, Context, Fetched, Work, action_of, fetch};
 ghost use Rattle.renewed_slots.specs.Muted.{IsShownOperand, muted_action, muted_work};
 ghost use Rattle.renewed_slots.specs.Shown.{AreShownBlocks, IsShownAction, spread_at};
 ghost use Rattle.step_laws.specs.Changed.{Each, operands_at};
@@ -26,15 +26,23 @@ ghost use Rattle.memory_embedding.specs.Pointers.{IsValue};
 ghost use Rattle.ordinary_step.specs.Values.{Env, arg_value, distance, indices_of};
 ghost use Rattle.renewed_slots.specs.SlotRules.{AreSteady};
 ghost use Rattle.step_embedding.specs.Related.{IsSameDistance};
-ghost use Rattle.ir_paths.specs.Paths.{entry_point, has_point};
+ghost use Rattle.ir_model.specs.declared.instr.Instr.{Instr as TheInstr};
+ghost use Rattle.ir_model.specs.declared.operand.Intrinsic.{Intrinsic as TheIntrinsic};
+ghost use Rattle.ir_paths.specs.Facts.{IsWindow};
+ghost use Rattle.ir_paths.specs.declared.point.Window.{Window as TheWindow};
+ghost use Rattle.kept_values.specs.SuspendRules.{IsCallAt};
+ghost use Rattle.renewed_slots.specs.Left.{IsLeftAt};
+ghost use Rattle.slot_rules.specs.Closed.{IsClosed};
+ghost use Rattle.ir_paths.specs.Paths.{Leads, entry_point, has_point};
 ghost use Rattle.ir_paths.specs.Slots.{is_escaped};
-ghost use Rattle.ir_paths.specs.Windows.{end_block};
+ghost use Rattle.ir_paths.specs.Windows.{IsInWindow, end_block, leaves, suspend_of};
 ghost use Rattle.ir_paths.specs.declared.point.Point.{Point};
-ghost use Rattle.renewed_slots.specs.Ahead.{IsUsedAhead, IsUsedBefore, IsUsedBehind, WasUsed};
+ghost use Rattle.renewed_slots.specs.Ahead.{IsBehindSuspendCall, IsUsedAhead, IsUsedBefore, IsUsedBehind, WasUsed};
 ghost use Rattle.renewed_slots.specs.Ready.{IsUsing, Place, faded, shown_of, stood};
 ghost use Rattle.slot_lifetime.specs.Alive.{MayBeAlive};
 ghost use Rattle.slot_lifetime.specs.Classes.{NeedsFrame, parting, suspends};
 ghost use Rattle.slot_uses.specs.Spots.{IsBehind, IsStart, Spot};
+ghost use Rattle.window_rules.specs.Sets.{IsAfterEnd};
 ghost use Rattle.window_rules.specs.Windows.{own_edges};
 ghost use Rattle.renewed_slots.specs.LocalSlot as local_slot;
 ghost use Rattle.renewed_slots.specs.RestartedSlots as restarted_slots;
@@ -96,4 +104,13 @@ pub fn slot_steps_are_carried()
 /// A getelementptr whose indices into structures are literals has the same distance where its indices stand for those of the source.
 pub fn steady_distances_are_kept()
     ensures { (homes : List Home) (m : Module) (env other : Env) (ty : Ty) (args : List TheArg) → AreSteady m ty args → Each (λ (a : TheArg). IsValue homes (arg_value m env a) (arg_value m other a)) args → IsSameDistance (distance m ty (indices_of m env args)) (distance m ty (indices_of m other args)) }
+{}
+
+/// An activation that has left is between the save and its suspend until it comes to the suspend, to the end and behind it; what it uses there stands in a window or after the end.
+pub fn left_points_go_on()
+    ensures saved { (f : Function) (k s : Point) → IsCallAt TheIntrinsic.CoroSave f k → suspend_of f k ≡ Some s → Leads f [] k s → IsLeftAt f (record { block = k.block; at = k.at + 1 }) }
+    ensures goes_on { (f : Function) (k s : Point) → IsCallAt TheIntrinsic.CoroSave f k → suspend_of f k ≡ Some s → (p : Point) (i : TheInstr) → fetch f p.block p.at ≡ AtInstr i → IsInWindow f k s p → IsLeftAt f (record { block = p.block; at = p.at + 1 }) }
+    ensures branches { (f : Function) (k s : Point) → IsCallAt TheIntrinsic.CoroSave f k → suspend_of f k ≡ Some s → (w : TheWindow) → w.save ≡ k → w.suspend ≡ s → IsWindow f w → (p q : Point) → IsInWindow f k s p → leaves p q w ≡ false → IsLeftAt f q }
+    ensures ended { (f : Function) (p : Point) → IsCallAt TheIntrinsic.CoroEnd f p → IsAfterEnd f (record { block = p.block; at = p.at + 1 }) }
+    ensures closed { (f : Function) (p : Point) → (IsCallAt TheIntrinsic.CoroSuspend f p → ⊥) → (IsBehindSuspendCall f p.block p.at → ⊥) → (p.block ≡ end_block f → p.at ≡ 0 → ⊥) → IsLeftAt f p → IsClosed f p }
 {}
