@@ -10,3 +10,4 @@ pub mod Ready
 pub mod Made
 pub mod Steady
 pub mod Left
+pub mod History

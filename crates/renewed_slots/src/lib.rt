@@ -1,7 +1,7 @@
 //! A resumed activation may make its local slots anew: the second step on the way from the meaning of sources to that of framed modules.
 #![tactic(auto)]
 
-ghost use Rattle.std.specs.Prelude.{ℕ, Bool, true, false, List, length, slice_get, Some, None, ◌≡◌, ◌≢◌, ◌≤◌, ◌<◌, ◌^◌, ◌++◌, ◌∷◌, [], ◌==◌, IsTrue, if◌then◌else◌, ◌+◌};
+ghost use Rattle.std.specs.Prelude.{ℕ, Bool, true, false, List, length, slice_get, Some, None, ◌≡◌, ◌≢◌, ◌≤◌, ◌<◌, ◌^◌, ◌++◌, ◌∷◌, [], ◌==◌, IsTrue, if◌then◌else◌, ◌+◌, ◌⊎◌};
 ghost use Rattle.block_memory.specs.Memory.{end, fresh, is_live, killed_block, same_kind, start, with_block};
 ghost use Rattle.block_memory.specs.declared.block.Kind.{Kind as TheKind};
 ghost use Rattle.memory_embedding.specs.Standing.{blank_block};
@@ -24,7 +24,7 @@ ghost use Rattle.ir_model.specs.declared.module.Module.{Module};
 ghost use Rattle.ir_model.specs.declared.operand.Arg.{Arg as TheArg};
 ghost use Rattle.memory_embedding.specs.Pointers.{IsValue};
 ghost use Rattle.ordinary_step.specs.Values.{Env, arg_value, distance, indices_of};
-ghost use Rattle.renewed_slots.specs.SlotRules.{AreSteady};
+ghost use Rattle.renewed_slots.specs.SlotRules.{AreSteady, IsMarkerAt};
 ghost use Rattle.step_embedding.specs.Related.{IsSameDistance};
 ghost use Rattle.ir_model.specs.declared.instr.Instr.{Instr as TheInstr};
 ghost use Rattle.ir_model.specs.declared.operand.Intrinsic.{Intrinsic as TheIntrinsic};
@@ -113,4 +113,10 @@ pub fn left_points_go_on()
     ensures branches { (f : Function) (k s : Point) → IsCallAt TheIntrinsic.CoroSave f k → suspend_of f k ≡ Some s → (w : TheWindow) → w.save ≡ k → w.suspend ≡ s → IsWindow f w → (p q : Point) → IsInWindow f k s p → leaves p q w ≡ false → IsLeftAt f q }
     ensures ended { (f : Function) (p : Point) → IsCallAt TheIntrinsic.CoroEnd f p → IsAfterEnd f (record { block = p.block; at = p.at + 1 }) }
     ensures closed { (f : Function) (p : Point) → (IsCallAt TheIntrinsic.CoroSuspend f p → ⊥) → (IsBehindSuspendCall f p.block p.at → ⊥) → (p.block ≡ end_block f → p.at ≡ 0 → ⊥) → IsLeftAt f p → IsClosed f p }
+{}
+
+/// Where no marker of a slot stands in the window of a save, what was used before the save or in the window was used before the suspend, and what may be alive there may be alive at the suspend.
+pub fn windows_keep_slots()
+    ensures used { (f : Function) (slot : ℕ) (k s : Point) → IsCallAt TheIntrinsic.CoroSave f k → suspend_of f k ≡ Some s → ((q : Point) → IsInWindow f k s q → (IsMarkerAt f TheIntrinsic.LifetimeStart slot q → ⊥) × (IsMarkerAt f TheIntrinsic.LifetimeEnd slot q → ⊥)) → Leads f [] k s → (p : Point) → (p ≡ k) ⊎ IsInWindow f k s p → IsUsedBefore f slot p → IsUsedBefore f slot s }
+    ensures alive { (f : Function) (slot : ℕ) (k s : Point) → IsCallAt TheIntrinsic.CoroSave f k → suspend_of f k ≡ Some s → ((q : Point) → IsInWindow f k s q → (IsMarkerAt f TheIntrinsic.LifetimeStart slot q → ⊥) × (IsMarkerAt f TheIntrinsic.LifetimeEnd slot q → ⊥)) → Leads f [] k s → (p : Point) → (p ≡ k) ⊎ IsInWindow f k s p → MayBeAlive f slot p → MayBeAlive f slot s }
 {}
