@@ -1,9 +1,9 @@
 -- An instruction that uses slots whose blocks stand in blocks of their own, or come to stand there.
-use Rattle.std.proofs.Common.{◌≡◌, ◌≢◌, ℕ, zero, suc, ◌+◌, ◌^◌, ◌<◌, ◌≤◌, ◌⊎◌, inl, inr, Bool, true, false, List, [], ◌∷◌, length, set, Option, Some, None, refl, sym, ap, ◌∙◌, subst, ⊎_elim, arith, if◌then◌else◌, get_or-set_other}
+use Rattle.std.proofs.Common.{◌≡◌, ◌≢◌, ℕ, suc, ◌+◌, ◌^◌, ◌<◌, ◌≤◌, ◌⊎◌, inl, inr, Bool, true, false, List, [], ◌∷◌, length, set, Option, Some, None, refl, sym, ap, ◌∙◌, subst, ⊎_elim, arith, if◌then◌else◌, get_or-set_other}
 use Rattle.std.proofs.lemmas.Bool.{cases_eq, false≢true}
 use Rattle.std.proofs.lemmas.List.{get_or-set_same, length-set}
-use Rattle.std.specs.Prelude.{IsTrue, not, option_map, slice_get, ◌&&◌, ◌==◌}
-use Rattle.block_memory.specs.Memory.{is_live, may_compare_at, owner_rights}
+use Rattle.std.specs.Prelude.{not, option_map, slice_get, ◌&&◌, ◌==◌}
+use Rattle.block_memory.specs.Memory.{may_compare_at, owner_rights}
 use Rattle.block_memory.specs.Pointers.{moved}
 use Rattle.block_memory.specs.declared.block.MemoryBlock.{MemoryBlock}
 use Rattle.block_memory.specs.declared.pointer.Offset.{Offset}
@@ -12,20 +12,21 @@ use Rattle.block_memory.specs.declared.pointer.Value.{Value}
 use Rattle.block_memory.specs.declared.block.Byte.{Byte}
 use Rattle.flow_solver.specs.Paths.{IsListed}
 use Rattle.memory_embedding.proofs.Homes.{byte_on, move_extends, value_on}
-use Rattle.memory_embedding.proofs.Written.{same_some}
 use Rattle.memory_embedding.specs.Pointers.{Extends, Home, IsByte, IsValue, home_of, nowhere}
-use Rattle.memory_embedding.specs.Standing.{AreApart, HasBounds, HasRights, IsAlignment, IsOpen, byte_of}
+use Rattle.memory_embedding.specs.Standing.{HasBounds, HasRights, IsAlignment, IsOpen, byte_of}
 use Rattle.ordinary_step.specs.Step.{Context, Fetched, Work, action_of}
-use Rattle.ordinary_step.specs.Values.{value_in}
-use Rattle.renewed_slots.proofs.Muted.{muted_get}
+use Rattle.ordinary_step.specs.Values.{element}
+use Rattle.renewed_slots.proofs.Muted.{element_muted, muted_get}
 use Rattle.renewed_slots.proofs.Places.{forgotten, muted_at, seated, showing_it, showing_others, unowned_compares}
 use Rattle.renewed_slots.proofs.Steps.{step_over}
 use Rattle.renewed_slots.specs.Muted.{IsShown, ended_if, muted}
-use Rattle.renewed_slots.specs.Places.{AreStanding, IsBlank, IsFree, showing, unseen}
-use Rattle.renewed_slots.specs.Ready.{AreApartFrom, ArePlacesApart, Comes, IsPlace, IsPlaced, IsSettled, IsUsing, Place, Stays, faded, shown_of, stood}
+use Rattle.renewed_slots.specs.Places.{AreStanding, showing, unseen}
+use Rattle.renewed_slots.specs.Ready.{ArePlacesApart, Comes, IsPartPlaced, IsPlace, IsPlaced, IsSettled, IsUsing, Place, Stays, faded, shown_of, stood}
 use Rattle.renewed_slots.specs.Shown.{AreShownBlocks, AreShownBytes, IsShownByte}
 use Rattle.renewed_slots.specs.Steps.{AreOver, GoesOver, IsRead, given_at}
+use Rattle.step_embedding.proofs.Memories.{element_kept}
 use Rattle.step_embedding.specs.Making.{whole_home}
+use Rattle.step_embedding.specs.Related.{IsSameDistance}
 use Rattle.step_laws.specs.Changed.{Each}
 
 -- ---- pointers come about into a block that stands already
@@ -228,7 +229,7 @@ still_hidden homes hides (p ∷ ps) h b e = still_hidden (set homes p.block (who
 
 -- ---- the instruction
 
-module _ (homes : List Home) (hides quiet : ℕ → Bool) (ps : List Place) (c : Context) (w x : Work) (here : Fetched) (rights : c.rights ≡ owner_rights) (u : IsUsing homes hides quiet ps c w x here) where
+module _ (homes : List Home) (hides quiet : ℕ → Bool) (ps : List Place) (c : Context) (w x : Work) (here : Fetched) (u : IsUsing homes hides quiet ps c w x here) where
   extends : Extends homes (stood homes ps)
   extends = stood_extends homes hides w.world.memory x.world.memory ps u.places u.settled u.apart
 
@@ -252,8 +253,46 @@ module _ (homes : List Home) (hides quiet : ℕ → Bool) (ps : List Place) (c :
     no_slot = u.no_slot;
   }
 
-  pub used_step : GoesOver (stood homes ps) (shown_of hides ps) (given_at here) w x (action_of c w here) (action_of c x here)
-  used_step = step_over (stood homes ps) (shown_of hides ps) c w x here rights over (still_hidden homes hides ps u.hidden) (shown_stays hides ps (length w.world.memory) u.new_hides) read
+  pub used_step : c.rights ≡ owner_rights → GoesOver (stood homes ps) (shown_of hides ps) (given_at here) w x (action_of c w here) (action_of c x here)
+  used_step rights = step_over (stood homes ps) (shown_of hides ps) c w x here rights over (still_hidden homes hides ps u.hidden) (shown_stays hides ps (length w.world.memory) u.new_hides) read
+
+  -- ---- addresses in slots
+
+  -- a block that stands in its own isn't hidden
+  placed_shown : (p : Place) → IsListed p ps → shown_of hides ps p.block ≡ false
+  placed_shown p listed = on (shown_of hides ps p.block) refl
+    where
+      on : (t : Bool) → shown_of hides ps p.block ≡ t → shown_of hides ps p.block ≡ false
+      on true e = absurd (false≢true (sym (still_hidden homes hides ps u.hidden p.block e) ∙ ap (λ (q : Home). q.is_seen) (stood_at homes ps p (each_map _ _ ps (λ p is. is.within) u.places) u.apart listed)))
+      on false e = e
+
+  part_of : (h : (p : Place) × (o : Offset) × IsListed p ps) → (a b : Value) → (a ≡ Value.Poison) ⊎ ((o : Offset) × (a ≡ Value.Ptr (Pointer.At h.0.block o))) → IsValue (stood homes ps) a b → IsPartPlaced ps a b
+  part_of h a b (inl e) k = inl e
+  part_of h a b (inr e) k =
+      let v = subst (λ (z : Value). IsValue (stood homes ps) z b) e.1 k in
+      let home = stood_at homes ps h.0 (each_map _ _ ps (λ p is. is.within) u.places) u.apart h.2 in
+      inr (record { place = h.0; listed = h.2; offset = e.0; source = e.1; target = v.1 ∙ ap (λ (q : Home). Value.Ptr (Pointer.At q.block (moved e.0 q.offset))) home })
+
+  stays_inside : (memory : List MemoryBlock) (inbounds : Bool) (b : ℕ) (o : Offset) (d : Option ℕ) → (element memory inbounds (Value.Ptr (Pointer.At b o)) d ≡ Value.Poison) ⊎ ((q : Offset) × (element memory inbounds (Value.Ptr (Pointer.At b o)) d ≡ Value.Ptr (Pointer.At b q)))
+  stays_inside memory inbounds b o None = inl refl
+  stays_inside memory inbounds b o (Some d) = on _
+    where
+      on : (t : Bool) → ((if t then Value.Poison else Value.Ptr (Pointer.At b (moved o d))) ≡ Value.Poison) ⊎ ((q : Offset) × ((if t then Value.Poison else Value.Ptr (Pointer.At b (moved o d))) ≡ Value.Ptr (Pointer.At b q)))
+      on true = inl refl
+      on false = inr (moved o d, refl)
+
+  pub part_placed : (inbounds : Bool) (a b : Value) (d e : Option ℕ) → IsPlaced ps a b → IsSameDistance d e → IsPartPlaced ps (element w.world.memory inbounds a d) (element x.world.memory inbounds b e)
+  part_placed inbounds a b None e h k = inl refl
+  part_placed inbounds a b (Some d) e h k =
+      let v : IsValue (stood homes ps) a b = placed a b h in
+      let shown : IsShown (shown_of hides ps) a = subst (IsShown (shown_of hides ps)) (sym h.source) (placed_shown h.place h.listed) in
+      let kept = element_kept (stood homes ps) (muted (shown_of hides ps) w.world.memory) x.world.memory over.bounds inbounds a b (Some d) v in
+      let here : IsValue (stood homes ps) (element w.world.memory inbounds a (Some d)) (element x.world.memory inbounds b e) =
+      subst (λ (z : Value). IsValue (stood homes ps) z (element x.world.memory inbounds b e)) (element_muted (shown_of hides ps) w.world.memory inbounds a (Some d) shown)
+      (subst (λ (z : Option ℕ). IsValue (stood homes ps) (element (muted (shown_of hides ps) w.world.memory) inbounds a (Some d)) (element x.world.memory inbounds b z)) (sym k) kept) in
+      part_of (h.place, h.offset, h.listed) _ _
+      (subst (λ (z : Value). (element w.world.memory inbounds z (Some d) ≡ Value.Poison) ⊎ ((q : Offset) × (element w.world.memory inbounds z (Some d) ≡ Value.Ptr (Pointer.At h.place.block q)))) (sym h.source) (stays_inside w.world.memory inbounds h.place.block h.offset (Some d)))
+      here
 
 -- ---- pointers are no longer about
 

@@ -13,9 +13,9 @@ use Rattle.kept_values.specs.Needed.{reads_at}
 use Rattle.memory_embedding.specs.Pointers.{Home, IsValue, home_of}
 use Rattle.ordinary_step.specs.Step.{Context, Fetched, Work}
 use Rattle.ordinary_step.specs.Values.{address_of, value_in}
-use Rattle.renewed_slots.specs.Muted.{IsShownOperand, muted}
+use Rattle.renewed_slots.specs.Muted.{muted}
 use Rattle.renewed_slots.specs.Places.{IsBlank, showing, unseen}
-use Rattle.renewed_slots.specs.Shown.{AreShownBlocks, spread_at}
+use Rattle.renewed_slots.specs.Shown.{AreShownBlocks}
 use Rattle.renewed_slots.specs.Steps.{AreOver}
 use Rattle.step_embedding.specs.Making.{whole_home}
 use Rattle.step_embedding.specs.Related.{HasDistance, HasNoSlot}
@@ -79,6 +79,10 @@ pub record IsPlaced (ps : List Place) (v w : Value) : Type 0 where
   pub source : v ≡ Value.Ptr (Pointer.At place.block offset)
   pub target : w ≡ Value.Ptr (Pointer.At place.target (moved offset 0))
 
+-- an address that a getelementptr gives is poison in the source, or such an address again
+abbrev pub IsPartPlaced : List Place → Value → Value → Type 0
+IsPartPlaced ps v w = (v ≡ Value.Poison) ⊎ IsPlaced ps v w
+
 -- ---- an instruction that uses them
 
 pub record IsUsing (homes : List Home) (hides quiet : ℕ → Bool) (ps : List Place) (c : Context) (w x : Work) (here : Fetched) : Type 0 where
@@ -91,7 +95,6 @@ pub record IsUsing (homes : List Home) (hides quiet : ℕ → Bool) (ps : List P
   pub settled : Each (IsSettled homes hides w.world.memory) ps
   pub apart : ArePlacesApart ps
   pub reads : (v : ℕ) → IsTrue (reads_at v here) → IsValue homes (value_in w.values v) (value_in x.values v) ⊎ IsPlaced ps (value_in w.values v) (value_in x.values v)
-  pub spreads : Each (IsShownOperand quiet c w) (spread_at here)
   pub room : length w.values ≤ length x.values
   pub globals : (n : Name) → IsValue homes (address_of c.code n) (address_of c.code n)
   pub distance : HasDistance c c w.values x.values here

@@ -1,7 +1,7 @@
 //! A resumed activation may make its local slots anew: the second step on the way from the meaning of sources to that of framed modules.
 #![tactic(auto)]
 
-ghost use Rattle.std.specs.Prelude.{ℕ, Bool, true, false, List, length, slice_get, Some, None, ◌≡◌, ◌≢◌, ◌≤◌, ◌<◌, ◌^◌, ◌++◌, ◌∷◌, [], ◌==◌, IsTrue, if◌then◌else◌, ◌+◌, ◌⊎◌};
+ghost use Rattle.std.specs.Prelude.{ℕ, Bool, true, false, List, length, slice_get, Some, None, ◌≡◌, ◌≢◌, ◌≤◌, ◌<◌, ◌^◌, ◌++◌, ◌∷◌, [], ◌==◌, IsTrue, if◌then◌else◌, ◌+◌, ◌⊎◌, Option};
 ghost use Rattle.block_memory.specs.Memory.{end, fresh, is_live, killed_block, same_kind, start, with_block};
 ghost use Rattle.block_memory.specs.declared.block.Kind.{Kind as TheKind};
 ghost use Rattle.memory_embedding.specs.Standing.{blank_block};
@@ -23,7 +23,8 @@ ghost use Rattle.ir_model.specs.declared.module.Function.{Function};
 ghost use Rattle.ir_model.specs.declared.module.Module.{Module};
 ghost use Rattle.ir_model.specs.declared.operand.Arg.{Arg as TheArg};
 ghost use Rattle.memory_embedding.specs.Pointers.{IsValue};
-ghost use Rattle.ordinary_step.specs.Values.{Env, arg_value, distance, indices_of};
+ghost use Rattle.ordinary_step.specs.Values.{Env, arg_value, distance, element, indices_of};
+ghost use Rattle.block_memory.specs.declared.pointer.Value.{Value as TheValue};
 ghost use Rattle.renewed_slots.specs.SlotRules.{AreSteady, IsMarkerAt};
 ghost use Rattle.step_embedding.specs.Related.{IsSameDistance};
 ghost use Rattle.ir_model.specs.declared.instr.Instr.{Instr as TheInstr};
@@ -38,7 +39,7 @@ ghost use Rattle.ir_paths.specs.Slots.{is_escaped};
 ghost use Rattle.ir_paths.specs.Windows.{IsInWindow, end_block, leaves, suspend_of};
 ghost use Rattle.ir_paths.specs.declared.point.Point.{Point};
 ghost use Rattle.renewed_slots.specs.Ahead.{IsBehindSuspendCall, IsUsedAhead, IsUsedBefore, IsUsedBehind, WasUsed};
-ghost use Rattle.renewed_slots.specs.Ready.{IsUsing, Place, faded, shown_of, stood};
+ghost use Rattle.renewed_slots.specs.Ready.{IsPartPlaced, IsPlaced, IsUsing, Place, faded, shown_of, stood};
 ghost use Rattle.slot_lifetime.specs.Alive.{MayBeAlive};
 ghost use Rattle.slot_lifetime.specs.Classes.{NeedsFrame, parting, suspends};
 ghost use Rattle.slot_uses.specs.Spots.{IsBehind, IsStart, Spot};
@@ -97,7 +98,9 @@ pub fn local_slots_are_parted()
 /// An ordinary step that uses slots is made by the target in the same way, where each of their blocks stands in a block that is its own, or comes to stand there
 /// because it holds nothing and no pointer is about into it; no pointer into the blocks of a set is spread, and pointers into them are no longer about afterwards.
 pub fn slot_steps_are_carried()
-    ensures step { (homes : List Home) (hides quiet : ℕ → Bool) (ps : List Place) (c : Context) (w x : Work) (here : Fetched) → c.rights ≡ owner_rights → IsUsing homes hides quiet ps c w x here → GoesOver (stood homes ps) (shown_of hides ps) (given_at here) w x (action_of c w here) (action_of c x here) × IsShownAction quiet w.values (action_of c w here) }
+    ensures step { (homes : List Home) (hides quiet : ℕ → Bool) (ps : List Place) (c : Context) (w x : Work) (here : Fetched) → c.rights ≡ owner_rights → IsUsing homes hides quiet ps c w x here → GoesOver (stood homes ps) (shown_of hides ps) (given_at here) w x (action_of c w here) (action_of c x here) }
+    ensures spread { (homes : List Home) (hides quiet : ℕ → Bool) (ps : List Place) (c : Context) (w x : Work) (here : Fetched) → IsUsing homes hides quiet ps c w x here → Each (IsShownOperand quiet c w) (spread_at here) → IsShownAction quiet w.values (action_of c w here) }
+    ensures parts { (homes : List Home) (hides quiet : ℕ → Bool) (ps : List Place) (c : Context) (w x : Work) (here : Fetched) → IsUsing homes hides quiet ps c w x here → (inbounds : Bool) (v u : TheValue) (d e : Option ℕ) → IsPlaced ps v u → IsSameDistance d e → IsPartPlaced ps (element w.world.memory inbounds v d) (element x.world.memory inbounds u e) }
     ensures faded { (quiet hides : ℕ → Bool) (homes : List Home) (m n : List Block) (ps : List Place) → Each (λ (p : Place). p.block < length homes) ps → AreShownBlocks quiet m → AreStanding homes (muted hides m) n → AreStanding (faded quiet homes ps) (muted hides m) n }
 {}
 
