@@ -11,3 +11,4 @@ pub mod Made
 pub mod Steady
 pub mod Left
 pub mod History
+pub mod SlotEnvs

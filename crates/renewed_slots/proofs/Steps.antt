@@ -31,7 +31,7 @@ use Rattle.step_laws.specs.Changed.{Each, callee_at, operands_at}
 -- ---- values of which only some are kept
 
 -- a name that isn't kept has no value
-cut_at : (keep : ℕ → Bool) (env : Env) (v : ℕ) → keep v ≡ false → value_in (kept keep env) v ≡ Value.Poison
+pub cut_at : (keep : ℕ → Bool) (env : Env) (v : ℕ) → keep v ≡ false → value_in (kept keep env) v ≡ Value.Poison
 cut_at keep [] v e = refl
 cut_at keep (x ∷ env) zero e = ap (λ t. value_or_poison (Some (if t then x else None))) e
 cut_at keep (x ∷ env) (suc v) e = cut_at (λ i. keep (suc i)) env v e

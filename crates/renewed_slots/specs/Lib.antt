@@ -10,3 +10,4 @@ pub mod Ahead
 pub mod Ready
 pub mod SlotRules
 pub mod Left
+pub mod SlotEnvs

@@ -12,7 +12,7 @@ ghost use Rattle.renewed_slots.specs.Muted.{muted};
 ghost use Rattle.step_embedding.specs.Making.{whole_home};
 ghost use Rattle.block_memory.specs.Memory.{owner_rights};
 ghost use Rattle.memory_embedding.specs.Pointers.{Home, home_of};
-ghost use Rattle.renewed_slots.specs.Steps.{AreOver, GoesOver, IsRead, given_at};
+ghost use Rattle.renewed_slots.specs.Steps.{AreOver, AreSet, GoesOver, IsRead, given_at};
 ghost use Rattle.ordinary_step.specs.Step.{AtInstr, Context, Fetched, Work, action_of, fetch};
 ghost use Rattle.renewed_slots.specs.Muted.{IsShownOperand, muted_action, muted_work};
 ghost use Rattle.renewed_slots.specs.Shown.{AreShownBlocks, IsShownAction, spread_at};
@@ -25,6 +25,9 @@ ghost use Rattle.ir_model.specs.declared.operand.Arg.{Arg as TheArg};
 ghost use Rattle.memory_embedding.specs.Pointers.{IsValue};
 ghost use Rattle.ordinary_step.specs.Values.{Env, arg_value, distance, element, indices_of};
 ghost use Rattle.block_memory.specs.declared.pointer.Value.{Value as TheValue};
+ghost use Rattle.kept_values.specs.Kept.{kept};
+ghost use Rattle.renewed_slots.specs.Renewed.{renewed_values};
+ghost use Rattle.renewed_slots.specs.SlotEnvs.{AreMadeAnew, AreRoots, AreSlotEnvs};
 ghost use Rattle.renewed_slots.specs.SlotRules.{AreSteady, IsMarkerAt};
 ghost use Rattle.step_embedding.specs.Related.{IsSameDistance};
 ghost use Rattle.ir_model.specs.declared.instr.Instr.{Instr as TheInstr};
@@ -122,4 +125,11 @@ pub fn left_points_go_on()
 pub fn windows_keep_slots()
     ensures used { (f : Function) (slot : ℕ) (k s : Point) → IsCallAt TheIntrinsic.CoroSave f k → suspend_of f k ≡ Some s → ((q : Point) → IsInWindow f k s q → (IsMarkerAt f TheIntrinsic.LifetimeStart slot q → ⊥) × (IsMarkerAt f TheIntrinsic.LifetimeEnd slot q → ⊥)) → Leads f [] k s → (p : Point) → (p ≡ k) ⊎ IsInWindow f k s p → IsUsedBefore f slot p → IsUsedBefore f slot s }
     ensures alive { (f : Function) (slot : ℕ) (k s : Point) → IsCallAt TheIntrinsic.CoroSave f k → suspend_of f k ≡ Some s → ((q : Point) → IsInWindow f k s q → (IsMarkerAt f TheIntrinsic.LifetimeStart slot q → ⊥) × (IsMarkerAt f TheIntrinsic.LifetimeEnd slot q → ⊥)) → Leads f [] k s → (p : Point) → (p ≡ k) ⊎ IsInWindow f k s p → MayBeAlive f slot p → MayBeAlive f slot s }
+{}
+
+/// What an activation has stands for what the source's has where values are kept, where a step gives a name that is no address in a slot, and where addresses in slots are moved to slots that were made anew.
+pub fn slot_values_stand()
+    ensures renewed { (homes : List Home) (roots : ℕ → Option ℕ) (env other mid : Env) → AreRoots roots → AreSlotEnvs homes roots env other → AreMadeAnew roots other mid → AreSlotEnvs homes roots env (renewed_values roots mid mid) }
+    ensures kept { (homes : List Home) (roots : ℕ → Option ℕ) (keep : ℕ → Bool) (env other : Env) → ((v a : ℕ) → roots v ≡ Some a → keep a ≡ true) → AreSlotEnvs homes roots env other → AreSlotEnvs homes roots (kept keep env) (kept keep other) }
+    ensures set { (homes more : List Home) (roots : ℕ → Option ℕ) (given : Option ℕ) (w x v y : Work) → Extends homes more → ((name a : ℕ) → roots name ≡ Some a → given ≡ Some name → ⊥) → AreRoots roots → AreSlotEnvs homes roots w.values x.values → AreSet more given w x v y → AreSlotEnvs more roots v.values y.values }
 {}
