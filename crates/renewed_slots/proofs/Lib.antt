@@ -12,3 +12,4 @@ pub mod Steady
 pub mod Left
 pub mod History
 pub mod SlotEnvs
+pub mod Entering

@@ -11,3 +11,4 @@ pub mod Ready
 pub mod SlotRules
 pub mod Left
 pub mod SlotEnvs
+pub mod Entering

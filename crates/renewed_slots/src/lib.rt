@@ -13,7 +13,7 @@ ghost use Rattle.step_embedding.specs.Making.{whole_home};
 ghost use Rattle.block_memory.specs.Memory.{owner_rights};
 ghost use Rattle.memory_embedding.specs.Pointers.{Home, home_of};
 ghost use Rattle.renewed_slots.specs.Steps.{AreOver, AreSet, GoesOver, IsRead, given_at};
-ghost use Rattle.ordinary_step.specs.Step.{AtInstr, Context, Fetched, Work, action_of, fetch};
+ghost use Rattle.ordinary_step.specs.Step.{AtInstr, Context, Fetched, Work, action_of, fetch, is_alignment};
 ghost use Rattle.renewed_slots.specs.Muted.{IsShownOperand, muted_action, muted_work};
 ghost use Rattle.renewed_slots.specs.Shown.{AreShownBlocks, IsShownAction, spread_at};
 ghost use Rattle.step_laws.specs.Changed.{Each, operands_at};
@@ -26,7 +26,12 @@ ghost use Rattle.memory_embedding.specs.Pointers.{IsValue};
 ghost use Rattle.ordinary_step.specs.Values.{Env, arg_value, distance, element, indices_of};
 ghost use Rattle.block_memory.specs.declared.pointer.Value.{Value as TheValue};
 ghost use Rattle.kept_values.specs.Kept.{kept};
-ghost use Rattle.renewed_slots.specs.Renewed.{renewed_values};
+ghost use Rattle.coro_base.specs.declared.outcome.Outcome.{Outcome as TheOutcome};
+ghost use Rattle.coro_meaning.specs.State.{function_of};
+ghost use Rattle.coro_meaning.specs.declared.state.Mode.{Mode as TheMode};
+ghost use Rattle.coro_meaning.specs.declared.state.State.{State as TheState};
+ghost use Rattle.renewed_slots.specs.Entering.{made_anew};
+ghost use Rattle.renewed_slots.specs.Renewed.{RenewedGiven, renew_after, renewed_from, renewed_step, renewed_values};
 ghost use Rattle.renewed_slots.specs.SlotEnvs.{AreMadeAnew, AreRoots, AreSlotEnvs};
 ghost use Rattle.renewed_slots.specs.SlotRules.{AreSteady, IsMarkerAt};
 ghost use Rattle.step_embedding.specs.Related.{IsSameDistance};
@@ -132,4 +137,9 @@ pub fn slot_values_stand()
     ensures renewed { (homes : List Home) (roots : ℕ → Option ℕ) (env other mid : Env) → AreRoots roots → AreSlotEnvs homes roots env other → AreMadeAnew roots other mid → AreSlotEnvs homes roots env (renewed_values roots mid mid) }
     ensures kept { (homes : List Home) (roots : ℕ → Option ℕ) (keep : ℕ → Bool) (env other : Env) → ((v a : ℕ) → roots v ≡ Some a → keep a ≡ true) → AreSlotEnvs homes roots env other → AreSlotEnvs homes roots (kept keep env) (kept keep other) }
     ensures set { (homes more : List Home) (roots : ℕ → Option ℕ) (given : Option ℕ) (w x v y : Work) → Extends homes more → ((name a : ℕ) → roots name ≡ Some a → given ≡ Some name → ⊥) → AreRoots roots → AreSlotEnvs homes roots w.values x.values → AreSet more given w x v y → AreSlotEnvs more roots v.values y.values }
+{}
+
+/// A resumed activation makes a flagged slot anew in one step: it lives, is the activation's own, and the next one or the label follows.
+pub fn slots_are_made_anew()
+    ensures { (g : RenewedGiven) (s : TheState) (from label a align : ℕ) (ty : Ty) → s.outcome ≡ TheOutcome.Running → s.top.mode ≡ TheMode.Entering from label → fetch (function_of g.given s) s.top.block s.top.at ≡ AtInstr (TheInstr.Alloca a ty align) → g.flags s.top.func a ≡ true → is_alignment align ≡ true → renewed_step g s ≡ renew_after g (made_anew g s a ty align) from label (renewed_from (g.flags s.top.func) (function_of g.given s) (s.top.at + 1)) }
 {}
