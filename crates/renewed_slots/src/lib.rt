@@ -30,7 +30,8 @@ ghost use Rattle.coro_base.specs.declared.outcome.Outcome.{Outcome as TheOutcome
 ghost use Rattle.coro_meaning.specs.State.{function_of};
 ghost use Rattle.coro_meaning.specs.declared.state.Mode.{Mode as TheMode};
 ghost use Rattle.coro_meaning.specs.declared.state.State.{State as TheState};
-ghost use Rattle.renewed_slots.specs.Entering.{made_anew};
+ghost use Rattle.renewed_slots.specs.Entering.{Anew, AreNext, made_all, made_anew};
+ghost use Rattle.agreement.specs.Machines.{iterate};
 ghost use Rattle.renewed_slots.specs.Renewed.{RenewedGiven, renew_after, renewed_from, renewed_step, renewed_values};
 ghost use Rattle.renewed_slots.specs.SlotEnvs.{AreMadeAnew, AreRoots, AreSlotEnvs};
 ghost use Rattle.renewed_slots.specs.SlotRules.{AreSteady, IsMarkerAt};
@@ -141,5 +142,6 @@ pub fn slot_values_stand()
 
 /// A resumed activation makes a flagged slot anew in one step: it lives, is the activation's own, and the next one or the label follows.
 pub fn slots_are_made_anew()
-    ensures { (g : RenewedGiven) (s : TheState) (from label a align : ℕ) (ty : Ty) → s.outcome ≡ TheOutcome.Running → s.top.mode ≡ TheMode.Entering from label → fetch (function_of g.given s) s.top.block s.top.at ≡ AtInstr (TheInstr.Alloca a ty align) → g.flags s.top.func a ≡ true → is_alignment align ≡ true → renewed_step g s ≡ renew_after g (made_anew g s a ty align) from label (renewed_from (g.flags s.top.func) (function_of g.given s) (s.top.at + 1)) }
+    ensures one { (g : RenewedGiven) (s : TheState) (from label a align : ℕ) (ty : Ty) → s.outcome ≡ TheOutcome.Running → s.top.mode ≡ TheMode.Entering from label → fetch (function_of g.given s) s.top.block s.top.at ≡ AtInstr (TheInstr.Alloca a ty align) → g.flags s.top.func a ≡ true → is_alignment align ≡ true → renewed_step g s ≡ renew_after g (made_anew g s a ty align) from label (renewed_from (g.flags s.top.func) (function_of g.given s) (s.top.at + 1)) }
+    ensures all { (g : RenewedGiven) (from label : ℕ) (xs : List Anew) (at : ℕ) (s : TheState) → s.outcome ≡ TheOutcome.Running → AreNext (g.flags s.top.func) (function_of g.given s) at xs → iterate (renewed_step g) (length xs) (renew_after g s from label (renewed_from (g.flags s.top.func) (function_of g.given s) at)) ≡ renew_after g (made_all g from label s xs) from label None }
 {}
