@@ -13,3 +13,4 @@ pub mod Left
 pub mod History
 pub mod SlotEnvs
 pub mod Entering
+pub mod EnteredValues

@@ -1,5 +1,6 @@
 -- What a resumed activation has done when it has made a slot anew.
-use Rattle.std.specs.Prelude.{ℕ, Bool, true, List, [], length, Some, None, ◌≡◌, ◌+◌, ◌∷◌}
+use Rattle.std.specs.Prelude.{ℕ, Bool, true, List, [], length, Some, None, ◌≡◌, ◌+◌, ◌∷◌, ◌==◌}
+use Rattle.std.specs.List.{list_any}
 use Rattle.block_memory.specs.Memory.{fresh}
 use Rattle.coro_meaning.specs.State.{function_of}
 use Rattle.coro_meaning.specs.declared.state.State.{State}
@@ -43,3 +44,6 @@ abbrev pub made_all : RenewedGiven → ℕ → ℕ → State → List Anew → S
 made_all g from label s [] = s
 made_all g from label s (x ∷ xs) =
     made_all g from label (made_anew g (at_point (with_mode s (Mode.Entering from label)) (record { block = 0; at = x.at })) x.name x.ty x.align) xs
+
+abbrev pub is_named : List Anew → ℕ → Bool
+is_named xs v = list_any (λ x. x.name == v) xs

@@ -23,14 +23,14 @@ ghost use Rattle.ir_model.specs.declared.module.Function.{Function};
 ghost use Rattle.ir_model.specs.declared.module.Module.{Module};
 ghost use Rattle.ir_model.specs.declared.operand.Arg.{Arg as TheArg};
 ghost use Rattle.memory_embedding.specs.Pointers.{IsValue};
-ghost use Rattle.ordinary_step.specs.Values.{Env, arg_value, distance, element, indices_of};
+ghost use Rattle.ordinary_step.specs.Values.{Env, arg_value, distance, element, indices_of, pointer_to, value_in};
 ghost use Rattle.block_memory.specs.declared.pointer.Value.{Value as TheValue};
 ghost use Rattle.kept_values.specs.Kept.{kept};
 ghost use Rattle.coro_base.specs.declared.outcome.Outcome.{Outcome as TheOutcome};
 ghost use Rattle.coro_meaning.specs.State.{function_of};
 ghost use Rattle.coro_meaning.specs.declared.state.Mode.{Mode as TheMode};
 ghost use Rattle.coro_meaning.specs.declared.state.State.{State as TheState};
-ghost use Rattle.renewed_slots.specs.Entering.{Anew, AreNext, made_all, made_anew};
+ghost use Rattle.renewed_slots.specs.Entering.{Anew, AreNext, is_named, made_all, made_anew};
 ghost use Rattle.agreement.specs.Machines.{iterate};
 ghost use Rattle.renewed_slots.specs.Renewed.{RenewedGiven, renew_after, renewed_from, renewed_step, renewed_values};
 ghost use Rattle.renewed_slots.specs.SlotEnvs.{AreMadeAnew, AreRoots, AreSlotEnvs};
@@ -140,8 +140,11 @@ pub fn slot_values_stand()
     ensures set { (homes more : List Home) (roots : ℕ → Option ℕ) (given : Option ℕ) (w x v y : Work) → Extends homes more → ((name a : ℕ) → roots name ≡ Some a → given ≡ Some name → ⊥) → AreRoots roots → AreSlotEnvs homes roots w.values x.values → AreSet more given w x v y → AreSlotEnvs more roots v.values y.values }
 {}
 
-/// A resumed activation makes a flagged slot anew in one step: it lives, is the activation's own, and the next one or the label follows.
+/// A resumed activation makes a flagged slot anew in one step: it lives, is the activation's own, and the next one or the label follows; behind all of them each has the address of a block, and the other names have what they had.
 pub fn slots_are_made_anew()
     ensures one { (g : RenewedGiven) (s : TheState) (from label a align : ℕ) (ty : Ty) → s.outcome ≡ TheOutcome.Running → s.top.mode ≡ TheMode.Entering from label → fetch (function_of g.given s) s.top.block s.top.at ≡ AtInstr (TheInstr.Alloca a ty align) → g.flags s.top.func a ≡ true → is_alignment align ≡ true → renewed_step g s ≡ renew_after g (made_anew g s a ty align) from label (renewed_from (g.flags s.top.func) (function_of g.given s) (s.top.at + 1)) }
     ensures all { (g : RenewedGiven) (from label : ℕ) (xs : List Anew) (at : ℕ) (s : TheState) → s.outcome ≡ TheOutcome.Running → AreNext (g.flags s.top.func) (function_of g.given s) at xs → iterate (renewed_step g) (length xs) (renew_after g s from label (renewed_from (g.flags s.top.func) (function_of g.given s) at)) ≡ renew_after g (made_all g from label s xs) from label None }
+    ensures anew { (g : RenewedGiven) (from label : ℕ) (xs : List Anew) (s : TheState) (v : ℕ) → is_named xs v ≡ true → v < length s.top.values → (c : ℕ) × (value_in (made_all g from label s xs).top.values v ≡ pointer_to c) }
+    ensures others { (g : RenewedGiven) (from label : ℕ) (xs : List Anew) (s : TheState) (v : ℕ) → is_named xs v ≡ false → value_in (made_all g from label s xs).top.values v ≡ value_in s.top.values v }
+    ensures room { (g : RenewedGiven) (from label : ℕ) (xs : List Anew) (s : TheState) → length (made_all g from label s xs).top.values ≡ length s.top.values }
 {}
