@@ -1,0 +1,16 @@
+pub mod Muted
+pub mod MutedSteps
+pub mod Shown
+pub mod ShownSteps
+pub mod Sets
+pub mod Steps
+pub mod Places
+pub mod Ahead
+pub mod Ready
+pub mod Made
+pub mod Steady
+pub mod Left
+pub mod History
+pub mod SlotEnvs
+pub mod Entering
+pub mod EnteredValues

@@ -1,0 +1,14 @@
+pub mod Renewed
+pub mod LocalSlot
+pub mod RestartedSlots
+pub mod EscapedRestart
+pub mod Muted
+pub mod Shown
+pub mod Steps
+pub mod Places
+pub mod Ahead
+pub mod Ready
+pub mod SlotRules
+pub mod Left
+pub mod SlotEnvs
+pub mod Entering
