@@ -118,8 +118,8 @@ module _ (rights target : Rights) (law : AreByteRights rights) (law' : AreByteRi
       let k = write n (moved_spot homes a) (bytes_at n (moved_spot homes b) (suc len)) in
       let em' : Embeds rights target homes (write m a (bytes_at m b (suc len))) k =
       both_write rights target law law' homes m n em a.block a.offset f.block (bytes_at m b (suc len)) (bytes_at n (moved_spot homes b) (suc len)) f.stands f.live (omega arith) (subst (λ (i : ℕ). rights.is_closed a.block f.block a.offset i ≡ false) (sym long) f.unclosed) (long' ∙ sym long) (bytes_kept rights target homes m n em law from (suc len) 1 b h) in
-      let ra = range_kept rights target homes m n em to to' (suc len) 1 a (inl refl) ht e in
-      let rb = range_kept rights target homes m n em from from' (suc len) 1 b (inl refl) hf g in
+      let ra = range_kept rights target homes m n em to to' (suc len) 1 a (omega arith) (inl refl) ht e in
+      let rb = range_kept rights target homes m n em from from' (suc len) 1 b (omega arith) (inl refl) hf g in
       record {
         memory = k;
         copies =

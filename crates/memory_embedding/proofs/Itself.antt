@@ -84,7 +84,7 @@ module _ (m : List MemoryBlock) (whole : AreWhole m) (small : (b : ℕ) (x : Mem
         writable = λ e. e;
         allowed = subst (λ (q : Home). HasRights owner_rights owner_rights q b x x) (sym h) (record {
           opens = λ o len le e. at_zero o (λ i. is_below i x.owned ≡ false) e;
-          aligned = λ o align ok e. at_zero o (λ i. owner_rights.is_aligned b x i align ≡ true) e;
+          aligned = λ o len align pos within free ok e. at_zero o (λ i. owner_rights.is_aligned b x i align ≡ true) e;
           comparable = λ o le e. at_zero o (λ i. owner_rights.is_comparable b x i ≡ true) e;
         });
         bytes = λ i lo o. subst (λ (q : Home). IsByte homes (byte_of x i) (byte_of x (q.offset + i))) (sym h) (at_zero i (λ j. IsByte homes (byte_of x i) (byte_of x j)) (byte_itself (byte_of x i) (known b i x is)));

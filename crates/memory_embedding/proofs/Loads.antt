@@ -47,13 +47,13 @@ module _ (rights target : Rights) (homes : List Home) (m n : List MemoryBlock) (
       ap (λ (o : ℕ). (o + (home_of homes s.block).offset) % 2 ^ 64) f.at ∙ moved_bits s.offset (home_of homes s.block).offset (omega arith) in
       h'.1 ∙ ap (λ (k : ℕ). Value.Ptr (Pointer.At (home_of homes s.block).block (record { bits = k }))) bits
 
-  pub range_kept : (v w : Value) (len align : ℕ) (s : Spot) → IsAlignment align → IsValue homes v w → range rights m v len align ≡ Ok s → range target n w len align ≡ Ok (moved_spot homes s)
-  range_kept v w len align s ok h e =
+  pub range_kept : (v w : Value) (len align : ℕ) (s : Spot) → 0 < len → IsAlignment align → IsValue homes v w → range rights m v len align ≡ Ok s → range target n w len align ≡ Ok (moved_spot homes s)
+  range_kept v w len align s pos ok h e =
       let f = found rights m v len align s e in
       let st = found_stands v len align s f in
       let within = f.within in let fits = st.fits in let small = st.small in
       ap (λ (u : Value). range target n u len align) (address_is v w len align s f h)
-      ∙ range_ok target n st.block (home_of homes s.block).block ((home_of homes s.block).offset + s.offset) len align st.there (omega arith) st.live (st.allowed.opens s.offset len f.within f.unclosed) (st.allowed.aligned s.offset align ok f.aligned)
+      ∙ range_ok target n st.block (home_of homes s.block).block ((home_of homes s.block).offset + s.offset) len align st.there (omega arith) st.live (st.allowed.opens s.offset len f.within f.unclosed) (st.allowed.aligned s.offset len align pos f.within f.unclosed ok f.aligned)
 
   module _ (laws : AreByteRights rights) where
     -- the bytes that an access found
@@ -68,19 +68,19 @@ module _ (rights target : Rights) (homes : List Home) (m n : List MemoryBlock) (
         let e : (home_of homes s.block).offset + (s.offset + i) ≡ (home_of homes s.block).offset + s.offset + i = omega arith in
         subst (λ (k : ℕ). IsByte homes (byte_of f.block (s.offset + i)) (byte_of st.block k)) e (st.bytes (s.offset + i) (omega arith) open_byte))))
 
-    load_on : (p w : Value) (what : Access) (align : ℕ) (v : Value) (r : Result Spot Cause) → range rights m p (access_bytes what) align ≡ r → IsAlignment align → IsValue homes p w → on_ok (λ s. Ok (decode what (bytes_at m s (access_bytes what)))) r ≡ Ok v → IsLoaded target homes n w what align v
-    load_on p w what align v (Err c) e ok h l = absurd (cc)
-    load_on p w what align v (Ok s) e ok h l =
+    load_on : (p w : Value) (what : Access) (align : ℕ) (v : Value) (r : Result Spot Cause) → range rights m p (access_bytes what) align ≡ r → 0 < access_bytes what → IsAlignment align → IsValue homes p w → on_ok (λ s. Ok (decode what (bytes_at m s (access_bytes what)))) r ≡ Ok v → IsLoaded target homes n w what align v
+    load_on p w what align v (Err c) e pos ok h l = absurd (cc)
+    load_on p w what align v (Ok s) e pos ok h l =
         let f = found rights m p (access_bytes what) align s e in
         let is : decode what (bytes_at m s (access_bytes what)) ≡ v = cc in
         record {
           value = decode what (bytes_at n (moved_spot homes s) (access_bytes what));
-          loads = ap (on_ok (λ t. Ok (decode what (bytes_at n t (access_bytes what))))) (range_kept p w (access_bytes what) align s ok h e);
+          loads = ap (on_ok (λ t. Ok (decode what (bytes_at n t (access_bytes what))))) (range_kept p w (access_bytes what) align s pos ok h e);
           stands = subst (λ (u : Value). IsValue homes u (decode what (bytes_at n (moved_spot homes s) (access_bytes what)))) is (decode_kept homes what _ _ (bytes_kept p (access_bytes what) align s f));
         }
 
-    pub load_kept : (p w : Value) (what : Access) (align : ℕ) (v : Value) → IsAlignment align → IsValue homes p w → load rights m p what align ≡ Ok v → IsLoaded target homes n w what align v
-    load_kept p w what align v ok h l = load_on p w what align v (range rights m p (access_bytes what) align) refl ok h l
+    pub load_kept : (p w : Value) (what : Access) (align : ℕ) (v : Value) → 0 < access_bytes what → IsAlignment align → IsValue homes p w → load rights m p what align ≡ Ok v → IsLoaded target homes n w what align v
+    load_kept p w what align v pos ok h l = load_on p w what align v (range rights m p (access_bytes what) align) refl pos ok h l
 
-pub loads_kept : (rights target : Rights) (homes : List Home) (m n : List MemoryBlock) (p q : Value) (what : Access) (align : ℕ) (v : Value) → AreByteRights rights → Embeds rights target homes m n → IsAlignment align → IsValue homes p q → load rights m p what align ≡ Ok v → IsLoaded target homes n q what align v
-loads_kept rights target homes m n p q what align v law em ok h l = load_kept rights target homes m n em law p q what align v ok h l
+pub loads_kept : (rights target : Rights) (homes : List Home) (m n : List MemoryBlock) (p q : Value) (what : Access) (align : ℕ) (v : Value) → AreByteRights rights → Embeds rights target homes m n → 0 < access_bytes what → IsAlignment align → IsValue homes p q → load rights m p what align ≡ Ok v → IsLoaded target homes n q what align v
+loads_kept rights target homes m n p q what align v law em pos ok h l = load_kept rights target homes m n em law p q what align v pos ok h l

@@ -35,9 +35,9 @@ other_home homes q c ne = ⊎_elim
     differ : (a b : ℕ) → a ≢ b → b ≤ a → b + 1 ≤ a
     differ a b ne le = ⊎_elim (λ lt. omega arith) (λ ge. absurd (ne (omega arith))) (cases_lt b a)
 
-module _ (rights target : Rights) (fresh_rights : HasFreshRights rights target) where
-  pub fresh_kept : (homes : List Home) (m n : List MemoryBlock) (size align : ℕ) (kind : Kind) → length homes ≡ length m → size < 2 ^ 64 → Embeds rights target homes m n → Embeds rights target (homes ++ record { block = length n; offset = 0; is_seen = true } ∷ []) (fresh m size align kind) (fresh n size align kind)
-  fresh_kept homes m n size align kind len small em =
+module _ (rights target : Rights) where
+  pub fresh_kept : (homes : List Home) (m n : List MemoryBlock) → HasFreshRights rights target (length m) (length n) → (size align : ℕ) (kind : Kind) → length homes ≡ length m → size < 2 ^ 64 → Embeds rights target homes m n → Embeds rights target (homes ++ record { block = length n; offset = 0; is_seen = true } ∷ []) (fresh m size align kind) (fresh n size align kind)
+  fresh_kept homes m n fresh_rights size align kind len small em =
       reseated rights target homes more m (fresh m size align kind) (fresh n size align kind) (length m) (append_extends homes (q ∷ [])) (omega (arith, length-append homes (q ∷ [])))
       (λ c ne. other_home homes q c (λ e. ne (e ∙ len)))
       (target_grows rights target homes m n (x ∷ []) em)
@@ -73,7 +73,7 @@ module _ (rights target : Rights) (fresh_rights : HasFreshRights rights target) 
         fits = omega arith;
         small = small;
         writable = λ e. e;
-        allowed = fresh_rights.each (length m) (length n) size align kind;
+        allowed = fresh_rights.each size align kind;
       }
 
       stands : Stands rights target more (fresh n size align kind) (length m) x

@@ -29,7 +29,7 @@ refilled x bytes = record x { bytes = bytes }
 rights_refilled : (rights target : Rights) → AreByteRights rights → AreByteRights target → (h : Home) (b : ℕ) (x y : MemoryBlock) (xs ys : List Byte) → HasRights rights target h b x y → HasRights rights target h b (refilled x xs) (refilled y ys)
 rights_refilled rights target law law' h b x y xs ys a = record {
   opens = λ o len within e. law'.closed h.block y ys (h.offset + o) len ∙ a.opens o len within (sym (law.closed b x xs o len) ∙ e);
-  aligned = λ o align ok e. law'.aligned h.block y ys (h.offset + o) align ∙ a.aligned o align ok (sym (law.aligned b x xs o align) ∙ e);
+  aligned = λ o len align pos within free ok e. law'.aligned h.block y ys (h.offset + o) align ∙ a.aligned o len align pos within (sym (law.closed b x xs o len) ∙ free) ok (sym (law.aligned b x xs o align) ∙ e);
   comparable = λ o le e. law'.comparable h.block y ys (h.offset + o) ∙ a.comparable o le (sym (law.comparable b x xs o) ∙ e);
 }
 
@@ -37,7 +37,7 @@ rights_refilled rights target law law' h b x y xs ys a = record {
 rights_target : (rights target : Rights) → AreByteRights target → (h : Home) (b : ℕ) (x y : MemoryBlock) (ys : List Byte) → HasRights rights target h b x y → HasRights rights target h b x (refilled y ys)
 rights_target rights target law' h b x y ys a = record {
   opens = λ o len within e. law'.closed h.block y ys (h.offset + o) len ∙ a.opens o len within e;
-  aligned = λ o align ok e. law'.aligned h.block y ys (h.offset + o) align ∙ a.aligned o align ok e;
+  aligned = λ o len align pos within free ok e. law'.aligned h.block y ys (h.offset + o) align ∙ a.aligned o len align pos within free ok e;
   comparable = λ o le e. law'.comparable h.block y ys (h.offset + o) ∙ a.comparable o le e;
 }
 
@@ -214,9 +214,9 @@ module _ (rights target : Rights) (law : AreByteRights rights) (law' : AreByteRi
   is_written true m m' e = absurd (cc)
   is_written false m m' e = record { free = refl; is = cc }
 
-  store_on : (m n m' : List MemoryBlock) (p q v w : Value) (what : Access) (align : ℕ) (r : Result Spot Cause) → Embeds rights target homes m n → IsAlignment align → IsValue homes p q → IsValue homes v w → range rights m p (access_bytes what) align ≡ r → on_ok (λ s. unless_constant m s (write m s (encode (access_bytes what) v))) r ≡ Ok m' → IsStored rights target homes m' n q w what align
-  store_on m n m' p q v w what align (Err c) em ok hp hv e l = absurd (cc)
-  store_on m n m' p q v w what align (Ok s) em ok hp hv e l =
+  store_on : (m n m' : List MemoryBlock) (p q v w : Value) (what : Access) (align : ℕ) (r : Result Spot Cause) → Embeds rights target homes m n → 0 < access_bytes what → IsAlignment align → IsValue homes p q → IsValue homes v w → range rights m p (access_bytes what) align ≡ r → on_ok (λ s. unless_constant m s (write m s (encode (access_bytes what) v))) r ≡ Ok m' → IsStored rights target homes m' n q w what align
+  store_on m n m' p q v w what align (Err c) em pos ok hp hv e l = absurd (cc)
+  store_on m n m' p q v w what align (Ok s) em pos ok hp hv e l =
       let len = access_bytes what in
       let f = found rights m p len align s e in
       let st = found_stands rights target homes m n em p len align s f in
@@ -231,15 +231,15 @@ module _ (rights target : Rights) (law : AreByteRights rights) (law' : AreByteRi
       both_write m n em s.block s.offset f.block (encode len v) (encode len w) f.stands f.live (omega arith) (subst (λ (k : ℕ). rights.is_closed s.block f.block s.offset k ≡ false) (sym long_v) f.unclosed) (long_w ∙ sym long_v) (encode_kept homes len v w hv long_w) in
       record {
         memory = write n t (encode len w);
-        stores = ap (on_ok (λ u. unless_constant n u (write n u (encode len w)))) (range_kept rights target homes m n em p q len align s ok hp e) ∙ ap (λ (c : Bool). if c then Err Cause.Constant else Ok (write n t (encode len w))) constant;
+        stores = ap (on_ok (λ u. unless_constant n u (write n u (encode len w)))) (range_kept rights target homes m n em p q len align s pos ok hp e) ∙ ap (λ (c : Bool). if c then Err Cause.Constant else Ok (write n t (encode len w))) constant;
         stands = subst (λ (k : List MemoryBlock). Embeds rights target homes k (write n t (encode len w))) wr.is em';
       }
 
-  pub store_kept : (m n m' : List MemoryBlock) (p q v w : Value) (what : Access) (align : ℕ) → Embeds rights target homes m n → IsAlignment align → IsValue homes p q → IsValue homes v w → store rights m p v what align ≡ Ok m' → IsStored rights target homes m' n q w what align
-  store_kept m n m' p q v w what align em ok hp hv l = store_on m n m' p q v w what align (range rights m p (access_bytes what) align) em ok hp hv refl l
+  pub store_kept : (m n m' : List MemoryBlock) (p q v w : Value) (what : Access) (align : ℕ) → Embeds rights target homes m n → 0 < access_bytes what → IsAlignment align → IsValue homes p q → IsValue homes v w → store rights m p v what align ≡ Ok m' → IsStored rights target homes m' n q w what align
+  store_kept m n m' p q v w what align em pos ok hp hv l = store_on m n m' p q v w what align (range rights m p (access_bytes what) align) em pos ok hp hv refl l
 
-pub stores_kept : (rights target : Rights) (homes : List Home) (m n m' : List MemoryBlock) (p q v w : Value) (what : Access) (align : ℕ) → AreByteRights rights → AreByteRights target → Embeds rights target homes m n → IsAlignment align → IsValue homes p q → IsValue homes v w → store rights m p v what align ≡ Ok m' → IsStored rights target homes m' n q w what align
-stores_kept rights target homes m n m' p q v w what align law law' em ok hp hv l = store_kept rights target law law' homes m n m' p q v w what align em ok hp hv l
+pub stores_kept : (rights target : Rights) (homes : List Home) (m n m' : List MemoryBlock) (p q v w : Value) (what : Access) (align : ℕ) → AreByteRights rights → AreByteRights target → Embeds rights target homes m n → 0 < access_bytes what → IsAlignment align → IsValue homes p q → IsValue homes v w → store rights m p v what align ≡ Ok m' → IsStored rights target homes m' n q w what align
+stores_kept rights target homes m n m' p q v w what align law law' em pos ok hp hv l = store_kept rights target law law' homes m n m' p q v w what align em pos ok hp hv l
 
 pub private_writes_kept : (rights target : Rights) (homes : List Home) (m n : List MemoryBlock) (B at : ℕ) (y : MemoryBlock) (ys : List Byte) → AreByteRights rights → AreByteRights target → Embeds rights target homes m n → slice_get n B ≡ Some y → at + length ys ≤ y.size → ((c : ℕ) (z : MemoryBlock) → slice_get m c ≡ Some z → is_live z.life ≡ true → IsAway rights homes c z B at (length ys)) → Embeds rights target homes m (with_block n B (with_bytes at ys))
 private_writes_kept rights target homes m n B at y ys law law' em there within away = private_write rights target law law' homes m n B at y ys em there within away

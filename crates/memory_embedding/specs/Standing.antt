@@ -28,10 +28,10 @@ pub record AreByteRights (rights : Rights) : Type 0 where
   pub aligned : (b : ℕ) (x : MemoryBlock) (bytes : List Byte) (o align : ℕ) → rights.is_aligned b (record x { bytes = bytes }) o align ≡ rights.is_aligned b x o align
   pub comparable : (b : ℕ) (x : MemoryBlock) (bytes : List Byte) (o : ℕ) → rights.is_comparable b (record x { bytes = bytes }) o ≡ rights.is_comparable b x o
 
--- what an access may do with the source's block it may do with the target's, from the home's offset on
+-- what an access may do with the source's block it may do with the target's, from the home's offset on; alignments matter where there is a byte that may be touched
 pub record HasRights (rights target : Rights) (h : Home) (b : ℕ) (x y : MemoryBlock) : Type 0 where
   pub opens : (o len : ℕ) → o + len ≤ x.size → rights.is_closed b x o len ≡ false → target.is_closed h.block y (h.offset + o) len ≡ false
-  pub aligned : (o align : ℕ) → IsAlignment align → rights.is_aligned b x o align ≡ true → target.is_aligned h.block y (h.offset + o) align ≡ true
+  pub aligned : (o len align : ℕ) → 0 < len → o + len ≤ x.size → rights.is_closed b x o len ≡ false → IsAlignment align → rights.is_aligned b x o align ≡ true → target.is_aligned h.block y (h.offset + o) align ≡ true
   pub comparable : (o : ℕ) → o ≤ x.size → rights.is_comparable b x o ≡ true → target.is_comparable h.block y (h.offset + o) ≡ true
 
 -- the live block b of the source stands at its home
@@ -82,9 +82,9 @@ pub record AreBoundsKept (homes : List Home) (m n : List MemoryBlock) : Type 0 w
 abbrev pub blank_block : ℕ → ℕ → Kind → MemoryBlock
 blank_block size align kind = record { size = size; align = align; kind = kind; life = Life.Live; owned = None; bytes = replicate size Byte.Undefined }
 
--- what may be done with a fresh block of the source may be done with one of the target
-pub record HasFreshRights (rights target : Rights) : Type 0 where
-  pub each : (b c size align : ℕ) (kind : Kind) → HasRights rights target (record { block = c; offset = 0; is_seen = true }) b (blank_block size align kind) (blank_block size align kind)
+-- what may be done with the source's next block, of number b, may be done with the target's, of number c
+pub record HasFreshRights (rights target : Rights) (b c : ℕ) : Type 0 where
+  pub each : (size align : ℕ) (kind : Kind) → HasRights rights target (record { block = c; offset = 0; is_seen = true }) b (blank_block size align kind) (blank_block size align kind)
 
 -- ---- each block at its own place
 

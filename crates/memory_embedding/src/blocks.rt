@@ -33,9 +33,9 @@ pub fn memory_stands_in_itself()
     ensures stands { (m : List Block) → AreWhole m → ((b : ℕ) (x : Block) → slice_get m b ≡ Some x → x.size < 2 ^ 64) → ((b i : ℕ) (x : Block) → slice_get m b ≡ Some x → AreOffsets (length m) (byte_of x i)) → Embeds owner_rights owner_rights (own_homes 0 (length m)) m m }
 {}
 
-/// Both may make a fresh block.
+/// Both may make a fresh block, whose rights are asked for at the numbers that it gets.
 pub fn fresh_is_kept()
-    ensures { (rights target : Rights) → HasFreshRights rights target → (homes : List Home) (m n : List Block) (size align : ℕ) (kind : TheKind) → length homes ≡ length m → size < 2 ^ 64 → Embeds rights target homes m n → Embeds rights target (homes ++ record { block = length n; offset = 0; is_seen = true } ∷ []) (fresh m size align kind) (fresh n size align kind) }
+    ensures { (rights target : Rights) (homes : List Home) (m n : List Block) → HasFreshRights rights target (length m) (length n) → (size align : ℕ) (kind : TheKind) → length homes ≡ length m → size < 2 ^ 64 → Embeds rights target homes m n → Embeds rights target (homes ++ record { block = length n; offset = 0; is_seen = true } ∷ []) (fresh m size align kind) (fresh n size align kind) }
 {}
 
 /// Both may change a block that stands alone in its home, where it stands afterwards too: it lives again, ends, is killed,

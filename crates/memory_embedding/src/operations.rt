@@ -1,7 +1,7 @@
 //! The operations on memory, made on a source and on the target in which it stands.
 
-ghost use Rattle.std.specs.Prelude.{ℕ, Bool, true, List, Ok, Some, length, slice_get, ◌≡◌, ◌+◌, ◌≤◌};
-ghost use Rattle.block_memory.specs.Memory.{Rights, compare, copy, is_live, load, store, with_block, with_bytes};
+ghost use Rattle.std.specs.Prelude.{ℕ, Bool, true, List, Ok, Some, length, slice_get, ◌≡◌, ◌+◌, ◌≤◌, ◌<◌};
+ghost use Rattle.block_memory.specs.Memory.{Rights, access_bytes, compare, copy, is_live, load, store, with_block, with_bytes};
 ghost use Rattle.block_memory.specs.declared.block.Byte.{Byte as TheByte};
 ghost use Rattle.block_memory.specs.declared.block.MemoryBlock.{MemoryBlock as Block};
 ghost use Rattle.block_memory.specs.declared.pointer.Access.{Access as TheAccess};
@@ -10,14 +10,14 @@ ghost use Rattle.memory_embedding.specs.Kept.{IsCopied, IsLoaded, IsStored};
 ghost use Rattle.memory_embedding.specs.Pointers.{Home, IsValue};
 ghost use Rattle.memory_embedding.specs.Standing.{AreByteRights, AreNullsKept, Embeds, IsAlignment, IsAway};
 
-/// A load that isn't refused in the source isn't refused in the target, and gives what stands for the value.
+/// A load of at least one byte that isn't refused in the source isn't refused in the target, and gives what stands for the value.
 pub fn load_is_kept()
-    ensures { (rights target : Rights) (homes : List Home) (m n : List Block) (p q : TheValue) (what : TheAccess) (align : ℕ) (v : TheValue) → AreByteRights rights → Embeds rights target homes m n → IsAlignment align → IsValue homes p q → load rights m p what align ≡ Ok v → IsLoaded target homes n q what align v }
+    ensures { (rights target : Rights) (homes : List Home) (m n : List Block) (p q : TheValue) (what : TheAccess) (align : ℕ) (v : TheValue) → AreByteRights rights → Embeds rights target homes m n → 0 < access_bytes what → IsAlignment align → IsValue homes p q → load rights m p what align ≡ Ok v → IsLoaded target homes n q what align v }
 {}
 
-/// A store that isn't refused in the source isn't refused in the target, and the source stands there afterwards.
+/// A store of at least one byte that isn't refused in the source isn't refused in the target, and the source stands there afterwards.
 pub fn store_is_kept()
-    ensures { (rights target : Rights) (homes : List Home) (m n after : List Block) (p q v w : TheValue) (what : TheAccess) (align : ℕ) → AreByteRights rights → AreByteRights target → Embeds rights target homes m n → IsAlignment align → IsValue homes p q → IsValue homes v w → store rights m p v what align ≡ Ok after → IsStored rights target homes after n q w what align }
+    ensures { (rights target : Rights) (homes : List Home) (m n after : List Block) (p q v w : TheValue) (what : TheAccess) (align : ℕ) → AreByteRights rights → AreByteRights target → Embeds rights target homes m n → 0 < access_bytes what → IsAlignment align → IsValue homes p q → IsValue homes v w → store rights m p v what align ≡ Ok after → IsStored rights target homes after n q w what align }
 {}
 
 /// A copy that isn't refused in the source isn't refused in the target, and the source stands there afterwards.

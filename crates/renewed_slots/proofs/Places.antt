@@ -42,7 +42,7 @@ dead_compares k y o e = ap (λ (t : Bool). not t || owner_rights.is_comparable k
 pub unowned_allows : (k b : ℕ) (x y : MemoryBlock) → y.owned ≡ None → y.align ≡ x.align → HasRights owner_rights owner_rights (whole_home k) b x y
 unowned_allows k b x y owner align = record {
   opens = λ o len le e. ap (is_below (0 + o)) owner;
-  aligned = λ o d is e. (λ i. ((from_start o i) % d == 0) && nat_le d (align i)) ∙ e;
+  aligned = λ o len d pos within free is e. (λ i. ((from_start o i) % d == 0) && nat_le d (align i)) ∙ e;
   comparable = λ o le e. ap (λ (w : Option ℕ). (0 + o == 0) || not (is_below (0 + o) w)) owner ∙ or_true (0 + o == 0);
 }
 
@@ -294,7 +294,7 @@ forgotten homes more m n b long others here shown st = record {
     rights : (d : ℕ) (x y : MemoryBlock) → HasRights owner_rights owner_rights (home_of homes d) d x y → HasRights owner_rights owner_rights (home_of more d) d x y
     rights d x y h = record {
       opens = subst (λ (p : ℕ × ℕ). (o len : ℕ) → o + len ≤ x.size → owner_rights.is_closed d x o len ≡ false → owner_rights.is_closed p.0 y (p.1 + o) len ≡ false) (sym (place d)) h.opens;
-      aligned = subst (λ (p : ℕ × ℕ). (o align : ℕ) → IsAlignment align → owner_rights.is_aligned d x o align ≡ true → owner_rights.is_aligned p.0 y (p.1 + o) align ≡ true) (sym (place d)) h.aligned;
+      aligned = subst (λ (p : ℕ × ℕ). (o len align : ℕ) → 0 < len → o + len ≤ x.size → owner_rights.is_closed d x o len ≡ false → IsAlignment align → owner_rights.is_aligned d x o align ≡ true → owner_rights.is_aligned p.0 y (p.1 + o) align ≡ true) (sym (place d)) h.aligned;
       comparable = subst (λ (p : ℕ × ℕ). (o : ℕ) → o ≤ x.size → owner_rights.is_comparable d x o ≡ true → owner_rights.is_comparable p.0 y (p.1 + o) ≡ true) (sym (place d)) h.comparable;
     }
 

@@ -41,7 +41,7 @@ module _ (homes more : List Home) (m n : List MemoryBlock) (b c : ℕ) (y : Memo
   rights : (d : ℕ) (x z : MemoryBlock) → HasRights owner_rights owner_rights (home_of homes d) d x z → HasRights owner_rights owner_rights (home_of more d) d x z
   rights d x z h = record {
     opens = subst (λ (p : ℕ × ℕ). (o len : ℕ) → o + len ≤ x.size → owner_rights.is_closed d x o len ≡ false → owner_rights.is_closed p.0 z (p.1 + o) len ≡ false) (sym (place d)) h.opens;
-    aligned = subst (λ (p : ℕ × ℕ). (o align : ℕ) → IsAlignment align → owner_rights.is_aligned d x o align ≡ true → owner_rights.is_aligned p.0 z (p.1 + o) align ≡ true) (sym (place d)) h.aligned;
+    aligned = subst (λ (p : ℕ × ℕ). (o len align : ℕ) → 0 < len → o + len ≤ x.size → owner_rights.is_closed d x o len ≡ false → IsAlignment align → owner_rights.is_aligned d x o align ≡ true → owner_rights.is_aligned p.0 z (p.1 + o) align ≡ true) (sym (place d)) h.aligned;
     comparable = subst (λ (p : ℕ × ℕ). (o : ℕ) → o ≤ x.size → owner_rights.is_comparable d x o ≡ true → owner_rights.is_comparable p.0 z (p.1 + o) ≡ true) (sym (place d)) h.comparable;
   }
 
@@ -251,6 +251,7 @@ module _ (homes : List Home) (hides quiet : ℕ → Bool) (ps : List Place) (c :
     globals = λ k. value_on homes (stood homes ps) extends _ _ (u.globals k);
     distance = u.distance;
     no_slot = u.no_slot;
+    bytes = u.bytes;
   }
 
   pub used_step : c.rights ≡ owner_rights → GoesOver (stood homes ps) (shown_of hides ps) (given_at here) w x (action_of c w here) (action_of c x here)

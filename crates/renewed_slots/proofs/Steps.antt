@@ -133,6 +133,7 @@ module _ (homes : List Home) (hides : ℕ → Bool) (c : Context) (w x : Work) (
       callee = declared (callee_at here);
       distance = distance_less here refl read.distance;
       no_slot = read.no_slot;
+      bytes = read.bytes;
     }
 
     goes : GoesAlike c.rights c.rights homes (λ d. d) (muted_action hides (action_of c less here)) (action_of c x here)

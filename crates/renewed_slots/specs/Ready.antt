@@ -18,7 +18,7 @@ use Rattle.renewed_slots.specs.Places.{IsBlank, showing, unseen}
 use Rattle.renewed_slots.specs.Shown.{AreShownBlocks}
 use Rattle.renewed_slots.specs.Steps.{AreOver}
 use Rattle.step_embedding.specs.Making.{whole_home}
-use Rattle.step_embedding.specs.Related.{HasDistance, HasNoSlot}
+use Rattle.step_embedding.specs.Related.{HasBytes, HasDistance, HasNoSlot}
 use Rattle.step_laws.specs.Changed.{Each}
 
 -- a block of the source, with the block of the target that is its own
@@ -99,3 +99,4 @@ pub record IsUsing (homes : List Home) (hides quiet : ℕ → Bool) (ps : List P
   pub globals : (n : Name) → IsValue homes (address_of c.code n) (address_of c.code n)
   pub distance : HasDistance c c w.values x.values here
   pub no_slot : HasNoSlot here
+  pub bytes : HasBytes here

@@ -9,7 +9,7 @@ use Rattle.ordinary_step.specs.Step.{Action, AtInstr, AtTerm, Context, Coro, Dea
 use Rattle.ordinary_step.specs.Values.{Env, address_of, value_in}
 use Rattle.ordinary_step.specs.declared.world.World.{World}
 use Rattle.renewed_slots.specs.Muted.{muted}
-use Rattle.step_embedding.specs.Related.{AreValues, AreWorlds, HasDistance, HasNoSlot}
+use Rattle.step_embedding.specs.Related.{AreValues, AreWorlds, HasBytes, HasDistance, HasNoSlot}
 
 -- the name whose value what stands at a place sets
 abbrev pub given_at : Fetched → Option ℕ
@@ -30,13 +30,14 @@ muted_world hides s = record s { memory = muted hides s.memory }
 abbrev pub AreOver : List Home → (ℕ → Bool) → World → World → Type 0
 AreOver homes hides s t = AreWorlds owner_rights owner_rights homes (λ d. d) (muted_world hides s) t
 
--- what the instruction reads stands for what it reads in the source, and so do globals and functions; a getelementptr has the same distance; and no block is made, marked or allocated
+-- what the instruction reads stands for what it reads in the source, and so do globals and functions; a getelementptr has the same distance; what is loaded or stored has a byte; and no block is made, marked or allocated
 pub record IsRead (homes : List Home) (c : Context) (env other : Env) (here : Fetched) : Type 0 where
   pub reads : (v : ℕ) → IsTrue (reads_at v here) → IsValue homes (value_in env v) (value_in other v)
   pub room : length env ≤ length other
   pub globals : (n : Name) → IsValue homes (address_of c.code n) (address_of c.code n)
   pub distance : HasDistance c c env other here
   pub no_slot : HasNoSlot here
+  pub bytes : HasBytes here
 
 -- the name that is set has what stands for what it has in the source, and no other name is set
 pub record AreSet (homes : List Home) (given : Option ℕ) (w x v y : Work) : Type 0 where

@@ -1,8 +1,8 @@
 -- An ordinary step of the source is made by the target in the same way.
-use Rattle.std.proofs.Common.{◌≡◌, ℕ, Bool, true, false, List, [], ◌∷◌, ◌++◌, Option, Some, None, Result, Ok, Err, refl, sym, ap, ◌∙◌, subst, if◌then◌else◌}
+use Rattle.std.proofs.Common.{◌≡◌, ℕ, ◌<◌, Bool, true, false, List, [], ◌∷◌, ◌++◌, Option, Some, None, Result, Ok, Err, refl, sym, ap, ◌∙◌, subst, if◌then◌else◌}
 use Rattle.std.proofs.lemmas.List.{map-append}
 use Rattle.std.specs.Prelude.{ℤ, map, slice_get, option_map}
-use Rattle.block_memory.specs.Memory.{compare, copy, load, store}
+use Rattle.block_memory.specs.Memory.{access_bytes, compare, copy, load, store}
 use Rattle.block_memory.specs.declared.block.MemoryBlock.{MemoryBlock}
 use Rattle.block_memory.specs.declared.pointer.Access.{Access}
 use Rattle.block_memory.specs.declared.pointer.Pointer.{Pointer}
@@ -122,22 +122,22 @@ module _ (homes : List Home) (moves : ℕ → ℕ) (c d : Context) (w x : Work) 
 
   -- ---- memory
 
-  load_alike : (name : ℕ) (p q : Value) (what : Access) (align : ℕ) → is_alignment align ≡ true → IsValue homes p q → Alike (done (set_value w name) (load c.rights w.world.memory p what align)) (done (set_value x name) (load d.rights x.world.memory q what align))
-  load_alike name p q what align ok h = on (load c.rights w.world.memory p what align) refl
+  load_alike : (name : ℕ) (p q : Value) (what : Access) (align : ℕ) → 0 < access_bytes what → is_alignment align ≡ true → IsValue homes p q → Alike (done (set_value w name) (load c.rights w.world.memory p what align)) (done (set_value x name) (load d.rights x.world.memory q what align))
+  load_alike name p q what align pos ok h = on (load c.rights w.world.memory p what align) refl
     where
       on : (r : Result Value Cause) → load c.rights w.world.memory p what align ≡ r → Alike (done (set_value w name) r) (done (set_value x name) (load d.rights x.world.memory q what align))
       on (Err cause) e = tt
       on (Ok v) e =
-          let k = loads_kept c.rights d.rights homes w.world.memory x.world.memory p q what align v law works.world.memory (alignment_is align ok) h e in
+          let k = loads_kept c.rights d.rights homes w.world.memory x.world.memory p q what align v law works.world.memory pos (alignment_is align ok) h e in
           (set_value x name k.value, ap (done (set_value x name)) k.loads, set_works name v k.value k.stands)
 
-  store_alike : (p q v u : Value) (what : Access) (align : ℕ) → is_alignment align ≡ true → IsValue homes p q → IsValue homes v u → Alike (done (set_memory w) (store c.rights w.world.memory p v what align)) (done (set_memory x) (store d.rights x.world.memory q u what align))
-  store_alike p q v u what align ok hp hv = on (store c.rights w.world.memory p v what align) refl
+  store_alike : (p q v u : Value) (what : Access) (align : ℕ) → 0 < access_bytes what → is_alignment align ≡ true → IsValue homes p q → IsValue homes v u → Alike (done (set_memory w) (store c.rights w.world.memory p v what align)) (done (set_memory x) (store d.rights x.world.memory q u what align))
+  store_alike p q v u what align pos ok hp hv = on (store c.rights w.world.memory p v what align) refl
     where
       on : (r : Result (List MemoryBlock) Cause) → store c.rights w.world.memory p v what align ≡ r → Alike (done (set_memory w) r) (done (set_memory x) (store d.rights x.world.memory q u what align))
       on (Err cause) e = tt
       on (Ok m) e =
-          let k = stores_kept c.rights d.rights homes w.world.memory x.world.memory m p q v u what align law law' works.world.memory (alignment_is align ok) hp hv e in
+          let k = stores_kept c.rights d.rights homes w.world.memory x.world.memory m p q v u what align law law' works.world.memory pos (alignment_is align ok) hp hv e in
           (set_memory x k.memory, ap (done (set_memory x)) k.stores, memory_works m k.memory k.stands (store_refills c.rights w.world.memory m p v what align e) (store_refills d.rights x.world.memory k.memory q u what align k.stores))
 
   copy_alike : (to from to' from' : Value) (len : ℕ) → IsValue homes to to' → IsValue homes from from' → Alike (done (set_memory w) (copy c.rights w.world.memory to from len)) (done (set_memory x) (copy d.rights x.world.memory to' from' len))
@@ -252,9 +252,9 @@ module _ (homes : List Home) (moves : ℕ → ℕ) (c d : Context) (w x : Work) 
       (set_value x name _, refl, set_works name _ _ (cast_to_kept homes op nneg _ _ to (number_kept homes arg.ty _ _ (k.operands.0.here arg.ty))))
   instr_alike (Instr.Alloca name ty align) k = absurd k.no_slot
   instr_alike (Instr.Load name ty p align) k =
-      if_alike align _ _ (λ ok. load_alike name _ _ (access_of ty) align ok (address_kept homes _ _ (k.operands.0.here ptr)))
+      if_alike align _ _ (λ ok. load_alike name _ _ (access_of ty) align k.bytes ok (address_kept homes _ _ (k.operands.0.here ptr)))
   instr_alike (Instr.Store arg p align) k =
-      if_alike align _ _ (λ ok. store_alike _ _ _ _ (access_of arg.ty) align ok (address_kept homes _ _ (k.operands.1.0.here ptr)) (stored_kept homes (access_of arg.ty) _ _ (k.operands.0.here arg.ty)))
+      if_alike align _ _ (λ ok. store_alike _ _ _ _ (access_of arg.ty) align k.bytes ok (address_kept homes _ _ (k.operands.1.0.here ptr)) (stored_kept homes (access_of arg.ty) _ _ (k.operands.0.here arg.ty)))
   instr_alike (Instr.Gep name inbounds ty base indices) k =
       (set_value x name _, refl, gep_alike name inbounds _ _ (distance c.code ty (indices_of c.code w.values indices)) (distance d.code ty (indices_of d.code x.values indices)) (k.operands.0.here ptr) k.distance)
   instr_alike (Instr.Call result must_tail ty callee args) k = call_alike result must_tail ty callee args k

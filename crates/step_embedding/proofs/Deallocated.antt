@@ -13,9 +13,9 @@ use Rattle.coro_base.specs.declared.cause.Cause.{Cause}
 use Rattle.memory_embedding.specs.Pointers.{Home, IsValue, home_of}
 use Rattle.memory_embedding.specs.Standing.{AreByteRights}
 use Rattle.ordinary_step.specs.Step.{Work, deallocated, set_memory}
-use Rattle.step_embedding.proofs.Mirrors.{bounds_changed, dead_compares, dies_embedded, nulls_changed}
+use Rattle.step_embedding.proofs.Mirrors.{bounds_changed, dies_embedded, nulls_dead}
 use Rattle.step_embedding.specs.Deaths.{DiesToo, IsDeallocated, MayDie}
-use Rattle.step_embedding.specs.Marks.{IsAlone}
+use Rattle.step_embedding.specs.Marks.{LivesAlone}
 use Rattle.step_embedding.specs.Related.{AreWorks}
 
 -- both hold
@@ -44,12 +44,12 @@ module _ (rights target : Rights) (homes : List Home) (moves : ℕ → ℕ) (w x
   abbrev killed_at : (start owned : Bool) → List MemoryBlock → ℕ → Result (List MemoryBlock) Cause
   killed_at start owned k b = if not start then Err Cause.Free else if owned then Err Cause.Owned else Ok (killed k b)
 
-  -- a block that stands alone is killed, and its home is
-  pub kills_carried : (b : ℕ) → IsAlone homes m b → AreWorks rights target homes moves (set_memory w (killed m b)) (set_memory x (killed n (home_of homes b).block))
+  -- a block that lives alone in its home is killed, and its home is
+  pub kills_carried : (b : ℕ) → LivesAlone homes m b → AreWorks rights target homes moves (set_memory w (killed m b)) (set_memory x (killed n (home_of homes b).block))
   kills_carried b alone = record {
     world = record {
       memory = dies_embedded rights target law law' homes m n b works.world.memory alone killed_block killed_block (λ y. refl);
-      nulls = nulls_changed rights target homes m n b killed_block killed_block alone (λ o e. dead_compares target killed_block (λ y. refl) (home_of homes b).block n (home_of homes b).block (moved o (home_of homes b).offset)) works.world.nulls;
+      nulls = nulls_dead rights target homes m n b killed_block killed_block (λ y. refl) works.world.nulls;
       bounds = bounds_changed homes m n b (home_of homes b).block killed_block killed_block (λ y. refl) (λ y. refl) works.world.bounds;
       events = works.world.events;
       answers = works.world.answers;

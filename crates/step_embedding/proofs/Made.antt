@@ -20,7 +20,7 @@ use Rattle.ordinary_step.specs.Step.{Action, AtInstr, AtTerm, Context, Done, Fet
 use Rattle.ordinary_step.specs.Values.{Env, arg_values, nth, pointer_to}
 use Rattle.step_embedding.proofs.NewBlocks.{IsMade, fresh_made, own, slot_made}
 use Rattle.step_embedding.proofs.Values.{env_result, env_set, nth_kept}
-use Rattle.step_embedding.specs.Making.{AreNewRights, GoesAnew, IsSmall, MakesBlock, whole_home}
+use Rattle.step_embedding.specs.Making.{GoesAnew, HaveNewRights, IsSmall, MakesBlock, whole_home}
 use Rattle.step_embedding.specs.Related.{AreAlike, AreEnvs, AreValues, AreWorks, IsOperand}
 use Rattle.step_laws.specs.Changed.{Each, operands_at, values_of}
 
@@ -74,7 +74,7 @@ module _ (homes : List Home) (moves : ℕ → ℕ) (c d : Context) (w x : Work) 
       on true = h
       on false = tt
 
-  slot_anew : (name size align : ℕ) → size < 2 ^ 64 → has_markers d.function name ≡ has_markers c.function name → AreNewRights c.rights d.rights (alloca_kind c.function) (alloca_kind d.function) → Anew (alloca c w name size align) (alloca d x name size align)
+  slot_anew : (name size align : ℕ) → size < 2 ^ 64 → has_markers d.function name ≡ has_markers c.function name → HaveNewRights c d w x (alloca_kind c.function) (alloca_kind d.function) → Anew (alloca c w name size align) (alloca d x name size align)
   slot_anew name size align small same new = (
     _,
     refl,
@@ -101,7 +101,7 @@ module _ (homes : List Home) (moves : ℕ → ℕ) (c d : Context) (w x : Work) 
   length_anew Value.Poison u f g h small k = tt
   length_anew (Value.Ptr p) u f g h small k = tt
 
-  allocated_anew : AreNewRights c.rights d.rights Kind.Allocator Kind.Allocator → (result : Option ℕ) (size : ℕ) → size < 2 ^ 64 → Anew (Done (allocated w result size)) (Done (allocated x result size))
+  allocated_anew : HaveNewRights c d w x Kind.Allocator Kind.Allocator → (result : Option ℕ) (size : ℕ) → size < 2 ^ 64 → Anew (Done (allocated w result size)) (Done (allocated x result size))
   allocated_anew new result size small = (
     allocated x result size,
     refl,
@@ -118,13 +118,13 @@ module _ (homes : List Home) (moves : ℕ → ℕ) (c d : Context) (w x : Work) 
       made : IsMade c.rights d.rights homes w.world.memory (length x.world.memory) (fresh w.world.memory size 16 Kind.Allocator) (fresh x.world.memory size 16 Kind.Allocator)
       made = fresh_made c.rights d.rights homes w.world.memory x.world.memory known works.world.memory works.world.nulls works.world.bounds size 16 Kind.Allocator Kind.Allocator small new (λ e. e)
 
-  allocation_anew : (result : Option ℕ) (args : List Arg) → Each (IsOperand homes c d w.values x.values) (values_of args) → IsSmall (nth (arg_values c.code w.values args) 0) → AreNewRights c.rights d.rights Kind.Allocator Kind.Allocator → Anew (with_length (nth (arg_values c.code w.values args) 0) (λ n. Done (allocated w result n))) (with_length (nth (arg_values d.code x.values args) 0) (λ n. Done (allocated x result n)))
+  allocation_anew : (result : Option ℕ) (args : List Arg) → Each (IsOperand homes c d w.values x.values) (values_of args) → IsSmall (nth (arg_values c.code w.values args) 0) → HaveNewRights c d w x Kind.Allocator Kind.Allocator → Anew (with_length (nth (arg_values c.code w.values args) 0) (λ n. Done (allocated w result n))) (with_length (nth (arg_values d.code x.values args) 0) (λ n. Done (allocated x result n)))
   allocation_anew result args h small new =
       length_anew (nth (arg_values c.code w.values args) 0) (nth (arg_values d.code x.values args) 0) _ _ (nth_kept homes (arg_values c.code w.values args) (arg_values d.code x.values args) 0 (values_stand homes c d w x args h)) small (allocated_anew new result)
 
   -- ---- instructions
 
-  call_anew : (result : Option ℕ) (must_tail : Bool) (ty : Option Ty) (callee : Callee) (args : List Arg) → Each (IsOperand homes c d w.values x.values) (operands_at (AtInstr (Instr.Call result must_tail ty callee args))) → MakesBlock c d w.values (AtInstr (Instr.Call result must_tail ty callee args)) → Anew (instr_action c w (Instr.Call result must_tail ty callee args)) (instr_action d x (Instr.Call result must_tail ty callee args))
+  call_anew : (result : Option ℕ) (must_tail : Bool) (ty : Option Ty) (callee : Callee) (args : List Arg) → Each (IsOperand homes c d w.values x.values) (operands_at (AtInstr (Instr.Call result must_tail ty callee args))) → MakesBlock c d w x (AtInstr (Instr.Call result must_tail ty callee args)) → Anew (instr_action c w (Instr.Call result must_tail ty callee args)) (instr_action d x (Instr.Call result must_tail ty callee args))
   call_anew result must_tail ty (Callee.Named n) args h k = absurd k
   call_anew result must_tail ty (Callee.Local n) args h k = absurd k
   call_anew result must_tail ty (Callee.Intrinsic i) args h k = absurd k
@@ -134,17 +134,17 @@ module _ (homes : List Home) (moves : ℕ → ℕ) (c d : Context) (w x : Work) 
   call_anew result must_tail ty (Callee.Allocator Allocator.ZdlPv) args h k = absurd k
   call_anew result must_tail ty (Callee.Allocator Allocator.ZdlPvm) args h k = absurd k
 
-  instr_anew : (i : Instr) → Each (IsOperand homes c d w.values x.values) (operands_at (AtInstr i)) → MakesBlock c d w.values (AtInstr i) → Anew (instr_action c w i) (instr_action d x i)
+  instr_anew : (i : Instr) → Each (IsOperand homes c d w.values x.values) (operands_at (AtInstr i)) → MakesBlock c d w x (AtInstr i) → Anew (instr_action c w i) (instr_action d x i)
   instr_anew (Instr.Alloca name ty align) h k =
       if_anew align _ _
       (subst (λ (size : ℕ). Anew (alloca c w name (size_of c.code ty) align) (alloca d x name size align)) (sym (size_alike ty)) (slot_anew name (size_of c.code ty) align k.0 k.1 k.2))
   instr_anew (Instr.Call result must_tail ty callee args) h k = call_anew result must_tail ty callee args h k
   instr_anew _ h k = absurd k
 
-  here_anew : (here : Fetched) → Each (IsOperand homes c d w.values x.values) (operands_at here) → MakesBlock c d w.values here → Anew (action_of c w here) (action_of d x here)
+  here_anew : (here : Fetched) → Each (IsOperand homes c d w.values x.values) (operands_at here) → MakesBlock c d w x here → Anew (action_of c w here) (action_of d x here)
   here_anew Nowhere h k = tt
   here_anew (AtInstr i) h k = instr_anew i h k
   here_anew (AtTerm t) h k = absurd k
 
-pub made_carried : (homes : List Home) (moves : ℕ → ℕ) (c d : Context) (w x : Work) (here : Fetched) → AreAlike c d → AreWorks c.rights d.rights homes moves w x → length homes ≡ length w.world.memory → Each (IsOperand homes c d w.values x.values) (operands_at here) → MakesBlock c d w.values here → GoesAnew c.rights d.rights homes moves w.world.memory (length x.world.memory) (action_of c w here) (action_of d x here)
+pub made_carried : (homes : List Home) (moves : ℕ → ℕ) (c d : Context) (w x : Work) (here : Fetched) → AreAlike c d → AreWorks c.rights d.rights homes moves w x → length homes ≡ length w.world.memory → Each (IsOperand homes c d w.values x.values) (operands_at here) → MakesBlock c d w x here → GoesAnew c.rights d.rights homes moves w.world.memory (length x.world.memory) (action_of c w here) (action_of d x here)
 made_carried homes moves c d w x here alike works known h k = here_anew homes moves c d w x alike works known here h k

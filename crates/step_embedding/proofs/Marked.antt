@@ -14,7 +14,7 @@ use Rattle.memory_embedding.specs.Standing.{AreBoundsKept, AreByteRights, AreNul
 use Rattle.ordinary_step.specs.Step.{Action, AtInstr, AtTerm, Context, Done, Fetched, Nowhere, Work, action_of, block_of, instr_action, on_block, set_memory}
 use Rattle.ordinary_step.specs.Values.{arg_values, nth}
 use Rattle.step_embedding.proofs.Made.{values_stand}
-use Rattle.step_embedding.proofs.Mirrors.{bounds_changed, dead_compares, dies_embedded, ended_dead, ended_size, nulls_changed, started_size, starts_embedded}
+use Rattle.step_embedding.proofs.Mirrors.{bounds_changed, dies_embedded, ended_dead, ended_size, nulls_changed, nulls_dead, started_size, starts_embedded}
 use Rattle.step_embedding.proofs.Values.{nth_kept}
 use Rattle.step_embedding.specs.Marks.{IsEnd, IsStart, MarksBlock}
 use Rattle.step_embedding.specs.Related.{AreWorks, GoesAlike, IsOperand}
@@ -49,7 +49,7 @@ module _ (homes : List Home) (moves : ℕ → ℕ) (c d : Context) (w x : Work) 
     refl,
     subst (λ (z : Value). AreWorks c.rights d.rights homes moves (set_memory w (end m b)) (set_memory x (on_block end n (block_of z)))) (sym h.1)
         (works_of (end m b) (end n (home b)) (dies_embedded c.rights d.rights law law' homes m n b works.world.memory k ended ended ended_dead)
-        (nulls_changed c.rights d.rights homes m n b ended ended k (λ p e. dead_compares d.rights ended ended_dead (home b) n (home b) _) works.world.nulls)
+        (nulls_dead c.rights d.rights homes m n b ended ended ended_dead works.world.nulls)
         (bounds_changed homes m n b (home b) ended ended ended_size ended_size works.world.bounds)),
   )
   end_alike (Value.Ptr Pointer.Null) u h k = unmarked end u (ap block_of h.1)
@@ -62,7 +62,7 @@ module _ (homes : List Home) (moves : ℕ → ℕ) (c d : Context) (w x : Work) 
     set_memory x (on_block start n (block_of u)),
     refl,
     subst (λ (z : Value). AreWorks c.rights d.rights homes moves (set_memory w (start m b)) (set_memory x (on_block start n (block_of z)))) (sym h.1)
-        (works_of (start m b) (start n (home b)) (starts_embedded c.rights d.rights law law' homes m n b works.world.memory k.0 works.world.bounds h.0 k.1)
+        (works_of (start m b) (start n (home b)) (starts_embedded c.rights d.rights law law' homes m n b works.world.memory k.0.live works.world.bounds h.0 k.1)
         (nulls_changed c.rights d.rights homes m n b started started k.0 k.1.nulls works.world.nulls)
         (bounds_changed homes m n b (home b) started started started_size started_size works.world.bounds)),
   )

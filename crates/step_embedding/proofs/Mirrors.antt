@@ -15,7 +15,7 @@ use Rattle.memory_embedding.proofs.Mirrored.{mirrored}
 use Rattle.memory_embedding.proofs.Written.{changed_elsewhere, changed_here, same_some}
 use Rattle.memory_embedding.specs.Pointers.{Home, home_of}
 use Rattle.memory_embedding.specs.Standing.{AreBoundsKept, AreByteRights, AreNullsKept, Embeds, Stands}
-use Rattle.step_embedding.specs.Marks.{IsAlone, MayStart, anew}
+use Rattle.step_embedding.specs.Marks.{IsAlone, LivesAlone, MayStart, anew}
 
 -- ---- the block before and after
 
@@ -109,6 +109,28 @@ dead_compares target f dead k [] b o = refl
 dead_compares target f dead k (y ∷ n) zero o = ap (λ (t : Bool). not t || target.is_comparable k (f y) o.bits) (dead y)
 dead_compares target f dead k (y ∷ n) (suc b) o = dead_compares target f dead k n b o
 
+-- a block that lives alone in its home does so after another one's death
+pub lives_on : (homes : List Home) (m : List MemoryBlock) (b k : ℕ) (f : MemoryBlock → MemoryBlock) → Ends f → LivesAlone homes m b → LivesAlone homes (with_block m k f) b
+lives_on homes m b k f dead alone = λ c z ne e live. ⊎_elim
+    (λ is.
+    let h = before m k f z (ap (slice_get (with_block m k f)) (sym is) ∙ e) in
+    absurd (false≢true (sym (dead h.block) ∙ ap (λ (y : MemoryBlock). is_live y.life) h.is ∙ live)))
+    (λ other. alone c z ne (sym (changed_elsewhere m k c f other) ∙ e) live)
+    (cases_eq c k)
+
+-- comparisons with null stay where a block and its home die, whatever else stands in the home
+pub nulls_dead : (rights target : Rights) (homes : List Home) (m n : List MemoryBlock) (b : ℕ) (f g : MemoryBlock → MemoryBlock) → Ends g → AreNullsKept rights target homes m n → AreNullsKept rights target homes (with_block m b f) (with_block n (home_of homes b).block g)
+nulls_dead rights target homes m n b f g dead nulls = record {
+  each = λ c o seen e. ⊎_elim
+      (λ is.
+      ap (λ i. may_compare_at target (home_of homes c).block (slice_get (with_block n (home_of homes b).block g) i) (moved o (home_of homes c).offset)) is
+      ∙ dead_compares target g dead (home_of homes c).block n (home_of homes b).block (moved o (home_of homes c).offset))
+      (λ ne.
+      ap (λ z. may_compare_at target (home_of homes c).block z (moved o (home_of homes c).offset)) (changed_elsewhere n (home_of homes b).block (home_of homes c).block g ne)
+      ∙ nulls.each c o seen (ap (λ z. may_compare_at rights c z o) (sym (changed_elsewhere m b c f (λ i. ne (ap (λ k. (home_of homes k).block) i)))) ∙ e))
+      (cases_eq (home_of homes c).block (home_of homes b).block);
+}
+
 -- ---- blocks that live again
 
 pub started_size : KeepsSize started
@@ -129,10 +151,10 @@ started_unkilled x live = on (is_killed x.life) refl live
     on true e l = absurd (false≢true (sym (killed_dead x.life e) ∙ l))
     on false e l = refl
 
-module _ (rights target : Rights) (law : AreByteRights rights) (law' : AreByteRights target) (homes : List Home) (m n : List MemoryBlock) (b : ℕ) (em : Embeds rights target homes m n) (alone : IsAlone homes m b) where
+module _ (rights target : Rights) (law : AreByteRights rights) (law' : AreByteRights target) (homes : List Home) (m n : List MemoryBlock) (b : ℕ) (em : Embeds rights target homes m n) (alone : LivesAlone homes m b) where
   pub dies_embedded : (f g : MemoryBlock → MemoryBlock) → Ends f → Embeds rights target homes (with_block m b f) (with_block n (home_of homes b).block g)
   dies_embedded f g dead =
-      mirrored rights target law law' homes m n b f g em alone.live
+      mirrored rights target law law' homes m n b f g em alone
       (λ x is live.
       let h = before m b f x is in
       absurd (false≢true (sym (dead h.block) ∙ ap (λ (y : MemoryBlock). is_live y.life) h.is ∙ live)))
@@ -155,7 +177,7 @@ module _ (rights target : Rights) (law : AreByteRights rights) (law' : AreByteRi
         }
 
     pub starts_embedded : Embeds rights target homes (with_block m b started) (with_block n (home_of homes b).block started)
-    starts_embedded = mirrored rights target law law' homes m n b started started em alone.live
+    starts_embedded = mirrored rights target law law' homes m n b started started em alone
         (λ x is live.
         let h = before m b started x is in
         let un = started_unkilled h.block (ap (λ (y : MemoryBlock). is_live y.life) h.is ∙ live) in

@@ -16,7 +16,7 @@ use Rattle.memory_embedding.proofs.Written.{same_some}
 use Rattle.memory_embedding.specs.Pointers.{Home, home_of, nowhere}
 use Rattle.memory_embedding.specs.Standing.{AreBoundsKept, AreNullsKept, Embeds, HasBounds, Stands, blank_block}
 use Rattle.step_embedding.specs.Making.{AreNewRights, IsNewHome, whole_home}
-use Rattle.step_embedding.specs.Marks.{IsAlone, IsTwin}
+use Rattle.step_embedding.specs.Marks.{IsAlone, IsTwin, LivesAlone}
 
 last_get : (m : List MemoryBlock) (x : MemoryBlock) → slice_get (m ++ x ∷ []) (length m) ≡ Some x
 last_get [] x = refl
@@ -150,28 +150,33 @@ module _ (rights target : Rights) (homes : List Home) (m n : List MemoryBlock) (
         home_there bounds c (ap (λ (h : Home). h.is_seen) (sym (other c nm)) ∙ seen) (home_same c nm ∙ e ∙ own_first);
   }
 
-  pub alone_others : AreBoundsKept homes m n → (b : ℕ) → (home_of homes b).is_seen ≡ true → IsAlone homes m b → IsAlone more (m ++ x ∷ []) b
-  alone_others bounds b seen alone = record {
-    live = λ c z ne at live e. ⊎_elim
-        (λ is. far c is e)
-        (λ nc. alone.live c z ne (sym (other_get m x c nc) ∙ at) live (home_same c nc ∙ e ∙ sym (home_same b nb)))
-        (cases_eq c (length m));
-    seen = λ c ne there e. ⊎_elim
-        (λ is. far c is e)
-        (λ nc. alone.seen c ne (ap (λ (h : Home). h.is_seen) (sym (other c nc)) ∙ there) (home_same c nc ∙ e ∙ sym (home_same b nb)))
-        (cases_eq c (length m));
-  }
-    where
-      nb : b ≢ length m
-      nb is = let l = seen_within homes b seen in absurd (omega (arith, len, is))
+  module _ (bounds : AreBoundsKept homes m n) (b : ℕ) (seen : (home_of homes b).is_seen ≡ true) where
+    not_last : b ≢ length m
+    not_last is = let l = seen_within homes b seen in absurd (omega (arith, len, is))
 
-      far : (c : ℕ) → c ≡ length m → (home_of more c).block ≡ (home_of more b).block → ⊥
-      far c is e = home_there bounds b seen (home_same b nb ∙ sym e ∙ ap (λ (h : Home). h.block) (ap (home_of more) is ∙ own))
+    far : (c : ℕ) → c ≡ length m → (home_of more c).block ≡ (home_of more b).block → ⊥
+    far c is e = home_there bounds b seen (home_same b not_last ∙ sym e ∙ ap (λ (h : Home). h.block) (ap (home_of more) is ∙ own))
+
+    pub lives_others : LivesAlone homes m b → LivesAlone more (m ++ x ∷ []) b
+    lives_others alone = λ c z ne at live e. ⊎_elim
+        (λ is. far c is e)
+        (λ nc. alone c z ne (sym (other_get m x c nc) ∙ at) live (home_same c nc ∙ e ∙ sym (home_same b not_last)))
+        (cases_eq c (length m))
+
+    pub alone_others : IsAlone homes m b → IsAlone more (m ++ x ∷ []) b
+    alone_others alone = record {
+      live = lives_others alone.live;
+      seen = λ c ne there e. ⊎_elim
+          (λ is. far c is e)
+          (λ nc. alone.seen c ne (ap (λ (h : Home). h.is_seen) (sym (other c nc)) ∙ there) (home_same c nc ∙ e ∙ sym (home_same b not_last)))
+          (cases_eq c (length m));
+    }
 
   pub new_home : Embeds rights target homes m n → AreBoundsKept homes m n → IsTwin after q x → IsNewHome homes (length n) m (m ++ x ∷ []) after
   new_home em bounds twin = record {
     alone = alone_new em bounds;
     others = alone_others bounds;
+    lives = lives_others bounds;
     twin = λ z at.
         let same : x ≡ z = same_some x z (sym (last_get m x) ∙ ap (slice_get (m ++ x ∷ [])) (sym len) ∙ at) in
         subst (λ (u : MemoryBlock). IsTwin after q u) same twin;
@@ -185,7 +190,7 @@ pub record IsMade (rights target : Rights) (homes : List Home) (old : List Memor
   pub known : length (homes ++ whole_home k ∷ []) ≡ length m
   pub new : IsNewHome homes k old m n
 
-module _ (rights target : Rights) (homes : List Home) (m n : List MemoryBlock) (known : length homes ≡ length m) (em : Embeds rights target homes m n) (nulls : AreNullsKept rights target homes m n) (bounds : AreBoundsKept homes m n) (size align : ℕ) (kind other : Kind) (small : size < 2 ^ 64) (new : AreNewRights rights target kind other) (writable : same_kind kind Kind.Constant ≡ false → same_kind other Kind.Constant ≡ false) where
+module _ (rights target : Rights) (homes : List Home) (m n : List MemoryBlock) (known : length homes ≡ length m) (em : Embeds rights target homes m n) (nulls : AreNullsKept rights target homes m n) (bounds : AreBoundsKept homes m n) (size align : ℕ) (kind other : Kind) (small : size < 2 ^ 64) (new : AreNewRights rights target (length m) (length n) kind other) (writable : same_kind kind Kind.Constant ≡ false → same_kind other Kind.Constant ≡ false) where
   abbrev source : MemoryBlock
   source = blank_block size align kind
 
@@ -204,7 +209,7 @@ module _ (rights target : Rights) (homes : List Home) (m n : List MemoryBlock) (
     fits = omega arith;
     small = small;
     writable = writable;
-    allowed = new.allowed (length m) (length n) size align;
+    allowed = new.allowed size align;
   }
 
   fresh_stands : Stands rights target longer (fresh n size align other) (length m) source
@@ -215,7 +220,7 @@ module _ (rights target : Rights) (homes : List Home) (m n : List MemoryBlock) (
   pub fresh_made : IsMade rights target homes m (length n) (fresh m size align kind) (fresh n size align other)
   fresh_made = record {
     memory = embeds_grown rights target homes m n source made known em (λ live. fresh_stands);
-    nulls = nulls_grown rights target homes m n source made known nulls bounds (λ o e. new.nulls (length m) (length n) size align o e);
+    nulls = nulls_grown rights target homes m n source made known nulls bounds (λ o e. new.nulls size align o e);
     bounds = bounds_grown rights target homes m n source made known bounds (omega arith) small;
     known = more_known rights target homes m n source made known;
     new = new_home rights target homes m n source made known em bounds (record { block = made; there = last_get n made; start = refl; unkilled = λ e. refl; owner = refl; align = refl; writable = writable });

@@ -19,14 +19,14 @@ or_true false = refl
 from_start : (o : ℕ) → 0 + o ≡ o
 from_start o = omega arith
 
-pub owners_serve : (kind other : Kind) → AreNewRights owner_rights owner_rights kind other
-owners_serve kind other = record {
-  allowed = λ b c size align. record {
+pub owners_serve : (b c : ℕ) (kind other : Kind) → AreNewRights owner_rights owner_rights b c kind other
+owners_serve b c kind other = record {
+  allowed = λ size align. record {
     opens = λ o len le e. refl;
-    aligned = λ o n is e. ap (λ (k : ℕ). meets (blank_block size align other) k n) (from_start o) ∙ e;
+    aligned = λ o len n pos within free is e. ap (λ (k : ℕ). meets (blank_block size align other) k n) (from_start o) ∙ e;
     comparable = λ o le e. or_true (0 + o == 0);
   };
-  nulls = λ b c size align o e. or_true ((o.bits + 0) % 2 ^ 64 == 0);
+  nulls = λ size align o e. or_true ((o.bits + 0) % 2 ^ 64 == 0);
 }
 
 -- ---- slots that live again
@@ -56,7 +56,7 @@ module _ (homes : List Home) (m n : List MemoryBlock) (b : ℕ) (x : MemoryBlock
     writable = twin.writable;
     allowed = record {
       opens = λ o len le e. ap (is_below ((home_of homes b).offset + o)) twin.owner;
-      aligned = λ o k is e. ap (λ (p : ℕ × ℕ). (p.0 % k == 0) && nat_le k p.1) (λ i. (shifted o i, twin.align i)) ∙ e;
+      aligned = λ o len k pos within free is e. ap (λ (p : ℕ × ℕ). (p.0 % k == 0) && nat_le k p.1) (λ i. (shifted o i, twin.align i)) ∙ e;
       comparable = λ o le e. ap (λ (w : Option ℕ). ((home_of homes b).offset + o == 0) || not (is_below ((home_of homes b).offset + o) w)) twin.owner ∙ or_true ((home_of homes b).offset + o == 0);
     };
   }

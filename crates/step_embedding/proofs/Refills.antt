@@ -27,7 +27,7 @@ use Rattle.memory_embedding.specs.Pointers.{Home, home_of}
 use Rattle.ordinary_step.specs.Step.{Action, AtInstr, AtTerm, Context, Enter, Fetched, Nowhere, Stuck, Work, action_of, branch, by_pred, compared, copied_bytes, done, fits_function, if_alignment, indirect_call, instr_action, intrinsic_call, is_alignment, named_call, observed, set_memory, set_value, switch, term_action, with_length, words_of}
 use Rattle.ordinary_step.specs.Values.{access_of, address, arg_value, arg_values, nth, number_at, operand_value, stored, truth_value, value_in, value_of}
 use Rattle.step_embedding.proofs.Memories.{copy_refills, same_refills, store_refills}
-use Rattle.step_embedding.specs.Marks.{IsAlone, IsTwin}
+use Rattle.step_embedding.specs.Marks.{IsAlone, IsTwin, LivesAlone}
 use Rattle.step_embedding.specs.Refilled.{AreRefilled, IsRefilled, OnlyRefills}
 use Rattle.step_embedding.specs.Related.{HasNoSlot}
 
@@ -163,11 +163,14 @@ was None (Some z) y h e = absurd h
 was (Some x) None y h e = absurd h
 was (Some x) (Some z) y h e = let is : z ≡ y = cc in record { block = x; there = refl; same = subst (λ (u : MemoryBlock). u ≡ record x { bytes = u.bytes }) is h }
 
+pub lives_stay : (homes : List Home) (m k : List MemoryBlock) (b : ℕ) → AreRefilled m k → LivesAlone homes m b → LivesAlone homes k b
+lives_stay homes m k b refilled alone = λ c z ne e live.
+    let h = was (slice_get m c) (slice_get k c) z (refilled.each c) e in
+    alone c h.block ne h.there (sym (ap (λ (u : MemoryBlock). is_live u.life) h.same) ∙ live)
+
 pub alone_stays : (homes : List Home) (m k : List MemoryBlock) (b : ℕ) → AreRefilled m k → IsAlone homes m b → IsAlone homes k b
 alone_stays homes m k b refilled alone = record {
-  live = λ c z ne e live.
-      let h = was (slice_get m c) (slice_get k c) z (refilled.each c) e in
-      alone.live c h.block ne h.there (sym (ap (λ (u : MemoryBlock). is_live u.life) h.same) ∙ live);
+  live = lives_stay homes m k b refilled alone.live;
   seen = alone.seen;
 }
 

@@ -9,12 +9,12 @@ use Rattle.coro_base.specs.declared.cause.Cause.{Cause}
 use Rattle.memory_embedding.specs.Pointers.{Home, home_of}
 use Rattle.ordinary_step.specs.Step.{Work, set_memory}
 use Rattle.ordinary_step.specs.declared.world.Slot.{Slot}
-use Rattle.step_embedding.specs.Marks.{IsAlone}
+use Rattle.step_embedding.specs.Marks.{LivesAlone}
 use Rattle.step_embedding.specs.Related.{AreWorks}
 
--- the block stands alone from the start of its home on, which is of an allocator too, and owned only where the block is
+-- no other block that lives stands in the block's home; it stands there from the start on, and the home is of an allocator too, and owned only where the block is
 pub record DiesToo (homes : List Home) (m n : List MemoryBlock) (b : ℕ) : Type 0 where
-  pub alone : IsAlone homes m b
+  pub alone : LivesAlone homes m b
   pub start : (home_of homes b).offset ≡ 0
   pub unkilled : is_unkilled Kind.Allocator (slice_get m b) ≡ true → is_unkilled Kind.Allocator (slice_get n (home_of homes b).block) ≡ true
   pub free : is_owned (slice_get m b) ≡ false → is_owned (slice_get n (home_of homes b).block) ≡ false

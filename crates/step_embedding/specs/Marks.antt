@@ -17,9 +17,13 @@ use Rattle.memory_embedding.specs.Standing.{HasRights}
 use Rattle.ordinary_step.specs.Step.{AtInstr, Context, Fetched, Work, block_of}
 use Rattle.ordinary_step.specs.Values.{arg_values, nth}
 
--- no other block that lives, or into which pointers may be about, has its home in the block's home
+-- no other block that lives has its home in the block's home
+abbrev pub LivesAlone : List Home → List MemoryBlock → ℕ → Type 0
+LivesAlone homes m b = (c : ℕ) (z : MemoryBlock) → c ≢ b → slice_get m c ≡ Some z → is_live z.life ≡ true → (home_of homes c).block ≢ (home_of homes b).block
+
+-- nor has one into which pointers may be about
 pub record IsAlone (homes : List Home) (m : List MemoryBlock) (b : ℕ) : Type 0 where
-  pub live : (c : ℕ) (z : MemoryBlock) → c ≢ b → slice_get m c ≡ Some z → is_live z.life ≡ true → (home_of homes c).block ≢ (home_of homes b).block
+  pub live : LivesAlone homes m b
   pub seen : (c : ℕ) → c ≢ b → (home_of homes c).is_seen ≡ true → (home_of homes c).block ≢ (home_of homes b).block
 
 -- a block that lives again holds nothing
@@ -49,18 +53,18 @@ pub record IsTwin (n : List MemoryBlock) (h : Home) (x : MemoryBlock) : Type 0 w
   pub align : block.align ≡ x.align
   pub writable : same_kind x.kind Kind.Constant ≡ false → same_kind block.kind Kind.Constant ≡ false
 
--- the pointers of two markers; where the one is poison the other marks nothing
+-- the pointers of two markers; where the one is poison the other marks nothing. A block that is started stands alone in its home, one that ends alone of those that live
 abbrev pub IsStart : Rights → Rights → List Home → List MemoryBlock → List MemoryBlock → Value → Value → Type 0
 IsStart rights target homes m n (Value.Ptr (Pointer.At b o)) u = IsAlone homes m b × MayStart rights target homes m n b
 IsStart rights target homes m n Value.Poison u = block_of u ≡ None
 IsStart rights target homes m n _ u = Unit {0}
 
 abbrev pub IsEnd : List Home → List MemoryBlock → Value → Value → Type 0
-IsEnd homes m (Value.Ptr (Pointer.At b o)) u = IsAlone homes m b
+IsEnd homes m (Value.Ptr (Pointer.At b o)) u = LivesAlone homes m b
 IsEnd homes m Value.Poison u = block_of u ≡ None
 IsEnd homes m _ u = Unit {0}
 
--- a lifetime marker of a block that stands alone
+-- a lifetime marker of such a block
 abbrev pub MarksBlock : List Home → Context → Context → Work → Work → Fetched → Type 0
 MarksBlock homes c d w x (AtInstr (Instr.Call result must_tail ty (Callee.Intrinsic Intrinsic.LifetimeStart) args)) =
     IsStart c.rights d.rights homes w.world.memory x.world.memory (nth (arg_values c.code w.values args) 1) (nth (arg_values d.code x.values args) 1)

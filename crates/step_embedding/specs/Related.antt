@@ -1,6 +1,6 @@
 -- Ordinary steps over a source memory and over a target memory in which it stands.
-use Rattle.std.specs.Prelude.{ℕ, List, [], ◌∷◌, length, map, slice_get, Some, None, Option, option_map, ◌≡◌, ◌≤◌}
-use Rattle.block_memory.specs.Memory.{Rights}
+use Rattle.std.specs.Prelude.{ℕ, List, [], ◌∷◌, length, map, slice_get, Some, None, Option, option_map, ◌≡◌, ◌≤◌, ◌<◌}
+use Rattle.block_memory.specs.Memory.{Rights, access_bytes}
 use Rattle.block_memory.specs.declared.pointer.Value.{Value}
 use Rattle.coro_base.specs.declared.name.Name.{Name}
 use Rattle.coro_base.specs.declared.outcome.Event.{Event}
@@ -15,7 +15,7 @@ use Rattle.ir_model.specs.declared.operand.Operand.{Operand}
 use Rattle.memory_embedding.specs.Pointers.{Home, IsValue}
 use Rattle.memory_embedding.specs.Standing.{AreBoundsKept, AreNullsKept, Embeds}
 use Rattle.ordinary_step.specs.Step.{Action, AtInstr, Context, Coro, Deallocate, Done, Enter, Fetched, GoTo, NewSlot, Return, Stuck, Work, fits_function}
-use Rattle.ordinary_step.specs.Values.{Env, distance, indices_of, operand_value, value_in}
+use Rattle.ordinary_step.specs.Values.{Env, access_of, distance, indices_of, operand_value, value_in}
 use Rattle.ordinary_step.specs.declared.world.World.{World}
 use Rattle.step_laws.specs.Changed.{Each, callee_at, operands_at}
 
@@ -85,12 +85,19 @@ HasDistance c d env other (AtInstr (Instr.Gep name inbounds ty base indices)) =
     IsSameDistance (distance c.code ty (indices_of c.code env indices)) (distance d.code ty (indices_of d.code other indices))
 HasDistance c d env other _ = Unit {0}
 
+-- what is loaded or stored has at least one byte
+abbrev pub HasBytes : Fetched → Type 0
+HasBytes (AtInstr (Instr.Load name ty p align)) = 0 < access_bytes (access_of ty)
+HasBytes (AtInstr (Instr.Store arg p align)) = 0 < access_bytes (access_of arg.ty)
+HasBytes _ = Unit {0}
+
 -- what an instruction reads stands for what it reads in the source, and it makes, marks and allocates no block
 pub record IsCarried (homes : List Home) (moves : ℕ → ℕ) (c d : Context) (env other : Env) (here : Fetched) : Type 0 where
   pub operands : Each (IsOperand homes c d env other) (operands_at here)
   pub callee : IsDeclared moves c d (callee_at here)
   pub distance : HasDistance c d env other here
   pub no_slot : HasNoSlot here
+  pub bytes : HasBytes here
 
 -- ---- what comes of it
 

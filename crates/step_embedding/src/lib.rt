@@ -1,8 +1,8 @@
 //! Ordinary steps over a source memory and over a target memory in which it stands.
 #![tactic(auto)]
 
-ghost use Rattle.std.specs.Prelude.{ℕ, true, List, Some, length, map, slice_get, ◌≡◌};
-ghost use Rattle.block_memory.specs.Memory.{Rights, owner_rights, with_block};
+ghost use Rattle.std.specs.Prelude.{ℕ, true, false, List, Some, length, map, slice_get, ◌≡◌};
+ghost use Rattle.block_memory.specs.Memory.{Rights, is_live, owner_rights, with_block};
 ghost use Rattle.block_memory.specs.declared.block.MemoryBlock.{MemoryBlock as Block};
 ghost use Rattle.block_memory.specs.declared.pointer.Value.{Value as TheValue};
 ghost use Rattle.block_memory.specs.declared.block.Byte.{Byte as TheByte};
@@ -13,7 +13,7 @@ ghost use Rattle.ordinary_step.specs.Step.{Context, Fetched, Work, action_of, de
 ghost use Rattle.ordinary_step.specs.declared.world.Slot.{Slot as TheSlot};
 ghost use Rattle.step_embedding.specs.Deaths.{IsDeallocated, MayDie, moved_slot};
 ghost use Rattle.step_embedding.specs.Making.{AreNewRights, GoesAnew, MakesBlock};
-ghost use Rattle.step_embedding.specs.Marks.{IsAlone, IsTwin, MarksBlock, MayStart};
+ghost use Rattle.step_embedding.specs.Marks.{IsAlone, IsTwin, LivesAlone, MarksBlock, MayStart};
 ghost use Rattle.step_embedding.specs.Refilled.{AreRefilled, OnlyRefills};
 ghost use Rattle.step_embedding.specs.Related.{AreAlike, AreWorks, GoesAlike, HasNoSlot, IsCarried, IsOperand};
 ghost use Rattle.step_laws.specs.Changed.{Each, operands_at};
@@ -29,30 +29,30 @@ pub fn step_is_carried()
 /// the home of the source's, which stands alone there, pointers to it may be about, and the source's memory stands in the
 /// target's afterwards.
 pub fn new_blocks_are_carried()
-    ensures { (homes : List Home) (moves : ℕ → ℕ) (c d : Context) (w x : Work) (here : Fetched) → AreAlike c d → AreWorks c.rights d.rights homes moves w x → length homes ≡ length w.world.memory → Each (IsOperand homes c d w.values x.values) (operands_at here) → MakesBlock c d w.values here → GoesAnew c.rights d.rights homes moves w.world.memory (length x.world.memory) (action_of c w here) (action_of d x here) }
+    ensures { (homes : List Home) (moves : ℕ → ℕ) (c d : Context) (w x : Work) (here : Fetched) → AreAlike c d → AreWorks c.rights d.rights homes moves w x → length homes ≡ length w.world.memory → Each (IsOperand homes c d w.values x.values) (operands_at here) → MakesBlock c d w x here → GoesAnew c.rights d.rights homes moves w.world.memory (length x.world.memory) (action_of c w here) (action_of d x here) }
 {}
 
-/// A lifetime marker of a block that stands alone in its home marks the home too, and the source's memory stands in the
-/// target's afterwards.
+/// A lifetime marker of a block marks its home too, and the source's memory stands in the target's afterwards: a block that
+/// is started stands alone in its home, and one that ends is the only one that lives there.
 pub fn markers_are_carried()
     ensures { (homes : List Home) (moves : ℕ → ℕ) (c d : Context) (w x : Work) (here : Fetched) → AreByteRights c.rights → AreByteRights d.rights → AreWorks c.rights d.rights homes moves w x → Each (IsOperand homes c d w.values x.values) (operands_at here) → MarksBlock homes c d w x here → GoesAlike c.rights d.rights homes moves (action_of c w here) (action_of d x here) }
 {}
 
-/// A deallocation that isn't undefined in the source, of a block that stands alone from the start of its home on, kills the
-/// home too, and the source's memory stands in the target's afterwards.
+/// A deallocation that isn't undefined in the source, of a block that stands from the start of its home on and is the only
+/// one that lives there, kills the home too, and the source's memory stands in the target's afterwards.
 pub fn deallocations_are_carried()
     ensures { (rights target : Rights) (homes : List Home) (moves : ℕ → ℕ) (w x : Work) (p q : TheValue) → AreByteRights rights → AreByteRights target → AreWorks rights target homes moves w x → IsValue homes p q → MayDie homes w.world.memory x.world.memory p → IsDeallocated rights target homes moves w x (deallocated w.world.memory p) (deallocated x.world.memory q) }
 {}
 
-/// The slots of an activation die, each of which stands alone, and their homes do.
+/// The slots of an activation die, each of which is the only block that lives in its home, and their homes do.
 pub fn slot_deaths_are_carried()
-    ensures { (rights target : Rights) (homes : List Home) (moves : ℕ → ℕ) (w x : Work) (slots : List TheSlot) → AreByteRights rights → AreByteRights target → AreWorks rights target homes moves w x → Each (λ (s : TheSlot). IsAlone homes w.world.memory s.block) slots → AreWorks rights target homes moves (set_memory w (without_slots w.world.memory slots)) (set_memory x (without_slots x.world.memory (map (moved_slot homes) slots))) }
+    ensures { (rights target : Rights) (homes : List Home) (moves : ℕ → ℕ) (w x : Work) (slots : List TheSlot) → AreByteRights rights → AreByteRights target → AreWorks rights target homes moves w x → Each (λ (s : TheSlot). LivesAlone homes w.world.memory s.block) slots → AreWorks rights target homes moves (set_memory w (without_slots w.world.memory slots)) (set_memory x (without_slots x.world.memory (map (moved_slot homes) slots))) }
 {}
 
 /// The rights of owners serve new blocks of any kinds.
 #[tactic(auto, using(crate::proofs::Owners::owners_serve))]
 pub fn owner_rights_serve_new_blocks()
-    ensures { (kind other : TheKind) → AreNewRights owner_rights owner_rights kind other }
+    ensures { (b c : ℕ) (kind other : TheKind) → AreNewRights owner_rights owner_rights b c kind other }
 {}
 
 /// The rights of owners serve slots that live again: a block that nobody owns may be started where the source's is.
@@ -66,9 +66,12 @@ pub fn other_steps_refill()
 {}
 
 /// A block stays alone in its home where bytes are written, and where blocks into which pointers may be about are marked or
-/// die; and its home stays as it is where bytes are written.
+/// die; it stays the only one that lives there where bytes are written, and where any block dies; and its home stays as it is
+/// where bytes are written.
 pub fn blocks_stay_alone()
     ensures refilled { (homes : List Home) (m k : List Block) (b : ℕ) → AreRefilled m k → IsAlone homes m b → IsAlone homes k b }
     ensures changed { (homes : List Home) (m : List Block) (b k : ℕ) (f : Block → Block) → (home_of homes k).is_seen ≡ true → IsAlone homes m b → IsAlone homes (with_block m k f) b }
+    ensures lives { (homes : List Home) (m k : List Block) (b : ℕ) → AreRefilled m k → LivesAlone homes m b → LivesAlone homes k b }
+    ensures deaths { (homes : List Home) (m : List Block) (b k : ℕ) (f : Block → Block) → ((y : Block) → is_live (f y).life ≡ false) → LivesAlone homes m b → LivesAlone homes (with_block m k f) b }
     ensures twins { (n k : List Block) (h : Home) (x : Block) (bytes : List TheByte) → AreRefilled n k → IsTwin n h x → IsTwin k h (record x { bytes = bytes }) }
 {}

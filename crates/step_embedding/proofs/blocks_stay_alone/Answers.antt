@@ -1,4 +1,5 @@
-use Rattle.step_embedding.proofs.Refills.{alone_changed, alone_stays, twin_stays}
+use Rattle.step_embedding.proofs.Mirrors.{lives_on}
+use Rattle.step_embedding.proofs.Refills.{alone_changed, alone_stays, lives_stay, twin_stays}
 use Rattle.step_embedding.proofs.blocks_stay_alone.Goals as goal
 
 pub returns-clause-refilled : goal.returns-clause-refilled
@@ -6,6 +7,12 @@ returns-clause-refilled c = alone_stays
 
 pub returns-clause-changed : goal.returns-clause-changed
 returns-clause-changed c = alone_changed
+
+pub returns-clause-lives : goal.returns-clause-lives
+returns-clause-lives c = lives_stay
+
+pub returns-clause-deaths : goal.returns-clause-deaths
+returns-clause-deaths c = lives_on
 
 pub returns-clause-twins : goal.returns-clause-twins
 returns-clause-twins c = twin_stays
