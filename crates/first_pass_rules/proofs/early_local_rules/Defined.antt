@@ -155,10 +155,13 @@ module _ (v : ℕ) where
       any_is is_its (parts_of func f)
       ∙ (λ k. none_labelled (function_place func) (part_locals (Signature f)) k || blocks_labelled func 0 f.blocks k)
 
-  labels_kept : (r : Renaming) (fresh : ℕ → Type 0) (bs cs : List Block) → TurnsBlocks r fresh bs cs → labelled cs ≡ labelled bs
+-- ---- the pass leaves them
+
+module _ (v : ℕ) where
+  labels_kept : (r : Renaming) (fresh : ℕ → Type 0) (bs cs : List Block) → TurnsBlocks r fresh bs cs → labelled v cs ≡ labelled v bs
   labels_kept r fresh _ _ NoBlock = refl
   labels_kept r fresh _ _ (OneMore b c bs cs t rest) = λ k. (t.label k == v) || labels_kept r fresh bs cs rest k
 
   -- the pass leaves the labels
   pub label_same : (r : Renaming) (fresh : ℕ → Type 0) (func : ℕ) (f g : Function) → TurnsBlocks r fresh f.blocks g.blocks → is_label func g v ≡ is_label func f v
-  label_same r fresh func f g t = label_defined func g ∙ labels_kept r fresh f.blocks g.blocks t ∙ sym (label_defined func f)
+  label_same r fresh func f g t = label_defined v func g ∙ labels_kept r fresh f.blocks g.blocks t ∙ sym (label_defined v func f)
