@@ -7,7 +7,7 @@ ghost use Rattle.spill_reload.specs.Framed.{IsFramedForm};
 
 use coro_cleanup::clean;
 use coro_split::split;
-use first_pass_rules::early_sources::early_kept;
+use early_lower::early;
 use frame_layout::Layouts;
 use ir_model::Module;
 use spill_reload::frame_up;
@@ -21,8 +21,8 @@ pub fn framed_module(
 ) -> Result<Module, AllocError>
     ensures { IfOk result (λ framed. IsFramedForm layouts.now (early_module source.now) framed) }
 {
-    let early = early_kept(alloc, source)?;
-    frame_up(alloc, &early, layouts)
+    let first = early(alloc, source)?;
+    frame_up(alloc, &first, layouts)
 }
 
 /// The module without coroutines: they are split, and what is left of the coro intrinsics is removed.
