@@ -1,4 +1,6 @@
 //! Frame slots that are used before begin have a temporary, which is copied at begin.
+//!
+//! The pass is its definition, `with_begin_copies`.
 #![tactic(auto)]
 
 mod blocks;

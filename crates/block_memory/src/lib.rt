@@ -1,4 +1,8 @@
 //! The memory of the modelled program: blocks of bytes, and pointers into them.
+//!
+//! `fresh`, `load`, `store`, `copy`, `compare`, `kill`, `own`, `start`, `end`, `disown` and `seal` are equal to their
+//! definitions, with the first cause in its order. A refused call changes nothing. Only `new` and `fresh` take
+//! memory.
 #![tactic(auto)]
 
 mod between;

@@ -1,4 +1,7 @@
 //! The blocks of a function as a graph, the kinds of its edges, and the blocks that paths reach.
+//!
+//! `successors`, `block_graph` and `edge_kind` are their definitions. `reach` and `after_end` give, in order of the
+//! text, exactly the blocks that paths reach.
 #![tactic(auto)]
 
 mod edges;

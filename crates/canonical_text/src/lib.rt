@@ -1,4 +1,7 @@
 //! The canonical text of modules as a definition, what its tokens say, and that these are the tokens of the text.
+//!
+//! The canonical text of a module and what its tokens say are definitions. The tokens of a printable module's text
+//! say its symbols and are all of the text (`canonical_text_is_lexed`).
 #![tactic(auto)]
 
 ghost use Rattle.std.specs.Prelude.{◌≡◌, true};

@@ -1,4 +1,7 @@
 //! The words that all crates share: numbers of a width, events, places, outcomes, rules, causes, statuses, names and lists.
+//!
+//! `copied` gives the same data. `is_same` is true exactly for the same data (trait `Data`, for names, texts and
+//! lists too). `Status::code`, `Cause::word` and `Rule::word` are the tables of `specs/Words`.
 #![tactic(auto)]
 
 mod cause;

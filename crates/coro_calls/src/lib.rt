@@ -1,4 +1,6 @@
 //! The calls of a coroutine's intrinsics, their results and their operands ("Coroutines in LLVM", "Intrinsics").
+//!
+//! Calls of coro intrinsics, their results and operands are those of the definitions.
 #![tactic(auto)]
 
 mod calls;

@@ -1,4 +1,9 @@
 //! What the program reads from and writes to: sources and sinks of bytes whose faults are counted.
+//!
+//! `read_all` gives all bytes that are left. It gives `TooLong` only where more than the limit were there, and
+//! `ReadFault` only where the count of faults rose. `write_all` appends the bytes, or a prefix and a fault. Memory
+//! sources and sinks fail exactly at the listed calls. The adapters tell what std's reader or writer tells, and count
+//! each failed call.
 #![tactic(auto)]
 
 mod adapters;

@@ -1,5 +1,9 @@
 //! The meaning of a source, which keeps a suspended coroutine as a whole activation ("Coroutines in LLVM"), and the machine
 //! that runs it.
+//!
+//! The meaning is `SourceAt`. `SourceMachine` is given the facts about its functions' paths. `run(n)` of a machine
+//! that made k steps is the source outcome for these facts (`SeenOf`) at k + n; `events()` and `allocs()` are its
+//! counts. A step that finds no memory leaves the machine as it was.
 #![tactic(auto)]
 
 mod blocks;

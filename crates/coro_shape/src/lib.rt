@@ -1,5 +1,8 @@
 //! The shape of a coroutine: its id, begin, end, suspends and promise, and the rules by which it has one of each ("Coroutines
 //! in LLVM", "Coroutine Structure Intrinsics").
+//!
+//! It gives the first place of a function that breaks K2, K3, K4, K10 or K11, each by its sentence. `shape_of` gives
+//! the first broken of K2 to K6, K10, K11 with its place, or else id, begin, the end's block, suspends and promise.
 #![tactic(auto)]
 
 mod one_of_each;

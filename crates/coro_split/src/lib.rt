@@ -1,4 +1,6 @@
 //! Coroutines split into their parts: the ramp, and the functions that go on behind a suspend.
+//!
+//! `split` is `split_module`.
 #![tactic(auto)]
 
 mod origin;

@@ -1,5 +1,9 @@
 //! The frames of a module's coroutines: their fields, in order of the text, and the layouts ("Coroutines in LLVM", "Coroutine
 //! Transformation").
+//!
+//! `frame_of` gives what a coroutine's frame holds, in order of the text, and its layout, or that it is too large
+//! (`IsFrameOf`). `layouts_of` gives the layouts of a module's coroutines or the first that is too large
+//! (`AreLayouts`), with bytes shared or plain. `layout_text` writes them.
 #![tactic(auto)]
 
 mod contents;

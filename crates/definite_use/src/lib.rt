@@ -1,4 +1,6 @@
 //! Uses of values that some path from a function's entry reaches without the definition (rule F2).
+//!
+//! It gives the first place that breaks F2, said by paths (`IsFirstUndefined`).
 #![tactic(auto)]
 
 mod locals;

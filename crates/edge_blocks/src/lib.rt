@@ -1,4 +1,6 @@
 //! Blocks on the edges of coroutines: on each edge to a block that has phis, and on each resume and destroy edge.
+//!
+//! The pass is its definition, `with_edge_blocks`.
 #![tactic(auto)]
 
 mod blocks;

@@ -1,4 +1,9 @@
 //! That the laws of memories in one another speak of something where frames lie in blocks: worked memories, and rights that serve.
+//!
+//! The rights of frames are rights of bytes (`frame_rights_are_of_bytes`) and serve new blocks
+//! (`frame_rights_serve_new_blocks`). A block that is owned as a frame stands where the frame lies, whatever the
+//! frame's alignment is (`owned_blocks_stand`). It does so too with a slot that has its home in a field
+//! (`slots_stand_in_frames`).
 #![tactic(auto)]
 
 ghost use Rattle.std.specs.Prelude.{ℕ, List, [], ◌∷◌, ◌≡◌, ◌≢◌, ◌≤◌, ◌<◌, ◌^◌};

@@ -1,5 +1,9 @@
 //! Which coroutines' frames may lie in a caller, and which calls put them there ("Coroutines in LLVM", "Heap Allocation
 //! Elision" in the introduction).
+//!
+//! `elidable_callees` gives exactly the coroutines whose frames may lie in a caller (`AreElidable`). `elidable_sites`
+//! gives exactly the calls, in functions that are no coroutines, whose frames may (`AreSites`). Both are in order of
+//! the text. No pass uses them yet.
 #![tactic(auto)]
 
 mod destroyed;

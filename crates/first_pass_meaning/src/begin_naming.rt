@@ -1,4 +1,7 @@
 //! That naming begin's value keeps the meaning of sources.
+//!
+//! The two agree within 1 (`naming_keeps_meaning`). Values behind those of a function's names are not seen
+//! (`further_values_are_not_seen`).
 
 ghost use Rattle.std.specs.Prelude.{◌≡◌, ℕ, ℤ, List};
 ghost use Rattle.agreement.specs.Agreements.{AgreesWithin};

@@ -1,4 +1,8 @@
 //! That the first pass keeps the meaning of sources.
+//!
+//! The pass is three in a row: begin's value named, uses of `coro.frame` renamed, saves written out
+//! (`early_is_three_passes`). The second of them agrees within 1 where coroutines keep the rules
+//! (`renaming_keeps_meaning`).
 
 ghost use Rattle.std.specs.Prelude.{◌≡◌, ℕ, ℤ, List};
 ghost use Rattle.agreement.specs.Agreements.{AgreesWithin};

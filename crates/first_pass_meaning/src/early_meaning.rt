@@ -1,4 +1,7 @@
 //! That the first pass as a whole keeps the meaning of sources.
+//!
+//! Locals stay positions of their functions' tables (`names_stay`), and the three passes in a row keep the meaning
+//! (`early_keeps_meaning`).
 
 ghost use Rattle.std.specs.Prelude.{ℕ, ℤ, List};
 ghost use Rattle.agreement.specs.Agreements.{AgreesWithin};

@@ -1,4 +1,8 @@
 //! Writing the saves of suspends out, as a pass of its own: what it leaves as it is of a function's paths, windows and slots.
+//!
+//! Writing saves out (`saves_written`) leaves paths, windows, ramp slots, markers and the promise of a function as
+//! they are, moved (`paths_are_kept`, `windows_are_moved`, `left_windows_are_moved`, `ramp_slots_stay`,
+//! `markers_stay`, `promise_stays`). A function that is no coroutine stays (`plain_functions_stay`).
 
 ghost use Rattle.std.specs.Prelude.{◌≡◌, ◌↔◌, ℕ, false, List, filter};
 ghost use Rattle.ir_model.specs.declared.module.Function.{Function};

@@ -1,4 +1,7 @@
 //! That writing the saves of suspends out keeps the meaning of sources.
+//!
+//! The two agree within 2, where locals are positions of their functions' tables of names
+//! (`written_saves_keep_meaning`).
 
 ghost use Rattle.std.specs.Prelude.{ℕ, ℤ, List};
 ghost use Rattle.agreement.specs.Agreements.{AgreesWithin};

@@ -1,4 +1,8 @@
 //! A state of a source run, and that of the module whose saves are written out.
+//!
+//! Whatever stands where no save is written does the same to both states (`lone_steps_are_kept`). A suspend without a
+//! save does what the written save and the suspend do one after the other (`written_saves_are_made`,
+//! `suspends_come_behind`).
 
 ghost use Rattle.std.specs.Prelude.{◌≡◌, ℕ, true, ℤ, List, length, Ok, Some, Option, slice_get};
 ghost use Rattle.block_memory.specs.declared.pointer.Value.{Value};

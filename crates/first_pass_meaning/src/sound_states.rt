@@ -1,4 +1,8 @@
 //! What holds in each state of a run of a source, and speaks of its module alone.
+//!
+//! There are as many values as names, and instances of their activations' functions, suspended at suspends
+//! (`IsSound`). That holds at the start (`runs_start_sound`) and after each step, by each way to go on behind a
+//! suspend that keeps it (`steps_stay_sound`).
 
 ghost use Rattle.std.specs.Prelude.{ℕ, ℤ, List};
 ghost use Rattle.coro_base.specs.declared.outcome.Word.{Word};

@@ -1,4 +1,6 @@
 //! What crosses suspends stays under the first pass.
+//!
+//! The values that cross suspends are the same (`crossing_stays`).
 
 ghost use Rattle.std.specs.Prelude.{◌≡◌, ◌↔◌, ℕ, List};
 ghost use Rattle.first_pass_meaning.specs.early_agreement.Passes.{renamed_coroutine};

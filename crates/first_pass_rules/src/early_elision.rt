@@ -1,4 +1,7 @@
 //! That the first pass leaves elidable callees, and the sites of their calls, as they are.
+//!
+//! The elidable callees and the sites of a source that breaks no rule are those of what the first pass makes of it
+//! (`elidable_callees_stay`, `sites_stay`).
 
 ghost use Rattle.std.specs.Prelude.{◌↔◌, ℕ, List, None};
 ghost use Rattle.coro_base.specs.declared.outcome.Place.{Place};

@@ -1,4 +1,7 @@
 //! What frames hold, and their layouts, stay under the first pass.
+//!
+//! The layouts are the same, since what they are made of is the same (`layouts_stay`, and of accepted sources
+//! `accepted_layouts_stay`).
 
 ghost use Rattle.std.specs.Prelude.{◌≡◌, ◌↔◌, ℕ, Bool, true, List, None, Result};
 ghost use Rattle.coroutine_frames.specs.Frames.{AreContents, AreLayouts, IsFrame};

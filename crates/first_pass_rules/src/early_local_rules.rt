@@ -1,4 +1,6 @@
 //! What the first pass leaves of a source that breaks no rule: none of the rules that speak of no paths is broken there.
+//!
+//! These rules are N1, N2, Y1 to Y5, F3, P1, K1 and K13 (`first_pass_breaks_no_local_rule`).
 
 ghost use Rattle.std.specs.Prelude.{None};
 ghost use Rattle.first_pass_rules.specs.early_local_rules.Local.{BreaksNoLocalRule};

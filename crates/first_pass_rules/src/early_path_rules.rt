@@ -1,4 +1,6 @@
 //! That what the first pass makes of a source that breaks no rule breaks none of those on edges, on the calls of coroutines and on paths.
+//!
+//! These are F1, F2 and K2 to K11 (`early_functions_keep_shape`, `early_functions_keep_paths`).
 
 ghost use Rattle.std.specs.Prelude.{◌≡◌, ℕ, None, Some, slice_get};
 ghost use Rattle.early_lower.specs.Early.{early_module};

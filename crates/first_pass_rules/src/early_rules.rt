@@ -1,4 +1,6 @@
 //! That the coroutines of a source that breaks no rule keep what the first pass's theorem asks of them.
+//!
+//! They keep it once begins have names (`named_coroutines_keep_rules`).
 
 ghost use Rattle.std.specs.Prelude.{ℕ, ℤ, List, None};
 ghost use Rattle.agreement.specs.Agreements.{AgreesWithin};

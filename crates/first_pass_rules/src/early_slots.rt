@@ -1,4 +1,7 @@
 //! Classes of slots, where slots may be alive, and which conflict, stay under each of the three passes of which the first one is made.
+//!
+//! The classes of slots, who may be alive at suspends and who conflicts are the same (`classes_stay`, `alive_stay`,
+//! `conflicts_stay`).
 
 ghost use Rattle.std.specs.Prelude.{◌↔◌, ℕ, List};
 ghost use Rattle.first_pass_meaning.specs.early_agreement.Passes.{renamed_coroutine};

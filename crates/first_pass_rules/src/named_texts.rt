@@ -1,4 +1,7 @@
 //! That a module that some text stands for has each local in its function's table of names.
+//!
+//! Locals are such positions in each module that a text stands for (`texts_name_what_they_define`,
+//! `texts_name_what_they_use`).
 
 ghost use Rattle.std.specs.Prelude.{ℕ, List};
 ghost use Rattle.ir_grammar.specs.Text.{StandsFor};

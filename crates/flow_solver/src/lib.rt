@@ -1,4 +1,8 @@
 //! One solver for all analyses of graphs: at each node the least upper bound of the facts that paths carry there.
+//!
+//! `solve` gives it at each node, of the facts that all paths from the starts carry there, and bottom where none
+//! leads (clauses `nodes` and `least`). It does so for each analysis that obeys the laws of the trait `Flow`; the
+//! first analysis is `bit_reach`.
 #![tactic(auto)]
 
 mod flow;

@@ -1,4 +1,6 @@
 //! A function whose slots become bytes of the frame breaks no rule, where the function breaks none and its slots are used behind begin.
+//!
+//! That goes by what the pass asks of its tables (`addressed_functions_keep_rules`).
 
 ghost use Rattle.std.specs.Prelude.{ℕ, Bool, List, Option};
 ghost use Rattle.frame_rules.specs.address_rules.Addresses.{AddressesFit};

@@ -1,4 +1,7 @@
 //! What the last pass leaves breaks none of the rules of plain modules, where what it is given breaks none.
+//!
+//! The last pass leaves functions and items that break no rule so (`cleaned_modules_keep_plain_rules`,
+//! `cleaned_modules_keep_item_rules`), and no coroutine (`cleaned_modules_have_no_coroutine`).
 
 ghost use Rattle.std.specs.Prelude.{not, true, ◌≡◌};
 ghost use Rattle.std.specs.List.{list_all};

@@ -1,4 +1,6 @@
 //! A function that copies slots at begin breaks no rule, where the function breaks none and begin stands behind the slots.
+//!
+//! That goes by what the pass asks of its tables (`copied_functions_keep_rules`).
 
 ghost use Rattle.std.specs.Prelude.{ℕ, Bool, List};
 ghost use Rattle.begin_copies.specs.BeginCopies.{with_begin_copies};

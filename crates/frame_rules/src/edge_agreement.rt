@@ -1,4 +1,6 @@
 //! Blocks on edges: what they leave as it is of a coroutine's paths, windows and slots.
+//!
+//! Points, paths, windows and ramp slots stay, moved, where the edges of coroutines have blocks.
 
 ghost use Rattle.std.specs.Prelude.{◌≡◌, ◌↔◌, ◌<◌, ℕ, Bool, false, List, [], IsTrue, Some, filter, filter_map, length, map, slice_get, unwrap_or};
 ghost use Rattle.frame_rules.specs.edge_agreement.Labels.{HasNamedLabels, IsAmong};

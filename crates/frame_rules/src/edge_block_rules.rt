@@ -1,4 +1,8 @@
 //! Blocks on edges break none of the rules of functions, and what the passes that follow go by.
+//!
+//! No rule of functions is broken where their edges have blocks (`edge_blocks_keep_function_rules`). There the labels
+//! of a phi's operands are all different, and jumps alone lead to blocks with phis. Each resume and destroy edge
+//! leads to a block of its own. The values that cross suspends stay (`crossing_stays_where_edges_have_blocks`).
 
 ghost use Rattle.std.specs.Prelude.{◌≡◌, ◌↔◌, ℕ, true, List, None};
 ghost use Rattle.coro_shape.specs.Switches.{wrong_switch};

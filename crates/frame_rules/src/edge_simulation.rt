@@ -1,4 +1,8 @@
 //! That blocks on the edges of coroutines keep the meaning of sources.
+//!
+//! Each run agrees within 2 with the run of the module (`edge_blocks_keep_meaning`). Labels have to be positions of
+//! their tables and to stand once. Phis' operands have to be for edges, and blocks with suspends have to end in
+//! switches.
 
 ghost use Rattle.std.specs.Prelude.{ℕ, ℤ, List};
 ghost use Rattle.agreement.specs.Agreements.{AgreesWithin};

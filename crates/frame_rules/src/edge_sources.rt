@@ -1,4 +1,7 @@
 //! That blocks on the edges of coroutines keep the meaning of what the first pass makes of a source that breaks no rule.
+//!
+//! A text has to stand for the source. Each run of it agrees within 4 with the run of what the first pass and the
+//! blocks on edges make of it (`accepted_edges_keep_meaning`).
 
 ghost use Rattle.std.specs.Prelude.{◌≡◌, ℕ, ℤ, true, List, [], None, Some, slice_get};
 ghost use Rattle.agreement.specs.Agreements.{AgreesWithin};

@@ -1,4 +1,6 @@
 //! A state of a source run, and that of the module whose coroutines' edges have blocks.
+//!
+//! Points, paths, windows and ramp slots stay, moved.
 
 ghost use Rattle.std.specs.Prelude.{◌≡◌, ℕ, ℤ, IsTrue, List, Ok, Option, length};
 ghost use Rattle.block_memory.specs.declared.pointer.Value.{Value};

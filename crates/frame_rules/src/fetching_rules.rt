@@ -1,4 +1,6 @@
 //! A function whose operands are fetched anew breaks no rule, where the function breaks none and the fetches fit.
+//!
+//! That goes by what the pass asks of its tables (`fetched_functions_keep_rules`).
 
 ghost use Rattle.std.specs.Prelude.{ℕ, List, Option};
 ghost use Rattle.frame_rules.specs.fetching_rules.Fetches.{FetchesFit, fetch_weaving};

@@ -1,4 +1,8 @@
 //! Functions that break none of the rules of functions, but that they may be coroutines: what the passes that build frames keep.
+//!
+//! The functions that the first pass makes of an accepted source break none of the rules of functions
+//! (`KeepsFunctionRules`: N1, N2, L1 of types, Y1 to Y5, F1 to F3, P1, K13; `early_functions_keep_rules`). These go
+//! by types, globals, declarations and how functions are called (`rules_go_by_signatures`).
 
 ghost use Rattle.std.specs.Prelude.{◌≡◌, ℕ, None, Some, slice_get};
 ghost use Rattle.early_lower.specs.Early.{early_module};

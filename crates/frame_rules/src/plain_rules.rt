@@ -1,4 +1,7 @@
 //! Modules that break none of the rules of modules without coroutines.
+//!
+//! A module whose items and functions break no rule and that has no coroutine is accepted by the rules of modules
+//! without coroutines (`plain_modules_are_accepted`).
 
 ghost use Rattle.std.specs.Prelude.{None};
 ghost use Rattle.ir_check.specs.Refused.{IsRefused};

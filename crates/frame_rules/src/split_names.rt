@@ -1,4 +1,7 @@
 //! What becomes of the names and types of a module's functions when its coroutines are split.
+//!
+//! The parts of coroutines have names that no other item has, and the module stays known
+//! (`split_modules_have_the_parts`, `split_modules_keep_item_rules`).
 
 ghost use Rattle.std.specs.Prelude.{ℕ, Some, slice_get, ◌≡◌};
 ghost use Rattle.coro_split.specs.Parts.{split_module};

@@ -1,4 +1,8 @@
 //! Functions into which instructions are woven break no rule of functions, where those from which they come break none.
+//!
+//! In a woven function (`IsWoven`) some instructions are put in, some go, and the others stay with other operands in
+//! the place of theirs. It breaks none of the rules of functions where it broke none and its phis name each label
+//! once (`woven_functions_keep_rules`).
 
 ghost use Rattle.std.specs.Prelude.{ℕ, List};
 ghost use Rattle.coro_base.specs.declared.name.Name.{Name};

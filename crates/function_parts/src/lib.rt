@@ -1,4 +1,7 @@
 //! The parts of a function in order of the text, what stands in them, and the first of them that breaks a rule.
+//!
+//! `first_part` gives the first part of a function, in order of the text, that breaks a rule. The types, operands,
+//! labels and definitions of each part are given too.
 #![tactic(auto)]
 
 mod contents;

@@ -1,4 +1,6 @@
 //! The distance of a `getelementptr` from its base, summed by instructions.
+//!
+//! What it makes is the definition's sum.
 #![tactic(auto)]
 
 mod offset;

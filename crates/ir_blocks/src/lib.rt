@@ -1,4 +1,6 @@
 //! Readers of instructions, phis, terminators and blocks.
+//!
+//! The readers are equal to their reading functions. Lemmas join each to the grammar, both ways.
 #![tactic(auto)]
 
 mod blocks;

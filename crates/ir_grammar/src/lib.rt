@@ -1,5 +1,7 @@
 //! The grammar of modules (docs/TEXT.md) as a relation: which text stands for which module, and with how many whole items a
 //! text begins.
+//!
+//! The relations are `StandsFor` and `BeginsWith`. The empty text stands for the empty module.
 #![tactic(auto)]
 
 ghost use Rattle.std.specs.Prelude.{[]};

@@ -1,5 +1,8 @@
 //! The operations on integers of a width, each given on whole numbers (LLVM Language Reference, "Binary Operations",
 //! "Bitwise Binary Operations", "Conversion Operations").
+//!
+//! `binary`, `icmp`, `cast` and `select` are equal to their definitions on whole numbers. Each result is a number of
+//! its width.
 #![tactic(auto)]
 
 mod casts;

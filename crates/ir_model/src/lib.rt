@@ -1,4 +1,7 @@
 //! Modules of the IR as data: types, instructions, blocks, functions, globals.
+//!
+//! Copies and comparisons of whole modules are exact. `callee_of` tells intrinsics, allocators and other functions
+//! apart by the one table. `first_result` finds the first result of an intrinsic's calls.
 #![tactic(auto)]
 
 mod calls;

@@ -1,4 +1,6 @@
 //! Points, edges and paths of a function; the windows of its saves, and the slots that are its ramp's alone.
+//!
+//! The searches for windows and ramp slots find exactly those that the paths say (`facts_are_right`).
 #![tactic(auto)]
 
 mod law;

@@ -1,4 +1,6 @@
 //! Readers of the parts that instructions and items share: types, attributes, metadata, balanced texts, values and names.
+//!
+//! The readers are equal to their reading functions. Lemmas join each to the grammar, both ways.
 #![tactic(auto)]
 
 mod attrs;

@@ -1,4 +1,6 @@
 //! What the tokens of the text say: words, names, numbers and marks.
+//!
+//! Its readers are equal to their reading functions. Lemmas join each to the grammar, both ways.
 #![tactic(auto)]
 
 mod ident;

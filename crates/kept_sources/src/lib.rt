@@ -1,4 +1,13 @@
 //! That sources that break no rule keep what is asked of values that a resume hands on.
+//!
+//! An accepted source is one that a text stands for and that breaks no rule. Its saves are written out, and its edges
+//! get blocks. Then a resume may leave out what doesn't cross its suspend by `suspend_crossing`, if it is a value
+//! that may cross. Each such run agrees within 4 with that of the source (`accepted_sources_hand_on_what_crosses`),
+//! and within 2 before edges get blocks (`accepted_early_sources_hand_on_what_crosses`).
+//!
+//! What `kept_values` asks holds there by F2 with the types of values (`functions_are_definite`) and by K2, K3, K6
+//! and K7 (`coroutines_keep_suspend_rules`). Blocks on edges leave these (`edge_blocks_keep_suspend_rules`). It also
+//! holds by N1, K1, K2, Y1 and Y2 (`functions_have_plain_names`).
 #![tactic(auto)]
 
 ghost use Rattle.std.specs.Prelude.{◌≡◌, ℕ, ℤ, List, None, Some, true};

@@ -1,4 +1,10 @@
 //! A resume needs no more than the values that cross its suspend: the first step on the way from the meaning of sources to that of framed modules.
+//!
+//! A resume may hand on just the values that cross its suspend and the addresses that are made anew: the two runs
+//! agree within 1 (`crossing_values_are_enough`). It may hand on any values, if those that the analysis finds to
+//! cross are among them, and all that isn't a value that may cross (`values_that_cross_are_enough`). Saves, suspends,
+//! windows and names have to be as the rules ask, in paths. No use may be reached without its definition. What is
+//! asked holds of accepted sources (`kept_sources`).
 #![tactic(auto)]
 
 ghost use Rattle.std.specs.Prelude.{ℕ, ℤ, List};

@@ -1,5 +1,7 @@
 //! The rules of single functions that ask for no paths and no types of values: Y3, Y4, Y5, F3, P1, K1 and K13; and Y4 of
 //! globals.
+//!
+//! It gives the first place of a function (or global) that breaks each of these rules, each by its sentence.
 #![tactic(auto)]
 
 mod addresses;

@@ -1,4 +1,7 @@
 //! Slots that are copied at begin are made before it, and what lies in the frame is used behind it.
+//!
+//! In a coroutine that breaks no rule slots that are copied are made before begin
+//! (`framed_slots_stand_before_begin`). So each pass gives what the next one asks of slots, offsets and flags.
 
 ghost use Rattle.std.specs.Prelude.{◌≡◌, ◌≤◌, ℕ, Bool, List, None, Option, length};
 ghost use Rattle.frame_rules.specs.address_rules.Addresses.{AddressesFit};

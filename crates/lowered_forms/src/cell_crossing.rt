@@ -1,4 +1,7 @@
 //! Where values that cross suspends are kept in cells, nothing crosses a suspend.
+//!
+//! Behind a suspend that the entry reaches no value is needed then but tokens and those of allocas, begin and
+//! `coro.frame` (`nothing_crosses_cells`).
 
 ghost use Rattle.std.specs.Prelude.{◌≡◌, ℕ, Bool, true, List, None};
 ghost use Rattle.lowered_forms.specs.cell_crossing.Crossed.{AreSuspendsApart, IsNothingNeeded};

@@ -1,4 +1,8 @@
 //! What splitting gives of a source that breaks no rule is what the last pass asks for.
+//!
+//! That is `IsCleanable` (`split_modules_are_cleanable`). An operand that names anything outside its function names a
+//! global or a defined function. Nothing that is called by its name is a coro intrinsic. So it is of each source that
+//! a text stands for and that breaks no rule (`accepted_sources_are_cleanable`).
 
 ghost use Rattle.std.specs.Prelude.{ℕ, Bool, List, None, Ok};
 ghost use Rattle.coro_cleanup.specs.Cleanable.{IsCleanable};

@@ -1,4 +1,7 @@
 //! A coroutine whose edges have blocks is the coroutine that it was: what splitting asks of its calls.
+//!
+//! K2, K3, begin's value and the suspends' tokens stay where edges have blocks
+//! (`calls_break_no_rule_where_edges_have_blocks`, `switches_break_no_rule_where_edges_have_blocks`).
 
 ghost use Rattle.std.specs.Prelude.{◌≡◌, ℕ, None, true};
 ghost use Rattle.coro_shape.specs.OneOfEach.{wrong_call};

@@ -1,4 +1,8 @@
 //! A coroutine stays as splitting asks where blocks are put on the edges that leave windows.
+//!
+//! Jumps alone have to lead to its phis. With these blocks it breaks no rule of functions that it broke not
+//! (`exit_blocks_keep_function_rules`), and stays as splitting asks (`exits_keep_splittable`). An edge that is the
+//! only one of its block leaves no window (`only_edges_leave_no_window`).
 
 ghost use Rattle.std.specs.Prelude.{◌≡◌, ℕ, None, Some, true, slice_get};
 ghost use Rattle.coro_shape.specs.OneOfEach.{wrong_call};

@@ -1,4 +1,8 @@
 //! What crosses suspends, and what is returned behind them, in a coroutine whose frame is built.
+//!
+//! In that form the end comes between a suspend and a return (`framed_suspends_end_first`). Behind a suspend that is
+//! reached no value is needed but tokens and those of allocas, begin and `coro.frame`
+//! (`nothing_is_needed_in_framed_coroutines`).
 
 ghost use Rattle.std.specs.Prelude.{◌≡◌, ℕ, List, true, None, Some, slice_get};
 ghost use Rattle.lowered_forms.specs.cell_crossing.Crossed.{IsNothingNeeded};

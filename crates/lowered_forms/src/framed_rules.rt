@@ -1,4 +1,7 @@
 //! What is asked of coroutines so that their frames may be built, and that the framed form breaks no rule of functions.
+//!
+//! A coroutine that breaks none of its rules is one whose frame may be built (`frames_may_be_built`). Its framed form
+//! breaks none of the rules of functions and has the calls that splitting asks for (`framed_forms_are_kept`).
 
 ghost use Rattle.std.specs.Prelude.{ℕ, List};
 ghost use Rattle.coroutine_frames.specs.declared.contents.Contents.{Contents};

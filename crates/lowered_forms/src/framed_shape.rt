@@ -1,4 +1,6 @@
 //! A coroutine whose frame is built is the coroutine that it was: what splitting asks of its calls stays under each of the passes that build frames.
+//!
+//! The passes that build a frame leave the calls of a coroutine (`framed_coroutines_are_kept`).
 
 ghost use Rattle.std.specs.Prelude.{◌≡◌, ℕ, Bool, true, List, None, Option, Some};
 ghost use Rattle.frame_rules.specs.address_rules.Addresses.{AddressesFit};

@@ -1,4 +1,7 @@
 //! A module whose coroutines may be split is accepted by the rules of modules without coroutines, once it is lowered.
+//!
+//! That coroutines may be split is `IsReady`. Lowered is the module once it is split and what is left of the coro
+//! intrinsics is removed (`split_modules_are_accepted`).
 
 ghost use Rattle.std.specs.Prelude.{◌≡◌, None, not, true};
 ghost use Rattle.std.specs.List.{list_all};

@@ -1,4 +1,7 @@
 //! What is lowered of a source that breaks no rule breaks none of the rules of modules without coroutines.
+//!
+//! A text has to stand for the source. The framed form of what the first pass makes of it may be split
+//! (`accepted_sources_are_ready`). So what is lowered of it is accepted (`lowered_sources_are_accepted`).
 
 ghost use Rattle.std.specs.Prelude.{◌≡◌, ℕ, Bool, List, None, Ok, not, true};
 ghost use Rattle.std.specs.List.{list_all};

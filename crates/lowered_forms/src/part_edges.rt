@@ -1,4 +1,6 @@
 //! The parts into which a coroutine is split break none of the rules on edges, returns, allocas and markers.
+//!
+//! They break none of F1, F3 and K13. The parts that go on return nothing (`parts_that_go_on_return_nothing`).
 
 ghost use Rattle.std.specs.Prelude.{◌≡◌, ℕ, None, true};
 ghost use Rattle.edge_rules.specs.Edges.{first_wrong_edge};

@@ -1,4 +1,6 @@
 //! In the parts into which a coroutine is split what is used is defined, and defined once.
+//!
+//! Each local that they use is theirs and is made on each path to its use, and stands once (N1, N2 of locals, F2).
 
 ghost use Rattle.std.specs.Prelude.{◌≡◌, ℕ, [], None, Some, slice_get};
 ghost use Rattle.definite_use.specs.Undefined.{IsFirstUndefined};

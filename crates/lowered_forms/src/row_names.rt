@@ -1,4 +1,6 @@
 //! What of names, types of functions and widths of integers stays in the row of passes up to the framed form.
+//!
+//! That is `framed_forms_have_the_same_names` and seven more.
 
 ghost use Rattle.std.specs.Prelude.{◌≡◌, ℕ, List, None, Some, slice_get};
 ghost use Rattle.frame_rules.specs.cell_rules.Widths.{first_other_width};

@@ -1,4 +1,7 @@
 //! What lies in the frame of a coroutine that breaks no rule is used behind begin, but for accesses to slots.
+//!
+//! What lies in the frame is used behind begin (`frames_lie_behind_begin`, `frame_slots_lie_behind_begin`). So each
+//! pass gives what the next one asks of slots, offsets and flags.
 
 ghost use Rattle.std.specs.Prelude.{◌≡◌, ℕ, None, Some, true};
 ghost use Rattle.lowered_forms.specs.begin_order.Behind.{AreBlocksBehind};

@@ -1,4 +1,10 @@
 //! The parts into which a coroutine is split break none of the rules of modules without coroutines.
+//!
+//! Each block is cut into pieces (`blocks_are_cut_into_pieces`). The parts break no rule on types, calls, sizes and
+//! `musttail` (`parts_keep_rules_of_instructions`). They know their names and fit their types
+//! (`parts_know_names_and_fit_types`), where the locals that they name are their own and the parts that go on return
+//! nothing. The search for the blocks that a function keeps finds exactly those to which paths from its entry lead
+//! (`flagged_labels_are_those_reached`). There labels are positions of its table of names.
 
 ghost use Rattle.std.specs.Prelude.{◌≡◌, ℕ, List, None, Some, false, slice_get, true};
 ghost use Rattle.coro_split.specs.Parts.{plain_of, plain_shape};

@@ -1,4 +1,6 @@
 //! Nothing but calls names a coro intrinsic, in a source and in what the passes make of it.
+//!
+//! That is `sources_name_no_intrinsic` and five more.
 
 ghost use Rattle.std.specs.Prelude.{◌≡◌, ℕ, None, Some, false, slice_get, true};
 ghost use Rattle.coro_split.specs.Parts.{plain_of, plain_shape};

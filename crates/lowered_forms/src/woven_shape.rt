@@ -1,4 +1,7 @@
 //! Functions into which instructions are woven are the coroutines that they were, where the calls by which they are coroutines stay.
+//!
+//! K2 and K3, begin's value, the suspends and their edges stay (`woven_functions_are_shaped`). Still nothing that
+//! asks for begin stands before it.
 
 ghost use Rattle.std.specs.Prelude.{◌≡◌, ℕ, None, Some, true};
 ghost use Rattle.coro_shape.specs.OneOfEach.{wrong_call};

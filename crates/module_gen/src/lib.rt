@@ -1,4 +1,6 @@
 //! The generated module, by which lowering is measured.
+//!
+//! `generate` writes the canonical text of `generated_module`.
 #![tactic(auto)]
 
 mod coroutine;

@@ -1,4 +1,6 @@
 //! The items of a module by their names.
+//!
+//! Tables of names find what the definition searches.
 #![tactic(auto)]
 
 mod names;

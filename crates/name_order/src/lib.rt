@@ -1,4 +1,8 @@
 //! Modules whose names stand in another order than their text has them: what their canonical text stands for.
+//!
+//! A module is in order where the names of each function stand in the order of their first occurrence. The canonical
+//! text of a printable module stands for the module in order, if its parts are parts of the grammar (`IsShaped`,
+//! `printed_in_order`). What some text stands for has that shape (`texts_have_the_shape`).
 #![tactic(auto)]
 
 ghost use Rattle.std.specs.Prelude.{ℕ, List};

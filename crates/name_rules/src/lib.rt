@@ -1,5 +1,7 @@
 //! The rules of names: second definitions (N1), unknown names (N2) and reserved names (N3); and the search for the first
 //! place of a module that breaks a rule.
+//!
+//! It gives the first place of a module that breaks N1, N2 or N3, each by its sentence.
 #![tactic(auto)]
 
 mod definitions;

@@ -1,4 +1,6 @@
 //! The text of types, operands and the words of instructions.
+//!
+//! What it writes is the canonical text.
 #![tactic(auto)]
 
 mod operands;

@@ -1,6 +1,9 @@
 //! The ordinary step: what one instruction does that is no coro intrinsic (LLVM Language Reference, "Instruction
 //! Reference"), in each of the three meanings, as a definition; and the code of what it stands on: programs with their
 //! tables, operands and their values, sizes of types, operations on values.
+//!
+//! Operands, sizes and operations are equal to the one definition of the ordinary step. Tables of names, labels and
+//! marks of allocas find what the definition searches.
 #![tactic(auto)]
 
 mod computing;

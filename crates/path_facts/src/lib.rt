@@ -1,4 +1,7 @@
 //! The facts about paths that a source machine looks up: the windows of saves, and the slots that are a ramp's alone.
+//!
+//! `windows_of` gives exactly the windows of a function's saves with their suspends, in order of the text.
+//! `ramp_slots_of` gives exactly the ramp slots. `all_facts` gives facts that say what the paths say (`HaveFacts`).
 #![tactic(auto)]
 
 mod behind;

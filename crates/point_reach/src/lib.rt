@@ -1,5 +1,8 @@
 //! To which points of a function the paths of up to 64 questions lead: each question has points behind which its paths begin and
 //! points where they end.
+//!
+//! `reached_points` answers them. A point's word has a question's bit exactly where a path of that question leads
+//! there (`IsReached`).
 #![tactic(auto)]
 
 mod question;

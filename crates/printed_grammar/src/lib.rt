@@ -1,4 +1,7 @@
 //! That what is printed of a module is in the grammar again.
+//!
+//! Where a text of bytes stands for a module, the module is printable, and its canonical text stands for it again
+//! (`printed_again`).
 #![tactic(auto)]
 
 ghost use Rattle.std.specs.Prelude.{ℕ, List};

@@ -1,4 +1,7 @@
 //! That the last pass keeps the meaning of what splitting gives of a source that breaks no rule.
+//!
+//! A text has to stand for the source; there is no other premise. Each run of what splitting gives of its framed form
+//! agrees within 1 with the run of what is lowered of it (`cleaned_sources_keep_meaning`).
 
 ghost use Rattle.std.specs.Prelude.{Bool, ℕ, ℤ, List, None, Ok};
 ghost use Rattle.agreement.specs.Agreements.{AgreesWithin};

@@ -1,5 +1,9 @@
 //! The names of each function are all different: in what a text stands for, and in what each pass makes of it. So the text of what is
 //! lowered, which goes by names, stands for the module, in which locals are positions of tables.
+//!
+//! No two names of a function's table are the same, in what a text stands for (`names_of_texts_are_apart`). So it is
+//! in what is lowered of a source that breaks no rule (`lowered_names_are_apart`). Each function has to have fewer
+//! than 2^64 names, as all that lies in memory has.
 
 ghost use Rattle.std.specs.Prelude.{◌≡◌, ℕ, Bool, List, None, Ok, Some, [], slice_get, true};
 ghost use Rattle.coro_cleanup.specs.Cleanup.{clean_module};

@@ -1,4 +1,11 @@
 //! That a run of a module without coroutines goes by no order of names.
+//!
+//! The names of each function are put in the order of their first occurrence. Each run of the module agrees within 1
+//! with the run of that (`names_in_order_keep_meaning`). Parts have to be parts of the grammar, and no name may stand
+//! twice in a table. There what a function sets has its place too (`ordered_names_are_placed`).
+//!
+//! So each run of what is lowered of a source that breaks no rule agrees within 1 with the run of what its text
+//! stands for (`printed_names_keep_meaning`). Each function has to have fewer than 2^64 names.
 
 ghost use Rattle.std.specs.Prelude.{Bool, ℕ, ℤ, List, None, Ok};
 ghost use Rattle.agreement.specs.Agreements.{AgreesWithin};

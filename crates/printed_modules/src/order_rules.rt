@@ -1,4 +1,9 @@
 //! That the rules of modules without coroutines go by no order of names.
+//!
+//! The names of a function are put in the order of their first occurrence. That gives its locals other positions, no
+//! two of them one (`ordered_functions_are_renumbered`). It breaks each rule of plain functions at the place where
+//! the function did (`renumbering_keeps_each_fault`). So the order of names neither breaks a rule of plain modules
+//! nor hides a broken one (`names_in_order_break_no_rule`, `names_in_order_hide_no_fault`).
 
 ghost use Rattle.std.specs.Prelude.{ℕ, None};
 ghost use Rattle.frame_rules.specs.function_rules.Signatures.{HaveSameSignatures};

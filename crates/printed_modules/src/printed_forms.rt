@@ -1,4 +1,14 @@
 //! The text that is printed of a lowered module stands for it: its parts are parts of the grammar, and can be written.
+//!
+//! The names of a function, its types and its flags are such as the grammar has and can be written
+//! (`IsSpelledFunction`). It is so of a source that a text of bytes stands for (`functions_of_texts_can_be_spelled`),
+//! and still behind each pass (`early_functions_can_be_spelled` and seven more). What the parts of a coroutine define
+//! are positions of their tables of names (`parts_have_tabled_locals`), and their phis have operands
+//! (`parts_have_operands_for_their_phis`).
+//!
+//! So what is lowered of a source that breaks no rule has the parts of the grammar and can be written
+//! (`lowered_sources_are_printable`). Its canonical text stands for it with the names of each function in the order
+//! of their first occurrence (`printed_texts_stand_for_lowered_modules`).
 
 ghost use Rattle.std.specs.Prelude.{◌≡◌, ℕ, Bool, List, None, Ok, Option, Some, slice_get};
 ghost use Rattle.begin_copies.specs.BeginCopies.{with_begin_copies};

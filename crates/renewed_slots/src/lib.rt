@@ -1,4 +1,16 @@
 //! A resumed activation may make its local slots anew: the second step on the way from the meaning of sources to that of framed modules.
+//!
+//! The meaning is `RenewedAt`; three worked runs come to their events in it (`renewed_runs`). That it agrees with the
+//! one before isn't proved, but what this is to be made of is. An ordinary step doesn't see that blocks have ended
+//! into which none of its operands leads (`ended_blocks_are_not_seen`). It spreads no pointer into some blocks if no
+//! operand that it may spread is one (`pointers_are_not_spread`). It is made over a target memory where only what it
+//! reads stands there (`read_steps_are_carried`). That is so too where it uses slots that come to stand in blocks of
+//! their own with it (`slot_steps_are_carried`, `places_change`).
+//!
+//! What a resume hands on is right once the slots are made anew (`slots_are_made_anew`, `slot_values_stand`,
+//! `steady_distances_are_kept`). A local slot that was used before a suspend isn't used behind it without a start
+//! between (`local_slots_are_parted`), also by activations that have left (`windows_keep_slots`,
+//! `left_points_go_on`).
 #![tactic(auto)]
 
 ghost use Rattle.std.specs.Prelude.{ℕ, Bool, true, false, List, length, slice_get, Some, None, ◌≡◌, ◌≢◌, ◌≤◌, ◌<◌, ◌^◌, ◌++◌, ◌∷◌, [], ◌==◌, IsTrue, if◌then◌else◌, ◌+◌, ◌⊎◌, Option};

@@ -1,5 +1,10 @@
 //! Which slots of a frame may be alive at which suspends, and which of them may not share bytes ("Coroutines in LLVM",
 //! "Coroutine Representation"; LLVM Language Reference, "llvm.lifetime.start").
+//!
+//! `alive_at` gives exactly the frame slots that may be alive at each suspend (`AreAliveAt`). `conflicts` gives
+//! exactly the pairs of frame slots that conflict (`AreConflicts`). Both are in order. `alive_by` and `conflicts_by`
+//! give the same by the slots' classes, which are then asked for once. `parts_by` tells who conflicts without the
+//! pairs: the slots that conflict with all, and the pairs of the others (`parts_stand_for_pairs`).
 #![tactic(auto)]
 
 mod answer;

@@ -1,5 +1,7 @@
 //! Where the slots of a coroutine live: the classes of its allocas ("Coroutines in LLVM", "Coroutine Representation"; LLVM
 //! Language Reference, "llvm.lifetime.start").
+//!
+//! `classes` gives the class of each alloca, ramp, local or frame, by the four sentences on paths (`AreClasses`).
 #![tactic(auto)]
 
 mod answer;

@@ -1,5 +1,7 @@
 //! What is done with the slots of a coroutine that aren't its ramp's alone: their markers (rule K8), and their addresses
 //! before begin (rule K9; "Coroutines in LLVM", "llvm.coro.begin").
+//!
+//! It gives the first place that breaks K8 and K9, each said by paths (`IsFirstMarked`, `IsFirstEarly`).
 #![tactic(auto)]
 
 mod closed;

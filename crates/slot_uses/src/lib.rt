@@ -1,5 +1,8 @@
 //! Where the slots of a function are used: the addresses of its allocas, what takes them, their lifetime markers, and which
 //! of them escape, for up to 64 slots at once (LLVM Language Reference, "getelementptr", "llvm.lifetime.start").
+//!
+//! It gives the allocas of a function, and for each name the slots that it is an address of. It tells where slots are
+//! used, started and ended, and which escape. Each is exact.
 #![tactic(auto)]
 
 mod addresses;

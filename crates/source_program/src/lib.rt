@@ -1,4 +1,6 @@
 //! A module as a source machine runs it: what it looks up of each function, in tables that are made once.
+//!
+//! What is found in the tables is what the definition searches.
 #![tactic(auto)]
 
 mod points;

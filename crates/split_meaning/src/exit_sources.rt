@@ -1,4 +1,7 @@
 //! That the framed forms of accepted sources have what blocks on the edges that leave windows ask.
+//!
+//! So the framed form of each source that a text stands for and that breaks no rule keeps its meaning with them
+//! (`accepted_exits_keep_framed_meaning`).
 
 ghost use Rattle.std.specs.Prelude.{ℕ, ℤ, Bool, List, None, Ok};
 ghost use Rattle.agreement.specs.Agreements.{AgreesWithin};

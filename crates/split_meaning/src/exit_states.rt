@@ -1,4 +1,9 @@
 //! That blocks on the edges of coroutines that leave windows keep the meaning of framed modules.
+//!
+//! With these blocks each framed run agrees within 2 with the run of the module (`exit_blocks_keep_framed_meaning`).
+//! Locals have to be positions of their functions' tables. Coroutines have to break no rule of functions and not K3,
+//! and to enter phis by jumps alone. Splitting is putting these blocks and then making the parts
+//! (`splitting_begins_with_exit_blocks`).
 
 ghost use Rattle.std.specs.Prelude.{◌≡◌, ℕ, ℤ, List, true};
 ghost use Rattle.agreement.specs.Agreements.{AgreesWithin};

@@ -1,4 +1,7 @@
 //! Framed modules whose functions get blocks on some of their edges.
+//!
+//! The blocks hold a jump alone and leave no window, and all else stays at its place in its block. Each framed run
+//! agrees within 2 with the run of the module (`moves_keep_framed_meaning`).
 
 ghost use Rattle.std.specs.Prelude.{◌≡◌, ℕ, ℤ, List};
 ghost use Rattle.agreement.specs.Agreements.{AgreesWithin};

@@ -1,4 +1,10 @@
 //! Ordinary steps over a source memory and over a target memory in which it stands.
+//!
+//! An ordinary step of a source that isn't undefined is made in the same way over such a target, with what stands for
+//! its values (`step_is_carried`). So are the steps that make blocks, mark them or kill them
+//! (`new_blocks_are_carried`, `markers_are_carried`, `deallocations_are_carried`, `slot_deaths_are_carried`). There a
+//! block that is started stands alone in its home, and one that ends or is killed is the only one that lives there
+//! (`blocks_stay_alone`).
 #![tactic(auto)]
 
 ghost use Rattle.std.specs.Prelude.{ℕ, true, false, List, Some, length, map, slice_get, ◌≡◌};

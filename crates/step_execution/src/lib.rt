@@ -1,5 +1,7 @@
 //! Execution of the ordinary step: instructions, terminators, calls, and entering blocks and functions (LLVM Language
 //! Reference, "Instruction Reference"), for any rights of access.
+//!
+//! `execute`, `make_slot`, `terminate` and `enter_label` do what the one definition of the ordinary step says.
 #![tactic(auto)]
 
 mod call;

@@ -1,4 +1,7 @@
 //! What the ordinary step depends on: the same step in a changed module.
+//!
+//! Each ordinary step does the same, changed, in a module that is changed without touching types, callees and
+//! operands' values (`ordinary_step_is_kept`).
 #![tactic(auto)]
 
 ghost use Rattle.std.specs.Prelude.{◌≡◌};

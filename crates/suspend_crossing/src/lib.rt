@@ -1,5 +1,8 @@
 //! Which values cross which suspends: a value that is defined before a suspend and needed behind its resume or destroy edge
 //! has to lie in the frame ("Coroutines in LLVM", "Coroutine Transformation").
+//!
+//! `crossing` gives exactly the values that cross suspends with their suspends, in order, said by paths
+//! (`AreCrossing`).
 #![tactic(auto)]
 
 mod answer;

@@ -1,4 +1,6 @@
 //! The limits of a module (L1), and the types of calls and of what is called (Y2).
+//!
+//! It gives the first place of a module that breaks L1 or Y2, each by its sentence.
 #![tactic(auto)]
 
 mod depth;

@@ -1,4 +1,6 @@
 //! The sizes of types, where named ones are looked up in a table.
+//!
+//! The size of a type is 2^64 - 1 where it is more.
 #![tactic(auto)]
 
 mod extent;

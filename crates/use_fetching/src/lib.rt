@@ -1,4 +1,6 @@
 //! Uses of some values that are fetched anew before each of them.
+//!
+//! The pass is its definition, `with_fetches`.
 #![tactic(auto)]
 
 mod blocks;

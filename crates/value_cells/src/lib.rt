@@ -1,4 +1,6 @@
 //! Values that cross suspends are kept in cells of the activation and in fields of the instance.
+//!
+//! The pass is its definition, `with_cells`.
 #![tactic(auto)]
 
 mod climbing;

@@ -1,4 +1,6 @@
 //! The types of values: what each part of a function asks of its operands, and the initial values of globals (Y1).
+//!
+//! It gives the first place of a function (or global) that breaks Y1, by its sentence.
 #![tactic(auto)]
 
 mod fits;

@@ -1,5 +1,7 @@
 //! What stands where in a coroutine, by paths: nothing of it before begin or after the end (rule K5), and the windows of
 //! saves (rule K6; "Coroutines in LLVM", "llvm.coro.save").
+//!
+//! It gives the first place that breaks K5 and K6, each said by paths (`IsFirstOutside`, `IsFirstWindow`).
 #![tactic(auto)]
 
 mod labels;
