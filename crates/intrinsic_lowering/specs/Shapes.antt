@@ -1,5 +1,6 @@
 -- What the parts of a coroutine are made by.
 use Rattle.std.specs.Prelude.{ℕ, suc, Bool, true, false, List, [], length, replicate, slice_get, slice_set, codes, ℤ, pos, negsuc, Some, None, Option, unwrap_or, nat_le, ◌+◌, ◌*◌, ◌∷◌, ◌++◌, if◌then◌else◌, ◌==◌}
+pub use Rattle.coro_calls.specs.Calls.{is_true}
 use Rattle.coro_base.specs.declared.name.Name.{Name}
 use Rattle.frame_layout.specs.declared.layout.Layout.{Layout}
 use Rattle.ir_model.specs.Calls.{first_result}
@@ -28,13 +29,6 @@ token_of _ = None
 abbrev pub save_of : List Arg → Option ℕ
 save_of [] = None
 save_of (a ∷ args) = token_of a.value
-
--- the constant true of type i1
-abbrev pub is_true : Operand → Bool
-is_true Operand.True = true
-is_true (Operand.Number (pos n)) = n == 1
-is_true (Operand.Number (negsuc n)) = n == 0
-is_true _ = false
 
 abbrev pub first_is_true : List Arg → Bool
 first_is_true [] = false

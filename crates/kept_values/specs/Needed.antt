@@ -14,43 +14,8 @@ use Rattle.ir_paths.specs.Paths.{targets}
 use Rattle.ir_paths.specs.Slots.{has_name, is_in_args, occurs_in_term}
 use Rattle.ir_paths.specs.Windows.{destroy_label, is_call_of, operand_at, resume_label}
 use Rattle.ir_paths.specs.declared.point.Point.{Point}
+pub use Rattle.ordinary_step.specs.Reads.{reads, reads_at, reads_call, reads_intrinsic}
 use Rattle.ordinary_step.specs.Step.{AtInstr, AtTerm, Fetched, Nowhere, fetch, incoming_from, label_of, phis_of}
-
--- ---- what an instruction reads: the operands whose values its step looks at, so that no token is ever read
-
-abbrev pub reads_intrinsic : ℕ → Intrinsic → List Arg → Bool
-reads_intrinsic v Intrinsic.CoroBegin args = is_local v (operand_at args 1)
-reads_intrinsic v Intrinsic.CoroResume args = is_local v (operand_at args 0)
-reads_intrinsic v Intrinsic.CoroDestroy args = is_local v (operand_at args 0)
-reads_intrinsic v Intrinsic.CoroDone args = is_local v (operand_at args 0)
-reads_intrinsic v Intrinsic.CoroPromise args = is_local v (operand_at args 0)
-reads_intrinsic v Intrinsic.LifetimeStart args = is_in_args v args
-reads_intrinsic v Intrinsic.LifetimeEnd args = is_in_args v args
-reads_intrinsic v Intrinsic.MemcpyI64 args = is_in_args v args
-reads_intrinsic v Intrinsic.MemcpyI32 args = is_in_args v args
-reads_intrinsic v _ args = false
-
-abbrev pub reads_call : ℕ → Callee → List Arg → Bool
-reads_call v (Callee.Named n) args = is_in_args v args
-reads_call v (Callee.Allocator a) args = is_in_args v args
-reads_call v (Callee.Intrinsic i) args = reads_intrinsic v i args
-reads_call v (Callee.Local f) args = (v == f) || is_in_args v args
-
-abbrev pub reads : ℕ → Instr → Bool
-reads v (Instr.Binary name op flags ty a b) = is_local v a || is_local v b
-reads v (Instr.Icmp name pred ty a b) = is_local v a || is_local v b
-reads v (Instr.Select name x a b) = is_local v x || (is_local v a.value || is_local v b.value)
-reads v (Instr.Cast name op nneg arg to) = is_local v arg.value
-reads v (Instr.Alloca name ty align) = false
-reads v (Instr.Load name ty p align) = is_local v p
-reads v (Instr.Store arg p align) = is_local v arg.value || is_local v p
-reads v (Instr.Gep name inbounds ty base indices) = is_local v base || is_in_args v indices
-reads v (Instr.Call result must_tail ty callee args) = reads_call v callee args
-
-abbrev pub reads_at : ℕ → Fetched → Bool
-reads_at v Nowhere = false
-reads_at v (AtInstr i) = reads v i
-reads_at v (AtTerm t) = occurs_in_term v t
 
 -- ---- what an instruction gives: the name whose value its step sets, wherever it goes on
 

@@ -1,6 +1,7 @@
 -- What a run of a source is given, and which suspends are final.
 use Rattle.std.specs.Prelude.{ℕ, Bool, true, false, List, [], ℤ, pos, negsuc, slice_get, Some, None, Option, unwrap_or, ◌∷◌, if◌then◌else◌, ◌==◌}
 use Rattle.std.specs.List.{list_any}
+pub use Rattle.coro_calls.specs.Calls.{is_true}
 use Rattle.ir_model.specs.declared.instr.Instr.{Instr}
 use Rattle.ir_model.specs.declared.module.Frame.{Frame}
 use Rattle.ir_model.specs.declared.module.Function.{Function}
@@ -28,13 +29,6 @@ abbrev pub facts_at : List Facts → ℕ → Facts
 facts_at facts f = unwrap_or (slice_get facts f) (record { windows = []; ramp_slots = [] })
 
 -- ---- final suspends
-
--- the constant true of type i1, whose literals may also be 1 and -1
-abbrev pub is_true : Operand → Bool
-is_true Operand.True = true
-is_true (Operand.Number (pos n)) = n == 1
-is_true (Operand.Number (negsuc n)) = n == 0
-is_true _ = false
 
 abbrev pub is_final_call : Option Instr → Bool
 is_final_call None = false

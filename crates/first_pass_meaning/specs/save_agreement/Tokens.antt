@@ -1,5 +1,6 @@
 -- What writing saves out asks of the calls of a coroutine.
 use Rattle.std.specs.Prelude.{ℕ, List, [], length, Some, None, Option, ◌<◌, ◌∷◌}
+pub use Rattle.step_laws.specs.Changed.{Each}
 use Rattle.ir_model.specs.declared.instr.Instr.{Instr}
 use Rattle.ir_model.specs.declared.module.Block.{Block}
 use Rattle.ir_model.specs.declared.module.Function.{Function}
@@ -26,11 +27,6 @@ pub record HasNamedToken (n : ℕ) (i : Instr) : Type 0 where
   pub result : IsNamedResult n (call_result i)
   pub address : IsNamedResult n (address_name i)
   pub token : IsNamed n (call_operand i 0)
-
--- P holds of each element
-abbrev pub Each : {A : Type 0} → (A → Type 0) → List A → Type 0
-Each P [] = Unit {0}
-Each P (x ∷ xs) = P x × Each P xs
 
 -- the same in all of a function, whose table has these names
 abbrev pub HasNamedTokens : Function → Type 0
