@@ -1,3 +1,5 @@
 pub mod Walk
 pub mod Blocks
 pub mod Bytes
+pub mod Related
+pub mod Marked

@@ -1,14 +1,19 @@
 //! What an ordinary step accesses, what it leaves as it is, rights that change, and instructions that are done in a row.
 #![tactic(auto)]
 
-ghost use Rattle.std.specs.Prelude.{ℕ, List, map, ◌≡◌};
+ghost use Rattle.std.specs.Prelude.{ℕ, List, [], length, map, ◌∷◌, ◌++◌, ◌≡◌};
 ghost use Rattle.block_memory.specs.declared.block.MemoryBlock.{MemoryBlock as Block};
+ghost use Rattle.memory_embedding.specs.Pointers.{Home};
+ghost use Rattle.memory_embedding.specs.Standing.{AreByteRights, Embeds};
 ghost use Rattle.ordinary_step.specs.Step.{Context, Fetched, Work, action_of, without_slots};
 ghost use Rattle.ordinary_step.specs.declared.world.Slot.{Slot as TheSlot};
-ghost use Rattle.step_embedding.specs.Related.{HasNoSlot};
-ghost use Rattle.step_laws.specs.Changed.{Each};
+ghost use Rattle.step_embedding.specs.Deaths.{moved_slot};
+ghost use Rattle.step_embedding.specs.Making.{MakesBlock, whole_home};
+ghost use Rattle.step_embedding.specs.Marks.{MarksBlock};
+ghost use Rattle.step_embedding.specs.Related.{HasNoSlot, IsOperand};
+ghost use Rattle.step_laws.specs.Changed.{Each, operands_at};
 ghost use Rattle.step_access.specs.Accessed.{Span as TheSpan, accessed, slot_blocks, writes};
-ghost use Rattle.step_access.specs.Changed.{ChangesOnly, IsFull, LeavesBytes, LeavesOthers};
+ghost use Rattle.step_access.specs.Changed.{ChangesOnly, IsDefined, IsFull, LeavesBytes, LeavesFree, LeavesOthers, home_block};
 
 /// An ordinary step changes no block but those that it accesses, and a return none but the slots that it kills.
 pub fn other_blocks_stay()
@@ -21,4 +26,19 @@ pub fn other_blocks_stay()
 #[tactic(auto, using(crate::proofs::Bytes::bytes_left))]
 pub fn other_bytes_stay()
     ensures { (c : Context) (w : Work) (here : Fetched) → HasNoSlot here → Each (λ (s : TheSpan). IsFull w.world.memory s.block) (writes c w here) → LeavesBytes (writes c w here) w.world.memory (action_of c w here) }
+{}
+
+/// Of two steps whose operands are related the target's accesses just the homes of the blocks that the source's does, which isn't
+/// undefined: of every instruction but those that make, mark or allocate blocks, of markers, of those that make a block, and of
+/// returns.
+pub fn homes_are_accessed()
+    ensures step { (homes : List Home) (c d : Context) (w x : Work) (here : Fetched) → AreByteRights c.rights → Embeds c.rights d.rights homes w.world.memory x.world.memory → HasNoSlot here → Each (IsOperand homes c d w.values x.values) (operands_at here) → IsDefined (action_of c w here) → accessed d x here ≡ map (home_block homes) (accessed c w here) }
+    ensures marks { (homes : List Home) (c d : Context) (w x : Work) (here : Fetched) → Each (IsOperand homes c d w.values x.values) (operands_at here) → MarksBlock homes c d w x here → accessed d x here ≡ map (home_block homes) (accessed c w here) }
+    ensures makes { (homes : List Home) (c d : Context) (w x : Work) (here : Fetched) → length homes ≡ length w.world.memory → MakesBlock c d w x here → accessed d x here ≡ map (home_block (homes ++ whole_home (length x.world.memory) ∷ [])) (accessed c w here) }
+    ensures slots { (homes : List Home) (slots : List TheSlot) → slot_blocks (map (moved_slot homes) slots) ≡ map (home_block homes) (slot_blocks slots) }
+{}
+
+/// Such a step leaves what is free in the target as it is: each byte that no byte has for its home that the source's program may touch.
+pub fn free_bytes_stay()
+    ensures { (homes : List Home) (c d : Context) (w x : Work) (here : Fetched) → AreByteRights c.rights → Embeds c.rights d.rights homes w.world.memory x.world.memory → HasNoSlot here → Each (IsOperand homes c d w.values x.values) (operands_at here) → IsDefined (action_of c w here) → LeavesFree c.rights homes w.world.memory x.world.memory (action_of d x here) }
 {}
