@@ -3,3 +3,4 @@ pub mod Blocks
 pub mod Bytes
 pub mod Related
 pub mod Marked
+pub mod Turned

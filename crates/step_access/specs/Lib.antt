@@ -1,2 +1,3 @@
 pub mod Accessed
 pub mod Changed
+pub mod Rights

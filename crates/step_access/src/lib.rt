@@ -2,18 +2,21 @@
 #![tactic(auto)]
 
 ghost use Rattle.std.specs.Prelude.{ℕ, List, [], length, map, ◌∷◌, ◌++◌, ◌≡◌};
+ghost use Rattle.block_memory.specs.Memory.{Rights};
 ghost use Rattle.block_memory.specs.declared.block.MemoryBlock.{MemoryBlock as Block};
 ghost use Rattle.memory_embedding.specs.Pointers.{Home};
-ghost use Rattle.memory_embedding.specs.Standing.{AreByteRights, Embeds};
+ghost use Rattle.memory_embedding.specs.Standing.{AreByteRights, AreNullsKept, Embeds};
 ghost use Rattle.ordinary_step.specs.Step.{Context, Fetched, Work, action_of, without_slots};
 ghost use Rattle.ordinary_step.specs.declared.world.Slot.{Slot as TheSlot};
+ghost use Rattle.ordinary_step.specs.declared.world.World.{World as TheWorld};
 ghost use Rattle.step_embedding.specs.Deaths.{moved_slot};
 ghost use Rattle.step_embedding.specs.Making.{MakesBlock, whole_home};
 ghost use Rattle.step_embedding.specs.Marks.{MarksBlock};
-ghost use Rattle.step_embedding.specs.Related.{HasNoSlot, IsOperand};
+ghost use Rattle.step_embedding.specs.Related.{AreWorlds, HasNoSlot, IsOperand};
 ghost use Rattle.step_laws.specs.Changed.{Each, operands_at};
 ghost use Rattle.step_access.specs.Accessed.{Span as TheSpan, accessed, slot_blocks, writes};
 ghost use Rattle.step_access.specs.Changed.{ChangesOnly, IsDefined, IsFull, LeavesBytes, LeavesFree, LeavesOthers, home_block};
+ghost use Rattle.step_access.specs.Rights.{AreReowned, MayTurn, with_blocks};
 
 /// An ordinary step changes no block but those that it accesses, and a return none but the slots that it kills.
 pub fn other_blocks_stay()
@@ -41,4 +44,11 @@ pub fn homes_are_accessed()
 /// Such a step leaves what is free in the target as it is: each byte that no byte has for its home that the source's program may touch.
 pub fn free_bytes_stay()
     ensures { (homes : List Home) (c d : Context) (w x : Work) (here : Fetched) → AreByteRights c.rights → Embeds c.rights d.rights homes w.world.memory x.world.memory → HasNoSlot here → Each (IsOperand homes c d w.values x.values) (operands_at here) → IsDefined (action_of c w here) → LeavesFree c.rights homes w.world.memory x.world.memory (action_of d x here) }
+{}
+
+/// A source stands in a target still where the rights of both and the owners of blocks change, if what may be touched and compared in
+/// the source from now on might be before, or holds nothing and lies apart from all others, and the target's rights allow it.
+pub fn rights_may_change()
+    ensures memory { (before target after later : Rights) (homes : List Home) (m n k l : List Block) → AreReowned m k → AreReowned n l → MayTurn before after later homes m k l → Embeds before target homes m n → Embeds after later homes k l }
+    ensures worlds { (before target after later : Rights) (homes : List Home) (moves : ℕ → ℕ) (s t : TheWorld) (k l : List Block) → AreReowned s.memory k → AreReowned t.memory l → MayTurn before after later homes s.memory k l → AreNullsKept after later homes k l → AreWorlds before target homes moves s t → AreWorlds after later homes moves (with_blocks s k) (with_blocks t l) }
 {}
