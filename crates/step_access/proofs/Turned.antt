@@ -1,7 +1,7 @@
 -- Rights that change: the source still stands in the target.
-use Rattle.std.proofs.Common.{◌≡◌, ◌≢◌, ℕ, ◌+◌, ◌^◌, ◌<◌, ◌≤◌, ◌⊎◌, true, false, List, get_or, length, Option, Some, None, refl, sym, ap, ◌∙◌, subst, ⊎_elim}
+use Rattle.std.proofs.Common.{◌≡◌, ◌≢◌, ℕ, zero, suc, ◌+◌, ◌^◌, ◌<◌, ◌≤◌, ◌⊎◌, true, false, List, [], ◌∷◌, get_or, length, Option, Some, None, refl, sym, ap, ◌∙◌, subst, ⊎_elim}
 use Rattle.std.specs.Prelude.{slice_get}
-use Rattle.block_memory.specs.Memory.{Rights, is_live, same_kind}
+use Rattle.block_memory.specs.Memory.{Rights, disown, is_live, owned_to, same_kind, with_block}
 use Rattle.block_memory.specs.declared.block.Byte.{Byte}
 use Rattle.block_memory.specs.declared.block.Kind.{Kind}
 use Rattle.block_memory.specs.declared.block.MemoryBlock.{MemoryBlock}
@@ -126,3 +126,25 @@ worlds_turn before target after then homes moves s t k l ours theirs turn nulls 
   answers = works.answers;
   allocs = works.allocs;
 }
+
+-- ---- owners of one block
+
+reowned_itself : (o : Option MemoryBlock) → IsReowned o o
+reowned_itself None = tt
+reowned_itself (Some x) = refl
+
+reowned_block : (m : List MemoryBlock) (k b : ℕ) (owner : Option ℕ) → IsReowned (slice_get m b) (slice_get (with_block m k (λ (x : MemoryBlock). record x { owned = owner })) b)
+reowned_block [] k b owner = tt
+reowned_block (x ∷ m) zero zero owner = refl
+reowned_block (x ∷ m) zero (suc b) owner = reowned_itself (slice_get m b)
+reowned_block (x ∷ m) (suc k) zero owner = refl
+reowned_block (x ∷ m) (suc k) (suc b) owner = reowned_block m k b owner
+
+pub owned_reowns : (m : List MemoryBlock) (b size : ℕ) → AreReowned m (with_block m b (owned_to size))
+owned_reowns m b size = record { each = λ c. reowned_block m b c (Some size) }
+
+pub disowned_reowns : (m : List MemoryBlock) (b : ℕ) → AreReowned m (disown m b)
+disowned_reowns m b = record { each = λ c. reowned_block m b c None }
+
+pub same_reowns : (m : List MemoryBlock) → AreReowned m m
+same_reowns m = record { each = λ c. reowned_itself (slice_get m c) }

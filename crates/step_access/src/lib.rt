@@ -2,7 +2,7 @@
 #![tactic(auto)]
 
 ghost use Rattle.std.specs.Prelude.{ℕ, List, [], length, map, ◌∷◌, ◌++◌, ◌≡◌};
-ghost use Rattle.block_memory.specs.Memory.{Rights};
+ghost use Rattle.block_memory.specs.Memory.{Rights, disown, owned_to, with_block};
 ghost use Rattle.block_memory.specs.declared.block.MemoryBlock.{MemoryBlock as Block};
 ghost use Rattle.memory_embedding.specs.Pointers.{Home};
 ghost use Rattle.memory_embedding.specs.Standing.{AreByteRights, AreNullsKept, Embeds};
@@ -51,4 +51,11 @@ pub fn free_bytes_stay()
 pub fn rights_may_change()
     ensures memory { (before target after later : Rights) (homes : List Home) (m n k l : List Block) → AreReowned m k → AreReowned n l → MayTurn before after later homes m k l → Embeds before target homes m n → Embeds after later homes k l }
     ensures worlds { (before target after later : Rights) (homes : List Home) (moves : ℕ → ℕ) (s t : TheWorld) (k l : List Block) → AreReowned s.memory k → AreReowned t.memory l → MayTurn before after later homes s.memory k l → AreNullsKept after later homes k l → AreWorlds before target homes moves s t → AreWorlds after later homes moves (with_blocks s k) (with_blocks t l) }
+{}
+
+/// Where a block gets an owner or loses it, the memory differs in who owns blocks.
+pub fn owners_change()
+    ensures own { (m : List Block) (b size : ℕ) → AreReowned m (with_block m b (owned_to size)) }
+    ensures disown { (m : List Block) (b : ℕ) → AreReowned m (disown m b) }
+    ensures same { (m : List Block) → AreReowned m m }
 {}
