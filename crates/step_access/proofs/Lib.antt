@@ -4,3 +4,4 @@ pub mod Bytes
 pub mod Related
 pub mod Marked
 pub mod Turned
+pub mod Lines

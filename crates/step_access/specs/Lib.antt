@@ -1,3 +1,4 @@
 pub mod Accessed
 pub mod Changed
 pub mod Rights
+pub mod Lines

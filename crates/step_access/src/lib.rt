@@ -1,11 +1,13 @@
 //! What an ordinary step accesses, what it leaves as it is, rights that change, and instructions that are done in a row.
 #![tactic(auto)]
 
-ghost use Rattle.std.specs.Prelude.{ℕ, List, [], length, map, ◌∷◌, ◌++◌, ◌≡◌};
+ghost use Rattle.std.specs.Prelude.{ℕ, Bool, true, List, [], length, map, ◌∷◌, ◌++◌, ◌≡◌};
 ghost use Rattle.block_memory.specs.Memory.{Rights, disown, owned_to, with_block};
 ghost use Rattle.block_memory.specs.declared.block.MemoryBlock.{MemoryBlock as Block};
+ghost use Rattle.ir_model.specs.declared.instr.Instr.{Instr};
 ghost use Rattle.memory_embedding.specs.Pointers.{Home};
 ghost use Rattle.memory_embedding.specs.Standing.{AreByteRights, AreNullsKept, Embeds};
+ghost use Rattle.ordinary_step.specs.Runs.{iterate};
 ghost use Rattle.ordinary_step.specs.Step.{Context, Fetched, Work, action_of, without_slots};
 ghost use Rattle.ordinary_step.specs.declared.world.Slot.{Slot as TheSlot};
 ghost use Rattle.ordinary_step.specs.declared.world.World.{World as TheWorld};
@@ -16,6 +18,7 @@ ghost use Rattle.step_embedding.specs.Related.{AreWorlds, HasNoSlot, IsOperand};
 ghost use Rattle.step_laws.specs.Changed.{Each, operands_at};
 ghost use Rattle.step_access.specs.Accessed.{Span as TheSpan, accessed, slot_blocks, writes};
 ghost use Rattle.step_access.specs.Changed.{ChangesOnly, IsDefined, IsFull, LeavesBytes, LeavesFree, LeavesOthers, home_block};
+ghost use Rattle.step_access.specs.Lines.{GoesOn, Runs, StandAt};
 ghost use Rattle.step_access.specs.Rights.{AreReowned, MayTurn, with_blocks};
 
 /// An ordinary step changes no block but those that it accesses, and a return none but the slots that it kills.
@@ -58,4 +61,16 @@ pub fn owners_change()
     ensures own { (m : List Block) (b size : ℕ) → AreReowned m (with_block m b (owned_to size)) }
     ensures disown { (m : List Block) (b : ℕ) → AreReowned m (disown m b) }
     ensures same { (m : List Block) → AreReowned m m }
+{}
+
+/// A machine executes a straight line: where it goes on behind each instruction that is done, n steps take it n instructions further
+/// on, with the work that those leave one after another.
+pub fn lines_are_executed<S>()
+    ensures { (step : S → S) (ahead : ℕ → Work → S) (c : Context) (block at : ℕ) (test : Instr → Bool) (line : List Instr) (w x : Work) → GoesOn step ahead c block at test → StandAt c.function block at line → Each (λ (i : Instr). test i ≡ true) line → Runs c line w x → iterate step (length line) (ahead 0 w) ≡ ahead (length line) x }
+{}
+
+/// A line and another behind it are a line.
+#[tactic(auto, using(crate::proofs::Lines::runs_append))]
+pub fn lines_are_joined()
+    ensures { (c : Context) (line more : List Instr) (w v x : Work) → Runs c line w v → Runs c more v x → Runs c (line ++ more) w x }
 {}
