@@ -5,3 +5,5 @@ pub mod Related
 pub mod Marked
 pub mod Turned
 pub mod Lines
+pub mod Ranges
+pub mod Done

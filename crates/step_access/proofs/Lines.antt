@@ -1,9 +1,8 @@
 -- A machine executes a straight line.
-use Rattle.std.proofs.Common.{◌≡◌, ℕ, zero, suc, ◌+◌, Bool, true, List, [], ◌∷◌, ◌++◌, length, refl, sym, ap, ◌∙◌, subst, arith}
+use Rattle.std.proofs.Common.{◌≡◌, ℕ, suc, ◌+◌, Bool, true, List, [], ◌∷◌, ◌++◌, length, sym, ap, ◌∙◌, subst, arith}
 use Rattle.ir_model.specs.declared.instr.Instr.{Instr}
-use Rattle.ir_model.specs.declared.module.Function.{Function}
 use Rattle.ordinary_step.specs.Runs.{iterate}
-use Rattle.ordinary_step.specs.Step.{AtInstr, Context, Done, Work, fetch, instr_action}
+use Rattle.ordinary_step.specs.Step.{Context, Work}
 use Rattle.step_access.specs.Lines.{GoesOn, Runs, StandAt}
 use Rattle.step_laws.specs.Changed.{Each}
 

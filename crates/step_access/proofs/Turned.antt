@@ -1,15 +1,15 @@
 -- Rights that change: the source still stands in the target.
-use Rattle.std.proofs.Common.{◌≡◌, ◌≢◌, ℕ, zero, suc, ◌+◌, ◌^◌, ◌<◌, ◌≤◌, ◌⊎◌, true, false, List, [], ◌∷◌, get_or, length, Option, Some, None, refl, sym, ap, ◌∙◌, subst, ⊎_elim}
+use Rattle.std.proofs.Common.{◌≡◌, ◌≢◌, ℕ, zero, suc, ◌+◌, ◌^◌, ◌<◌, ◌≤◌, true, List, [], ◌∷◌, get_or, length, Option, Some, None, refl, sym, ap, ◌∙◌, subst, ⊎_elim}
 use Rattle.std.specs.Prelude.{slice_get}
 use Rattle.block_memory.specs.Memory.{Rights, disown, is_live, owned_to, same_kind, with_block}
 use Rattle.block_memory.specs.declared.block.Byte.{Byte}
 use Rattle.block_memory.specs.declared.block.Kind.{Kind}
 use Rattle.block_memory.specs.declared.block.MemoryBlock.{MemoryBlock}
 use Rattle.memory_embedding.specs.Pointers.{Home, IsByte, home_of}
-use Rattle.memory_embedding.specs.Standing.{AreApart, AreBoundsKept, AreNullsKept, Embeds, HasBounds, IsOpen, Stands, byte_of}
+use Rattle.memory_embedding.specs.Standing.{AreApart, AreBoundsKept, AreNullsKept, Embeds, Stands, byte_of}
 use Rattle.ordinary_step.specs.declared.world.World.{World}
 use Rattle.step_access.specs.Changed.{home_block}
-use Rattle.step_access.specs.Rights.{AreReowned, IsApartFrom, IsOnlyPlace, IsReowned, MayTurn}
+use Rattle.step_access.specs.Rights.{AreReowned, IsReowned, MayTurn}
 use Rattle.step_embedding.specs.Related.{AreWorlds}
 
 -- the block that there was, or that there is now, with another owner

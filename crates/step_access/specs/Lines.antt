@@ -1,6 +1,6 @@
 -- Straight lines: instructions that each are done, one behind another.
-use Rattle.std.specs.Prelude.{ℕ, Bool, true, false, List, [], ◌∷◌, length, take, drop, slice_get, Some, ◌+◌, ◌≤◌, ◌≡◌, ◌≢◌, ◌⊎◌}
-use Rattle.block_memory.specs.Memory.{Rights, is_live, same_kind}
+use Rattle.std.specs.Prelude.{ℕ, Bool, true, false, List, [], ◌∷◌, length, take, drop, slice_get, Some, ◌+◌, ◌<◌, ◌≤◌, ◌≡◌, ◌≢◌, ◌⊎◌}
+use Rattle.block_memory.specs.Memory.{Rights, is_live, same_kind, write}
 use Rattle.block_memory.specs.Pointers.{offset_of}
 use Rattle.block_memory.specs.declared.block.Byte.{Byte}
 use Rattle.block_memory.specs.declared.block.Kind.{Kind}
@@ -9,8 +9,10 @@ use Rattle.block_memory.specs.declared.pointer.Pointer.{Pointer}
 use Rattle.block_memory.specs.declared.pointer.Value.{Value}
 use Rattle.ir_model.specs.declared.instr.Instr.{Instr}
 use Rattle.ir_model.specs.declared.module.Function.{Function}
+use Rattle.ir_model.specs.declared.operand.Intrinsic.{Intrinsic}
 use Rattle.memory_embedding.specs.Standing.{IsAlignment}
-use Rattle.ordinary_step.specs.Step.{Action, AtInstr, Context, Done, Work, fetch, instr_action}
+use Rattle.ordinary_step.specs.Step.{AtInstr, Context, Done, Work, fetch, instr_action}
+use Rattle.ordinary_step.specs.Values.{nth}
 
 -- ---- runs
 
@@ -48,3 +50,21 @@ pub record Holds (rights : Rights) (m : List MemoryBlock) (b o most : ℕ) (byte
 -- two ranges have no byte in common
 abbrev pub AreDisjoint : (b o len c p len' : ℕ) → Type 0
 AreDisjoint b o len c p len' = (c ≢ b) ⊎ ((p + len' ≤ o) ⊎ (o + len ≤ p))
+
+-- either call of memcpy
+abbrev pub is_memcpy : Intrinsic → Bool
+is_memcpy Intrinsic.MemcpyI64 = true
+is_memcpy Intrinsic.MemcpyI32 = true
+is_memcpy _ = false
+
+-- the memory with other bytes from an offset of a block on
+abbrev pub refilled_at : List MemoryBlock → (block offset : ℕ) → List Byte → List MemoryBlock
+refilled_at m b o new = write m (record { block = b; offset = o }) new
+
+-- a copy of as many bytes as there are in a range to another one
+pub record IsCopyOf (vs : List Value) (b o a p len : ℕ) : Type 0 where
+  pub to : nth vs 0 ≡ pointer_at b o
+  pub from : nth vs 1 ≡ pointer_at a p
+  pub width : ℕ
+  pub long : nth vs 2 ≡ Value.Int (record { width = width; bits = len })
+  pub some : 0 < len

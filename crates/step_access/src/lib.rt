@@ -1,14 +1,25 @@
 //! What an ordinary step accesses, what it leaves as it is, rights that change, and instructions that are done in a row.
 #![tactic(auto)]
 
-ghost use Rattle.std.specs.Prelude.{ℕ, Bool, true, List, [], length, map, ◌∷◌, ◌++◌, ◌≡◌};
-ghost use Rattle.block_memory.specs.Memory.{Rights, disown, owned_to, with_block};
+ghost use Rattle.std.specs.Prelude.{ℕ, Bool, true, List, [], length, map, slice_get, Some, Option, ◌∷◌, ◌++◌, ◌+◌, ◌<◌, ◌≤◌, ◌≡◌};
+ghost use Rattle.block_memory.specs.Memory.{Rights, access_bytes, decode, disown, encode, is_live, owned_to, with_block};
+ghost use Rattle.block_memory.specs.Pointers.{moved};
+ghost use Rattle.block_memory.specs.declared.block.Byte.{Byte as TheByte};
+ghost use Rattle.block_memory.specs.declared.pointer.Offset.{Offset as TheOffset};
+ghost use Rattle.block_memory.specs.declared.pointer.Pointer.{Pointer as ThePointer};
+ghost use Rattle.block_memory.specs.declared.pointer.Value.{Value as TheValue};
 ghost use Rattle.block_memory.specs.declared.block.MemoryBlock.{MemoryBlock as Block};
+ghost use Rattle.ir_model.specs.Ty.{Ty as TheType, ptr};
 ghost use Rattle.ir_model.specs.declared.instr.Instr.{Instr};
+ghost use Rattle.ir_model.specs.declared.operand.Arg.{Arg as TheArg};
+ghost use Rattle.ir_model.specs.declared.operand.Callee.{Callee as TheCallee};
+ghost use Rattle.ir_model.specs.declared.operand.Intrinsic.{Intrinsic as TheIntrinsic};
+ghost use Rattle.ir_model.specs.declared.operand.Operand.{Operand as TheOperand};
 ghost use Rattle.memory_embedding.specs.Pointers.{Home};
-ghost use Rattle.memory_embedding.specs.Standing.{AreByteRights, AreNullsKept, Embeds};
+ghost use Rattle.memory_embedding.specs.Standing.{AreByteRights, AreNullsKept, Embeds, IsAway};
 ghost use Rattle.ordinary_step.specs.Runs.{iterate};
-ghost use Rattle.ordinary_step.specs.Step.{Context, Fetched, Work, action_of, without_slots};
+ghost use Rattle.ordinary_step.specs.Step.{Context, Done, Fetched, Work, action_of, instr_action, is_alignment, set_memory, set_value, value_at, without_slots};
+ghost use Rattle.ordinary_step.specs.Values.{access_of, arg_value, arg_values, distance, indices_of, is_in_bounds, stored};
 ghost use Rattle.ordinary_step.specs.declared.world.Slot.{Slot as TheSlot};
 ghost use Rattle.ordinary_step.specs.declared.world.World.{World as TheWorld};
 ghost use Rattle.step_embedding.specs.Deaths.{moved_slot};
@@ -17,8 +28,8 @@ ghost use Rattle.step_embedding.specs.Marks.{MarksBlock};
 ghost use Rattle.step_embedding.specs.Related.{AreWorlds, HasNoSlot, IsOperand};
 ghost use Rattle.step_laws.specs.Changed.{Each, operands_at};
 ghost use Rattle.step_access.specs.Accessed.{Span as TheSpan, accessed, slot_blocks, writes};
-ghost use Rattle.step_access.specs.Changed.{ChangesOnly, IsDefined, IsFull, LeavesBytes, LeavesFree, LeavesOthers, home_block};
-ghost use Rattle.step_access.specs.Lines.{GoesOn, Runs, StandAt};
+ghost use Rattle.step_access.specs.Changed.{ChangesOnly, IsDefined, IsFree, IsFull, KeepsFree, LeavesBytes, LeavesFree, LeavesOthers, home_block};
+ghost use Rattle.step_access.specs.Lines.{AreDisjoint, GoesOn, Holds, IsCopyOf, Runs, StandAt, is_memcpy, pointer_at, refilled_at};
 ghost use Rattle.step_access.specs.Rights.{AreReowned, MayTurn, with_blocks};
 
 /// An ordinary step changes no block but those that it accesses, and a return none but the slots that it kills.
@@ -73,4 +84,22 @@ pub fn lines_are_executed<S>()
 #[tactic(auto, using(crate::proofs::Lines::runs_append))]
 pub fn lines_are_joined()
     ensures { (c : Context) (line more : List Instr) (w v x : Work) → Runs c line w v → Runs c more v x → Runs c (line ++ more) w x }
+{}
+
+/// Where a range holds bytes a load from it gives the value that they stand for, a store into it and a copy to it from another write
+/// it, and the address of a name moved by a distance is that of the byte there.
+pub fn ranges_are_accessed()
+    ensures load { (c : Context) (w : Work) (name align b o most : ℕ) (ty : TheType) (p : TheOperand) (bytes : List TheByte) → value_at c w ptr p ≡ pointer_at b o → Holds c.rights w.world.memory b o most bytes → length bytes ≡ access_bytes (access_of ty) → is_alignment align ≡ true → align ≤ most → instr_action c w (Instr.Load name ty p align) ≡ Done (set_value w name (decode (access_of ty) bytes)) }
+    ensures store { (c : Context) (w : Work) (align b o most : ℕ) (arg : TheArg) (p : TheOperand) (bytes : List TheByte) → value_at c w ptr p ≡ pointer_at b o → Holds c.rights w.world.memory b o most bytes → length bytes ≡ access_bytes (access_of arg.ty) → is_alignment align ≡ true → align ≤ most → instr_action c w (Instr.Store arg p align) ≡ Done (set_memory w (refilled_at w.world.memory b o (encode (access_bytes (access_of arg.ty)) (stored (access_of arg.ty) (arg_value c.code w.values arg))))) }
+    ensures copy { (c : Context) (w : Work) (i : TheIntrinsic) (result : Option ℕ) (must_tail : Bool) (ty : Option TheType) (args : List TheArg) (b o most a p much len : ℕ) (old bytes : List TheByte) → is_memcpy i ≡ true → IsCopyOf (arg_values c.code w.values args) b o a p len → Holds c.rights w.world.memory b o most old → Holds c.rights w.world.memory a p much bytes → length old ≡ len → length bytes ≡ len → 1 ≤ most → 1 ≤ much → AreDisjoint b o len a p len → instr_action c w (Instr.Call result must_tail ty (TheCallee.Intrinsic i) args) ≡ Done (set_memory w (refilled_at w.world.memory b o bytes)) }
+    ensures address { (c : Context) (w : Work) (name b d : ℕ) (o : TheOffset) (inbounds : Bool) (ty : TheType) (base : TheOperand) (indices : List TheArg) → value_at c w ptr base ≡ TheValue.Ptr (ThePointer.At b o) → distance c.code ty (indices_of c.code w.values indices) ≡ Some d → (inbounds ≡ true → is_in_bounds (slice_get w.world.memory b) (moved o d) ≡ true) → instr_action c w (Instr.Gep name inbounds ty base indices) ≡ Done (set_value w name (TheValue.Ptr (ThePointer.At b (moved o d)))) }
+{}
+
+/// A range holds what is written into it, and keeps what it holds where another one is written, and where a step is made of which
+/// nothing stands there; the source stands where a range is written in which nothing of it stands.
+pub fn ranges_are_kept()
+    ensures written { (rights : Rights) (m : List Block) (b o most : ℕ) (bytes new : List TheByte) → AreByteRights rights → Holds rights m b o most bytes → length new ≡ length bytes → Holds rights (refilled_at m b o new) b o most new }
+    ensures others { (rights : Rights) (m : List Block) (b o most c p much : ℕ) (bytes old new : List TheByte) → AreByteRights rights → Holds rights m b o most bytes → Holds rights m c p much old → length new ≡ length old → AreDisjoint c p (length new) b o (length bytes) → Holds rights (refilled_at m c p new) b o most bytes }
+    ensures free { (rights target : Rights) (homes : List Home) (m n k : List Block) (b o most : ℕ) (bytes : List TheByte) → AreByteRights target → KeepsFree rights homes m n k → Holds target n b o most bytes → ((i : ℕ) → i < length bytes → IsFree rights homes m b (o + i)) → Holds target k b o most bytes }
+    ensures source { (rights target : Rights) (homes : List Home) (m n : List Block) (b o most : ℕ) (bytes new : List TheByte) → AreByteRights rights → AreByteRights target → Embeds rights target homes m n → Holds target n b o most bytes → length new ≡ length bytes → ((a : ℕ) (z : Block) → slice_get m a ≡ Some z → is_live z.life ≡ true → IsAway rights homes a z b o (length bytes)) → Embeds rights target homes m (refilled_at n b o new) }
 {}
