@@ -7,3 +7,4 @@ pub mod Turned
 pub mod Lines
 pub mod Ranges
 pub mod Done
+pub mod Loaded

@@ -5,6 +5,7 @@ ghost use Rattle.std.specs.Prelude.{ℕ, Bool, true, List, [], length, map, slic
 ghost use Rattle.block_memory.specs.Memory.{Rights, access_bytes, decode, disown, encode, is_live, owned_to, with_block};
 ghost use Rattle.block_memory.specs.Pointers.{moved};
 ghost use Rattle.block_memory.specs.declared.block.Byte.{Byte as TheByte};
+ghost use Rattle.block_memory.specs.declared.pointer.Access.{Access as TheAccess};
 ghost use Rattle.block_memory.specs.declared.pointer.Offset.{Offset as TheOffset};
 ghost use Rattle.block_memory.specs.declared.pointer.Pointer.{Pointer as ThePointer};
 ghost use Rattle.block_memory.specs.declared.pointer.Value.{Value as TheValue};
@@ -102,4 +103,10 @@ pub fn ranges_are_kept()
     ensures others { (rights : Rights) (m : List Block) (b o most c p much : ℕ) (bytes old new : List TheByte) → AreByteRights rights → Holds rights m b o most bytes → Holds rights m c p much old → length new ≡ length old → AreDisjoint c p (length new) b o (length bytes) → Holds rights (refilled_at m c p new) b o most bytes }
     ensures free { (rights target : Rights) (homes : List Home) (m n k : List Block) (b o most : ℕ) (bytes : List TheByte) → AreByteRights target → KeepsFree rights homes m n k → Holds target n b o most bytes → ((i : ℕ) → i < length bytes → IsFree rights homes m b (o + i)) → Holds target k b o most bytes }
     ensures source { (rights target : Rights) (homes : List Home) (m n : List Block) (b o most : ℕ) (bytes new : List TheByte) → AreByteRights rights → AreByteRights target → Embeds rights target homes m n → Holds target n b o most bytes → length new ≡ length bytes → ((a : ℕ) (z : Block) → slice_get m a ≡ Some z → is_live z.life ≡ true → IsAway rights homes a z b o (length bytes)) → Embeds rights target homes m (refilled_at n b o new) }
+{}
+
+/// What is stored in at least one byte is loaded again.
+#[tactic(auto, using(crate::proofs::Loaded::stored_back))]
+pub fn stored_values_are_loaded()
+    ensures { (what : TheAccess) (v : TheValue) → 0 < access_bytes what → decode what (encode (access_bytes what) (stored what v)) ≡ stored what v }
 {}
