@@ -1,13 +1,25 @@
 //! What the laws of steps that access memory, of rights that change and of straight lines say of frames and of machines.
 #![tactic(auto)]
 
-ghost use Rattle.std.specs.Prelude.{ℕ, List, [], ◌∷◌, ◌++◌, Some, None, slice_get, ◌≡◌};
+ghost use Rattle.std.specs.Prelude.{ℕ, true, List, [], length, ◌∷◌, ◌++◌, Some, None, slice_get, ◌≡◌};
 ghost use Rattle.block_memory.specs.Memory.{owned_to, owner_rights, with_block};
 ghost use Rattle.block_memory.specs.declared.block.MemoryBlock.{MemoryBlock as Block};
 ghost use Rattle.embedding_worked.specs.Worked.{an_instance, frame_given, owned_block};
 ghost use Rattle.block_memory.specs.declared.block.Kind.{Kind as TheKind};
 ghost use Rattle.coro_meaning.specs.declared.state.Instance.{Instance as TheInstance};
-ghost use Rattle.framed_meaning.specs.Framed.{FramedGiven, frame_rights, layout_of};
+ghost use Rattle.access_worked.specs.Machines.{ahead, gives_no_frame, plain_ahead};
+ghost use Rattle.coro_base.specs.declared.outcome.Outcome.{Outcome as TheOutcome};
+ghost use Rattle.coro_meaning.specs.Source.{Continues, context_of, step_by};
+ghost use Rattle.coro_meaning.specs.State.{function_of, work_of};
+ghost use Rattle.coro_meaning.specs.declared.state.State.{State as TheState};
+ghost use Rattle.framed_meaning.specs.Framed.{FramedGiven, frame_rights, framed_context, framed_step, layout_of};
+ghost use Rattle.ir_model.specs.declared.instr.Instr.{Instr};
+ghost use Rattle.ordinary_step.specs.Runs.{iterate};
+ghost use Rattle.ordinary_step.specs.Step.{Work};
+ghost use Rattle.plain_meaning.specs.Plain.{PlainGiven, plain_context, plain_function, plain_step, plain_work};
+ghost use Rattle.plain_meaning.specs.declared.state.PlainState.{PlainState as ThePlainState};
+ghost use Rattle.step_access.specs.Lines.{Runs, StandAt};
+ghost use Rattle.step_laws.specs.Changed.{Each};
 ghost use Rattle.memory_embedding.specs.Pointers.{Home, home_of};
 ghost use Rattle.memory_embedding.specs.Standing.{Embeds, blank_block};
 ghost use Rattle.source_program.specs.Given.{Given};
@@ -24,4 +36,12 @@ pub fn begin_keeps_what_stands()
 pub fn a_begin_is_worked()
     ensures before { (g : FramedGiven) → Embeds owner_rights (frame_rights g []) (whole_home 0 ∷ []) (blank_block 48 16 TheKind.Allocator ∷ []) (blank_block 48 16 TheKind.Allocator ∷ []) }
     ensures after { (given : Given) → Embeds owner_rights (frame_rights (frame_given given) (an_instance ∷ [])) (whole_home 0 ∷ []) (owned_block 48 16 32 ∷ []) (owned_block 48 16 32 ∷ []) }
+{}
+
+/// The machines of plain modules, of sources and of framed modules execute straight lines: n steps take them n instructions further on.
+/// In a framed run the line has no call that gives a ramp its frame.
+pub fn machines_execute_lines()
+    ensures plain { (g : PlainGiven) (s : ThePlainState) → s.outcome ≡ TheOutcome.Running → (line : List Instr) (x : Work) → StandAt (plain_function g s) s.top.block s.top.at line → Runs (plain_context g s) line (plain_work s) x → iterate (plain_step g) (length line) s ≡ plain_ahead s (length line) x }
+    ensures source { (g : Given) (go : Continues) (s : TheState) → s.outcome ≡ TheOutcome.Running → (line : List Instr) (x : Work) → StandAt (function_of g s) s.top.block s.top.at line → Runs (context_of g s) line (work_of s) x → iterate (step_by g go) (length line) s ≡ ahead s (length line) x }
+    ensures framed { (g : FramedGiven) (s : TheState) → s.outcome ≡ TheOutcome.Running → (line : List Instr) (x : Work) → Each (λ (i : Instr). gives_no_frame g.given.code i ≡ true) line → StandAt (function_of g.given s) s.top.block s.top.at line → Runs (framed_context g s) line (work_of s) x → iterate (framed_step g) (length line) s ≡ ahead s (length line) x }
 {}
