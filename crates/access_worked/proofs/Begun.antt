@@ -2,7 +2,7 @@
 use Rattle.std.proofs.Common.{◌≡◌, ◌≢◌, ℕ, zero, suc, ◌+◌, ◌<◌, ◌≤◌, inl, Bool, true, false, not, List, [], ◌∷◌, ◌++◌, length, Option, Some, None, refl, sym, ap, ◌∙◌, subst, ⊎_elim, arith, if◌then◌else◌, ◌&&◌, ◌||◌, ◌==◌}
 use Rattle.std.specs.Prelude.{nat_lt, slice_get, option_and_then, option_map}
 use Rattle.std.proofs.lemmas.Bool.{and_left, and_right, cases_eq, le-ltb, ltb-false, ne_eqb}
-use Rattle.block_memory.specs.Memory.{Rights, is_below, is_live, owned_to, owner_rights, with_block}
+use Rattle.block_memory.specs.Memory.{is_below, is_live, owned_to, owner_rights, with_block}
 use Rattle.block_memory.specs.declared.block.MemoryBlock.{MemoryBlock}
 use Rattle.coro_meaning.specs.State.{last_from, numbered, or_else}
 use Rattle.coro_meaning.specs.declared.state.Instance.{Instance}
@@ -12,9 +12,8 @@ use Rattle.memory_embedding.specs.Pointers.{Home, home_of}
 use Rattle.memory_embedding.specs.Standing.{Embeds, HasRights}
 use Rattle.step_access.proofs.Turned.{owned_reowns, rights_turn}
 use Rattle.step_access.specs.Changed.{home_block}
-use Rattle.step_access.specs.Rights.{AreReowned, MayTurn}
+use Rattle.step_access.specs.Rights.{MayTurn}
 use Rattle.step_embedding.specs.Marks.{LivesAlone}
-use Rattle.step_laws.specs.Changed.{Each}
 
 -- ---- one instance more, which doesn't have the byte
 

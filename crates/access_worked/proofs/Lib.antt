@@ -1,3 +1,4 @@
 pub mod Begun
 pub mod Example
 pub mod Machines
+pub mod Stores

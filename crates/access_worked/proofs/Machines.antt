@@ -1,18 +1,17 @@
 -- The machines execute straight lines.
-use Rattle.std.proofs.Common.{◌≡◌, ℕ, ◌+◌, Bool, true, false, List, [], ◌∷◌, length, Option, Some, None, Result, Ok, refl, sym, ap, ◌∙◌, subst, arith}
+use Rattle.std.proofs.Common.{◌≡◌, ℕ, ◌+◌, true, List, [], ◌∷◌, length, Option, Some, None, Result, refl, ap, ◌∙◌, arith}
 use Rattle.std.specs.Prelude.{is_none, unwrap_or}
 use Rattle.access_worked.specs.Machines.{ahead, gives_no_frame, plain_ahead}
 use Rattle.coro_base.specs.declared.cause.Cause.{Cause}
 use Rattle.coro_base.specs.declared.outcome.Outcome.{Outcome}
 use Rattle.coro_meaning.specs.Source.{Continues, act, advance_by, context_of, step_by}
-use Rattle.coro_meaning.specs.State.{function_of, or_undefined, settled, work_of}
+use Rattle.coro_meaning.specs.State.{function_of, or_undefined, work_of}
 use Rattle.coro_meaning.specs.declared.state.State.{State}
 use Rattle.framed_meaning.specs.Framed.{FramedGiven, enter_given, framed_act, framed_advance, framed_context, framed_next, framed_step, given_call, given_ramp}
 use Rattle.ir_model.specs.declared.instr.Instr.{Instr}
-use Rattle.ir_model.specs.declared.module.Module.{Module}
 use Rattle.ir_model.specs.declared.operand.Callee.{Callee}
 use Rattle.ordinary_step.specs.Runs.{iterate}
-use Rattle.ordinary_step.specs.Step.{Action, AtInstr, Context, Done, Fetched, Work, action_of, fetch}
+use Rattle.ordinary_step.specs.Step.{Action, AtInstr, Fetched, Work, action_of}
 use Rattle.ordinary_step.specs.Values.{arg_values}
 use Rattle.plain_meaning.specs.Plain.{PlainGiven, plain_act, plain_advance, plain_context, plain_function, plain_or_undefined, plain_step, plain_work}
 use Rattle.plain_meaning.specs.declared.state.PlainState.{PlainState}

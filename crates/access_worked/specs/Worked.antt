@@ -1,5 +1,5 @@
 -- A slot of the source, which stands in the target beside a cell that is the target's own.
-use Rattle.std.specs.Prelude.{ℕ, ℤ, pos, List, [], ◌∷◌, Some, None}
+use Rattle.std.specs.Prelude.{ℤ, pos, List, [], ◌∷◌, Some, None}
 use Rattle.block_memory.specs.Memory.{digits, owner_rights}
 use Rattle.block_memory.specs.declared.block.Byte.{Byte}
 use Rattle.block_memory.specs.declared.block.Kind.{Kind}
@@ -42,6 +42,10 @@ ours = work_over (slot ∷ []) (Some (pointer_to 0) ∷ [])
 
 abbrev pub theirs : Work
 theirs = work_over (cell ∷ slot ∷ []) (Some (pointer_to 1) ∷ [])
+
+-- the slot holds 5
+abbrev pub theirs_after : Work
+theirs_after = work_over (cell ∷ record slot { bytes = digits 4 5 } ∷ []) (Some (pointer_to 1) ∷ [])
 
 -- store i32 5, ptr %0
 abbrev pub storing : Instr

@@ -1,7 +1,7 @@
 //! What the laws of steps that access memory, of rights that change and of straight lines say of frames and of machines.
 #![tactic(auto)]
 
-ghost use Rattle.std.specs.Prelude.{ℕ, true, List, [], length, ◌∷◌, ◌++◌, Some, None, slice_get, ◌≡◌};
+ghost use Rattle.std.specs.Prelude.{ℕ, ℤ, true, List, [], length, ◌∷◌, ◌++◌, Some, None, slice_get, ◌≡◌};
 ghost use Rattle.block_memory.specs.Memory.{owned_to, owner_rights, with_block};
 ghost use Rattle.block_memory.specs.declared.block.MemoryBlock.{MemoryBlock as Block};
 ghost use Rattle.embedding_worked.specs.Worked.{an_instance, frame_given, owned_block};
@@ -15,10 +15,14 @@ ghost use Rattle.coro_meaning.specs.declared.state.State.{State as TheState};
 ghost use Rattle.framed_meaning.specs.Framed.{FramedGiven, frame_rights, framed_context, framed_step, layout_of};
 ghost use Rattle.ir_model.specs.declared.instr.Instr.{Instr};
 ghost use Rattle.ordinary_step.specs.Runs.{iterate};
-ghost use Rattle.ordinary_step.specs.Step.{Work};
+ghost use Rattle.ordinary_step.specs.Step.{AtInstr, Done, Work, action_of};
 ghost use Rattle.plain_meaning.specs.Plain.{PlainGiven, plain_context, plain_function, plain_step, plain_work};
 ghost use Rattle.plain_meaning.specs.declared.state.PlainState.{PlainState as ThePlainState};
-ghost use Rattle.step_access.specs.Lines.{Runs, StandAt};
+ghost use Rattle.step_access.specs.Lines.{Holds, Runs, StandAt};
+ghost use Rattle.step_access.specs.Accessed.{accessed};
+ghost use Rattle.access_worked.specs.Worked.{line, line_after, line_before, ours, owners, seven, storing, theirs, theirs_after};
+ghost use Rattle.ir_model.specs.declared.module.Function.{Function as TheFunction};
+ghost use Rattle.ir_model.specs.declared.module.Module.{Module as TheModule};
 ghost use Rattle.step_laws.specs.Changed.{Each};
 ghost use Rattle.memory_embedding.specs.Pointers.{Home, home_of};
 ghost use Rattle.memory_embedding.specs.Standing.{Embeds, blank_block};
@@ -44,4 +48,19 @@ pub fn machines_execute_lines()
     ensures plain { (g : PlainGiven) (s : ThePlainState) → s.outcome ≡ TheOutcome.Running → (line : List Instr) (x : Work) → StandAt (plain_function g s) s.top.block s.top.at line → Runs (plain_context g s) line (plain_work s) x → iterate (plain_step g) (length line) s ≡ plain_ahead s (length line) x }
     ensures source { (g : Given) (go : Continues) (s : TheState) → s.outcome ≡ TheOutcome.Running → (line : List Instr) (x : Work) → StandAt (function_of g s) s.top.block s.top.at line → Runs (context_of g s) line (work_of s) x → iterate (step_by g go) (length line) s ≡ ahead s (length line) x }
     ensures framed { (g : FramedGiven) (s : TheState) → s.outcome ≡ TheOutcome.Running → (line : List Instr) (x : Work) → Each (λ (i : Instr). gives_no_frame g.given.code i ≡ true) line → StandAt (function_of g.given s) s.top.block s.top.at line → Runs (framed_context g s) line (work_of s) x → iterate (framed_step g) (length line) s ≡ ahead s (length line) x }
+{}
+
+/// A store into a slot of the source, made in the target where the slot stands: it accesses the home, and a cell beside that holds 7
+/// still does.
+pub fn a_store_is_worked()
+    ensures source { (code : TheModule) (answers : List ℤ) (f : TheFunction) → accessed (owners code answers f) ours (AtInstr storing) ≡ 0 ∷ [] }
+    ensures target { (code : TheModule) (answers : List ℤ) (f : TheFunction) → accessed (owners code answers f) theirs (AtInstr storing) ≡ 1 ∷ [] }
+    ensures done { (code : TheModule) (answers : List ℤ) (f : TheFunction) → action_of (owners code answers f) theirs (AtInstr storing) ≡ Done theirs_after }
+    ensures before { Holds owner_rights theirs.world.memory 0 0 4 seven }
+    ensures after { (code : TheModule) (answers : List ℤ) (f : TheFunction) (x : Work) → action_of (owners code answers f) theirs (AtInstr storing) ≡ Done x → Holds owner_rights x.world.memory 0 0 4 seven }
+{}
+
+/// A line that stores 5 into a cell and loads it.
+pub fn a_line_is_worked()
+    ensures { (code : TheModule) (answers : List ℤ) (f : TheFunction) → Runs (owners code answers f) line line_before line_after }
 {}
