@@ -18,7 +18,7 @@ use Rattle.memory_embedding.specs.Standing.{AreApart, Embeds, IsAlignment, Stand
 use Rattle.ordinary_step.specs.Step.{AtInstr, Done, Work, action_of}
 use Rattle.ordinary_step.specs.Values.{literal}
 use Rattle.step_access.proofs.Done.{free_held}
-use Rattle.step_access.proofs.Related.{free_stays}
+use Rattle.step_access.proofs.Touched.{free_stays}
 use Rattle.step_access.specs.Accessed.{accessed}
 use Rattle.step_access.specs.Changed.{IsFree, LeavesFree, home_block}
 use Rattle.step_access.specs.Lines.{Holds, Runs}
@@ -114,7 +114,7 @@ module _ (code : Module) (answers : List ℤ) (f : Function) where
   address_stands = record { here = λ ty. (refl, refl); nowhere = λ ty. refl }
 
   store_leaves : LeavesFree owner_rights slot_homes m n (action_of (owners code answers f) theirs (AtInstr storing))
-  store_leaves = free_stays slot_homes (owners code answers f) (owners code answers f) ours theirs owner_rights_fit slot_embeds (AtInstr storing) tt (number_stands, (address_stands, tt)) tt
+  store_leaves = free_stays slot_homes (owners code answers f) (owners code answers f) ours theirs (AtInstr storing) owner_rights_fit slot_embeds tt (number_stands, (address_stands, tt)) tt
 
   pub cell_stays : (x : Work) → action_of (owners code answers f) theirs (AtInstr storing) ≡ Done x → Holds owner_rights x.world.memory 0 0 4 seven
   cell_stays x e = free_held owner_rights owner_rights slot_homes m n x.world.memory 0 0 4 seven owner_rights_fit (subst (LeavesFree owner_rights slot_homes m n) e store_leaves) cell_holds (λ i lt. cell_free (0 + i))

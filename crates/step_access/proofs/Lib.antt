@@ -8,3 +8,4 @@ pub mod Lines
 pub mod Ranges
 pub mod Done
 pub mod Loaded
+pub mod Touched

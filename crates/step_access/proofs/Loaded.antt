@@ -1,5 +1,5 @@
 -- A value that is stored is loaded again.
-use Rattle.std.proofs.Common.{◌≡◌, ℕ, zero, suc, ◌+◌, ◌*◌, ◌/◌, ◌%◌, ◌^◌, ◌<◌, ◌≤◌, Bool, true, false, List, [], ◌∷◌, replicate, Option, Some, None, refl, sym, ap, ◌∙◌, subst, ⊎_elim, arith, if◌then◌else◌, ◌&&◌, ◌==◌}
+use Rattle.std.proofs.Common.{◌≡◌, ℕ, zero, suc, ◌+◌, ◌*◌, ◌/◌, ◌%◌, ◌^◌, ◌<◌, ◌≤◌, Bool, true, false, replicate, Some, refl, sym, ap, ◌∙◌, subst, ⊎_elim, arith, if◌then◌else◌, ◌&&◌, ◌==◌}
 use Rattle.std.specs.Prelude.{nat_lt}
 use Rattle.std.proofs.Math.Pow.{pow_mono}
 use Rattle.std.proofs.lemmas.Nat.{pow-add}
@@ -12,7 +12,7 @@ use Rattle.block_memory.specs.declared.pointer.Value.{Value}
 use Rattle.coro_base.specs.declared.outcome.Word.{Word}
 use Rattle.ir_ints.specs.declared.num.Num.{Num}
 use Rattle.memory_embedding.proofs.Matching.{same_pointer-refl}
-use Rattle.ordinary_step.specs.Values.{address, is_word_of, number_of_width, stored, value_of}
+use Rattle.ordinary_step.specs.Values.{address, is_word_of, stored, value_of}
 
 -- ---- numbers
 

@@ -31,6 +31,7 @@ ghost use Rattle.step_laws.specs.Changed.{Each, operands_at};
 ghost use Rattle.step_access.specs.Accessed.{Span as TheSpan, accessed, slot_blocks, writes};
 ghost use Rattle.step_access.specs.Changed.{ChangesOnly, IsDefined, IsFree, IsFull, KeepsFree, LeavesBytes, LeavesFree, LeavesOthers, home_block};
 ghost use Rattle.step_access.specs.Lines.{AreDisjoint, GoesOn, Holds, IsCopyOf, Runs, StandAt, is_memcpy, pointer_at, refilled_at};
+ghost use Rattle.step_access.specs.Touched.{AreTouches, touch_of};
 ghost use Rattle.step_access.specs.Rights.{AreReowned, MayTurn, with_blocks};
 
 /// An ordinary step changes no block but those that it accesses, and a return none but the slots that it kills.
@@ -109,4 +110,13 @@ pub fn ranges_are_kept()
 #[tactic(auto, using(crate::proofs::Loaded::stored_back))]
 pub fn stored_values_are_loaded()
     ensures { (what : TheAccess) (v : TheValue) → 0 < access_bytes what → decode what (encode (access_bytes what) (stored what v)) ≡ stored what v }
+{}
+
+/// Two steps, also of different instructions in different contexts, that touch the memory in the same way: the target's accesses just the
+/// homes of the blocks that the source's does, which isn't undefined, and leaves what is free as it is. So does the same instruction with
+/// related operands.
+pub fn touched_homes_are_accessed()
+    ensures blocks { (homes : List Home) (c d : Context) (w x : Work) (here there : Fetched) → AreByteRights c.rights → Embeds c.rights d.rights homes w.world.memory x.world.memory → HasNoSlot here → HasNoSlot there → AreTouches homes (touch_of c w here) (touch_of d x there) → IsDefined (action_of c w here) → accessed d x there ≡ map (home_block homes) (accessed c w here) }
+    ensures free { (homes : List Home) (c d : Context) (w x : Work) (here there : Fetched) → AreByteRights c.rights → Embeds c.rights d.rights homes w.world.memory x.world.memory → HasNoSlot here → HasNoSlot there → AreTouches homes (touch_of c w here) (touch_of d x there) → IsDefined (action_of c w here) → LeavesFree c.rights homes w.world.memory x.world.memory (action_of d x there) }
+    ensures operands { (homes : List Home) (c d : Context) (w x : Work) (here : Fetched) → Each (IsOperand homes c d w.values x.values) (operands_at here) → AreTouches homes (touch_of c w here) (touch_of d x here) }
 {}

@@ -1,9 +1,9 @@
 use Rattle.step_access.proofs.Marked.{makes_followed, marks_followed, slots_followed}
-use Rattle.step_access.proofs.Related.{accesses_followed}
+use Rattle.step_access.proofs.Touched.{accesses_followed}
 use Rattle.step_access.proofs.homes_are_accessed.Goals as goal
 
 pub returns-clause-step : goal.returns-clause-step
-returns-clause-step c = λ homes c d w x here law em. accesses_followed homes c d w x law em here
+returns-clause-step c = accesses_followed
 
 pub returns-clause-marks : goal.returns-clause-marks
 returns-clause-marks c = λ homes c d w x here. marks_followed homes c d w x here
