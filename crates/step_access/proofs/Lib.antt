@@ -9,3 +9,4 @@ pub mod Ranges
 pub mod Done
 pub mod Loaded
 pub mod Touched
+pub mod Held

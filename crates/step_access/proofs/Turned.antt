@@ -24,12 +24,12 @@ was None (Some z) y h e = absurd h
 was (Some x) None y h e = absurd h
 was (Some x) (Some z) y h e = let is : z ≡ y = cc in record { block = x; there = refl; same = subst (λ (u : MemoryBlock). u ≡ record x { owned = u.owned }) is h }
 
-record Now (o : Option MemoryBlock) (x : MemoryBlock) : Type 0 where
-  block : MemoryBlock
-  there : o ≡ Some block
-  same : block ≡ record x { owned = block.owned }
+pub record Now (o : Option MemoryBlock) (x : MemoryBlock) : Type 0 where
+  pub block : MemoryBlock
+  pub there : o ≡ Some block
+  pub same : block ≡ record x { owned = block.owned }
 
-now : (o o' : Option MemoryBlock) (x : MemoryBlock) → IsReowned o o' → o ≡ Some x → Now o' x
+pub now : (o o' : Option MemoryBlock) (x : MemoryBlock) → IsReowned o o' → o ≡ Some x → Now o' x
 now None o' x h e = absurd (cc)
 now (Some z) None x h e = absurd h
 now (Some z) (Some y) x h e = let is : z ≡ x = cc in record { block = y; there = refl; same = subst (λ (u : MemoryBlock). y ≡ record u { owned = y.owned }) is h }

@@ -10,6 +10,7 @@ use Rattle.block_memory.specs.declared.pointer.Value.{Value}
 use Rattle.ir_model.specs.declared.instr.Instr.{Instr}
 use Rattle.ir_model.specs.declared.module.Function.{Function}
 use Rattle.ir_model.specs.declared.operand.Intrinsic.{Intrinsic}
+use Rattle.memory_embedding.specs.Pointers.{AreBytes, Home}
 use Rattle.memory_embedding.specs.Standing.{IsAlignment}
 use Rattle.ordinary_step.specs.Step.{AtInstr, Context, Done, Work, fetch, instr_action}
 use Rattle.ordinary_step.specs.Values.{nth}
@@ -68,3 +69,9 @@ pub record IsCopyOf (vs : List Value) (b o a p len : ℕ) : Type 0 where
   pub width : ℕ
   pub long : nth vs 2 ≡ Value.Int (record { width = width; bits = len })
   pub some : 0 < len
+
+-- from an offset of a block on the target holds bytes that stand for these
+pub record StandsAs (target : Rights) (homes : List Home) (n : List MemoryBlock) (b o most : ℕ) (source : List Byte) : Type 0 where
+  pub bytes : List Byte
+  pub held : Holds target n b o most bytes
+  pub stand : AreBytes homes source bytes

@@ -1,8 +1,9 @@
 //! What an ordinary step accesses, what it leaves as it is, rights that change, and instructions that are done in a row.
 #![tactic(auto)]
 
-ghost use Rattle.std.specs.Prelude.{ℕ, Bool, true, List, [], length, map, slice_get, Some, Option, ◌∷◌, ◌++◌, ◌+◌, ◌<◌, ◌≤◌, ◌≡◌};
-ghost use Rattle.block_memory.specs.Memory.{Rights, access_bytes, decode, disown, encode, is_live, owned_to, with_block};
+ghost use Rattle.std.specs.Prelude.{ℕ, Bool, true, false, List, [], length, map, replicate, slice_get, Some, Option, ◌∷◌, ◌++◌, ◌+◌, ◌<◌, ◌≤◌, ◌≡◌};
+ghost use Rattle.block_memory.specs.Memory.{Rights, access_bytes, decode, disown, encode, fresh, is_live, owned_to, same_kind, with_block};
+ghost use Rattle.block_memory.specs.declared.block.Kind.{Kind as TheKind};
 ghost use Rattle.block_memory.specs.Pointers.{moved};
 ghost use Rattle.block_memory.specs.declared.block.Byte.{Byte as TheByte};
 ghost use Rattle.block_memory.specs.declared.pointer.Access.{Access as TheAccess};
@@ -16,8 +17,8 @@ ghost use Rattle.ir_model.specs.declared.operand.Arg.{Arg as TheArg};
 ghost use Rattle.ir_model.specs.declared.operand.Callee.{Callee as TheCallee};
 ghost use Rattle.ir_model.specs.declared.operand.Intrinsic.{Intrinsic as TheIntrinsic};
 ghost use Rattle.ir_model.specs.declared.operand.Operand.{Operand as TheOperand};
-ghost use Rattle.memory_embedding.specs.Pointers.{Home};
-ghost use Rattle.memory_embedding.specs.Standing.{AreByteRights, AreNullsKept, Embeds, IsAway};
+ghost use Rattle.memory_embedding.specs.Pointers.{Home, home_of};
+ghost use Rattle.memory_embedding.specs.Standing.{AreByteRights, AreNullsKept, Embeds, IsAlignment, IsAway, Stands, blank_block};
 ghost use Rattle.ordinary_step.specs.Runs.{iterate};
 ghost use Rattle.ordinary_step.specs.Step.{Context, Done, Fetched, Work, action_of, instr_action, is_alignment, set_memory, set_value, value_at, without_slots};
 ghost use Rattle.ordinary_step.specs.Values.{access_of, arg_value, arg_values, distance, indices_of, is_in_bounds, stored};
@@ -29,8 +30,8 @@ ghost use Rattle.step_embedding.specs.Marks.{MarksBlock};
 ghost use Rattle.step_embedding.specs.Related.{AreWorlds, HasNoSlot, IsOperand};
 ghost use Rattle.step_laws.specs.Changed.{Each, operands_at};
 ghost use Rattle.step_access.specs.Accessed.{Span as TheSpan, accessed, slot_blocks, writes};
-ghost use Rattle.step_access.specs.Changed.{ChangesOnly, IsDefined, IsFree, IsFull, KeepsFree, LeavesBytes, LeavesFree, LeavesOthers, home_block};
-ghost use Rattle.step_access.specs.Lines.{AreDisjoint, GoesOn, Holds, IsCopyOf, Runs, StandAt, is_memcpy, pointer_at, refilled_at};
+ghost use Rattle.step_access.specs.Changed.{ChangesOnly, IsDefined, IsFree, IsFull, IsNoneOf, KeepsFree, LeavesBytes, LeavesFree, LeavesOthers, home_block};
+ghost use Rattle.step_access.specs.Lines.{AreDisjoint, GoesOn, Holds, IsCopyOf, Runs, StandAt, StandsAs, is_memcpy, pointer_at, refilled_at};
 ghost use Rattle.step_access.specs.Touched.{AreTouches, touch_of};
 ghost use Rattle.step_access.specs.Rights.{AreReowned, MayTurn, with_blocks};
 
@@ -119,4 +120,14 @@ pub fn touched_homes_are_accessed()
     ensures blocks { (homes : List Home) (c d : Context) (w x : Work) (here there : Fetched) → AreByteRights c.rights → Embeds c.rights d.rights homes w.world.memory x.world.memory → HasNoSlot here → HasNoSlot there → AreTouches homes (touch_of c w here) (touch_of d x there) → IsDefined (action_of c w here) → accessed d x there ≡ map (home_block homes) (accessed c w here) }
     ensures free { (homes : List Home) (c d : Context) (w x : Work) (here there : Fetched) → AreByteRights c.rights → Embeds c.rights d.rights homes w.world.memory x.world.memory → HasNoSlot here → HasNoSlot there → AreTouches homes (touch_of c w here) (touch_of d x there) → IsDefined (action_of c w here) → LeavesFree c.rights homes w.world.memory x.world.memory (action_of d x there) }
     ensures operands { (homes : List Home) (c d : Context) (w x : Work) (here : Fetched) → Each (IsOperand homes c d w.values x.values) (operands_at here) → AreTouches homes (touch_of c w here) (touch_of d x here) }
+{}
+
+/// A new block is a range that holds nothing yet, and the home of a block that may be touched as a whole one that holds what stands for
+/// its bytes. A range keeps what it holds in blocks that don't change, where the memory grows, and where rights change that allow it still.
+pub fn ranges_come_about()
+    ensures fresh { (rights : Rights) (m : List Block) (size align most : ℕ) (kind : TheKind) → same_kind kind TheKind.Constant ≡ false → rights.is_closed (length m) (blank_block size align kind) 0 size ≡ false → ((a : ℕ) → IsAlignment a → a ≤ most → rights.is_aligned (length m) (blank_block size align kind) 0 a ≡ true) → Holds rights (fresh m size align kind) (length m) 0 most (replicate size TheByte.Undefined) }
+    ensures home { (rights target : Rights) (homes : List Home) (n : List Block) (b most : ℕ) (x : Block) → AreByteRights rights → Stands rights target homes n b x → same_kind x.kind TheKind.Constant ≡ false → 0 < x.size → rights.is_closed b x 0 x.size ≡ false → ((align : ℕ) → IsAlignment align → align ≤ most → rights.is_aligned b x 0 align ≡ true) → StandsAs target homes n (home_block homes b) (home_of homes b).offset most x.bytes }
+    ensures others { (rights : Rights) (blocks : List ℕ) (m k : List Block) (b o most : ℕ) (bytes : List TheByte) → ChangesOnly blocks m k → IsNoneOf b blocks → Holds rights m b o most bytes → Holds rights k b o most bytes }
+    ensures grown { (rights : Rights) (m more : List Block) (b o most : ℕ) (bytes : List TheByte) → Holds rights m b o most bytes → Holds rights (m ++ more) b o most bytes }
+    ensures turned { (rights later : Rights) (n l : List Block) (b o most : ℕ) (bytes : List TheByte) → AreReowned n l → ((y : Block) → slice_get l b ≡ Some y → later.is_closed b y o (length bytes) ≡ false) → ((y : Block) (align : ℕ) → slice_get l b ≡ Some y → IsAlignment align → align ≤ most → later.is_aligned b y o align ≡ true) → Holds rights n b o most bytes → Holds later l b o most bytes }
 {}
