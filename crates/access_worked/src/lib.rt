@@ -1,4 +1,4 @@
-//! What the laws of steps that access memory, of rights that change and of straight lines say of frames and of machines.
+//! What the laws of `step_access` say of frames and of machines, and worked cases of them.
 #![tactic(auto)]
 
 ghost use Rattle.std.specs.Prelude.{ℕ, ℤ, true, List, [], length, ◌∷◌, ◌++◌, Some, None, slice_get, ◌≡◌};
@@ -30,28 +30,29 @@ ghost use Rattle.source_program.specs.Given.{Given};
 ghost use Rattle.step_embedding.specs.Making.{whole_home};
 ghost use Rattle.step_embedding.specs.Marks.{LivesAlone};
 
-/// A coroutine begins at the start of a block that nobody owns, and that is the only one that lives in its home: the block is owned to the
-/// frame's size, there is an instance more, and the source still stands in the target.
+/// A coroutine begins at the start of a block that nobody owns and that alone lives in its home. The block is owned
+/// to the frame's size, there is an instance more, and the source still stands.
 pub fn begin_keeps_what_stands()
     ensures { (g : FramedGiven) (instances : List TheInstance) (x : TheInstance) (homes : List Home) (m n : List Block) (b size : ℕ) → x.start ≡ 0 → (layout_of g.layouts x.coroutine).size ≡ size → (home_of homes b).block ≡ x.block → (home_of homes b).offset ≡ 0 → LivesAlone homes m b → ((y : Block) → slice_get m b ≡ Some y → y.owned ≡ None) → Embeds owner_rights (frame_rights g instances) homes m n → Embeds owner_rights (frame_rights g (instances ++ x ∷ [])) homes (with_block m b (owned_to size)) (with_block n x.block (owned_to size)) }
 {}
 
-/// A block of 48 bytes stands in itself where no instance is, and still where a coroutine has begun in it, whose frame has 32.
+/// A block of 48 bytes stands in itself where no instance is. It still does where a coroutine has begun in it whose
+/// frame has 32.
 pub fn a_begin_is_worked()
     ensures before { (g : FramedGiven) → Embeds owner_rights (frame_rights g []) (whole_home 0 ∷ []) (blank_block 48 16 TheKind.Allocator ∷ []) (blank_block 48 16 TheKind.Allocator ∷ []) }
     ensures after { (given : Given) → Embeds owner_rights (frame_rights (frame_given given) (an_instance ∷ [])) (whole_home 0 ∷ []) (owned_block 48 16 32 ∷ []) (owned_block 48 16 32 ∷ []) }
 {}
 
-/// The machines of plain modules, of sources and of framed modules execute straight lines: n steps take them n instructions further on.
-/// In a framed run the line has no call that gives a ramp its frame.
+/// The machines of plain modules, of sources and of framed modules execute straight lines. In a framed run the line
+/// has no call that gives a ramp its frame.
 pub fn machines_execute_lines()
     ensures plain { (g : PlainGiven) (s : ThePlainState) → s.outcome ≡ TheOutcome.Running → (line : List Instr) (x : Work) → StandAt (plain_function g s) s.top.block s.top.at line → Runs (plain_context g s) line (plain_work s) x → iterate (plain_step g) (length line) s ≡ plain_ahead s (length line) x }
     ensures source { (g : Given) (go : Continues) (s : TheState) → s.outcome ≡ TheOutcome.Running → (line : List Instr) (x : Work) → StandAt (function_of g s) s.top.block s.top.at line → Runs (context_of g s) line (work_of s) x → iterate (step_by g go) (length line) s ≡ ahead s (length line) x }
     ensures framed { (g : FramedGiven) (s : TheState) → s.outcome ≡ TheOutcome.Running → (line : List Instr) (x : Work) → Each (λ (i : Instr). gives_no_frame g.given.code i ≡ true) line → StandAt (function_of g.given s) s.top.block s.top.at line → Runs (framed_context g s) line (work_of s) x → iterate (framed_step g) (length line) s ≡ ahead s (length line) x }
 {}
 
-/// A store into a slot of the source, made in the target where the slot stands: it accesses the home, and a cell beside that holds 7
-/// still does.
+/// A store into a slot of the source is made in the target where the slot stands. It accesses the home, and a cell
+/// beside that holds 7 still does.
 pub fn a_store_is_worked()
     ensures source { (code : TheModule) (answers : List ℤ) (f : TheFunction) → accessed (owners code answers f) ours (AtInstr storing) ≡ 0 ∷ [] }
     ensures target { (code : TheModule) (answers : List ℤ) (f : TheFunction) → accessed (owners code answers f) theirs (AtInstr storing) ≡ 1 ∷ [] }
@@ -60,7 +61,7 @@ pub fn a_store_is_worked()
     ensures after { (code : TheModule) (answers : List ℤ) (f : TheFunction) (x : Work) → action_of (owners code answers f) theirs (AtInstr storing) ≡ Done x → Holds owner_rights x.world.memory 0 0 4 seven }
 {}
 
-/// A line that stores 5 into a cell and loads it.
+/// A line stores 5 into a cell and loads it.
 pub fn a_line_is_worked()
     ensures { (code : TheModule) (answers : List ℤ) (f : TheFunction) → Runs (owners code answers f) line line_before line_after }
 {}

@@ -1,4 +1,4 @@
--- The blocks that an ordinary step accesses: those of which it reads or writes bytes, and those that it makes, starts, ends or kills.
+-- The blocks that an ordinary step accesses: it reads or writes bytes of them, makes, starts, ends or kills them.
 use Rattle.std.specs.Prelude.{ℕ, zero, suc, List, [], map, length, Some, None, Option, ◌∷◌, ◌++◌}
 use Rattle.block_memory.specs.Memory.{access_bytes}
 use Rattle.block_memory.specs.declared.block.MemoryBlock.{MemoryBlock}

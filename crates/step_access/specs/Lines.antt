@@ -27,7 +27,8 @@ abbrev pub StandAt : Function → (block at : ℕ) → List Instr → Type 0
 StandAt f block at [] = Unit {0}
 StandAt f block at (i ∷ is) = (fetch f block at ≡ AtInstr i) × StandAt f block (at + 1) is
 
--- a machine whose state is given by how many instructions it is further on, and by its work, goes on so behind each that is done and passes a test
+-- A machine goes on behind each instruction that is done and passes a test. Its states are given by how far on they
+-- are, and by their work.
 pub record GoesOn {S : Type 0} (step : S → S) (ahead : ℕ → Work → S) (c : Context) (block at : ℕ) (test : Instr → Bool) : Type 0 where
   pub next : (k : ℕ) (w x : Work) (i : Instr) → fetch c.function block (at + k) ≡ AtInstr i → test i ≡ true → instr_action c w i ≡ Done x → step (ahead k w) ≡ ahead (k + 1) x
 

@@ -27,8 +27,8 @@ IsApartFrom rights homes k b i = (c j : ℕ) (z : MemoryBlock) → c ≢ b → s
 abbrev pub IsOnlyPlace : Rights → List Home → List MemoryBlock → (b i : ℕ) → Type 0
 IsOnlyPlace rights homes k b i = (c j : ℕ) (z : MemoryBlock) → c ≢ b → slice_get k c ≡ Some z → is_live z.life ≡ true → j < z.size → rights.is_comparable c z j ≡ true → home_block homes c ≡ home_block homes b → (home_of homes b).offset + i ≢ (home_of homes c).offset + j
 
--- the source's rights become others, and its memory m becomes k, the target's l. What may be touched from now on might be before,
--- or it holds nothing and lies apart from all others; so for comparisons. The target's new rights allow it.
+-- The source's rights become others, and its memory m becomes k, the target's l. What may be touched from now on might
+-- be before, or it holds nothing and lies apart from all others; so for comparisons. The target's new rights allow it.
 pub record MayTurn (before after target : Rights) (homes : List Home) (m k l : List MemoryBlock) : Type 0 where
   pub opens : (b i : ℕ) (x y : MemoryBlock) → slice_get m b ≡ Some x → slice_get k b ≡ Some y → is_live x.life ≡ true → i < x.size → IsOpen after b y i → IsOpen before b x i ⊎ ((byte_of x i ≡ Byte.Undefined) × IsApartFrom after homes k b i)
   pub compares : (b i : ℕ) (x y : MemoryBlock) → slice_get m b ≡ Some x → slice_get k b ≡ Some y → is_live x.life ≡ true → i < x.size → after.is_comparable b y i ≡ true → (before.is_comparable b x i ≡ true) ⊎ IsOnlyPlace after homes k b i

@@ -1,4 +1,4 @@
--- What a step touches of the memory, where it makes, marks and allocates no block: so that two instructions can be compared.
+-- How a step touches the memory that makes, marks and allocates no block, so that two instructions can be compared.
 use Rattle.std.specs.Prelude.{ℕ, List, [], ◌≡◌}
 use Rattle.block_memory.specs.Memory.{access_bytes}
 use Rattle.block_memory.specs.declared.pointer.Value.{Value}

@@ -1,4 +1,4 @@
-//! What an ordinary step accesses, what it leaves as it is, rights that change, and instructions that are done in a row.
+//! What an ordinary step accesses and leaves as it is, rights that change, and straight lines.
 #![tactic(auto)]
 
 ghost use Rattle.std.specs.Prelude.{ℕ, Bool, true, false, List, [], length, map, replicate, slice_get, Some, Option, ◌∷◌, ◌++◌, ◌+◌, ◌<◌, ◌≤◌, ◌≡◌};
@@ -35,22 +35,21 @@ ghost use Rattle.step_access.specs.Lines.{AreDisjoint, GoesOn, Holds, IsCopyOf, 
 ghost use Rattle.step_access.specs.Touched.{AreTouches, touch_of};
 ghost use Rattle.step_access.specs.Rights.{AreReowned, MayTurn, with_blocks};
 
-/// An ordinary step changes no block but those that it accesses, and a return none but the slots that it kills.
+/// An ordinary step changes no block but those that it accesses. A return changes none but the slots that it kills.
 pub fn other_blocks_stay()
     ensures step { (c : Context) (w : Work) (here : Fetched) → LeavesOthers (accessed c w here) w.world.memory (action_of c w here) }
     ensures slots { (m : List Block) (slots : List TheSlot) → ChangesOnly (slot_blocks slots) m (without_slots m slots) }
 {}
 
-/// An ordinary step that makes, marks and allocates no block changes no bytes but those that it writes, where the blocks that it
-/// writes into have all their bytes.
+/// An ordinary step that makes, marks and allocates no block changes no bytes but those that it writes. The blocks
+/// that it writes into have all their bytes.
 #[tactic(auto, using(crate::proofs::Bytes::bytes_left))]
 pub fn other_bytes_stay()
     ensures { (c : Context) (w : Work) (here : Fetched) → HasNoSlot here → Each (λ (s : TheSpan). IsFull w.world.memory s.block) (writes c w here) → LeavesBytes (writes c w here) w.world.memory (action_of c w here) }
 {}
 
-/// Of two steps whose operands are related the target's accesses just the homes of the blocks that the source's does, which isn't
-/// undefined: of every instruction but those that make, mark or allocate blocks, of markers, of those that make a block, and of
-/// returns.
+/// Of two steps with related operands the target's accesses just the homes of the blocks that the source's does,
+/// which isn't undefined. Steps that mark blocks, that make them, and returns have clauses of their own.
 pub fn homes_are_accessed()
     ensures step { (homes : List Home) (c d : Context) (w x : Work) (here : Fetched) → AreByteRights c.rights → Embeds c.rights d.rights homes w.world.memory x.world.memory → HasNoSlot here → Each (IsOperand homes c d w.values x.values) (operands_at here) → IsDefined (action_of c w here) → accessed d x here ≡ map (home_block homes) (accessed c w here) }
     ensures marks { (homes : List Home) (c d : Context) (w x : Work) (here : Fetched) → Each (IsOperand homes c d w.values x.values) (operands_at here) → MarksBlock homes c d w x here → accessed d x here ≡ map (home_block homes) (accessed c w here) }
@@ -58,13 +57,14 @@ pub fn homes_are_accessed()
     ensures slots { (homes : List Home) (slots : List TheSlot) → slot_blocks (map (moved_slot homes) slots) ≡ map (home_block homes) (slot_blocks slots) }
 {}
 
-/// Such a step leaves what is free in the target as it is: each byte that no byte has for its home that the source's program may touch.
+/// Such a step leaves what is free in the target as it is. A byte is free that is the home of no byte which the
+/// source's program may touch.
 pub fn free_bytes_stay()
     ensures { (homes : List Home) (c d : Context) (w x : Work) (here : Fetched) → AreByteRights c.rights → Embeds c.rights d.rights homes w.world.memory x.world.memory → HasNoSlot here → Each (IsOperand homes c d w.values x.values) (operands_at here) → IsDefined (action_of c w here) → LeavesFree c.rights homes w.world.memory x.world.memory (action_of d x here) }
 {}
 
-/// A source stands in a target still where the rights of both and the owners of blocks change, if what may be touched and compared in
-/// the source from now on might be before, or holds nothing and lies apart from all others, and the target's rights allow it.
+/// A source stands in a target still where rights and owners change. What may be touched or compared in the source
+/// from now on might be before, or is blank and lies apart; and the target's rights allow it.
 pub fn rights_may_change()
     ensures memory { (before target after later : Rights) (homes : List Home) (m n k l : List Block) → AreReowned m k → AreReowned n l → MayTurn before after later homes m k l → Embeds before target homes m n → Embeds after later homes k l }
     ensures worlds { (before target after later : Rights) (homes : List Home) (moves : ℕ → ℕ) (s t : TheWorld) (k l : List Block) → AreReowned s.memory k → AreReowned t.memory l → MayTurn before after later homes s.memory k l → AreNullsKept after later homes k l → AreWorlds before target homes moves s t → AreWorlds after later homes moves (with_blocks s k) (with_blocks t l) }
@@ -77,8 +77,8 @@ pub fn owners_change()
     ensures same { (m : List Block) → AreReowned m m }
 {}
 
-/// A machine executes a straight line: where it goes on behind each instruction that is done, n steps take it n instructions further
-/// on, with the work that those leave one after another.
+/// A machine executes a straight line. Where it goes on behind each instruction that is done, n steps take it n
+/// instructions further on.
 pub fn lines_are_executed<S>()
     ensures { (step : S → S) (ahead : ℕ → Work → S) (c : Context) (block at : ℕ) (test : Instr → Bool) (line : List Instr) (w x : Work) → GoesOn step ahead c block at test → StandAt c.function block at line → Each (λ (i : Instr). test i ≡ true) line → Runs c line w x → iterate step (length line) (ahead 0 w) ≡ ahead (length line) x }
 {}
@@ -89,8 +89,8 @@ pub fn lines_are_joined()
     ensures { (c : Context) (line more : List Instr) (w v x : Work) → Runs c line w v → Runs c more v x → Runs c (line ++ more) w x }
 {}
 
-/// Where a range holds bytes a load from it gives the value that they stand for, a store into it and a copy to it from another write
-/// it, and the address of a name moved by a distance is that of the byte there.
+/// A range that holds bytes can be loaded, stored into, and copied to another range. An address is moved by the
+/// distance of a getelementptr.
 pub fn ranges_are_accessed()
     ensures load { (c : Context) (w : Work) (name align b o most : ℕ) (ty : TheType) (p : TheOperand) (bytes : List TheByte) → value_at c w ptr p ≡ pointer_at b o → Holds c.rights w.world.memory b o most bytes → length bytes ≡ access_bytes (access_of ty) → is_alignment align ≡ true → align ≤ most → instr_action c w (Instr.Load name ty p align) ≡ Done (set_value w name (decode (access_of ty) bytes)) }
     ensures store { (c : Context) (w : Work) (align b o most : ℕ) (arg : TheArg) (p : TheOperand) (bytes : List TheByte) → value_at c w ptr p ≡ pointer_at b o → Holds c.rights w.world.memory b o most bytes → length bytes ≡ access_bytes (access_of arg.ty) → is_alignment align ≡ true → align ≤ most → instr_action c w (Instr.Store arg p align) ≡ Done (set_memory w (refilled_at w.world.memory b o (encode (access_bytes (access_of arg.ty)) (stored (access_of arg.ty) (arg_value c.code w.values arg))))) }
@@ -98,8 +98,8 @@ pub fn ranges_are_accessed()
     ensures address { (c : Context) (w : Work) (name b d : ℕ) (o : TheOffset) (inbounds : Bool) (ty : TheType) (base : TheOperand) (indices : List TheArg) → value_at c w ptr base ≡ TheValue.Ptr (ThePointer.At b o) → distance c.code ty (indices_of c.code w.values indices) ≡ Some d → (inbounds ≡ true → is_in_bounds (slice_get w.world.memory b) (moved o d) ≡ true) → instr_action c w (Instr.Gep name inbounds ty base indices) ≡ Done (set_value w name (TheValue.Ptr (ThePointer.At b (moved o d)))) }
 {}
 
-/// A range holds what is written into it, and keeps what it holds where another one is written, and where a step is made of which
-/// nothing stands there; the source stands where a range is written in which nothing of it stands.
+/// A range holds what is written into it, and keeps that where another one is written. So it does over a step of
+/// which nothing stands there. The source stands still where a range is written in which nothing of it stands.
 pub fn ranges_are_kept()
     ensures written { (rights : Rights) (m : List Block) (b o most : ℕ) (bytes new : List TheByte) → AreByteRights rights → Holds rights m b o most bytes → length new ≡ length bytes → Holds rights (refilled_at m b o new) b o most new }
     ensures others { (rights : Rights) (m : List Block) (b o most c p much : ℕ) (bytes old new : List TheByte) → AreByteRights rights → Holds rights m b o most bytes → Holds rights m c p much old → length new ≡ length old → AreDisjoint c p (length new) b o (length bytes) → Holds rights (refilled_at m c p new) b o most bytes }
@@ -113,17 +113,18 @@ pub fn stored_values_are_loaded()
     ensures { (what : TheAccess) (v : TheValue) → 0 < access_bytes what → decode what (encode (access_bytes what) (stored what v)) ≡ stored what v }
 {}
 
-/// Two steps, also of different instructions in different contexts, that touch the memory in the same way: the target's accesses just the
-/// homes of the blocks that the source's does, which isn't undefined, and leaves what is free as it is. So does the same instruction with
-/// related operands.
+/// Steps of different instructions in different contexts are compared by how they touch the memory. The target's
+/// accesses just the homes of the blocks that the source's does, and leaves what is free as it is. The same
+/// instruction with related operands touches alike.
 pub fn touched_homes_are_accessed()
     ensures blocks { (homes : List Home) (c d : Context) (w x : Work) (here there : Fetched) → AreByteRights c.rights → Embeds c.rights d.rights homes w.world.memory x.world.memory → HasNoSlot here → HasNoSlot there → AreTouches homes (touch_of c w here) (touch_of d x there) → IsDefined (action_of c w here) → accessed d x there ≡ map (home_block homes) (accessed c w here) }
     ensures free { (homes : List Home) (c d : Context) (w x : Work) (here there : Fetched) → AreByteRights c.rights → Embeds c.rights d.rights homes w.world.memory x.world.memory → HasNoSlot here → HasNoSlot there → AreTouches homes (touch_of c w here) (touch_of d x there) → IsDefined (action_of c w here) → LeavesFree c.rights homes w.world.memory x.world.memory (action_of d x there) }
     ensures operands { (homes : List Home) (c d : Context) (w x : Work) (here : Fetched) → Each (IsOperand homes c d w.values x.values) (operands_at here) → AreTouches homes (touch_of c w here) (touch_of d x here) }
 {}
 
-/// A new block is a range that holds nothing yet, and the home of a block that may be touched as a whole one that holds what stands for
-/// its bytes. A range keeps what it holds in blocks that don't change, where the memory grows, and where rights change that allow it still.
+/// A new block is a range that holds nothing yet. The home of a block that may be touched as a whole holds what
+/// stands for its bytes. A range stays where other blocks change, where the memory grows, and where new rights
+/// allow it.
 pub fn ranges_come_about()
     ensures fresh { (rights : Rights) (m : List Block) (size align most : ℕ) (kind : TheKind) → same_kind kind TheKind.Constant ≡ false → rights.is_closed (length m) (blank_block size align kind) 0 size ≡ false → ((a : ℕ) → IsAlignment a → a ≤ most → rights.is_aligned (length m) (blank_block size align kind) 0 a ≡ true) → Holds rights (fresh m size align kind) (length m) 0 most (replicate size TheByte.Undefined) }
     ensures home { (rights target : Rights) (homes : List Home) (n : List Block) (b most : ℕ) (x : Block) → AreByteRights rights → Stands rights target homes n b x → same_kind x.kind TheKind.Constant ≡ false → 0 < x.size → rights.is_closed b x 0 x.size ≡ false → ((align : ℕ) → IsAlignment align → align ≤ most → rights.is_aligned b x 0 align ≡ true) → StandsAs target homes n (home_block homes b) (home_of homes b).offset most x.bytes }
