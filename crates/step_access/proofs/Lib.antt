@@ -10,3 +10,5 @@ pub mod Done
 pub mod Loaded
 pub mod Touched
 pub mod Held
+pub mod Reading
+pub mod ReadSteps

@@ -32,6 +32,7 @@ ghost use Rattle.step_laws.specs.Changed.{Each, operands_at};
 ghost use Rattle.step_access.specs.Accessed.{Span as TheSpan, accessed, slot_blocks, writes};
 ghost use Rattle.step_access.specs.Changed.{ChangesOnly, IsDefined, IsFree, IsFull, IsNoneOf, KeepsFree, LeavesBytes, LeavesFree, LeavesOthers, home_block};
 ghost use Rattle.step_access.specs.Lines.{AreDisjoint, GoesOn, Holds, IsCopyOf, Runs, StandAt, StandsAs, is_memcpy, pointer_at, refilled_at};
+ghost use Rattle.step_access.specs.Reading.{DifferBut, DoesSame};
 ghost use Rattle.step_access.specs.Touched.{AreTouches, touch_of};
 ghost use Rattle.step_access.specs.Rights.{AreReowned, MayTurn, with_blocks};
 
@@ -39,6 +40,13 @@ ghost use Rattle.step_access.specs.Rights.{AreReowned, MayTurn, with_blocks};
 pub fn other_blocks_stay()
     ensures step { (c : Context) (w : Work) (here : Fetched) → LeavesOthers (accessed c w here) w.world.memory (action_of c w here) }
     ensures slots { (m : List Block) (slots : List TheSlot) → ChangesOnly (slot_blocks slots) m (without_slots m slots) }
+{}
+
+/// An ordinary step reads no bytes but of blocks that it accesses. Where bytes of others differ it does the same, and
+/// leaves those that it accesses the same.
+#[tactic(auto, using(crate::proofs::ReadSteps::step_reads))]
+pub fn other_blocks_are_not_read()
+    ensures { (c : Context) (w : Work) (k : List Block) (here : Fetched) → AreByteRights c.rights → DifferBut (accessed c w here) w.world.memory k → DoesSame (accessed c w here) (action_of c w here) (action_of c (set_memory w k) here) }
 {}
 
 /// An ordinary step that makes, marks and allocates no block changes no bytes but those that it writes. The blocks
