@@ -2,3 +2,4 @@ pub mod Begun
 pub mod Example
 pub mod Machines
 pub mod Stores
+pub mod Ended

@@ -1,16 +1,18 @@
 //! What the laws of `step_access` say of frames and of machines, and worked cases of them.
 #![tactic(auto)]
 
-ghost use Rattle.std.specs.Prelude.{ℕ, ℤ, true, List, [], length, ◌∷◌, ◌++◌, Some, None, slice_get, ◌≡◌};
+ghost use Rattle.std.specs.Prelude.{ℕ, ℤ, true, List, [], length, ◌∷◌, ◌++◌, Some, None, slice_get, slice_set, ◌≡◌};
 ghost use Rattle.block_memory.specs.Memory.{owned_to, owner_rights, with_block};
 ghost use Rattle.block_memory.specs.declared.block.MemoryBlock.{MemoryBlock as Block};
 ghost use Rattle.embedding_worked.specs.Worked.{an_instance, frame_given, owned_block};
 ghost use Rattle.block_memory.specs.declared.block.Kind.{Kind as TheKind};
 ghost use Rattle.coro_meaning.specs.declared.state.Instance.{Instance as TheInstance};
+ghost use Rattle.access_worked.specs.Frames.{AreSameFrames, in_status};
 ghost use Rattle.access_worked.specs.Machines.{ahead, gives_no_frame, plain_ahead};
 ghost use Rattle.coro_base.specs.declared.outcome.Outcome.{Outcome as TheOutcome};
 ghost use Rattle.coro_meaning.specs.Source.{Continues, context_of, step_by};
 ghost use Rattle.coro_meaning.specs.State.{function_of, work_of};
+ghost use Rattle.coro_meaning.specs.declared.state.Status.{Status as TheStatus};
 ghost use Rattle.coro_meaning.specs.declared.state.State.{State as TheState};
 ghost use Rattle.framed_meaning.specs.Framed.{FramedGiven, frame_rights, framed_context, framed_step, layout_of};
 ghost use Rattle.ir_model.specs.declared.instr.Instr.{Instr};
@@ -34,6 +36,12 @@ ghost use Rattle.step_embedding.specs.Marks.{LivesAlone};
 /// to the frame's size, there is an instance more, and the source still stands.
 pub fn begin_keeps_what_stands()
     ensures { (g : FramedGiven) (instances : List TheInstance) (x : TheInstance) (homes : List Home) (m n : List Block) (b size : ℕ) → x.start ≡ 0 → (layout_of g.layouts x.coroutine).size ≡ size → (home_of homes b).block ≡ x.block → (home_of homes b).offset ≡ 0 → LivesAlone homes m b → ((y : Block) → slice_get m b ≡ Some y → y.owned ≡ None) → Embeds owner_rights (frame_rights g instances) homes m n → Embeds owner_rights (frame_rights g (instances ++ x ∷ [])) homes (with_block m b (owned_to size)) (with_block n x.block (owned_to size)) }
+{}
+
+/// The rights of frames go by where the frames lie. So they stay where an instance is saved, resumed, or at its end.
+pub fn frames_have_rights()
+    ensures same { (g : FramedGiven) (instances others : List TheInstance) → AreSameFrames instances others → frame_rights g others ≡ frame_rights g instances }
+    ensures status { (g : FramedGiven) (instances : List TheInstance) (i : ℕ) (x : TheInstance) (status : TheStatus) → slice_get instances i ≡ Some x → frame_rights g (slice_set instances i (in_status x status)) ≡ frame_rights g instances }
 {}
 
 /// A block of 48 bytes stands in itself where no instance is. It still does where a coroutine has begun in it whose
