@@ -1,0 +1,14 @@
+pub mod Walk
+pub mod Blocks
+pub mod Bytes
+pub mod Related
+pub mod Marked
+pub mod Turned
+pub mod Lines
+pub mod Ranges
+pub mod Done
+pub mod Loaded
+pub mod Touched
+pub mod Held
+pub mod Reading
+pub mod ReadSteps
