@@ -1,0 +1,5 @@
+pub mod Muted
+pub mod Sets
+pub mod Over
+pub mod Places
+pub mod Grown

@@ -1,0 +1,5 @@
+pub mod Shapes
+pub mod Muted
+pub mod Transfer
+pub mod Places
+pub mod Ready
