@@ -1,5 +1,9 @@
 pub mod Muted
 pub mod Sets
+pub mod Shapes
 pub mod Over
 pub mod Places
 pub mod Grown
+pub mod Ready
+pub mod Alone
+pub mod Carried

@@ -1,23 +1,22 @@
 -- Blocks of the source that come to stand, move, are hidden or are gone, and to which pointers come about or are no longer about.
-use Rattle.std.proofs.Common.{◌≡◌, ◌≢◌, ℕ, zero, suc, ◌+◌, ◌^◌, ◌<◌, ◌≤◌, inl, Bool, true, false, not, List, [], ◌∷◌, ◌++◌, length, get_or, Option, Some, None, refl, sym, ap, ◌∙◌, subst, ⊎_elim, arith, if◌then◌else◌, ◌&&◌, ◌||◌, ◌==◌, length-append}
+use Rattle.std.proofs.Common.{◌≡◌, ◌≢◌, ℕ, zero, suc, ◌+◌, ◌<◌, ◌≤◌, inl, Bool, true, false, not, List, [], ◌∷◌, ◌++◌, length, get_or, Option, Some, None, refl, sym, ap, ◌∙◌, subst, ⊎_elim, arith, ◌&&◌, ◌||◌, ◌==◌}
 use Rattle.std.proofs.lemmas.Bool.{cases_eq, false≢true}
 use Rattle.std.proofs.lemmas.List.{get_or-replicate, length-replicate}
 use Rattle.std.specs.Prelude.{slice_get, option_map}
-use Rattle.block_memory.specs.Memory.{Rights, end, ended, fresh, is_live, killed_block, may_compare_at, start, started, with_block}
+use Rattle.block_memory.specs.Memory.{Rights, is_live, killed_block, may_compare_at, with_block}
 use Rattle.block_memory.specs.Pointers.{moved}
 use Rattle.block_memory.specs.declared.block.Byte.{Byte}
-use Rattle.block_memory.specs.declared.block.Kind.{Kind}
 use Rattle.block_memory.specs.declared.block.MemoryBlock.{MemoryBlock}
 use Rattle.block_memory.specs.declared.pointer.Offset.{Offset}
 use Rattle.block_memory.specs.declared.pointer.Pointer.{Pointer}
 use Rattle.block_memory.specs.declared.pointer.Value.{Value}
 use Rattle.memory_embedding.proofs.Changes.{reseated, target_changes, target_grows}
-use Rattle.memory_embedding.proofs.Homes.{append_extends, byte_on}
+use Rattle.memory_embedding.proofs.Homes.{byte_on}
 use Rattle.memory_embedding.proofs.Written.{changed_elsewhere, changed_here, same_some}
-use Rattle.memory_embedding.specs.Pointers.{Extends, Home, IsByte, IsSeen, home_of, moved_pointer, nowhere}
+use Rattle.memory_embedding.specs.Pointers.{Extends, Home, IsByte, IsSeen, home_of, moved_pointer}
 use Rattle.memory_embedding.specs.Standing.{AreByteRights, Embeds, HasBounds, HasRights, IsAlignment, IsOpen, Stands, byte_of}
 use Rattle.step_transfer.specs.Muted.{IsShown, ended_if, muted}
-use Rattle.step_transfer.specs.Places.{AreShownBlocks, AreShownBytes, AreStanding, AreThere, HasFewer, HasRoom, IsApartFrom, IsBlank, IsEmpty, IsRehomed, IsSeated, IsShownByte, MayBeSeen, hiding, seen, showing, unseen}
+use Rattle.step_transfer.specs.Places.{AreShownBlocks, AreShownBytes, AreStanding, AreThere, HasFewer, HasRoom, IsBlank, IsEmpty, IsRehomed, IsSeated, IsShownByte, MayBeSeen, hiding, seen, showing, unseen}
 
 -- ---- hidden blocks
 

@@ -1,6 +1,5 @@
 -- The values of two activations in which one name is set.
-use Rattle.std.proofs.Common.{◌≡◌, ℕ, zero, suc, ◌≤◌, List, [], ◌∷◌, length, Option, Some, None, refl, sym, ap, ◌∙◌, subst, arith}
-use Rattle.std.specs.Prelude.{slice_get, slice_set}
+use Rattle.std.proofs.Common.{◌≡◌, ℕ, zero, suc, ◌≤◌, List, [], ◌∷◌, length, Option, Some, None, refl, ap, subst, arith}
 use Rattle.block_memory.specs.declared.pointer.Value.{Value}
 use Rattle.memory_embedding.proofs.Written.{same_some}
 use Rattle.memory_embedding.specs.Pointers.{Home, IsValue}

@@ -3,3 +3,4 @@ pub mod Muted
 pub mod Transfer
 pub mod Places
 pub mod Ready
+pub mod Alone

@@ -125,13 +125,13 @@ pub record AreSet (homes : List Home) (given : Option ℕ) (env other env' other
   pub length_target : length other' ≡ length other
 
 -- the target does the same with what stands for the source's values, unless the source is undefined
-abbrev pub GoesOver : Rights → Rights → List Home → (ℕ → Bool) → Maps → Option ℕ → List Arg → Work → Work → Action → Action → Type 0
-GoesOver rights target homes hides maps given now w x (Done v) b = (y : Work) × (b ≡ Done y) × AreOver rights target homes hides maps.declaration v.world y.world × AreSet homes given w.values x.values v.values y.values
-GoesOver rights target homes hides maps given now w x (NewSlot v slot) b = ⊥
-GoesOver rights target homes hides maps given now w x (Enter func args result must_tail) b = (others : List Value) × (b ≡ Enter (maps.function func) others result must_tail) × AreValues homes args others
-GoesOver rights target homes hides maps given now w x (Coro i args result) b = b ≡ Coro i now result
-GoesOver rights target homes hides maps given now w x (Deallocate p) b = (q : Value) × (b ≡ Deallocate q) × IsValue homes p q
-GoesOver rights target homes hides maps given now w x (GoTo label) b = b ≡ GoTo (maps.label label)
-GoesOver rights target homes hides maps given now w x (Return None) b = b ≡ Return None
-GoesOver rights target homes hides maps given now w x (Return (Some v)) b = (u : Value) × (b ≡ Return (Some u)) × IsValue homes v u
-GoesOver rights target homes hides maps given now w x (Stuck cause) b = Unit {0}
+abbrev pub GoesOver : Rights → Rights → List Home → (ℕ → Bool) → Maps → Option ℕ → (old now : List Arg) → Work → Work → Action → Action → Type 0
+GoesOver rights target homes hides maps given old now w x (Done v) b = (y : Work) × (b ≡ Done y) × AreOver rights target homes hides maps.declaration v.world y.world × AreSet homes given w.values x.values v.values y.values
+GoesOver rights target homes hides maps given old now w x (NewSlot v slot) b = ⊥
+GoesOver rights target homes hides maps given old now w x (Enter func args result must_tail) b = (others : List Value) × (b ≡ Enter (maps.function func) others result must_tail) × AreValues homes args others
+GoesOver rights target homes hides maps given old now w x (Coro i args result) b = (args ≡ old) × (b ≡ Coro i now result)
+GoesOver rights target homes hides maps given old now w x (Deallocate p) b = (q : Value) × (b ≡ Deallocate q) × IsValue homes p q
+GoesOver rights target homes hides maps given old now w x (GoTo label) b = b ≡ GoTo (maps.label label)
+GoesOver rights target homes hides maps given old now w x (Return None) b = b ≡ Return None
+GoesOver rights target homes hides maps given old now w x (Return (Some v)) b = (u : Value) × (b ≡ Return (Some u)) × IsValue homes v u
+GoesOver rights target homes hides maps given old now w x (Stuck cause) b = Unit {0}

@@ -2,23 +2,38 @@
 //! blocks that come, move, are hidden or are gone.
 #![tactic(auto)]
 
-ghost use Rattle.std.specs.Prelude.{ℕ, Bool, true, false, List, length, slice_get, Some, ◌≡◌, ◌≢◌, ◌<◌, ◌++◌, ◌∷◌, [], ◌==◌, if◌then◌else◌};
+ghost use Rattle.std.specs.Prelude.{ℕ, Bool, false, List, length, slice_get, Option, Some, ◌≡◌, ◌≢◌, ◌<◌, ◌++◌, ◌∷◌, [], ◌==◌, if◌then◌else◌};
 ghost use Rattle.block_memory.specs.Memory.{Rights, end, fresh, killed_block, start, with_block};
 ghost use Rattle.block_memory.specs.declared.block.Kind.{Kind as TheKind};
 ghost use Rattle.block_memory.specs.declared.block.MemoryBlock.{MemoryBlock as Block};
+ghost use Rattle.block_memory.specs.declared.pointer.Value.{Value as TheValue};
 ghost use Rattle.memory_embedding.specs.Pointers.{Extends, Home, IsValue, home_of};
 ghost use Rattle.memory_embedding.specs.Standing.{AreByteRights, Stands};
 ghost use Rattle.ordinary_step.specs.Step.{Context, Fetched, Work, action_of};
+ghost use Rattle.ordinary_step.specs.Values.{Env, element};
 ghost use Rattle.step_embedding.specs.Making.{whole_home};
+ghost use Rattle.step_embedding.specs.Related.{AreAlike, AreWorks, GoesAlike, IsCarried, IsSameDistance};
+ghost use Rattle.step_laws.specs.Changed.{Each};
+ghost use Rattle.step_transfer.specs.Alone.{IsReadBy};
 ghost use Rattle.step_transfer.specs.Muted.{muted};
 ghost use Rattle.step_transfer.specs.Places.{AreBothNew, AreShownBlocks, AreStanding, AreThere, HasFewer, HasRoom, IsBlank, IsEmpty, IsNewIn, IsRehomed, IsSeated, MayBeSeen, hiding, seen, unseen};
-ghost use Rattle.step_transfer.specs.Transfer.{AreJoined, GoesOver, IsTransferred, Maps, args_at, given_at};
+ghost use Rattle.step_transfer.specs.Ready.{ArePlaces, IsPartPlaced, IsPlaced, IsValueOver, Place, faded, shown_of, stood};
+ghost use Rattle.step_transfer.specs.Shapes.{StaysAt};
+ghost use Rattle.step_transfer.specs.Transfer.{AreJoined, GoesOver, IsTransferred, Maps, StandsFor, args_at, given_at, looks_at};
 
 /// An ordinary step of the source that isn't undefined is made by the target with an instruction of the same shape, where what it
 /// looks at stands in the target, whatever the other names have: of every instruction but those that make, mark or allocate
 /// blocks. No pointer is about into the hidden blocks of the source.
 pub fn steps_are_transferred()
-    ensures { (homes : List Home) (hides : ℕ → Bool) (maps : Maps) (c d : Context) (w x : Work) (here there : Fetched) → AreByteRights c.rights → AreByteRights d.rights → AreJoined homes hides maps c d w x → IsTransferred (IsValue homes) maps c d w.values x.values here there → GoesOver c.rights d.rights homes hides maps (given_at here) (args_at there) w x (action_of c w here) (action_of d x there) }
+    ensures { (homes : List Home) (hides : ℕ → Bool) (maps : Maps) (c d : Context) (w x : Work) (here there : Fetched) → AreByteRights c.rights → AreByteRights d.rights → AreJoined homes hides maps c d w x → IsTransferred (IsValue homes) maps c d w.values x.values here there → GoesOver c.rights d.rights homes hides maps (given_at here) (args_at here) (args_at there) w x (action_of c w here) (action_of d x there) }
+{}
+
+/// One instruction is of one shape with itself where the names that it reads stand, or will once blocks stand in their places; and
+/// the law of one instruction over works of which all names stand is an instance.
+pub fn one_instruction_is_transferred()
+    ensures reads { (homes : List Home) (c d : Context) (env other : Env) (here : Fetched) → IsReadBy (IsValue homes) c d env other here → StaysAt (StandsFor (looks_at here) (IsValue homes) c d env other) (λ label. label) here here }
+    ensures places { (homes : List Home) (ps : List Place) (c d : Context) (env other : Env) (here : Fetched) → IsReadBy (IsValueOver homes ps) c d env other here → StaysAt (StandsFor (looks_at here) (IsValueOver homes ps) c d env other) (λ label. label) here here }
+    ensures carried { (homes : List Home) (moves : ℕ → ℕ) (c d : Context) (w x : Work) (here : Fetched) → AreByteRights c.rights → AreByteRights d.rights → AreAlike c d → AreWorks c.rights d.rights homes moves w x → IsCarried homes moves c d w.values x.values here → GoesAlike c.rights d.rights homes moves (action_of c w here) (action_of d x here) }
 {}
 
 /// A block comes to stand in a block of the target, which a blank one may do where there is room; a block to which no pointer leads
@@ -41,4 +56,16 @@ pub fn new_blocks_get_homes()
     ensures new { (rights target : Rights) (homes : List Home) (m n : List Block) (q : Home) (x : Block) → IsNewIn rights target homes m n q x → AreStanding rights target homes m n → AreStanding rights target (homes ++ q ∷ []) (m ++ x ∷ []) n }
     ensures made { (rights target : Rights) (homes : List Home) (m n : List Block) (x y : Block) → AreBothNew rights target homes m n x y → AreStanding rights target homes m n → AreStanding rights target (homes ++ whole_home (length n) ∷ []) (m ++ x ∷ []) (n ++ y ∷ []) }
     ensures lives { (n : List Block) (size align : ℕ) (kind : TheKind) (marked : Bool) → start (if marked then end (fresh n size align kind) (length n) else fresh n size align kind) (length n) ≡ fresh n size align kind }
+{}
+
+/// So it is made where the operands are addresses in blocks that stand in their places, or come to stand there because they hold
+/// nothing and no pointer is about into them; an address that is moved by a distance is such an address again; and pointers into
+/// those of a set are no longer about where no byte is part of one.
+pub fn steps_use_places()
+    ensures step { (homes : List Home) (hides : ℕ → Bool) (maps : Maps) (ps : List Place) (c d : Context) (w x : Work) → AreJoined homes hides maps c d w x → ArePlaces c.rights d.rights homes hides w.world.memory x.world.memory ps → (here there : Fetched) → AreByteRights c.rights → AreByteRights d.rights → IsTransferred (IsValueOver homes ps) maps c d w.values x.values here there → GoesOver c.rights d.rights (stood homes ps) (shown_of hides ps) maps (given_at here) (args_at here) (args_at there) w x (action_of c w here) (action_of d x there) }
+    ensures joined { (homes : List Home) (hides : ℕ → Bool) (maps : Maps) (ps : List Place) (c d : Context) (w x : Work) → AreJoined homes hides maps c d w x → ArePlaces c.rights d.rights homes hides w.world.memory x.world.memory ps → AreJoined (stood homes ps) (shown_of hides ps) maps c d w x }
+    ensures standing { (rights target : Rights) (homes : List Home) (hides : ℕ → Bool) (m n : List Block) (ps : List Place) → ArePlaces rights target homes hides m n ps → AreStanding rights target homes (muted hides m) n → AreStanding rights target (stood homes ps) (muted (shown_of hides ps) m) n }
+    ensures extends { (rights target : Rights) (homes : List Home) (hides : ℕ → Bool) (m n : List Block) (ps : List Place) → ArePlaces rights target homes hides m n ps → Extends homes (stood homes ps) }
+    ensures parts { (homes : List Home) (hides : ℕ → Bool) (maps : Maps) (ps : List Place) (c d : Context) (w x : Work) → AreJoined homes hides maps c d w x → ArePlaces c.rights d.rights homes hides w.world.memory x.world.memory ps → (inbounds : Bool) (v u : TheValue) (e f : Option ℕ) → IsPlaced ps v u → IsSameDistance e f → IsPartPlaced ps (element w.world.memory inbounds v e) (element x.world.memory inbounds u f) }
+    ensures faded { (rights target : Rights) (quiet hides : ℕ → Bool) (homes : List Home) (m n : List Block) (ps : List Place) → Each (λ (p : Place). p.block < length homes) ps → AreShownBlocks quiet m → AreStanding rights target homes (muted hides m) n → AreStanding rights target (faded quiet homes ps) (muted hides m) n }
 {}
