@@ -7,3 +7,5 @@ pub mod Grown
 pub mod Ready
 pub mod Alone
 pub mod Carried
+pub mod Makes
+pub mod Marks

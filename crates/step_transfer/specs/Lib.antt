@@ -4,3 +4,4 @@ pub mod Transfer
 pub mod Places
 pub mod Ready
 pub mod Alone
+pub mod Makes

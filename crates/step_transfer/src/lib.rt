@@ -15,6 +15,7 @@ ghost use Rattle.step_embedding.specs.Making.{whole_home};
 ghost use Rattle.step_embedding.specs.Related.{AreAlike, AreWorks, GoesAlike, IsCarried, IsSameDistance};
 ghost use Rattle.step_laws.specs.Changed.{Each};
 ghost use Rattle.step_transfer.specs.Alone.{IsReadBy};
+ghost use Rattle.step_transfer.specs.Makes.{GoesNew, IsMaking, IsMarking};
 ghost use Rattle.step_transfer.specs.Muted.{muted};
 ghost use Rattle.step_transfer.specs.Places.{AreBothNew, AreShownBlocks, AreStanding, AreThere, HasFewer, HasRoom, IsBlank, IsEmpty, IsNewIn, IsRehomed, IsSeated, MayBeSeen, hiding, seen, unseen};
 ghost use Rattle.step_transfer.specs.Ready.{ArePlaces, IsPartPlaced, IsPlaced, IsValueOver, Place, faded, shown_of, stood};
@@ -26,6 +27,13 @@ ghost use Rattle.step_transfer.specs.Transfer.{AreJoined, GoesOver, IsTransferre
 /// blocks. No pointer is about into the hidden blocks of the source.
 pub fn steps_are_transferred()
     ensures { (homes : List Home) (hides : ℕ → Bool) (maps : Maps) (c d : Context) (w x : Work) (here there : Fetched) → AreByteRights c.rights → AreByteRights d.rights → AreJoined homes hides maps c d w x → IsTransferred (IsValue homes) maps c d w.values x.values here there → GoesOver c.rights d.rights homes hides maps (given_at here) (args_at here) (args_at there) w x (action_of c w here) (action_of d x there) }
+{}
+
+/// An alloca or a call of an allocator, and one of the same shape, make a block in both: the target's is the home of the source's,
+/// which stands alone there, and the name that is set has its address. A marker and one of the same shape mark a block and its home.
+pub fn blocks_are_transferred()
+    ensures made { (homes : List Home) (hides : ℕ → Bool) (maps : Maps) (c d : Context) (w x : Work) (here there : Fetched) → AreJoined homes hides maps c d w x → IsMaking homes hides maps c d w x here there → GoesNew c.rights d.rights homes hides maps.declaration (given_at here) w x (action_of c w here) (action_of d x there) }
+    ensures marked { (homes : List Home) (hides : ℕ → Bool) (maps : Maps) (c d : Context) (w x : Work) (here there : Fetched) → AreByteRights c.rights → AreByteRights d.rights → AreJoined homes hides maps c d w x → IsMarking homes hides maps c d w x here there → GoesOver c.rights d.rights homes hides maps (given_at here) (args_at here) (args_at there) w x (action_of c w here) (action_of d x there) }
 {}
 
 /// One instruction is of one shape with itself where the names that it reads stand, or will once blocks stand in their places; and
