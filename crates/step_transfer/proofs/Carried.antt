@@ -28,14 +28,19 @@ pub muted_none : (m : List MemoryBlock) → muted (λ b. false) m ≡ m
 muted_none [] = refl
 muted_none (x ∷ m) = ap (λ k. x ∷ k) (muted_none m)
 
-names_stand : (homes : List Home) (given : Option ℕ) (env other env' other' : Env) → AreEnvs homes env other → AreSet homes given env other env' other' → AreEnvs homes env' other'
+names_stand : (homes : List Home) (given : Option ℕ) (env other env' other' : Env) → AreEnvs homes env other
+    → AreSet homes given env other env' other' → AreEnvs homes env' other'
 names_stand homes given env other env' other' envs set = record {
   each = λ name. on name given refl;
   room = let a = set.length_source in let b = set.length_target in let r = envs.room in omega arith;
 }
   where
     unset : (name : ℕ) → (given ≡ Some name → ⊥) → IsValue homes (value_in env' name) (value_in other' name)
-    unset name ne = subst (λ (p : Value × Value). IsValue homes p.0 p.1) (λ i. (sym (set.source name ne) i, sym (set.target name ne) i)) (envs.each name)
+    unset name ne = subst (λ (p : Value × Value). IsValue homes p.0 p.1) (λ i. (
+      sym (set.source name ne) i,
+      sym
+          (set.target name ne) i,
+    )) (envs.each name)
 
     on : (name : ℕ) (o : Option ℕ) → given ≡ o → IsValue homes (value_in env' name) (value_in other' name)
     on name None e = unset name (λ h. absurd (cc))
@@ -44,7 +49,10 @@ names_stand homes given env other env' other' envs set = record {
         (λ ne. unset name (λ h. ne (same_some at name (sym e ∙ h))))
         (cases_eq at name)
 
-module _ (homes : List Home) (moves : ℕ → ℕ) (c d : Context) (w x : Work) (here : Fetched) (law : AreByteRights c.rights) (law' : AreByteRights d.rights) (alike : AreAlike c d) (works : AreWorks c.rights d.rights homes moves w x) (k : IsCarried homes moves c d w.values x.values here) where
+module _ (homes : List Home) (moves : ℕ
+    → ℕ) (c d : Context) (w x : Work) (here : Fetched) (law : AreByteRights c.rights) (law' : AreByteRights d.rights)
+    (alike : AreAlike c d) (works : AreWorks c.rights d.rights homes moves w x)
+    (k : IsCarried homes moves c d w.values x.values here) where
   abbrev maps : Maps
   maps = record { declaration = moves; function = λ n. n; label = λ n. n }
 
@@ -62,7 +70,8 @@ module _ (homes : List Home) (moves : ℕ → ℕ) (c d : Context) (w x : Work) 
   operands_itself [] h = tt
   operands_itself (a ∷ xs) h = (operand_itself a h.0, operands_itself xs h.1)
 
-  looked : (z : Fetched) → Each (IsOperand homes c d w.values x.values) (operands_at z) → Each (λ a. S a a) (looked_at z)
+  looked : (z : Fetched) → Each (IsOperand homes c d w.values x.values) (operands_at z)
+      → Each (λ a. S a a) (looked_at z)
   looked (AtTerm (Terminator.Switch arg default cases)) h = (operand_itself arg.value h.0, tt)
   looked (AtTerm (Terminator.Jump label)) h = tt
   looked (AtTerm (Terminator.Branch y a b)) h = (operand_itself y h.0, tt)
@@ -109,11 +118,14 @@ module _ (homes : List Home) (moves : ℕ → ℕ) (c d : Context) (w x : Work) 
   distances (AtTerm t) h = tt
   distances Nowhere h = tt
 
-  cases_same : (cases : List Case) → Each (IsOperand homes c d w.values x.values) (map (λ (j : Case). j.arg.value) cases) → Each (IsSameCase c d) cases
+  cases_same : (cases : List Case)
+      → Each (IsOperand homes c d w.values x.values) (map (λ (j : Case). j.arg.value) cases)
+      → Each (IsSameCase c d) cases
   cases_same [] h = tt
   cases_same (j ∷ cases) h = (h.0.nowhere j.arg.ty, cases_same cases h.1)
 
-  cases_here : (z : Fetched) → Each (IsOperand homes c d w.values x.values) (operands_at z) → Each (IsSameCase c d) (cases_at z)
+  cases_here : (z : Fetched) → Each (IsOperand homes c d w.values x.values) (operands_at z)
+      → Each (IsSameCase c d) (cases_at z)
   cases_here (AtTerm (Terminator.Switch arg default cases)) h = cases_same cases h.1
   cases_here (AtTerm (Terminator.Jump label)) h = tt
   cases_here (AtTerm (Terminator.Branch y a b)) h = tt
@@ -124,7 +136,8 @@ module _ (homes : List Home) (moves : ℕ → ℕ) (c d : Context) (w x : Work) 
 
   joined : AreJoined homes (λ b. false) maps c d w x
   joined = record {
-    over = subst (λ m. AreWorlds c.rights d.rights homes moves (record w.world { memory = m }) x.world) (sym (muted_none w.world.memory)) works.world;
+    over = subst (λ m. AreWorlds c.rights d.rights homes moves (record w.world { memory = m }) x.world)
+        (sym (muted_none w.world.memory)) works.world;
     hidden = λ b e. absurd (false≢true e);
     answers = alike.answers;
     room = works.values.room;
@@ -141,12 +154,15 @@ module _ (homes : List Home) (moves : ℕ → ℕ) (c d : Context) (w x : Work) 
     bytes = k.bytes;
   }
 
-  alike_of : (a b : Action) → GoesOver c.rights d.rights homes (λ b. false) maps (given_at here) (args_at here) (args_at here) w x a b → GoesAlike c.rights d.rights homes moves a b
+  alike_of : (a b : Action)
+      → GoesOver c.rights d.rights homes (λ b. false) maps (given_at here) (args_at here) (args_at here) w x a b
+      → GoesAlike c.rights d.rights homes moves a b
   alike_of (Done v) b h = (
     h.0,
     h.1,
     record {
-      world = subst (λ m. AreWorlds c.rights d.rights homes moves (record v.world { memory = m }) (h.0).world) (muted_none v.world.memory) h.2;
+      world = subst (λ m. AreWorlds c.rights d.rights homes moves (record v.world { memory = m }) (h.0).world)
+          (muted_none v.world.memory) h.2;
       values = names_stand homes (given_at here) w.values x.values v.values (h.0).values works.values h.3;
     },
   )
@@ -160,4 +176,5 @@ module _ (homes : List Home) (moves : ℕ → ℕ) (c d : Context) (w x : Work) 
   alike_of (Stuck cause) b h = tt
 
   pub carried_again : GoesAlike c.rights d.rights homes moves (action_of c w here) (action_of d x here)
-  carried_again = alike_of (action_of c w here) (action_of d x here) (step_over homes (λ b. false) maps c d w x here here law law' joined transferred)
+  carried_again = alike_of (action_of c w here) (action_of d x here)
+      (step_over homes (λ b. false) maps c d w x here here law law' joined transferred)

@@ -29,7 +29,8 @@ module _ (R S : Operand → Operand → Type 0) (f : (a b : Operand) → R a b �
   instr_on _ _ (Load r ty x y align h) = Load r ty x y align (f _ _ h)
   instr_on _ _ (Store a c x y align h k) = Store a c x y align (arg_on a c h) (f _ _ k)
   instr_on _ _ (Gep r inbounds ty x y args now h k) = Gep r inbounds ty x y args now (f _ _ h) (args_on args now k)
-  instr_on _ _ (Call r must_tail ty c d args now h k) = Call r must_tail ty c d args now (callee_on c d h) (args_on args now k)
+  instr_on _ _ (Call r must_tail ty c d args now h k) = Call r must_tail ty c d args now (callee_on c d h)
+      (args_on args now k)
 
   term_on : (labels : ℕ → ℕ) (t u : Terminator) → TermStays R labels t u → TermStays S labels t u
   term_on labels _ _ (Jump label) = Jump label

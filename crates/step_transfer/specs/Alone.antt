@@ -14,4 +14,5 @@ IsNoLocal _ = Unit {0}
 -- the names that are read stand by a relation of values, and so do the operands that are no locals
 pub record IsReadBy (R : Value → Value → Type 0) (c d : Context) (env other : Env) (here : Fetched) : Type 0 where
   pub reads : (v : ℕ) → IsTrue (reads_at v here) → R (value_in env v) (value_in other v)
-  pub others : (a : Operand) (ty : Ty) → IsNoLocal a → R (operand_value c.code env ty a) (operand_value d.code other ty a)
+  pub others : (a : Operand) (ty : Ty) → IsNoLocal a
+      → R (operand_value c.code env ty a) (operand_value d.code other ty a)

@@ -34,14 +34,18 @@ pub record HasRoom (rights target : Rights) (n : List MemoryBlock) (q : Home) (b
   pub writable : same_kind x.kind Kind.Constant ≡ false → same_kind block.kind Kind.Constant ≡ false
   pub allowed : HasRights rights target q b x block
 
--- pointers into the block b may be about where its home is this one: they may be compared with null as in the source, and there is room
-pub record MayBeSeen (rights target : Rights) (n : List MemoryBlock) (q : Home) (b : ℕ) (x : Option MemoryBlock) : Type 0 where
-  pub nulls : (o : Offset) → may_compare_at rights b x o ≡ true → may_compare_at target q.block (slice_get n q.block) (moved o q.offset) ≡ true
+-- pointers into the block b may be about where its home is this one: they may be compared with null as in the source,
+-- and there is room
+pub record MayBeSeen (rights target : Rights) (n : List MemoryBlock) (q : Home) (b : ℕ)
+    (x : Option MemoryBlock) : Type 0 where
+  pub nulls : (o : Offset) → may_compare_at rights b x o ≡ true
+      → may_compare_at target q.block (slice_get n q.block) (moved o q.offset) ≡ true
   pub bounds : (z : MemoryBlock) → x ≡ Some z → HasBounds n q z.size
 
 -- no live block but the block b has a byte or a place in common with it, where its home is this one
 abbrev pub IsApartFrom : Rights → List Home → List MemoryBlock → Home → ℕ → MemoryBlock → Type 0
-IsApartFrom rights homes m q b x = (c : ℕ) (z : MemoryBlock) → c ≢ b → slice_get m c ≡ Some z → is_live z.life ≡ true → (home_of homes c).block ≡ q.block → AreApart rights (home_of homes c) q c b z x
+IsApartFrom rights homes m q b x = (c : ℕ) (z : MemoryBlock) → c ≢ b → slice_get m c ≡ Some z → is_live z.life ≡ true
+    → (home_of homes c).block ≡ q.block → AreApart rights (home_of homes c) q c b z x
 
 -- another memory of which the block b stands somewhere else, or anew; all others stand as they stood
 pub record IsSeated (rights target : Rights) (homes more : List Home) (m k n : List MemoryBlock) (b : ℕ) : Type 0 where
@@ -50,18 +54,22 @@ pub record IsSeated (rights target : Rights) (homes more : List Home) (m k n : L
   pub others : (d : ℕ) → d ≢ b → home_of more d ≡ home_of homes d
   pub same : (d : ℕ) → d ≢ b → slice_get k d ≡ slice_get m d
   pub stands : (x : MemoryBlock) → slice_get k b ≡ Some x → is_live x.life ≡ true → Stands rights target more n b x
-  pub apart : (x : MemoryBlock) → slice_get k b ≡ Some x → is_live x.life ≡ true → IsApartFrom rights homes m (home_of more b) b x
+  pub apart : (x : MemoryBlock) → slice_get k b ≡ Some x → is_live x.life ≡ true
+      → IsApartFrom rights homes m (home_of more b) b x
   pub seen : (home_of more b).is_seen ≡ true → MayBeSeen rights target n (home_of more b) b (slice_get k b)
 
 -- pointers to a block of the source, to which some may be about, may be compared with null wherever they lead
 pub record IsComparable (target : Rights) (homes : List Home) (n : List MemoryBlock) (b : ℕ) : Type 0 where
-  pub each : (o : Offset) → may_compare_at target (home_of homes b).block (slice_get n (home_of homes b).block) (moved o (home_of homes b).offset) ≡ true
+  pub each : (o : Offset) → may_compare_at target (home_of homes b).block (slice_get n (home_of homes b).block)
+      (moved o (home_of homes b).offset) ≡ true
 
 -- each live block of the second is one of the first, as it was there; and each block has the size that it had
 pub record HasFewer (target : Rights) (homes : List Home) (m k n : List MemoryBlock) : Type 0 where
   pub live : (b : ℕ) (x : MemoryBlock) → slice_get k b ≡ Some x → is_live x.life ≡ true → slice_get m b ≡ Some x
-  pub nulls : (b : ℕ) → (home_of homes b).is_seen ≡ true → (slice_get k b ≡ slice_get m b) ⊎ IsComparable target homes n b
-  pub sizes : (b : ℕ) (x : MemoryBlock) → slice_get k b ≡ Some x → (y : MemoryBlock) × (slice_get m b ≡ Some y) × (y.size ≡ x.size)
+  pub nulls : (b : ℕ) → (home_of homes b).is_seen ≡ true
+      → (slice_get k b ≡ slice_get m b) ⊎ IsComparable target homes n b
+  pub sizes : (b : ℕ) (x : MemoryBlock) → slice_get k b ≡ Some x
+      → (y : MemoryBlock) × (slice_get m b ≡ Some y) × (y.size ≡ x.size)
 
 -- one block more is hidden, or one less
 abbrev pub hiding : (ℕ → Bool) → ℕ → ℕ → Bool
@@ -85,11 +93,13 @@ pub record IsRehomed (homes more : List Home) (b : ℕ) (q : Home) : Type 0 wher
 
 -- the blocks into which pointers may be about have homes in which there are blocks
 abbrev pub AreThere : List Home → List MemoryBlock → Type 0
-AreThere homes n = (b : ℕ) → (home_of homes b).is_seen ≡ true → (y : MemoryBlock) × (slice_get n (home_of homes b).block ≡ Some y)
+AreThere homes n = (b : ℕ) → (home_of homes b).is_seen ≡ true
+    → (y : MemoryBlock) × (slice_get n (home_of homes b).block ≡ Some y)
 
 -- no live block of the source stands in the target's block
 abbrev pub IsEmpty : List Home → List MemoryBlock → ℕ → Type 0
-IsEmpty homes m B = (b : ℕ) (x : MemoryBlock) → slice_get m b ≡ Some x → is_live x.life ≡ true → (home_of homes b).block ≢ B
+IsEmpty homes m B = (b : ℕ) (x : MemoryBlock) → slice_get m b ≡ Some x → is_live x.life ≡ true
+    → (home_of homes b).block ≢ B
 
 -- ---- memories into some of whose blocks no pointer leads
 
@@ -107,14 +117,16 @@ AreShownBlocks hides m = Each (λ (x : MemoryBlock). AreShownBytes hides x.bytes
 -- ---- new blocks
 
 -- the next block of the source has a home in the target as it is, seen or not
-pub record IsNewIn (rights target : Rights) (homes : List Home) (m n : List MemoryBlock) (q : Home) (x : MemoryBlock) : Type 0 where
+pub record IsNewIn (rights target : Rights) (homes : List Home) (m n : List MemoryBlock) (q : Home)
+    (x : MemoryBlock) : Type 0 where
   pub known : length homes ≡ length m
   pub stands : is_live x.life ≡ true → Stands rights target (homes ++ q ∷ []) n (length m) x
   pub apart : is_live x.life ≡ true → IsApartFrom rights homes m q (length m) x
   pub seen : q.is_seen ≡ true → MayBeSeen rights target n q (length m) (Some x)
 
 -- both make a block: the source's holds nothing, and there is room for it in the target's
-pub record AreBothNew (rights target : Rights) (homes : List Home) (m n : List MemoryBlock) (x y : MemoryBlock) : Type 0 where
+pub record AreBothNew (rights target : Rights) (homes : List Home) (m n : List MemoryBlock)
+    (x y : MemoryBlock) : Type 0 where
   pub known : length homes ≡ length m
   pub there : AreThere homes n
   pub blank : is_live x.life ≡ true → IsBlank x

@@ -1,4 +1,5 @@
--- Blocks that an instruction uses, and the homes in which they stand, or come to stand because they hold nothing and no pointer is about into them.
+-- Blocks that an instruction uses, and the homes in which they stand, or come to stand because they hold nothing and
+-- no pointer is about into them.
 use Rattle.std.specs.Prelude.{ℕ, Bool, true, false, List, [], ◌∷◌, length, slice_get, Some, ◌≡◌, ◌≢◌, ◌<◌, ◌⊎◌, set, if◌then◌else◌}
 use Rattle.block_memory.specs.Memory.{Rights, is_live}
 use Rattle.block_memory.specs.Pointers.{moved}
@@ -29,20 +30,26 @@ pub record IsPlace (rights target : Rights) (homes : List Home) (m n : List Memo
   pub seen : MayBeSeen rights target n (home_at p) p.block (slice_get m p.block)
 
 -- a live block holds nothing, there is room for it there, and it is apart from all others
-pub record IsComing (rights target : Rights) (homes : List Home) (hides : ℕ → Bool) (m n : List MemoryBlock) (p : Place) (x : MemoryBlock) : Type 0 where
+pub record IsComing (rights target : Rights) (homes : List Home) (hides : ℕ
+    → Bool) (m n : List MemoryBlock) (p : Place) (x : MemoryBlock) : Type 0 where
   pub blank : IsBlank x
   pub room : HasRoom rights target n (home_at p) p.block x
   pub apart : IsApartFrom rights homes (muted hides m) (home_at p) p.block x
 
 -- the block stands there, or no pointer is about into it and it may come there
-pub data IsSettled (rights target : Rights) (homes : List Home) (hides : ℕ → Bool) (m n : List MemoryBlock) (p : Place) : Type 0 where
-  Stays : (is_seen : Bool) → home_of homes p.block ≡ record (home_at p) { is_seen = is_seen } → hides p.block ≡ false → IsSettled rights target homes hides m n p
-  Comes : (home_of homes p.block).is_seen ≡ false → ((x : MemoryBlock) → slice_get m p.block ≡ Some x → is_live x.life ≡ true → IsComing rights target homes hides m n p x) → IsSettled rights target homes hides m n p
+pub data IsSettled (rights target : Rights) (homes : List Home) (hides : ℕ
+    → Bool) (m n : List MemoryBlock) (p : Place) : Type 0 where
+  Stays : (is_seen : Bool) → home_of homes p.block ≡ record (home_at p) { is_seen = is_seen } → hides p.block ≡ false
+      → IsSettled rights target homes hides m n p
+  Comes : (home_of homes p.block).is_seen ≡ false → ((x : MemoryBlock) → slice_get m p.block ≡ Some x
+      → is_live x.life ≡ true → IsComing rights target homes hides m n p x) → IsSettled rights target homes hides m n p
 
 -- two places of different blocks, which are apart where both blocks live
 pub record AreTwoPlaces (rights : Rights) (m : List MemoryBlock) (p q : Place) : Type 0 where
   pub blocks : q.block ≢ p.block
-  pub homes : (z x : MemoryBlock) → slice_get m p.block ≡ Some z → slice_get m q.block ≡ Some x → is_live z.life ≡ true → is_live x.life ≡ true → p.target ≡ q.target → AreApart rights (home_at p) (home_at q) p.block q.block z x
+  pub homes : (z x : MemoryBlock) → slice_get m p.block ≡ Some z → slice_get m q.block ≡ Some x
+      → is_live z.life ≡ true → is_live x.life ≡ true → p.target ≡ q.target
+      → AreApart rights (home_at p) (home_at q) p.block q.block z x
 
 abbrev pub ArePlacesApart : Rights → List MemoryBlock → List Place → Type 0
 ArePlacesApart rights m [] = Unit {0}
@@ -61,7 +68,8 @@ shown_of hides (p ∷ ps) = shown_of (showing hides p.block) ps
 -- pointers into those of a set are no longer about
 abbrev pub faded : (ℕ → Bool) → List Home → List Place → List Home
 faded quiet homes [] = homes
-faded quiet homes (p ∷ ps) = faded quiet (if quiet p.block then set homes p.block (unseen (home_of homes p.block)) else homes) ps
+faded quiet homes (p ∷ ps) = faded quiet (if quiet p.block then set homes p.block
+    (unseen (home_of homes p.block)) else homes) ps
 
 -- ---- values
 
@@ -82,7 +90,8 @@ abbrev pub IsPartPlaced : List Place → Value → Value → Type 0
 IsPartPlaced ps v w = (v ≡ Value.Poison) ⊎ IsPlaced ps v w
 
 -- the places of some blocks, which all may come to stand at once
-pub record ArePlaces (rights target : Rights) (homes : List Home) (hides : ℕ → Bool) (m n : List MemoryBlock) (ps : List Place) : Type 0 where
+pub record ArePlaces (rights target : Rights) (homes : List Home) (hides : ℕ
+    → Bool) (m n : List MemoryBlock) (ps : List Place) : Type 0 where
   pub places : Each (IsPlace rights target homes m n) ps
   pub settled : Each (IsSettled rights target homes hides m n) ps
   pub apart : ArePlacesApart rights m ps

@@ -34,15 +34,24 @@ pub data CalleeStays (R : Operand → Operand → Type 0) : Callee → Callee �
 
 -- the same instruction but for its operands
 pub data InstrStays (R : Operand → Operand → Type 0) : Instr → Instr → Type 0 where
-  Binary : (r : ℕ) (op : BinOp) (flags : Flags) (ty : Ty) (a b c d : Operand) → R a c → R b d → InstrStays R (Instr.Binary r op flags ty a b) (Instr.Binary r op flags ty c d)
-  Icmp : (r : ℕ) (pred : Pred) (ty : Ty) (a b c d : Operand) → R a c → R b d → InstrStays R (Instr.Icmp r pred ty a b) (Instr.Icmp r pred ty c d)
-  Select : (r : ℕ) (x y : Operand) (a b c d : Arg) → R x y → ArgStays R a c → ArgStays R b d → InstrStays R (Instr.Select r x a b) (Instr.Select r y c d)
-  Cast : (r : ℕ) (op : CastOp) (nneg : Bool) (a c : Arg) (to : Ty) → ArgStays R a c → InstrStays R (Instr.Cast r op nneg a to) (Instr.Cast r op nneg c to)
+  Binary : (r : ℕ) (op : BinOp) (flags : Flags) (ty : Ty) (a b c d : Operand) → R a c → R b d
+      → InstrStays R (Instr.Binary r op flags ty a b) (Instr.Binary r op flags ty c d)
+  Icmp : (r : ℕ) (pred : Pred) (ty : Ty) (a b c d : Operand) → R a c → R b d
+      → InstrStays R (Instr.Icmp r pred ty a b) (Instr.Icmp r pred ty c d)
+  Select : (r : ℕ) (x y : Operand) (a b c d : Arg) → R x y → ArgStays R a c → ArgStays R b d
+      → InstrStays R (Instr.Select r x a b) (Instr.Select r y c d)
+  Cast : (r : ℕ) (op : CastOp) (nneg : Bool) (a c : Arg) (to : Ty) → ArgStays R a c
+      → InstrStays R (Instr.Cast r op nneg a to) (Instr.Cast r op nneg c to)
   Alloca : (r : ℕ) (ty : Ty) (align : ℕ) → InstrStays R (Instr.Alloca r ty align) (Instr.Alloca r ty align)
-  Load : (r : ℕ) (ty : Ty) (x y : Operand) (align : ℕ) → R x y → InstrStays R (Instr.Load r ty x align) (Instr.Load r ty y align)
-  Store : (a c : Arg) (x y : Operand) (align : ℕ) → ArgStays R a c → R x y → InstrStays R (Instr.Store a x align) (Instr.Store c y align)
-  Gep : (r : ℕ) (inbounds : Bool) (ty : Ty) (x y : Operand) (args now : List Arg) → R x y → Pairwise (ArgStays R) args now → InstrStays R (Instr.Gep r inbounds ty x args) (Instr.Gep r inbounds ty y now)
-  Call : (r : Option ℕ) (must_tail : Bool) (ty : Option Ty) (c d : Callee) (args now : List Arg) → CalleeStays R c d → Pairwise (ArgStays R) args now → InstrStays R (Instr.Call r must_tail ty c args) (Instr.Call r must_tail ty d now)
+  Load : (r : ℕ) (ty : Ty) (x y : Operand) (align : ℕ) → R x y
+      → InstrStays R (Instr.Load r ty x align) (Instr.Load r ty y align)
+  Store : (a c : Arg) (x y : Operand) (align : ℕ) → ArgStays R a c → R x y
+      → InstrStays R (Instr.Store a x align) (Instr.Store c y align)
+  Gep : (r : ℕ) (inbounds : Bool) (ty : Ty) (x y : Operand) (args now : List Arg) → R x y
+      → Pairwise (ArgStays R) args now → InstrStays R (Instr.Gep r inbounds ty x args) (Instr.Gep r inbounds ty y now)
+  Call : (r : Option ℕ) (must_tail : Bool) (ty : Option Ty) (c d : Callee) (args now : List Arg) → CalleeStays R c d
+      → Pairwise (ArgStays R) args now
+      → InstrStays R (Instr.Call r must_tail ty c args) (Instr.Call r must_tail ty d now)
 
 -- a case of the same value, which leads to the label that is said for its label
 pub record CaseStays (labels : ℕ → ℕ) (k j : Case) : Type 0 where
@@ -52,8 +61,10 @@ pub record CaseStays (labels : ℕ → ℕ) (k j : Case) : Type 0 where
 -- the same terminator but for its operands and labels; the values of a switch's cases stay
 pub data TermStays (R : Operand → Operand → Type 0) (labels : ℕ → ℕ) : Terminator → Terminator → Type 0 where
   Jump : (label : ℕ) → TermStays R labels (Terminator.Jump label) (Terminator.Jump (labels label))
-  Branch : (x y : Operand) (a b : ℕ) → R x y → TermStays R labels (Terminator.Branch x a b) (Terminator.Branch y (labels a) (labels b))
-  Switch : (a c : Arg) (default : ℕ) (cases now : List Case) → ArgStays R a c → Pairwise (CaseStays labels) cases now → TermStays R labels (Terminator.Switch a default cases) (Terminator.Switch c (labels default) now)
+  Branch : (x y : Operand) (a b : ℕ) → R x y
+      → TermStays R labels (Terminator.Branch x a b) (Terminator.Branch y (labels a) (labels b))
+  Switch : (a c : Arg) (default : ℕ) (cases now : List Case) → ArgStays R a c → Pairwise (CaseStays labels) cases now
+      → TermStays R labels (Terminator.Switch a default cases) (Terminator.Switch c (labels default) now)
   Return : (a c : Arg) → ArgStays R a c → TermStays R labels (Terminator.Ret (Some a)) (Terminator.Ret (Some c))
   ReturnVoid : TermStays R labels (Terminator.Ret None) (Terminator.Ret None)
   Unreachable : TermStays R labels Terminator.Unreachable Terminator.Unreachable

@@ -1,4 +1,5 @@
--- An ordinary step of a source and one of the same shape of a target, by what is read: what is asked of them and what comes of them.
+-- An ordinary step of a source and one of the same shape of a target, by what is read: what is asked of them and what
+-- comes of them.
 use Rattle.std.specs.Prelude.{ℕ, Bool, true, false, List, [], slice_get, Some, None, Option, option_map, length, ◌≡◌, ◌≤◌}
 use Rattle.block_memory.specs.Memory.{Rights}
 use Rattle.block_memory.specs.declared.pointer.Pointer.{Pointer}
@@ -79,26 +80,33 @@ StandsFor true R c d env other a b = (ty : Ty) → R (operand_value c.code env t
 -- the name of a callee is one of the same function or declaration in both
 abbrev pub IsNamedAlike : Maps → Context → Context → Option Name → Type 0
 IsNamedAlike maps c d None = Unit {0}
-IsNamedAlike maps c d (Some n) = (function_named d.code n ≡ option_map maps.function (function_named c.code n)) × (declaration_named d.code n ≡ option_map maps.declaration (declaration_named c.code n))
+IsNamedAlike maps c d (Some n) = (function_named d.code n ≡ option_map maps.function (function_named c.code n)) ×
+    (declaration_named d.code n ≡ option_map maps.declaration (declaration_named c.code n))
 
 -- a function that is called through a pointer has the same position and type in both
 abbrev pub IsPointedAlike : Maps → Context → Context → Env → Fetched → Type 0
 IsPointedAlike maps c d env (AtInstr (Instr.Call result must_tail ty (Callee.Local v) args)) =
-    (func : ℕ) → value_in env v ≡ Value.Ptr (Pointer.Func func) → (maps.function func ≡ func) × (fits_function ty args (slice_get d.code.functions func) ≡ fits_function ty args (slice_get c.code.functions func))
+    (func : ℕ) → value_in env v ≡ Value.Ptr (Pointer.Func func)
+    → (maps.function func ≡ func) × (fits_function ty args
+    (slice_get d.code.functions func) ≡ fits_function ty args (slice_get c.code.functions func))
 IsPointedAlike maps c d env _ = Unit {0}
 
 -- the distances of two getelementptrs are the same, where the source has one
 abbrev pub AreSameDistances : Context → Context → Env → Env → Fetched → Fetched → Type 0
-AreSameDistances c d env other (AtInstr (Instr.Gep name inbounds ty base indices)) (AtInstr (Instr.Gep name' inbounds' ty' base' indices')) =
-    IsSameDistance (distance c.code ty (indices_of c.code env indices)) (distance d.code ty' (indices_of d.code other indices'))
+AreSameDistances c d env other (AtInstr (Instr.Gep name inbounds ty base indices))
+    (AtInstr (Instr.Gep name' inbounds' ty' base' indices')) =
+    IsSameDistance (distance c.code ty (indices_of c.code env indices)) (distance d.code ty'
+    (indices_of d.code other indices'))
 AreSameDistances c d env other _ _ = Unit {0}
 
 -- the value of a switch's case is the same in both
 abbrev pub IsSameCase : Context → Context → Case → Type 0
 IsSameCase c d k = arg_value d.code [] k.arg ≡ arg_value c.code [] k.arg
 
--- two instructions of one shape: what the one looks at stands for what the other does; callees, distances and cases are the same; no block is made, marked or allocated
-pub record IsTransferred (R : Value → Value → Type 0) (maps : Maps) (c d : Context) (env other : Env) (here there : Fetched) : Type 0 where
+-- two instructions of one shape: what the one looks at stands for what the other does; callees, distances and cases
+-- are the same; no block is made, marked or allocated
+pub record IsTransferred (R : Value → Value
+    → Type 0) (maps : Maps) (c d : Context) (env other : Env) (here there : Fetched) : Type 0 where
   pub shape : StaysAt (StandsFor (looks_at here) R c d env other) maps.label here there
   pub callee : IsNamedAlike maps c d (callee_at here)
   pub pointed : IsPointedAlike maps c d env here
@@ -107,7 +115,8 @@ pub record IsTransferred (R : Value → Value → Type 0) (maps : Maps) (c d : C
   pub no_slot : HasNoSlot here
   pub bytes : HasBytes here
 
--- the memories of two works, of the rights of their contexts; no pointer is about into a hidden block, and the target has a place for each name
+-- the memories of two works, of the rights of their contexts; no pointer is about into a hidden block, and the target
+-- has a place for each name
 pub record AreJoined (homes : List Home) (hides : ℕ → Bool) (maps : Maps) (c d : Context) (w x : Work) : Type 0 where
   pub over : AreOver c.rights d.rights homes hides maps.declaration w.world x.world
   pub hidden : (b : ℕ) → hides b ≡ true → (home_of homes b).is_seen ≡ false
@@ -125,13 +134,20 @@ pub record AreSet (homes : List Home) (given : Option ℕ) (env other env' other
   pub length_target : length other' ≡ length other
 
 -- the target does the same with what stands for the source's values, unless the source is undefined
-abbrev pub GoesOver : Rights → Rights → List Home → (ℕ → Bool) → Maps → Option ℕ → (old now : List Arg) → Work → Work → Action → Action → Type 0
-GoesOver rights target homes hides maps given old now w x (Done v) b = (y : Work) × (b ≡ Done y) × AreOver rights target homes hides maps.declaration v.world y.world × AreSet homes given w.values x.values v.values y.values
+abbrev pub GoesOver : Rights → Rights → List Home → (ℕ → Bool) → Maps → Option ℕ → (old now : List Arg) → Work → Work
+    → Action → Action → Type 0
+GoesOver rights target homes hides maps given old now w x (Done v) b = (y : Work) ×
+    (b ≡ Done y) × AreOver rights target homes hides maps.declaration v.world y.world × AreSet homes given w.values
+    x.values v.values y.values
 GoesOver rights target homes hides maps given old now w x (NewSlot v slot) b = ⊥
-GoesOver rights target homes hides maps given old now w x (Enter func args result must_tail) b = (others : List Value) × (b ≡ Enter (maps.function func) others result must_tail) × AreValues homes args others
-GoesOver rights target homes hides maps given old now w x (Coro i args result) b = (args ≡ old) × (b ≡ Coro i now result)
-GoesOver rights target homes hides maps given old now w x (Deallocate p) b = (q : Value) × (b ≡ Deallocate q) × IsValue homes p q
+GoesOver rights target homes hides maps given old now w x (Enter func args result must_tail) b =
+    (others : List Value) × (b ≡ Enter (maps.function func) others result must_tail) × AreValues homes args others
+GoesOver rights target homes hides maps given old now w x (Coro i args result) b = (args ≡ old) ×
+    (b ≡ Coro i now result)
+GoesOver rights target homes hides maps given old now w x (Deallocate p) b = (q : Value) ×
+    (b ≡ Deallocate q) × IsValue homes p q
 GoesOver rights target homes hides maps given old now w x (GoTo label) b = b ≡ GoTo (maps.label label)
 GoesOver rights target homes hides maps given old now w x (Return None) b = b ≡ Return None
-GoesOver rights target homes hides maps given old now w x (Return (Some v)) b = (u : Value) × (b ≡ Return (Some u)) × IsValue homes v u
+GoesOver rights target homes hides maps given old now w x (Return (Some v)) b = (u : Value) ×
+    (b ≡ Return (Some u)) × IsValue homes v u
 GoesOver rights target homes hides maps given old now w x (Stuck cause) b = Unit {0}
