@@ -1,4 +1,5 @@
--- A store into a slot, which the target makes in a field of the frame by another name; and one into a slot that comes to stand there.
+-- A store into a slot, which the target makes in a field of the frame by another name; and one into a slot that comes
+-- to stand there.
 use Rattle.std.specs.Prelude.{ℕ, Bool, false, List, [], ◌∷◌, pos, Some, None, ◌==◌}
 use Rattle.block_memory.specs.Memory.{digits, owner_rights}
 use Rattle.block_memory.specs.Pointers.{offset_of}
@@ -46,7 +47,13 @@ abbrev pub slot_context : Module → Function → Context
 slot_context m f = record { code = m; answers = []; rights = owner_rights; function = f }
 
 abbrev pub field_context : Given → Module → Function → Context
-field_context given m f = record { code = m; answers = []; rights = frame_rights (frame_given given) (an_instance ∷ []); function = f }
+field_context given m f = record {
+  code = m;
+  answers = [];
+  rights = frame_rights (frame_given given)
+      (an_instance ∷ []);
+  function = f;
+}
 
 -- store i64 7, by the address that a name has
 abbrev pub store_by : ℕ → Fetched

@@ -42,19 +42,37 @@ pub fn frame_rights_serve_new_blocks()
     ensures fresh { (g : FramedGiven) (instances : List TheInstance) (b c : ℕ) → Each (λ (x : TheInstance). x.block ≢ c) instances → HasFreshRights owner_rights (frame_rights g instances) b c }
 {}
 
-/// A store into that slot goes over to one into the field, whose address another name has: all that is asked of the two holds, the
-/// source's isn't undefined, and the slot that holds the number stands in the frame afterwards.
+/// A store into that slot goes over to one into the field, whose address another name has: all that is asked of the
+/// two holds, the source's isn't undefined, and the slot that holds the number stands in the frame afterwards.
 pub fn slots_are_stored_in_frames()
-    ensures joined { (given : Given) (m : TheModule) (f g : TheFunction) → AreJoined worked_homes (λ b. false) same_maps (slot_context m f) (field_context given m g) slot_work field_work }
-    ensures asked { (given : Given) (m : TheModule) (f g : TheFunction) → IsTransferred (IsValue worked_homes) same_maps (slot_context m f) (field_context given m g) slot_work.values field_work.values (store_by 0) (store_by 1) }
-    ensures source { (m : TheModule) (f : TheFunction) → action_of (slot_context m f) slot_work (store_by 0) ≡ Done (set_memory slot_work stored_source) }
-    ensures target { (given : Given) (m : TheModule) (f g : TheFunction) → GoesOver owner_rights (field_context given m g).rights worked_homes (λ b. false) same_maps None [] [] slot_work field_work (Done (set_memory slot_work stored_source)) (action_of (field_context given m g) field_work (store_by 1)) }
+    ensures joined { (given : Given) (m : TheModule) (f g : TheFunction)
+        → AreJoined worked_homes (λ b. false) same_maps (slot_context m f)
+        (field_context given m g) slot_work field_work }
+    ensures asked { (given : Given) (m : TheModule) (f g : TheFunction)
+        → IsTransferred (IsValue worked_homes) same_maps (slot_context m f)
+        (field_context given m g) slot_work.values field_work.values (store_by 0) (store_by 1) }
+    ensures source { (m : TheModule) (f : TheFunction)
+        → action_of (slot_context m f) slot_work (store_by 0) ≡ Done (set_memory slot_work stored_source) }
+    ensures target { (given : Given) (m : TheModule) (f g : TheFunction)
+        → GoesOver owner_rights (field_context given m g).rights worked_homes
+        (λ b. false) same_maps None [] [] slot_work field_work (Done (set_memory slot_work stored_source))
+        (action_of (field_context given m g) field_work (store_by 1)) }
 {}
 
-/// So does a slot that stands nowhere yet, because nobody has used it: it comes to stand in the field where it is stored.
+/// So does a slot that stands nowhere yet, because nobody has used it: it comes to stand in the field where it is
+/// stored.
 pub fn slots_come_to_stand_in_frames()
-    ensures joined { (given : Given) (m : TheModule) (f g : TheFunction) → AreJoined hidden_homes hidden_slot same_maps (slot_context m f) (field_context given m g) slot_work field_work }
-    ensures places { (given : Given) → ArePlaces owner_rights (frame_rights (frame_given given) (an_instance ∷ [])) hidden_homes hidden_slot worked_source worked_target (slot_place ∷ []) }
-    ensures asked { (given : Given) (m : TheModule) (f g : TheFunction) → IsTransferred (IsValueOver hidden_homes (slot_place ∷ [])) same_maps (slot_context m f) (field_context given m g) slot_work.values field_work.values (store_by 0) (store_by 1) }
-    ensures target { (given : Given) (m : TheModule) (f g : TheFunction) → GoesOver owner_rights (field_context given m g).rights (stood hidden_homes (slot_place ∷ [])) (shown_of hidden_slot (slot_place ∷ [])) same_maps None [] [] slot_work field_work (Done (set_memory slot_work stored_source)) (action_of (field_context given m g) field_work (store_by 1)) }
+    ensures joined { (given : Given) (m : TheModule) (f g : TheFunction)
+        → AreJoined hidden_homes hidden_slot same_maps (slot_context m f)
+        (field_context given m g) slot_work field_work }
+    ensures places { (given : Given)
+        → ArePlaces owner_rights (frame_rights (frame_given given)
+        (an_instance ∷ [])) hidden_homes hidden_slot worked_source worked_target (slot_place ∷ []) }
+    ensures asked { (given : Given) (m : TheModule) (f g : TheFunction)
+        → IsTransferred (IsValueOver hidden_homes (slot_place ∷ [])) same_maps (slot_context m f)
+        (field_context given m g) slot_work.values field_work.values (store_by 0) (store_by 1) }
+    ensures target { (given : Given) (m : TheModule) (f g : TheFunction)
+        → GoesOver owner_rights (field_context given m g).rights (stood hidden_homes (slot_place ∷ []))
+        (shown_of hidden_slot (slot_place ∷ [])) same_maps None [] [] slot_work field_work
+        (Done (set_memory slot_work stored_source)) (action_of (field_context given m g) field_work (store_by 1)) }
 {}

@@ -1,4 +1,5 @@
--- An ordinary step is carried over, where blocks of the source are hidden and only what the instruction reads needs to stand in the target: an instance of the law of two instructions of one shape.
+-- An ordinary step is carried over, where blocks of the source are hidden and only what the instruction reads needs
+-- to stand in the target: an instance of the law of two instructions of one shape.
 use Rattle.std.proofs.Common.{◌≡◌, ℕ, zero, suc, ◌≤◌, ◌⊎◌, inl, inr, ⊎_elim, if◌then◌else◌, Bool, true, false, List, [], ◌∷◌, length, Option, Some, None, refl, sym, ap, ◌∙◌, subst}
 use Rattle.std.specs.Prelude.{IsTrue, ℤ, option_map}
 use Rattle.block_memory.specs.Memory.{owner_rights}
@@ -45,7 +46,9 @@ literal_itself homes (named n) z = tt
 
 -- ---- what is read and given is the same by both definitions
 
-intrinsic_read : (v : ℕ) (i : Intrinsic) (r : Option ℕ) (must_tail : Bool) (ty : Option Ty) (args : List Arg) → reads.reads_at v (AtInstr (Instr.Call r must_tail ty (Callee.Intrinsic i) args)) ≡ reads_at v (AtInstr (Instr.Call r must_tail ty (Callee.Intrinsic i) args))
+intrinsic_read : (v : ℕ) (i : Intrinsic) (r : Option ℕ) (must_tail : Bool) (ty : Option Ty) (args : List Arg)
+    → reads.reads_at v (AtInstr (Instr.Call r must_tail ty (Callee.Intrinsic i) args)) ≡ reads_at v
+    (AtInstr (Instr.Call r must_tail ty (Callee.Intrinsic i) args))
 intrinsic_read v Intrinsic.CoroBegin r must_tail ty args = refl
 intrinsic_read v Intrinsic.CoroResume r must_tail ty args = refl
 intrinsic_read v Intrinsic.CoroDestroy r must_tail ty args = refl
@@ -78,12 +81,14 @@ here_read v (AtTerm t) = refl
 
 -- the call of coro.end, whose action sets nothing
 abbrev EndsHere : Fetched → Type 0
-EndsHere here = (r : Option ℕ) × (must_tail : Bool) × (ty : Option Ty) × (args : List Arg) × (here ≡ AtInstr (Instr.Call r must_tail ty (Callee.Intrinsic Intrinsic.CoroEnd) args))
+EndsHere here = (r : Option ℕ) × (must_tail : Bool) × (ty : Option Ty) × (args : List Arg) ×
+    (here ≡ AtInstr (Instr.Call r must_tail ty (Callee.Intrinsic Intrinsic.CoroEnd) args))
 
 abbrev Given : Fetched → Type 0
 Given here = (general.given_at here ≡ given_at here) ⊎ EndsHere here
 
-intrinsic_given : (i : Intrinsic) (r : Option ℕ) (must_tail : Bool) (ty : Option Ty) (args : List Arg) → Given (AtInstr (Instr.Call r must_tail ty (Callee.Intrinsic i) args))
+intrinsic_given : (i : Intrinsic) (r : Option ℕ) (must_tail : Bool) (ty : Option Ty) (args : List Arg)
+    → Given (AtInstr (Instr.Call r must_tail ty (Callee.Intrinsic i) args))
 intrinsic_given Intrinsic.CoroSizeI32 r must_tail ty args = inl refl
 intrinsic_given Intrinsic.CoroSizeI64 r must_tail ty args = inl refl
 intrinsic_given Intrinsic.CoroAlignI32 r must_tail ty args = inl refl
@@ -98,7 +103,9 @@ intrinsic_given Intrinsic.CoroPromise r must_tail ty args = inl refl
 intrinsic_given Intrinsic.CoroEnd r must_tail ty args = inr (r, must_tail, ty, args, refl)
 intrinsic_given _ r must_tail ty args = inl refl
 
-allocator_given : (a : Allocator) (r : Option ℕ) (must_tail : Bool) (ty : Option Ty) (args : List Arg) → general.given_at (AtInstr (Instr.Call r must_tail ty (Callee.Allocator a) args)) ≡ given_at (AtInstr (Instr.Call r must_tail ty (Callee.Allocator a) args))
+allocator_given : (a : Allocator) (r : Option ℕ) (must_tail : Bool) (ty : Option Ty) (args : List Arg)
+    → general.given_at (AtInstr (Instr.Call r must_tail ty (Callee.Allocator a) args)) ≡ given_at
+    (AtInstr (Instr.Call r must_tail ty (Callee.Allocator a) args))
 allocator_given Allocator.Malloc r must_tail ty args = refl
 allocator_given Allocator.Znwm r must_tail ty args = refl
 allocator_given _ r must_tail ty args = refl
@@ -123,8 +130,11 @@ here_given (AtInstr i) = instr_given i
 here_given (AtTerm t) = inl refl
 
 module _ (homes : List Home) (hides : ℕ → Bool) (c : Context) (w x : Work) (here : Fetched) where
-  module _ (rights : c.rights ≡ owner_rights) (over : AreOver homes hides w.world x.world) (hidden : (b : ℕ) → hides b ≡ true → (home_of homes b).is_seen ≡ false) (new : hides (length w.world.memory) ≡ false) (read : IsRead homes c w.values x.values here) where
-    no_local : (a : Operand) (ty : Ty) → IsNoLocal a → IsValue homes (operand_value c.code w.values ty a) (operand_value c.code x.values ty a)
+  module _ (rights : c.rights ≡ owner_rights) (over : AreOver homes hides w.world x.world) (hidden : (b : ℕ)
+      → hides b ≡ true → (home_of homes b).is_seen ≡ false) (new : hides (length w.world.memory) ≡ false)
+      (read : IsRead homes c w.values x.values here) where
+    no_local : (a : Operand) (ty : Ty) → IsNoLocal a
+        → IsValue homes (operand_value c.code w.values ty a) (operand_value c.code x.values ty a)
     no_local (Operand.Local name) ty h = absurd h
     no_local (Operand.Global n) ty h = read.globals n
     no_local (Operand.Number z) ty h = literal_itself homes ty z
@@ -161,7 +171,8 @@ module _ (homes : List Home) (hides : ℕ → Bool) (c : Context) (w x : Work) (
     pointed (AtTerm t) = tt
     pointed Nowhere = tt
 
-    distances : (z : Fetched) → HasDistance c c w.values x.values z → general.AreSameDistances c c w.values x.values z z
+    distances : (z : Fetched) → HasDistance c c w.values x.values z
+        → general.AreSameDistances c c w.values x.values z z
     distances (AtInstr (Instr.Gep r inbounds ty p indices)) h = h
     distances (AtInstr (Instr.Call r must_tail ty callee args)) h = tt
     distances (AtInstr (Instr.Binary r op flags ty a b)) h = tt
@@ -200,12 +211,16 @@ module _ (homes : List Home) (hides : ℕ → Bool) (c : Context) (w x : Work) (
     fit : AreByteRights c.rights
     fit = subst AreByteRights (sym rights) owner_rights_fit
 
-    goes : general.GoesOver owner_rights owner_rights homes hides general.same_maps (general.given_at here) (general.args_at here) (general.args_at here) w x (action_of c w here) (action_of c x here)
+    goes : general.GoesOver owner_rights owner_rights homes hides general.same_maps (general.given_at here)
+        (general.args_at here) (general.args_at here) w x (action_of c w here) (action_of c x here)
     goes =
-        subst (λ r. general.GoesOver r r homes hides general.same_maps (general.given_at here) (general.args_at here) (general.args_at here) w x (action_of c w here) (action_of c x here)) rights
+        subst (λ r. general.GoesOver r r homes hides general.same_maps (general.given_at here) (general.args_at here)
+        (general.args_at here) w x (action_of c w here) (action_of c x here)) rights
         (transfer.step_over homes hides general.same_maps c c w x here here fit fit joined transferred)
 
-    of_general : (a b : Action) → general.GoesOver owner_rights owner_rights homes hides general.same_maps (given_at here) (general.args_at here) (general.args_at here) w x a b → GoesOver homes hides (given_at here) w x a b
+    of_general : (a b : Action)
+        → general.GoesOver owner_rights owner_rights homes hides general.same_maps (given_at here)
+        (general.args_at here) (general.args_at here) w x a b → GoesOver homes hides (given_at here) w x a b
     of_general (Done v) b h = (
       h.0,
       h.1,
@@ -229,6 +244,7 @@ module _ (homes : List Home) (hides : ℕ → Bool) (c : Context) (w x : Work) (
     pub step_over : GoesOver homes hides (given_at here) w x (action_of c w here) (action_of c x here)
     step_over = ⊎_elim
         (λ e. of_general (action_of c w here) (action_of c x here)
-        (subst (λ g. general.GoesOver owner_rights owner_rights homes hides general.same_maps g (general.args_at here) (general.args_at here) w x (action_of c w here) (action_of c x here)) e goes))
+        (subst (λ g. general.GoesOver owner_rights owner_rights homes hides general.same_maps g (general.args_at here)
+        (general.args_at here) w x (action_of c w here) (action_of c x here)) e goes))
         (λ h. subst (λ z. GoesOver homes hides (given_at z) w x (action_of c w z) (action_of c x z)) (sym h.4) refl)
         (here_given here)
