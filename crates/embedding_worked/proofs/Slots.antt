@@ -58,7 +58,7 @@ module _ (given : Given) where
       let h = and_parts _ _ e in
       ap (meets_in (frame_given given) y (24 + o) d) (judged (24 + o) (omega arith)) ∙ and_from _ _ (divides o d ok h.0 h.1) h.1
 
-  slot_stands : Stands owner_rights (frame_rights (frame_given given) (an_instance ∷ [])) homes goal 1 worked_slot
+  pub slot_stands : Stands owner_rights (frame_rights (frame_given given) (an_instance ∷ [])) homes goal 1 worked_slot
   slot_stands = record {
     known = omega arith;
     block = owned_block 48 16 32;
@@ -90,7 +90,7 @@ module _ (given : Given) where
       first true e = refl
       first false e = e
 
-  stand_apart : AreApart owner_rights (whole_home 0) slot_home 0 1 (owned_block 48 16 32) worked_slot
+  pub stand_apart : AreApart owner_rights (whole_home 0) slot_home 0 1 (owned_block 48 16 32) worked_slot
   stand_apart = record {
     bytes = λ i j lt lt' p q e. let le = ltb-false i 32 p in absurd (omega arith);
     places = λ i j lt lt' p q e. ⊎_elim (λ z. absurd (omega arith)) (λ le. absurd (omega arith)) (at_edge i p);

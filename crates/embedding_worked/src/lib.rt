@@ -6,16 +6,23 @@
 //! (`slots_stand_in_frames`).
 #![tactic(auto)]
 
-ghost use Rattle.std.specs.Prelude.{ℕ, List, [], ◌∷◌, ◌≡◌, ◌≢◌, ◌≤◌, ◌<◌, ◌^◌};
+ghost use Rattle.std.specs.Prelude.{ℕ, false, List, None, [], ◌∷◌, ◌≡◌, ◌≢◌, ◌≤◌, ◌<◌, ◌^◌};
 ghost use Rattle.block_memory.specs.Memory.{owner_rights};
 ghost use Rattle.block_memory.specs.declared.block.Kind.{Kind as TheKind};
 ghost use Rattle.coro_meaning.specs.declared.state.Instance.{Instance as TheInstance};
 ghost use Rattle.embedding_worked.specs.Worked.{an_instance, frame_given, owned_block, slot_home, worked_slot};
+ghost use Rattle.embedding_worked.specs.Stored.{field_context, field_work, hidden_homes, hidden_slot, slot_context, slot_place, slot_work, store_by, stored_source, worked_homes, worked_source, worked_target};
 ghost use Rattle.framed_meaning.specs.Framed.{FramedGiven, frame_rights, layout_of};
+ghost use Rattle.ir_model.specs.declared.module.Function.{Function as TheFunction};
+ghost use Rattle.ir_model.specs.declared.module.Module.{Module as TheModule};
+ghost use Rattle.memory_embedding.specs.Pointers.{IsValue};
+ghost use Rattle.ordinary_step.specs.Step.{Done, action_of, set_memory};
 ghost use Rattle.memory_embedding.specs.Standing.{AreByteRights, Embeds, HasFreshRights};
 ghost use Rattle.source_program.specs.Given.{Given};
 ghost use Rattle.step_embedding.specs.Making.{AreNewRights, whole_home};
 ghost use Rattle.step_laws.specs.Changed.{Each};
+ghost use Rattle.step_transfer.specs.Ready.{ArePlaces, IsValueOver, shown_of, stood};
+ghost use Rattle.step_transfer.specs.Transfer.{AreJoined, GoesOver, IsTransferred, same_maps};
 
 /// The rights of frames say of each range no more than of its bytes, and don't look at what the bytes hold.
 pub fn frame_rights_are_of_bytes()
@@ -38,4 +45,39 @@ pub fn frame_rights_serve_new_blocks()
     ensures source { (g : FramedGiven) (instances : List TheInstance) (b c : ℕ) (kind other : TheKind) → Each (λ (x : TheInstance). x.block ≢ b) instances → AreNewRights (frame_rights g instances) owner_rights b c kind other }
     ensures both { (g h : FramedGiven) (instances others : List TheInstance) (b c : ℕ) (kind other : TheKind) → Each (λ (x : TheInstance). x.block ≢ b) instances → Each (λ (x : TheInstance). x.block ≢ c) others → AreNewRights (frame_rights g instances) (frame_rights h others) b c kind other }
     ensures fresh { (g : FramedGiven) (instances : List TheInstance) (b c : ℕ) → Each (λ (x : TheInstance). x.block ≢ c) instances → HasFreshRights owner_rights (frame_rights g instances) b c }
+{}
+
+/// A store into that slot goes over to one into the field, whose address another name has: all that is asked of the
+/// two holds, the source's isn't undefined, and the slot that holds the number stands in the frame afterwards.
+pub fn slots_are_stored_in_frames()
+    ensures joined { (given : Given) (m : TheModule) (f g : TheFunction)
+        → AreJoined worked_homes (λ b. false) same_maps (slot_context m f)
+        (field_context given m g) slot_work field_work }
+    ensures asked { (given : Given) (m : TheModule) (f g : TheFunction)
+        → IsTransferred (IsValue worked_homes) same_maps (slot_context m f)
+        (field_context given m g) slot_work.values field_work.values (store_by 0) (store_by 1) }
+    ensures source { (m : TheModule) (f : TheFunction)
+        → action_of (slot_context m f) slot_work (store_by 0) ≡ Done (set_memory slot_work stored_source) }
+    ensures target { (given : Given) (m : TheModule) (f g : TheFunction)
+        → GoesOver owner_rights (field_context given m g).rights worked_homes
+        (λ b. false) same_maps None [] [] slot_work field_work (Done (set_memory slot_work stored_source))
+        (action_of (field_context given m g) field_work (store_by 1)) }
+{}
+
+/// So does a slot that stands nowhere yet, because nobody has used it: it comes to stand in the field where it is
+/// stored.
+pub fn slots_come_to_stand_in_frames()
+    ensures joined { (given : Given) (m : TheModule) (f g : TheFunction)
+        → AreJoined hidden_homes hidden_slot same_maps (slot_context m f)
+        (field_context given m g) slot_work field_work }
+    ensures places { (given : Given)
+        → ArePlaces owner_rights (frame_rights (frame_given given)
+        (an_instance ∷ [])) hidden_homes hidden_slot worked_source worked_target (slot_place ∷ []) }
+    ensures asked { (given : Given) (m : TheModule) (f g : TheFunction)
+        → IsTransferred (IsValueOver hidden_homes (slot_place ∷ [])) same_maps (slot_context m f)
+        (field_context given m g) slot_work.values field_work.values (store_by 0) (store_by 1) }
+    ensures target { (given : Given) (m : TheModule) (f g : TheFunction)
+        → GoesOver owner_rights (field_context given m g).rights (stood hidden_homes (slot_place ∷ []))
+        (shown_of hidden_slot (slot_place ∷ [])) same_maps None [] [] slot_work field_work
+        (Done (set_memory slot_work stored_source)) (action_of (field_context given m g) field_work (store_by 1)) }
 {}

@@ -1,34 +1,34 @@
--- An ordinary step is carried over, where blocks of the source are hidden and only what the instruction reads needs to stand in the target.
-use Rattle.std.proofs.Common.{◌≡◌, ℕ, zero, suc, ◌≤◌, Bool, true, false, List, [], ◌∷◌, length, Option, Some, None, refl, sym, ap, ◌∙◌, subst, if◌then◌else◌}
-use Rattle.std.proofs.lemmas.Bool.{false≢true}
+-- An ordinary step is carried over, where blocks of the source are hidden and only what the instruction reads needs
+-- to stand in the target: an instance of the law of two instructions of one shape.
+use Rattle.std.proofs.Common.{◌≡◌, ℕ, zero, suc, ◌≤◌, ◌⊎◌, inl, inr, ⊎_elim, if◌then◌else◌, Bool, true, false, List, [], ◌∷◌, length, Option, Some, None, refl, sym, ap, ◌∙◌, subst}
 use Rattle.std.specs.Prelude.{IsTrue, ℤ, option_map}
 use Rattle.block_memory.specs.Memory.{owner_rights}
-use Rattle.block_memory.specs.declared.pointer.Pointer.{Pointer}
 use Rattle.block_memory.specs.declared.pointer.Value.{Value}
 use Rattle.coro_base.specs.declared.name.Name.{Name}
-use Rattle.ir_model.specs.Names.{declaration_named}
+use Rattle.ir_model.specs.Names.{declaration_named, function_named}
 use Rattle.ir_model.specs.Ty.{Ty, array, int, named, ptr, structure, token}
+use Rattle.ir_model.specs.declared.instr.Case.{Case}
 use Rattle.ir_model.specs.declared.instr.Instr.{Instr}
+use Rattle.ir_model.specs.declared.operand.Allocator.{Allocator}
+use Rattle.ir_model.specs.declared.operand.Arg.{Arg}
+use Rattle.ir_model.specs.declared.operand.Callee.{Callee}
+use Rattle.ir_model.specs.declared.operand.Intrinsic.{Intrinsic}
 use Rattle.ir_model.specs.declared.operand.Operand.{Operand}
-use Rattle.kept_values.proofs.Actions.{SameAction, action_same}
-use Rattle.kept_values.proofs.Same.{SameOn, indices_same, kept_at, kept_wide, or_right}
 use Rattle.kept_values.specs.Kept.{kept}
-use Rattle.kept_values.specs.Needed.{PassesBy, reads_at}
+use Rattle.kept_values.specs.Needed.{reads_at}
 use Rattle.memory_embedding.proofs.Itself.{owner_rights_fit}
 use Rattle.memory_embedding.specs.Pointers.{Home, IsValue, home_of}
 use Rattle.memory_embedding.specs.Standing.{AreByteRights}
+use Rattle.ordinary_step.specs.Reads as reads
 use Rattle.ordinary_step.specs.Step.{Action, AtInstr, AtTerm, Context, Coro, Deallocate, Done, Enter, Fetched, GoTo, NewSlot, Nowhere, Return, Stuck, Work, action_of}
-use Rattle.ordinary_step.specs.Values.{Env, distance, indices_of, literal, operand_value, value_in, value_or_poison}
-use Rattle.ordinary_step.specs.declared.world.World.{World}
-use Rattle.renewed_slots.proofs.MutedSteps.{step_muted}
-use Rattle.renewed_slots.proofs.Sets.{step_sets}
-use Rattle.renewed_slots.specs.Muted.{IsShown, IsShownOperand, muted_action, muted_work}
-use Rattle.renewed_slots.specs.Steps.{AreOver, GoesOver, IsRead, SetsOnly, given_at}
-use Rattle.step_embedding.proofs.Carried.{step_carried}
-use Rattle.step_embedding.specs.Related.{AreAlike, AreWorks, GoesAlike, HasDistance, IsCarried, IsDeclared, IsSameDistance}
-use Rattle.step_laws.specs.Changed.{Each, callee_at, operands_at}
-
--- ---- values of which only some are kept
+use Rattle.ordinary_step.specs.Values.{Env, literal, operand_value, value_in, value_or_poison}
+use Rattle.renewed_slots.specs.Steps.{AreOver, GoesOver, IsRead, given_at}
+use Rattle.step_embedding.specs.Related.{HasDistance}
+use Rattle.step_laws.specs.Changed.{Each, callee_at}
+use Rattle.step_transfer.proofs.Alone.{reads_itself}
+use Rattle.step_transfer.proofs.Over as transfer
+use Rattle.step_transfer.specs.Alone.{IsNoLocal, IsReadBy}
+use Rattle.step_transfer.specs.Transfer as general
 
 -- a name that isn't kept has no value
 pub cut_at : (keep : ℕ → Bool) (env : Env) (v : ℕ) → keep v ≡ false → value_in (kept keep env) v ≡ Value.Poison
@@ -44,148 +44,207 @@ literal_itself homes (array n t) z = tt
 literal_itself homes (structure ts) z = tt
 literal_itself homes (named n) z = tt
 
-each_all : {A : Type 0} (P : A → Type 0) (xs : List A) → ((x : A) → P x) → Each P xs
-each_all P [] h = tt
-each_all P (x ∷ xs) h = (h x, each_all P xs h)
+-- ---- what is read and given is the same by both definitions
+
+intrinsic_read : (v : ℕ) (i : Intrinsic) (r : Option ℕ) (must_tail : Bool) (ty : Option Ty) (args : List Arg)
+    → reads.reads_at v (AtInstr (Instr.Call r must_tail ty (Callee.Intrinsic i) args)) ≡ reads_at v
+    (AtInstr (Instr.Call r must_tail ty (Callee.Intrinsic i) args))
+intrinsic_read v Intrinsic.CoroBegin r must_tail ty args = refl
+intrinsic_read v Intrinsic.CoroResume r must_tail ty args = refl
+intrinsic_read v Intrinsic.CoroDestroy r must_tail ty args = refl
+intrinsic_read v Intrinsic.CoroDone r must_tail ty args = refl
+intrinsic_read v Intrinsic.CoroPromise r must_tail ty args = refl
+intrinsic_read v Intrinsic.LifetimeStart r must_tail ty args = refl
+intrinsic_read v Intrinsic.LifetimeEnd r must_tail ty args = refl
+intrinsic_read v Intrinsic.MemcpyI64 r must_tail ty args = refl
+intrinsic_read v Intrinsic.MemcpyI32 r must_tail ty args = refl
+intrinsic_read v _ r must_tail ty args = refl
+
+instr_read : (v : ℕ) (i : Instr) → reads.reads_at v (AtInstr i) ≡ reads_at v (AtInstr i)
+instr_read v (Instr.Binary r op flags ty a b) = refl
+instr_read v (Instr.Icmp r pred ty a b) = refl
+instr_read v (Instr.Select r x a b) = refl
+instr_read v (Instr.Cast r op nneg a to) = refl
+instr_read v (Instr.Alloca r ty align) = refl
+instr_read v (Instr.Load r ty p align) = refl
+instr_read v (Instr.Store a p align) = refl
+instr_read v (Instr.Gep r inbounds ty p indices) = refl
+instr_read v (Instr.Call r must_tail ty (Callee.Named n) args) = refl
+instr_read v (Instr.Call r must_tail ty (Callee.Allocator a) args) = refl
+instr_read v (Instr.Call r must_tail ty (Callee.Intrinsic i) args) = intrinsic_read v i r must_tail ty args
+instr_read v (Instr.Call r must_tail ty (Callee.Local f) args) = refl
+
+here_read : (v : ℕ) (here : Fetched) → reads.reads_at v here ≡ reads_at v here
+here_read v Nowhere = refl
+here_read v (AtInstr i) = instr_read v i
+here_read v (AtTerm t) = refl
+
+-- the call of coro.end, whose action sets nothing
+abbrev EndsHere : Fetched → Type 0
+EndsHere here = (r : Option ℕ) × (must_tail : Bool) × (ty : Option Ty) × (args : List Arg) ×
+    (here ≡ AtInstr (Instr.Call r must_tail ty (Callee.Intrinsic Intrinsic.CoroEnd) args))
+
+abbrev Given : Fetched → Type 0
+Given here = (general.given_at here ≡ given_at here) ⊎ EndsHere here
+
+intrinsic_given : (i : Intrinsic) (r : Option ℕ) (must_tail : Bool) (ty : Option Ty) (args : List Arg)
+    → Given (AtInstr (Instr.Call r must_tail ty (Callee.Intrinsic i) args))
+intrinsic_given Intrinsic.CoroSizeI32 r must_tail ty args = inl refl
+intrinsic_given Intrinsic.CoroSizeI64 r must_tail ty args = inl refl
+intrinsic_given Intrinsic.CoroAlignI32 r must_tail ty args = inl refl
+intrinsic_given Intrinsic.CoroAlignI64 r must_tail ty args = inl refl
+intrinsic_given Intrinsic.CoroAlloc r must_tail ty args = inl refl
+intrinsic_given Intrinsic.CoroBegin r must_tail ty args = inl refl
+intrinsic_given Intrinsic.CoroFree r must_tail ty args = inl refl
+intrinsic_given Intrinsic.CoroFrame r must_tail ty args = inl refl
+intrinsic_given Intrinsic.CoroSuspend r must_tail ty args = inl refl
+intrinsic_given Intrinsic.CoroDone r must_tail ty args = inl refl
+intrinsic_given Intrinsic.CoroPromise r must_tail ty args = inl refl
+intrinsic_given Intrinsic.CoroEnd r must_tail ty args = inr (r, must_tail, ty, args, refl)
+intrinsic_given _ r must_tail ty args = inl refl
+
+allocator_given : (a : Allocator) (r : Option ℕ) (must_tail : Bool) (ty : Option Ty) (args : List Arg)
+    → general.given_at (AtInstr (Instr.Call r must_tail ty (Callee.Allocator a) args)) ≡ given_at
+    (AtInstr (Instr.Call r must_tail ty (Callee.Allocator a) args))
+allocator_given Allocator.Malloc r must_tail ty args = refl
+allocator_given Allocator.Znwm r must_tail ty args = refl
+allocator_given _ r must_tail ty args = refl
+
+instr_given : (i : Instr) → Given (AtInstr i)
+instr_given (Instr.Call r must_tail ty (Callee.Named n) args) = inl refl
+instr_given (Instr.Call r must_tail ty (Callee.Allocator a) args) = inl (allocator_given a r must_tail ty args)
+instr_given (Instr.Call r must_tail ty (Callee.Intrinsic i) args) = intrinsic_given i r must_tail ty args
+instr_given (Instr.Call r must_tail ty (Callee.Local f) args) = inl refl
+instr_given (Instr.Binary r op flags ty a b) = inl refl
+instr_given (Instr.Icmp r pred ty a b) = inl refl
+instr_given (Instr.Select r x a b) = inl refl
+instr_given (Instr.Cast r op nneg a to) = inl refl
+instr_given (Instr.Alloca r ty align) = inl refl
+instr_given (Instr.Load r ty p align) = inl refl
+instr_given (Instr.Store a p align) = inl refl
+instr_given (Instr.Gep r inbounds ty p indices) = inl refl
+
+here_given : (here : Fetched) → Given here
+here_given Nowhere = inl refl
+here_given (AtInstr i) = instr_given i
+here_given (AtTerm t) = inl refl
 
 module _ (homes : List Home) (hides : ℕ → Bool) (c : Context) (w x : Work) (here : Fetched) where
-  module _ (rights : c.rights ≡ owner_rights) (over : AreOver homes hides w.world x.world) (hidden : (b : ℕ) → hides b ≡ true → (home_of homes b).is_seen ≡ false) (new : hides (length w.world.memory) ≡ false) (read : IsRead homes c w.values x.values here) where
-    -- the source's work with no values but those that are read
-    abbrev keep : ℕ → Bool
-    keep v = reads_at v here
+  module _ (rights : c.rights ≡ owner_rights) (over : AreOver homes hides w.world x.world) (hidden : (b : ℕ)
+      → hides b ≡ true → (home_of homes b).is_seen ≡ false) (new : hides (length w.world.memory) ≡ false)
+      (read : IsRead homes c w.values x.values here) where
+    no_local : (a : Operand) (ty : Ty) → IsNoLocal a
+        → IsValue homes (operand_value c.code w.values ty a) (operand_value c.code x.values ty a)
+    no_local (Operand.Local name) ty h = absurd h
+    no_local (Operand.Global n) ty h = read.globals n
+    no_local (Operand.Number z) ty h = literal_itself homes ty z
+    no_local Operand.True ty h = refl
+    no_local Operand.False ty h = refl
+    no_local Operand.Null ty h = (tt, refl)
+    no_local Operand.None ty h = tt
+    no_local Operand.Poison ty h = tt
 
-    abbrev less : Work
-    less = record { world = w.world; values = kept keep w.values }
+    read_by : IsReadBy (IsValue homes) c c w.values x.values here
+    read_by = record { reads = λ v h. read.reads v (subst IsTrue (here_read v here) h); others = no_local }
 
-    same : SameOn (λ v. IsTrue (reads_at v here)) w.values (kept keep w.values)
-    same = record { each = λ v h. kept_at keep w.values v h; wide = kept_wide keep w.values }
+    unmoved : (o : Option ℕ) → o ≡ option_map (λ n. n) o
+    unmoved None = refl
+    unmoved (Some n) = refl
 
-    values_stand : (v : ℕ) → IsValue homes (value_in (kept keep w.values) v) (value_in x.values v)
-    values_stand v = on (reads_at v here) refl
-      where
-        on : (t : Bool) → reads_at v here ≡ t → IsValue homes (value_in (kept keep w.values) v) (value_in x.values v)
-        on true e = subst (λ u. IsValue homes u (value_in x.values v)) (sym (kept_at keep w.values v e)) (read.reads v e)
-        on false e = subst (λ u. IsValue homes u (value_in x.values v)) (sym (cut_at keep w.values v e)) tt
+    named_alike : (n : Option Name) → general.IsNamedAlike general.same_maps c c n
+    named_alike None = tt
+    named_alike (Some n) = (unmoved (function_named c.code n), unmoved (declaration_named c.code n))
 
-    operand_stands : (ty : Ty) (y : Operand) → IsValue homes (operand_value c.code (kept keep w.values) ty y) (operand_value c.code x.values ty y)
-    operand_stands ty (Operand.Local name) = values_stand name
-    operand_stands ty (Operand.Global n) = read.globals n
-    operand_stands ty (Operand.Number z) = literal_itself homes ty z
-    operand_stands ty Operand.True = refl
-    operand_stands ty Operand.False = refl
-    operand_stands ty Operand.Null = (tt, refl)
-    operand_stands ty Operand.None = tt
-    operand_stands ty Operand.Poison = tt
+    pointed : (z : Fetched) → general.IsPointedAlike general.same_maps c c w.values z
+    pointed (AtInstr (Instr.Call r must_tail ty (Callee.Local v) args)) = λ func e. (refl, refl)
+    pointed (AtInstr (Instr.Call r must_tail ty (Callee.Named n) args)) = tt
+    pointed (AtInstr (Instr.Call r must_tail ty (Callee.Allocator a) args)) = tt
+    pointed (AtInstr (Instr.Call r must_tail ty (Callee.Intrinsic i) args)) = tt
+    pointed (AtInstr (Instr.Binary r op flags ty a b)) = tt
+    pointed (AtInstr (Instr.Icmp r pred ty a b)) = tt
+    pointed (AtInstr (Instr.Select r y a b)) = tt
+    pointed (AtInstr (Instr.Cast r op nneg a to)) = tt
+    pointed (AtInstr (Instr.Alloca r ty align)) = tt
+    pointed (AtInstr (Instr.Load r ty p align)) = tt
+    pointed (AtInstr (Instr.Store a p align)) = tt
+    pointed (AtInstr (Instr.Gep r inbounds ty p indices)) = tt
+    pointed (AtTerm t) = tt
+    pointed Nowhere = tt
 
-    -- what stands in the target is hidden in no way
-    shown_value : (u z : Value) → IsValue homes u z → IsShown hides u
-    shown_value (Value.Ptr (Pointer.At b o)) z h = on (hides b) refl
-      where
-        on : (t : Bool) → hides b ≡ t → hides b ≡ false
-        on true e = absurd (false≢true (sym (hidden b e) ∙ h.0))
-        on false e = e
-    shown_value (Value.Ptr Pointer.Null) z h = tt
-    shown_value (Value.Ptr (Pointer.Func f)) z h = tt
-    shown_value Value.Poison z h = tt
-    shown_value (Value.Int y) z h = tt
+    distances : (z : Fetched) → HasDistance c c w.values x.values z
+        → general.AreSameDistances c c w.values x.values z z
+    distances (AtInstr (Instr.Gep r inbounds ty p indices)) h = h
+    distances (AtInstr (Instr.Call r must_tail ty callee args)) h = tt
+    distances (AtInstr (Instr.Binary r op flags ty a b)) h = tt
+    distances (AtInstr (Instr.Icmp r pred ty a b)) h = tt
+    distances (AtInstr (Instr.Select r y a b)) h = tt
+    distances (AtInstr (Instr.Cast r op nneg a to)) h = tt
+    distances (AtInstr (Instr.Alloca r ty align)) h = tt
+    distances (AtInstr (Instr.Load r ty p align)) h = tt
+    distances (AtInstr (Instr.Store a p align)) h = tt
+    distances (AtTerm t) h = tt
+    distances Nowhere h = tt
 
-    shown : Each (IsShownOperand hides c less) (operands_at here)
-    shown = each_all _ (operands_at here) (λ y ty. shown_value _ _ (operand_stands ty y))
+    same_cases : (cases : List Case) → Each (general.IsSameCase c c) cases
+    same_cases [] = tt
+    same_cases (k ∷ cases) = (refl, same_cases cases)
 
-    muted_same : action_of c (muted_work hides less) here ≡ muted_action hides (action_of c less here)
-    muted_same = step_muted hides c less new here shown
+    joined : general.AreJoined homes hides general.same_maps c c w x
+    joined = record {
+      over = subst (λ r. general.AreOver r r homes hides (λ d. d) w.world x.world) (sym rights) over;
+      hidden = hidden;
+      answers = refl;
+      room = read.room;
+    }
 
-    works : AreWorks c.rights c.rights homes (λ d. d) (muted_work hides less) x
-    works = subst (λ r. AreWorks r r homes (λ d. d) (muted_work hides less) x) (sym rights) (record {
-      world = over;
-      values = record { each = values_stand; room = subst (λ n. n ≤ length x.values) (sym (kept_wide keep w.values)) read.room };
-    })
-
-    alike : AreAlike c c
-    alike = record { types = refl; answers = refl; functions = λ n. refl; fits = λ ty args func. refl }
-
-    declared : (n : Option Name) → IsDeclared (λ d. d) c c n
-    declared None = tt
-    declared (Some n) = on (declaration_named c.code n)
-      where
-        on : (o : Option ℕ) → o ≡ option_map (λ d. d) o
-        on None = refl
-        on (Some d) = refl
-
-    distance_less : (z : Fetched) → z ≡ here → HasDistance c c w.values x.values z → HasDistance c c (kept keep w.values) x.values z
-    distance_less (AtInstr (Instr.Gep name inbounds ty base indices)) e h =
-        subst (λ is. IsSameDistance (distance c.code ty is) (distance c.code ty (indices_of c.code x.values indices)))
-        (sym (indices_same c.code w.values (kept keep w.values) indices (λ v t. kept_at keep w.values v (subst (λ (q : Fetched). IsTrue (reads_at v q)) e (or_right _ _ t))))) h
-    distance_less Nowhere e h = tt
-    distance_less (AtTerm t) e h = tt
-    distance_less (AtInstr (Instr.Binary name op flags ty a b)) e h = tt
-    distance_less (AtInstr (Instr.Icmp name pred ty a b)) e h = tt
-    distance_less (AtInstr (Instr.Select name y a b)) e h = tt
-    distance_less (AtInstr (Instr.Cast name op nneg arg to)) e h = tt
-    distance_less (AtInstr (Instr.Alloca name ty align)) e h = tt
-    distance_less (AtInstr (Instr.Load name ty p align)) e h = tt
-    distance_less (AtInstr (Instr.Store arg p align)) e h = tt
-    distance_less (AtInstr (Instr.Call result must_tail ty callee args)) e h = tt
-
-    carried : IsCarried homes (λ d. d) c c (kept keep w.values) x.values here
-    carried = record {
-      operands = each_all _ (operands_at here) (λ y. record { here = λ ty. operand_stands ty y; nowhere = λ ty. refl });
-      callee = declared (callee_at here);
-      distance = distance_less here refl read.distance;
+    transferred : general.IsTransferred (IsValue homes) general.same_maps c c w.values x.values here here
+    transferred = record {
+      shape = reads_itself (IsValue homes) c c w.values x.values here read_by;
+      callee = named_alike (callee_at here);
+      pointed = pointed here;
+      distance = distances here read.distance;
+      cases = same_cases (general.cases_at here);
       no_slot = read.no_slot;
       bytes = read.bytes;
     }
 
-    goes : GoesAlike c.rights c.rights homes (λ d. d) (muted_action hides (action_of c less here)) (action_of c x here)
-    goes = subst (λ a. GoesAlike c.rights c.rights homes (λ d. d) a (action_of c x here)) muted_same (step_carried homes (λ d. d) c c (muted_work hides less) x here (subst AreByteRights (sym rights) owner_rights_fit) (subst AreByteRights (sym rights) owner_rights_fit) alike works carried)
+    fit : AreByteRights c.rights
+    fit = subst AreByteRights (sym rights) owner_rights_fit
 
-    -- the name that is given is the same, whatever else is kept
-    abbrev P : ℕ → Type 0
-    P v = given_at here ≡ Some v
+    goes : general.GoesOver owner_rights owner_rights homes hides general.same_maps (general.given_at here)
+        (general.args_at here) (general.args_at here) w x (action_of c w here) (action_of c x here)
+    goes =
+        subst (λ r. general.GoesOver r r homes hides general.same_maps (general.given_at here) (general.args_at here)
+        (general.args_at here) w x (action_of c w here) (action_of c x here)) rights
+        (transfer.step_over homes hides general.same_maps c c w x here here fit fit joined transferred)
 
-    no_pass : (z : Fetched) (v : ℕ) → given_at z ≡ Some v → PassesBy v z → IsTrue (reads_at v z)
-    no_pass Nowhere v e h = absurd h
-    no_pass (AtInstr i) v e h = absurd (h.1 e)
-    no_pass (AtTerm t) v e h = absurd h
-
-    cut_same : SameAction c.code P here w.values (kept keep w.values) (action_of c w here) (action_of c less here)
-    cut_same = action_same c w.world w.values (kept keep w.values) (λ v. IsTrue (reads_at v here)) P same here (λ v t. t) (λ v p h. no_pass here v p h)
-
-    over_of : World → Work → Type 0
-    over_of s y = AreOver homes hides s y.world
+    of_general : (a b : Action)
+        → general.GoesOver owner_rights owner_rights homes hides general.same_maps (given_at here)
+        (general.args_at here) (general.args_at here) w x a b → GoesOver homes hides (given_at here) w x a b
+    of_general (Done v) b h = (
+      h.0,
+      h.1,
+      h.2,
+      record {
+        stands = h.3.stands;
+        source = h.3.source;
+        target = h.3.target;
+        room = subst (λ (p : ℕ × ℕ). p.0 ≤ p.1) (λ i. (sym h.3.length_source i, sym h.3.length_target i)) read.room;
+      },
+    )
+    of_general (NewSlot v slot) b h = absurd h
+    of_general (Enter func args result must_tail) b h = h
+    of_general (Coro i args result) b h = h.1 ∙ ap (λ z. Coro i z result) (sym h.0)
+    of_general (Deallocate p) b h = h
+    of_general (GoTo label) b h = h
+    of_general (Return None) b h = h
+    of_general (Return (Some v)) b h = h
+    of_general (Stuck cause) b h = tt
 
     pub step_over : GoesOver homes hides (given_at here) w x (action_of c w here) (action_of c x here)
-    step_over = on (action_of c w here) refl (action_of c less here) cut_same goes
-      where
-        only : SetsOnly (given_at here) w.values (action_of c w here)
-        only = step_sets c w here
-
-        only_x : SetsOnly (given_at here) x.values (action_of c x here)
-        only_x = step_sets c x here
-
-        on : (a : Action) → action_of c w here ≡ a → (b : Action) → SameAction c.code P here w.values (kept keep w.values) a b → GoesAlike c.rights c.rights homes (λ d. d) (muted_action hides b) (action_of c x here) → GoesOver homes hides (given_at here) w x a (action_of c x here)
-        on (Done v) ea b h k =
-            let k' = subst (λ (z : Action). GoesAlike c.rights c.rights homes (λ d. d) (muted_action hides z) (action_of c x here)) h.1 k in
-            let y : Work = k'.0 in
-            let o : AreWorks c.rights c.rights homes (λ d. d) (muted_work hides (record { world = v.world; values = h.0 })) y = k'.2 in
-            let o' = subst (λ r. AreWorks r r homes (λ d. d) (muted_work hides (record { world = v.world; values = h.0 })) y) rights o in
-            let s = subst (SetsOnly (given_at here) w.values) ea only in
-            let t = subst (SetsOnly (given_at here) x.values) k'.1 only_x in (
-              y,
-              k'.1,
-              o'.world,
-              record {
-                stands = λ name e. subst (λ u. IsValue homes u (value_in y.values name)) (h.2.each name e) (o'.values.each name);
-                source = s;
-                target = t;
-                room = subst (λ n. n ≤ length y.values) (h.2.wide) o'.values.room;
-              },
-            )
-        on (NewSlot v slot) ea b h k = absurd (subst (λ (z : Action). GoesAlike c.rights c.rights homes (λ d. d) (muted_action hides z) (action_of c x here)) h.1 k)
-        on (Enter func args result must_tail) ea b h k = subst (λ (z : Action). GoesAlike c.rights c.rights homes (λ d. d) (muted_action hides z) (action_of c x here)) h.0 k
-        on (Coro i args result) ea b h k = subst (λ (z : Action). GoesAlike c.rights c.rights homes (λ d. d) (muted_action hides z) (action_of c x here)) h.0 k
-        on (Deallocate p) ea b h k = subst (λ (z : Action). GoesAlike c.rights c.rights homes (λ d. d) (muted_action hides z) (action_of c x here)) h.0 k
-        on (GoTo label) ea b h k = subst (λ (z : Action). GoesAlike c.rights c.rights homes (λ d. d) (muted_action hides z) (action_of c x here)) h.0 k
-        on (Return None) ea b h k = subst (λ (z : Action). GoesAlike c.rights c.rights homes (λ d. d) (muted_action hides z) (action_of c x here)) h k
-        on (Return (Some v)) ea b h k = subst (λ (z : Action). GoesAlike c.rights c.rights homes (λ d. d) (muted_action hides z) (action_of c x here)) h k
-        on (Stuck cause) ea b h k = tt
+    step_over = ⊎_elim
+        (λ e. of_general (action_of c w here) (action_of c x here)
+        (subst (λ g. general.GoesOver owner_rights owner_rights homes hides general.same_maps g (general.args_at here)
+        (general.args_at here) w x (action_of c w here) (action_of c x here)) e goes))
+        (λ h. subst (λ z. GoesOver homes hides (given_at z) w x (action_of c w z) (action_of c x z)) (sym h.4) refl)
+        (here_given here)

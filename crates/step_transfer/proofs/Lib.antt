@@ -1,0 +1,11 @@
+pub mod Muted
+pub mod Sets
+pub mod Shapes
+pub mod Over
+pub mod Places
+pub mod Grown
+pub mod Ready
+pub mod Alone
+pub mod Carried
+pub mod Makes
+pub mod Marks
