@@ -15,8 +15,7 @@ source_machine m sizes entry args answers =
     record {
       start = first_state m entry args;
       step = step (given m sizes answers);
-      seen = λ s. seen_of m s.world
-          s.outcome;
+      seen = λ s. seen_of m s.world s.outcome;
     }
 
 -- what is seen of it after n steps is KeptAt
@@ -26,6 +25,5 @@ kept_machine m keep sizes entry args answers =
     record {
       start = first_state m entry args;
       step = step_by g (continue_keeping g keep);
-      seen = λ s. seen_of m
-          s.world s.outcome;
+      seen = λ s. seen_of m s.world s.outcome;
     }

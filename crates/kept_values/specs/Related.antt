@@ -37,13 +37,13 @@ AreBelow g r [] [] = Unit {0}
 AreBelow g r [] (b ∷ bs) = ⊥
 AreBelow g r (a ∷ as') [] = ⊥
 AreBelow g r (a ∷ as') (b ∷ bs) =
-    ((ws : Env) × (b ≡ record a { values = ws }) × SameOn (λ v. Wants g a v × (r ≡ Some v → ⊥)) a.values ws) ×
-    AreBelow g a.result as' bs
+    ((ws : Env) × (b ≡ record a { values = ws }) × SameOn (λ v. Wants g a v × (r ≡ Some v → ⊥)) a.values ws)
+    × AreBelow g a.result as' bs
 
 abbrev pub IsStatus : Function → Status → Status → Type 0
 IsStatus f Status.Running t = t ≡ Status.Running
-IsStatus f (Status.Suspended suspend vs) t = (ws : Env) × (t ≡ Status.Suspended suspend ws) × SameOn
-    (λ v. IsNeededBehind f suspend v) vs ws
+IsStatus f (Status.Suspended suspend vs) t =
+    (ws : Env) × (t ≡ Status.Suspended suspend ws) × SameOn (λ v. IsNeededBehind f suspend v) vs ws
 IsStatus f Status.Finished t = t ≡ Status.Finished
 
 abbrev pub IsInstance : Given → Instance → Instance → Type 0
@@ -83,8 +83,8 @@ AreSound g cs [] = Unit {0}
 AreSound g cs (a ∷ as') = IsSoundActivation g cs a × AreSound g cs as'
 
 abbrev pub IsSuspendedAt : Given → ℕ → Point → Type 0
-IsSuspendedAt g func at = IsReached (function_at g.code func) at.block at.at × IsCallAt Intrinsic.CoroSuspend
-    (function_at g.code func) at
+IsSuspendedAt g func at =
+    IsReached (function_at g.code func) at.block at.at × IsCallAt Intrinsic.CoroSuspend (function_at g.code func) at
 
 -- an instance is suspended at a suspend that a path leads to
 abbrev pub IsSoundStatus : Given → ℕ → Status → Type 0
