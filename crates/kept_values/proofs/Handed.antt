@@ -189,11 +189,15 @@ read_crosses f rules d names s v r c n is_value = record {
     on (inl w) = absurd (not_without f v d ((saves_enough f rules).itself s c v n) w)
     on (inr k) = defined f rules s c v n k
 
+module _ (m : Module) (keep : Keep) (rules : AllKeepSuspendRules m) (d : AreDefinite m) (names : HavePlainNames m)
+    (hands : HandsOn m keep) where
+  pub keeps : KeepsNeeded m keep
+  keeps func s v r c n = ⊎_elim
+      (λ is_value. hands.crossing func s v (read_crosses (function_at m func) (rules func) (d.each func) (names func)
+      s v r c n is_value))
+      (λ is_none. hands.others func s v is_none)
+      (listed_or v (values_of (function_at m func)))
+
 pub handed_agrees : (m : Module) (keep : Keep) (sizes : List Frame) (entry : ℕ) (args : List Word) (answers : List ℤ) → AllKeepSuspendRules m → AreDefinite m → HavePlainNames m → HandsOn m keep → AgreesWithin 1 (SourceAt m sizes entry args answers) (KeptAt m keep sizes entry args answers)
-handed_agrees m keep sizes entry args answers rules d names hands = kept_agrees m keep sizes entry args answers rules keeps
-  where
-    keeps : KeepsNeeded m keep
-    keeps func s v r c n = ⊎_elim
-        (λ is_value. hands.crossing func s v (read_crosses (function_at m func) (rules func) (d.each func) (names func) s v r c n is_value))
-        (λ is_none. hands.others func s v is_none)
-        (listed_or v (values_of (function_at m func)))
+handed_agrees m keep sizes entry args answers rules d names hands = kept_agrees m keep sizes entry args answers rules
+    (keeps m keep rules d names hands)

@@ -9,8 +9,9 @@ use Rattle.kept_values.proofs.Same.{same_all}
 use Rattle.kept_values.proofs.Simulation.{acts_go}
 use Rattle.kept_values.proofs.Sound.{IsSound, Stays, holds_of, source_stays}
 use Rattle.kept_values.proofs.Walks.{saves_enough}
-use Rattle.agreement.proofs.Lockstep.{ShowsSame, Simulates, lockstep_within}
+use Rattle.agreement.proofs.Lockstep.{ShowsSame, Simulates, lockstep_one, lockstep_within}
 use Rattle.agreement.specs.Agreements.{AgreesWithin}
+use Rattle.agreement.specs.Costs.{AgreesBy}
 use Rattle.agreement.specs.Machines.{IsFine, IsRunning, Machine}
 use Rattle.coro_base.specs.declared.cause.Cause.{Cause}
 use Rattle.coro_base.specs.declared.outcome.Outcome.{Outcome}
@@ -101,3 +102,8 @@ module _ (m : Module) (keep : Keep) (sizes : List Frame) (entry : ℕ) (args : L
 
   pub kept_agrees : AgreesWithin 1 (SourceAt m sizes entry args answers) (KeptAt m keep sizes entry args answers)
   kept_agrees = lockstep_within source keeping 1 R (λ s. 0) simulates (λ s t r. ap (λ (z : State). z.world.allocs) (sym r.0.is))
+
+  -- by costs, with the relation
+  pub kept_corresponds : AgreesBy R R source (λ s. 1) keeping (λ t. 1)
+  kept_corresponds = lockstep_one source keeping R (λ s. 0) simulates
+      (λ s t r. ap (λ (z : State). z.world.allocs) (sym r.0.is))

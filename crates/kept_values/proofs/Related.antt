@@ -1,7 +1,8 @@
 -- States that are the same but for values that are not needed.
 use Rattle.std.proofs.Common.{◌≡◌, ℕ, zero, suc, ◌+◌, Bool, true, false, List, [], ◌∷◌, ◌++◌, length, Option, Some, None, Result, Ok, Err, refl, sym, ap, subst}
 use Rattle.std.specs.Prelude.{IsTrue, IsFalse, slice_get, slice_set, if◌then◌else◌, option_map, option_and_then}
-use Rattle.kept_values.specs.Needed.{BranchesTo, IsNeeded, IsNeededBehind, PassesBy, label_of_block, phis_at, phis_give, phis_read, reads_at, read, next, phi, enter}
+use Rattle.kept_values.specs.Needed.{BranchesTo, PassesBy, label_of_block, phis_at, phis_give, phis_read, reads_at, read, next, phi, enter}
+pub use Rattle.kept_values.specs.Related.{AreBelow, AreInstances, IsInstance, IsStatus, Needs, Related, Wants, like}
 use Rattle.kept_values.proofs.Same.{SameOn, phis_same, same_result}
 use Rattle.block_memory.specs.declared.pointer.Pointer.{Pointer}
 use Rattle.block_memory.specs.declared.pointer.Value.{Value}
@@ -21,14 +22,7 @@ use Rattle.ordinary_step.specs.Step.{fetch}
 use Rattle.ordinary_step.specs.Values.{Env, with_result}
 use Rattle.source_program.specs.Given.{Given}
 
--- ---- which values an activation needs: all, but where it was resumed those that a path leads to
-
-abbrev pub Needs : Mode → Function → ℕ → ℕ → ℕ → Type 0
-Needs Mode.Resumed f block at v = IsNeeded f v block at
-Needs _ f block at v = Unit {0}
-
-abbrev pub Wants : Given → Activation → ℕ → Type 0
-Wants g a = Needs a.mode (function_at g.code a.func) a.block a.at
+-- ---- which values an activation needs
 
 pub needs_read : (mode : Mode) (f : Function) (block at v : ℕ) → IsTrue (reads_at v (fetch f block at)) → Needs mode f block at v
 needs_read Mode.Resumed f block at v h = read h
@@ -49,42 +43,6 @@ needs_enter _ f block at v label b n h = tt
 pub needs_all : (mode : Mode) (f : Function) (block at v : ℕ) → (mode ≡ Mode.Resumed → ⊥) → Needs mode f block at v
 needs_all Mode.Resumed f block at v ne = absurd (ne refl)
 needs_all _ f block at v ne = tt
-
--- ---- the relation
-
--- the activations below, of which the topmost waits for a value to be given to a name
-abbrev pub AreBelow : Given → Option ℕ → List Activation → List Activation → Type 0
-AreBelow g r [] [] = Unit {0}
-AreBelow g r [] (b ∷ bs) = ⊥
-AreBelow g r (a ∷ as') [] = ⊥
-AreBelow g r (a ∷ as') (b ∷ bs) =
-    ((ws : Env) × (b ≡ record a { values = ws }) × SameOn (λ v. Wants g a v × (r ≡ Some v → ⊥)) a.values ws) × AreBelow g a.result as' bs
-
-abbrev pub IsStatus : Function → Status → Status → Type 0
-IsStatus f Status.Running t = t ≡ Status.Running
-IsStatus f (Status.Suspended suspend vs) t = (ws : Env) × (t ≡ Status.Suspended suspend ws) × SameOn (λ v. IsNeededBehind f suspend v) vs ws
-IsStatus f Status.Finished t = t ≡ Status.Finished
-
-abbrev pub IsInstance : Given → Instance → Instance → Type 0
-IsInstance g x y = (t : Status) × (y ≡ record x { status = t }) × IsStatus (function_at g.code x.coroutine) x.status t
-
-abbrev pub AreInstances : Given → List Instance → List Instance → Type 0
-AreInstances g [] [] = Unit {0}
-AreInstances g [] (y ∷ ys) = ⊥
-AreInstances g (x ∷ xs) [] = ⊥
-AreInstances g (x ∷ xs) (y ∷ ys) = IsInstance g x y × AreInstances g xs ys
-
-abbrev pub like : State → Env → List Activation → List Instance → State
-like s ws bs ys = record s { instances = ys; top = record s.top { values = ws }; below = bs }
-
-pub record Related (g : Given) (s t : State) : Type 0 where
-  pub values : Env
-  pub below : List Activation
-  pub instances : List Instance
-  pub is : t ≡ like s values below instances
-  pub same : SameOn (Wants g s.top) s.top.values values
-  pub acts : AreBelow g s.top.result s.below below
-  pub insts : AreInstances g s.instances instances
 
 -- where the first goes on, the second goes on to a related state
 abbrev pub Goes : Given → Result State Cause → Result State Cause → Type 0

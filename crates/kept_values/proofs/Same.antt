@@ -5,6 +5,7 @@ use Rattle.std.proofs.lemmas.Bool.{cases_eq, cases_lt}
 use Rattle.std.proofs.lemmas.List.{length-set}
 use Rattle.kept_values.specs.Kept.{kept}
 use Rattle.kept_values.specs.Needed.{phis_give, phis_read}
+pub use Rattle.kept_values.specs.Related.{SameOn}
 use Rattle.block_memory.specs.declared.pointer.Value.{Value}
 use Rattle.ir_model.specs.Names.{is_local}
 use Rattle.ir_model.specs.Ty.{Ty}
@@ -52,10 +53,6 @@ same_point_same p q e = on (p.block == q.block) (p.at == q.at) refl refl e
     on false b ea eb h = absurd (cc)
 
 -- ---- the same values
-
-pub record SameOn (Q : ℕ → Type 0) (vs ws : Env) : Type 0 where
-  pub each : (v : ℕ) → Q v → value_in ws v ≡ value_in vs v
-  pub wide : length ws ≡ length vs
 
 pub same_less : (P Q : ℕ → Type 0) (vs ws : Env) → SameOn Q vs ws → ((v : ℕ) → P v → Q v) → SameOn P vs ws
 same_less P Q vs ws s h = record { each = λ v p. s.each v (h v p); wide = s.wide }

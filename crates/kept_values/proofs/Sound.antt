@@ -1,9 +1,11 @@
 -- What holds of each state of a source run.
 use Rattle.block_memory.specs.declared.pointer.Pointer.{Pointer}
 use Rattle.std.proofs.Common.{◌≡◌, ℕ, zero, suc, ◌+◌, Bool, true, false, List, [], ◌∷◌, ◌++◌, length, Option, Some, None, Result, Ok, Err, refl, sym, ap, ◌∙◌, subst}
-use Rattle.std.specs.Prelude.{if◌then◌else◌, is_none, map, not, option_and_then, option_map, slice_get, slice_set, ◌&&◌}
+use Rattle.std.specs.Prelude.{if◌then◌else◌, is_none, not, option_and_then, option_map, slice_get, slice_set, ◌&&◌}
 use Rattle.kept_values.specs.SuspendRules.{AllKeepSuspendRules, IsCallAt}
 use Rattle.kept_values.specs.Needed.{BranchesTo, IsReached, first, after, along}
+pub use Rattle.kept_values.specs.Related.{AreSound, AreSoundInstances, IsSound, IsSoundActivation, IsSoundStatus}
+pub use Rattle.kept_values.specs.Related.{IsSuspendedAt, coroutines}
 use Rattle.kept_values.proofs.Actions.{SameAction, action_same}
 use Rattle.kept_values.proofs.Same.{same_all}
 use Rattle.kept_values.proofs.Rules.{suspend_is_suspend}
@@ -39,34 +41,6 @@ use Rattle.ordinary_step.specs.Step.{Action, AtInstr, AtTerm, Coro, Deallocate, 
 use Rattle.ordinary_step.specs.Values.{Env, nth}
 use Rattle.ordinary_step.specs.declared.world.Slot.{Slot}
 use Rattle.source_program.specs.Given.{Given}
-
-abbrev coroutines : List Instance → List ℕ
-coroutines xs = map (λ x. x.coroutine) xs
-
-pub record IsSoundActivation (g : Given) (cs : List ℕ) (a : Activation) : Type 0 where
-  pub own : (i : ℕ) → a.instance ≡ Some i → slice_get cs i ≡ Some a.func
-  pub reached : IsReached (function_at g.code a.func) a.block a.at
-
-abbrev AreSound : Given → List ℕ → List Activation → Type 0
-AreSound g cs [] = Unit {0}
-AreSound g cs (a ∷ as') = IsSoundActivation g cs a × AreSound g cs as'
-
-abbrev IsSuspendedAt : Given → ℕ → Point → Type 0
-IsSuspendedAt g func at = IsReached (function_at g.code func) at.block at.at × IsCallAt Intrinsic.CoroSuspend (function_at g.code func) at
-
-abbrev IsSoundStatus : Given → ℕ → Status → Type 0
-IsSoundStatus g func Status.Running = Unit {0}
-IsSoundStatus g func (Status.Suspended at vs) = IsSuspendedAt g func at
-IsSoundStatus g func Status.Finished = Unit {0}
-
-abbrev AreSoundInstances : Given → List Instance → Type 0
-AreSoundInstances g [] = Unit {0}
-AreSoundInstances g (x ∷ xs) = IsSoundStatus g x.coroutine x.status × AreSoundInstances g xs
-
-pub record IsSound (g : Given) (s : State) : Type 0 where
-  pub top : IsSoundActivation g (coroutines s.instances) s.top
-  pub below : AreSound g (coroutines s.instances) s.below
-  pub instances : AreSoundInstances g s.instances
 
 abbrev pub Stays : Given → Result State Cause → Type 0
 Stays g (Err cause) = Unit {0}

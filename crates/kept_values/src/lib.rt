@@ -9,14 +9,17 @@
 
 ghost use Rattle.std.specs.Prelude.{ℕ, ℤ, List};
 ghost use Rattle.agreement.specs.Agreements.{AgreesWithin};
+ghost use Rattle.agreement.specs.Costs.{AgreesBy};
 ghost use Rattle.coro_base.specs.declared.outcome.Word.{Word};
-ghost use Rattle.coro_meaning.specs.Source.{SourceAt};
+ghost use Rattle.coro_meaning.specs.Source.{SourceAt, given};
 ghost use Rattle.ir_model.specs.declared.module.Frame.{Frame};
 ghost use Rattle.ir_model.specs.declared.module.Module.{Module};
-ghost use Rattle.kept_values.specs.SuspendRules.{AllKeepSuspendRules};
+ghost use Rattle.kept_values.specs.SuspendRules.{AllKeepSuspendRules, KeepsNeeded};
 ghost use Rattle.kept_values.specs.Crossing.{AreDefinite, KeepsCrossing};
 ghost use Rattle.kept_values.specs.Handed.{HandsOn, HavePlainNames};
 ghost use Rattle.kept_values.specs.Kept.{Keep, KeptAt};
+ghost use Rattle.kept_values.specs.Machines.{kept_machine, source_machine};
+ghost use Rattle.kept_values.specs.Related.{HandsOver};
 
 /// The meaning in which a resume hands on only what crosses its suspend, and the addresses that are made anew, agrees with the source meaning, step by step.
 pub fn crossing_values_are_enough()
@@ -26,4 +29,20 @@ pub fn crossing_values_are_enough()
 /// So it does where a resume hands on the values that cross its suspend by the sentences of the analysis, and all that isn't a value that may cross.
 pub fn values_that_cross_are_enough()
     ensures { (m : Module) (keep : Keep) (sizes : List Frame) (entry : ℕ) (args : List Word) (answers : List ℤ) → AllKeepSuspendRules m → AreDefinite m → HavePlainNames m → HandsOn m keep → AgreesWithin 1 (SourceAt m sizes entry args answers) (KeptAt m keep sizes entry args answers) }
+{}
+
+/// At each step both have the same state but for values that are not needed; the instances are suspended at reached
+/// suspends.
+pub fn needed_values_are_kept()
+    ensures { (m : Module) (keep : Keep) (sizes : List Frame) (entry : ℕ) (args : List Word) (answers : List ℤ)
+        → AllKeepSuspendRules m → KeepsNeeded m keep
+        → AgreesBy (HandsOver (given m sizes answers)) (HandsOver (given m sizes answers))
+        (source_machine m sizes entry args answers) (λ s. 1) (kept_machine m keep sizes entry args answers) (λ t. 1) }
+{}
+
+/// What crosses its suspend by the sentences of the analysis, and all that isn't a value that may cross, is all that
+/// is needed.
+pub fn values_that_cross_are_needed()
+    ensures { (m : Module) (keep : Keep) → AllKeepSuspendRules m → AreDefinite m → HavePlainNames m → HandsOn m keep
+        → KeepsNeeded m keep }
 {}

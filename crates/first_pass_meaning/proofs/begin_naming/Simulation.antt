@@ -2,8 +2,9 @@
 use Rattle.std.proofs.Common.{◌≡◌, inl, ℕ, List, refl, sym, ap, ◌∙◌, subst, arith}
 use Rattle.std.proofs.lemmas.Option.{slice_get-map}
 use Rattle.std.specs.Prelude.{ℤ, Some, None, Option, map, option_and_then, option_map, slice_get}
-use Rattle.agreement.proofs.Lockstep.{Advance, ShowsSame, Simulates, lockstep_within}
+use Rattle.agreement.proofs.Lockstep.{Advance, ShowsSame, Simulates, lockstep_one, lockstep_within}
 use Rattle.agreement.specs.Agreements.{AgreesWithin}
+use Rattle.agreement.specs.Costs.{AgreesBy}
 use Rattle.agreement.specs.Machines.{IsRunning, Machine}
 use Rattle.block_memory.specs.declared.pointer.Value.{Value}
 use Rattle.coro_base.specs.declared.outcome.Outcome.{Outcome}
@@ -20,6 +21,7 @@ use Rattle.first_pass_meaning.proofs.begin_naming.ShortSteps.{step_short}
 use Rattle.first_pass_meaning.specs.begin_naming.Shortened.{IsOwned, short_instance, short_state}
 use Rattle.first_pass_meaning.proofs.early_agreement.Modules.{world_there}
 use Rattle.first_pass_meaning.specs.early_agreement.Passes.{named_function, named_module}
+use Rattle.first_pass_meaning.specs.early_states.Beside.{IsShortOf, source_machine}
 use Rattle.ir_model.specs.declared.module.Frame.{Frame}
 use Rattle.ir_model.specs.declared.module.Module.{Module}
 use Rattle.ir_paths.specs.Facts.{all_facts}
@@ -66,9 +68,8 @@ module _ (m : Module) (locals : AreLocalsNamed m) (uses : AreUsesNamed m) (sizes
     abbrev B : Machine State
     B = record { start = first_state m2 entry args; step = step h; seen = λ s. seen_of m2 s.world s.outcome }
 
-    record Related (s t : State) : Type 0 where
-      is : s ≡ short_state m t
-      sound : IsSound m s
+    abbrev Related : State → State → Type 0
+    Related = IsShortOf m
 
     first_same : first_state m entry args ≡ short_state m (first_state m2 entry args)
     first_same =
@@ -105,5 +106,25 @@ module _ (m : Module) (locals : AreLocalsNamed m) (uses : AreUsesNamed m) (sizes
     pub agrees : AgreesWithin 1 (SourceAt m sizes entry args answers) (SourceAt m2 sizes entry args answers)
     agrees = subst (λ (facts : List Facts). AgreesWithin 1 (SeenOf g entry args) (SeenOf (with_facts facts) entry args)) (sym (facts_all m uses sizes answers)) agrees_by
 
+    abbrev with_machine : List Facts → Machine State
+    with_machine facts = record {
+      start = first_state m2 entry args;
+      step = step (with_facts facts);
+      seen = λ s.
+          seen_of m2 s.world s.outcome;
+    }
+
+    pub corresponds : AgreesBy Related Related A (λ s. 1) (source_machine m2 sizes entry args answers) (λ t. 1)
+    corresponds =
+        subst (λ (facts : List Facts). AgreesBy Related Related A (λ s. 1) (with_machine facts) (λ t. 1))
+        (sym (facts_all m uses sizes answers))
+        (lockstep_one A B Related (λ x. 0) simulates (λ s t r. ap (λ (x : State). x.world.allocs) r.is))
+
 pub named_agrees : (m : Module) → AreLocalsNamed m → AreUsesNamed m → (sizes : List Frame) (entry : ℕ) (args : List Word) (answers : List ℤ) → AgreesWithin 1 (SourceAt m sizes entry args answers) (SourceAt (named_module m) sizes entry args answers)
 named_agrees m locals uses sizes entry args answers = agrees m locals uses sizes answers entry args
+
+pub named_corresponds : (m : Module) → AreLocalsNamed m → AreUsesNamed m
+    → (sizes : List Frame) (entry : ℕ) (args : List Word) (answers : List ℤ)
+    → AgreesBy (IsShortOf m) (IsShortOf m) (source_machine m sizes entry args answers) (λ s. 1)
+    (source_machine (named_module m) sizes entry args answers) (λ t. 1)
+named_corresponds m locals uses sizes entry args answers = corresponds m locals uses sizes answers entry args

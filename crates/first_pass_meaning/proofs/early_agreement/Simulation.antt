@@ -1,8 +1,10 @@
 -- The renamed module's runs are those of the module.
 use Rattle.std.proofs.Common.{◌≡◌, inl, ⊎_elim, ℕ, Bool, true, false, List, [], length, refl, sym, ap, ◌∙◌, subst, arith}
 use Rattle.std.specs.Prelude.{ℤ, IsTrue, Some, None, Ok, Err, Option, Result, map, slice_get}
-use Rattle.agreement.proofs.Lockstep.{Advance, ShowsSame, Simulates, lockstep_within}
+use Rattle.agreement.proofs.Lockstep.{Advance, ShowsSame, Simulates, lockstep_one, lockstep_within}
 use Rattle.agreement.specs.Agreements.{AgreesWithin}
+use Rattle.agreement.proofs.Costs.{weaken_by}
+use Rattle.agreement.specs.Costs.{AgreesBy}
 use Rattle.agreement.specs.Machines.{IsFine, IsRunning, Machine}
 use Rattle.block_memory.specs.Memory.{owner_rights}
 use Rattle.block_memory.specs.declared.pointer.Value.{Value}
@@ -27,6 +29,7 @@ use Rattle.first_pass_meaning.specs.early_agreement.Passes.{renamed_function, re
 use Rattle.first_pass_meaning.specs.early_agreement.Regular.{AreRegular, AsOperand, Here, OnEdge, is_call_at, operands_read, passes}
 use Rattle.early_lower.specs.Early.{renaming_of}
 use Rattle.early_lower.specs.declared.renaming.Renaming.{Renaming}
+use Rattle.first_pass_meaning.specs.early_states.Beside.{IsSameState, source_machine}
 use Rattle.ir_model.specs.Names.{function_at, intrinsic_number, same_intrinsic}
 use Rattle.ir_model.specs.declared.instr.Instr.{Instr}
 use Rattle.ir_model.specs.declared.module.Block.{Block}
@@ -261,5 +264,29 @@ module _ (m : Module) (ok : AreRegular m) (sizes : List Frame) (answers : List �
     pub agrees : AgreesWithin 1 (SourceAt m sizes entry args answers) (SourceAt (renamed_module m) sizes entry args answers)
     agrees = subst (λ (facts : List Facts). AgreesWithin 1 (SeenOf g entry args) (SeenOf (with_facts facts) entry args)) (sym (facts_all m ok sizes answers)) agrees_by
 
+    abbrev with_machine : List Facts → Machine State
+    with_machine facts = record {
+      start = first_state (renamed_module m) entry args;
+      step = step (with_facts facts);
+      seen = λ s. seen_of (renamed_module m) s.world s.outcome;
+    }
+
+    corresponds_by : AgreesBy IsSameState IsSameState A (λ s. 1) B (λ t. 1)
+    corresponds_by =
+        weaken_by Related Related IsSameState IsSameState A (λ s. 1) (λ s. 1) B (λ t. 1) (λ t. 1) (λ s t r. r.is)
+        (λ s t r. r.is) (λ n fine. omega arith) (λ n. omega arith)
+        (lockstep_one A B Related (λ x. 0) simulates (λ s t r. ap (λ (x : State). x.world.allocs) (sym r.is)))
+
+    pub corresponds : AgreesBy IsSameState IsSameState A (λ s. 1)
+        (source_machine (renamed_module m) sizes entry args answers) (λ t. 1)
+    corresponds = subst (λ (facts : List Facts). AgreesBy IsSameState IsSameState A (λ s. 1) (with_machine facts)
+        (λ t. 1)) (sym (facts_all m ok sizes answers)) corresponds_by
+
 pub renamed_agrees : (m : Module) → AreRegular m → (sizes : List Frame) (entry : ℕ) (args : List Word) (answers : List ℤ) → AgreesWithin 1 (SourceAt m sizes entry args answers) (SourceAt (renamed_module m) sizes entry args answers)
 renamed_agrees m ok sizes entry args answers = agrees m ok sizes answers entry args
+
+pub renamed_corresponds : (m : Module) → AreRegular m
+    → (sizes : List Frame) (entry : ℕ) (args : List Word) (answers : List ℤ)
+    → AgreesBy IsSameState IsSameState (source_machine m sizes entry args answers) (λ s. 1)
+    (source_machine (renamed_module m) sizes entry args answers) (λ t. 1)
+renamed_corresponds m ok sizes entry args answers = corresponds m ok sizes answers entry args

@@ -1,8 +1,9 @@
 -- The runs of the module whose saves are written out are those of the module.
 use Rattle.std.proofs.Common.{◌≡◌, inl, ℕ, ◌<◌, Bool, true, false, List, [], ◌∷◌, refl, sym, ap, ◌∙◌, subst, arith}
 use Rattle.std.specs.Prelude.{ℤ, negsuc, Some, None, Ok, Err, Option, Result, map, slice_get, if◌then◌else◌}
-use Rattle.agreement.proofs.Lockstep.{Advance, IsBetween, ShowsSame, Simulates, lockstep_within}
+use Rattle.agreement.proofs.Lockstep.{Advance, IsBetween, ShowsSame, Simulates, lockstep_near, lockstep_within}
 use Rattle.agreement.specs.Agreements.{AgreesWithin}
+use Rattle.agreement.specs.Costs.{AgreesBy, IsNear}
 use Rattle.agreement.specs.Machines.{IsFine, IsRunning, Machine, iterate}
 use Rattle.block_memory.specs.Memory.{access_bytes, encode}
 use Rattle.block_memory.specs.declared.block.MemoryBlock.{MemoryBlock}
@@ -25,6 +26,7 @@ use Rattle.ordinary_step.specs.Runs.{seen_of}
 use Rattle.ordinary_step.specs.Step.{action_of, fetch, first_world, global_block}
 use Rattle.ordinary_step.specs.Values.{access_of, integer, stored}
 use Rattle.ordinary_step.specs.declared.world.World.{World}
+use Rattle.first_pass_meaning.specs.early_states.Beside.{IsSavedOf, source_machine}
 use Rattle.first_pass_meaning.specs.save_agreement.SavesWritten.{is_bare, saves_written}
 use Rattle.first_pass_meaning.specs.save_agreement.Spots.{instrs_in, own_saves}
 use Rattle.first_pass_meaning.proofs.save_simulation.Names.{tokens_named}
@@ -144,9 +146,8 @@ module _ (m : Module) (sizes : List Frame) (answers : List ℤ) (names : AreLoca
     abbrev B : Machine State
     B = record { start = first_state (saves_written m) entry args; step = step k; seen = λ s. seen_of (saves_written m) s.world s.outcome }
 
-    record Related (s t : State) : Type 0 where
-      is : t ≡ saved_state m s
-      holds : IsSound m s
+    abbrev Related : State → State → Type 0
+    Related = IsSavedOf m
 
     stays_by : (x : Given) (s : State) (o : Outcome) → (IsRunning o → ⊥) → advance_by x (continue x) s o ≡ s
     stays_by x s (Outcome.Returned v) over = refl
@@ -204,5 +205,17 @@ module _ (m : Module) (sizes : List Frame) (answers : List ℤ) (names : AreLoca
     pub agrees : AgreesWithin 2 (SourceAt m sizes entry args answers) (SourceAt (saves_written m) sizes entry args answers)
     agrees = lockstep_within A B 2 Related (λ x. 0) simulates (λ s t r. ap (λ (x : State). x.world.allocs) (sym r.is))
 
+    pub corresponds : AgreesBy Related (IsNear B 2 Related) A (λ s. 2) B (λ t. 1)
+    corresponds = lockstep_near A B 2 Related (λ x. 0) simulates
+        (λ s t r. ap (λ (x : State). x.world.allocs) (sym r.is))
+
 pub saves_agree : (m : Module) → AreLocalsNamed m → AreUsesNamed m → (sizes : List Frame) (entry : ℕ) (args : List Word) (answers : List ℤ) → AgreesWithin 2 (SourceAt m sizes entry args answers) (SourceAt (saves_written m) sizes entry args answers)
 saves_agree m names uses sizes entry args answers = agrees m sizes answers names (tokens_named m names uses) entry args
+
+pub saves_correspond : (m : Module) → AreLocalsNamed m → AreUsesNamed m
+    → (sizes : List Frame) (entry : ℕ) (args : List Word) (answers : List ℤ)
+    → AgreesBy (IsSavedOf m) (IsNear (source_machine (saves_written m) sizes entry args answers) 2 (IsSavedOf m))
+    (source_machine m sizes entry args answers) (λ s. 2) (source_machine (saves_written m) sizes entry args answers)
+    (λ t. 1)
+saves_correspond m names uses sizes entry args answers = corresponds m sizes answers names (tokens_named m names uses)
+    entry args
