@@ -3,15 +3,10 @@ use Rattle.std.proofs.Common.{◌≡◌, ℕ, zero, suc, Bool, true, false, List
 use Rattle.std.proofs.Math.Dec.{eqb-suc-suc, eqb-zero-suc}
 use Rattle.std.specs.Prelude.{Some, None, Option, option_map, cond, filter, map, slice_get, if◌then◌else◌, ◌==◌, ◌||◌}
 use Rattle.std.specs.List.{list_any}
+pub use Rattle.coro_cleanup.specs.Cleaned.{kept_before}
 use Rattle.ir_model.specs.Names.{first_where}
 
 module _ {A : Type 0} (keep : A → Bool) where
-  -- the position among those that are kept
-  abbrev pub kept_before : List A → ℕ → ℕ
-  kept_before xs zero = 0
-  kept_before [] (suc n) = suc n
-  kept_before (x ∷ xs) (suc n) = cond (keep x) (suc (kept_before xs n)) (kept_before xs n)
-
   -- what stands there, if anything does, is kept
   abbrev pub IsKept : List A → ℕ → Type 0
   IsKept xs n = (x : A) → slice_get xs n ≡ Some x → keep x ≡ true
@@ -23,11 +18,12 @@ module _ {A : Type 0} (keep : A → Bool) where
   get_first : (b : Bool) (x : A) (ys : List A) → b ≡ true → slice_get (cond b (x ∷ ys) ys) 0 ≡ Some x
   get_first b x ys e = ap (λ (c : Bool). slice_get (cond c (x ∷ ys) ys) 0) e
 
-  pub get_kept : (xs : List A) (n : ℕ) → IsKept xs n → slice_get (filter keep xs) (kept_before xs n) ≡ slice_get xs n
+  pub get_kept : (xs : List A) (n : ℕ) → IsKept xs n
+      → slice_get (filter keep xs) (kept_before keep xs n) ≡ slice_get xs n
   get_kept [] zero h = refl
   get_kept [] (suc n) h = refl
   get_kept (x ∷ xs) zero h = get_first (keep x) x (filter keep xs) (h x refl)
-  get_kept (x ∷ xs) (suc n) h = get_on (keep x) x xs (filter keep xs) (kept_before xs n) n (get_kept xs n h)
+  get_kept (x ∷ xs) (suc n) h = get_on (keep x) x xs (filter keep xs) (kept_before keep xs n) n (get_kept xs n h)
 
   end_on : (b : Bool) (x : A) (ys : List A) (k n m : ℕ) → (k == length ys) ≡ (n == m) → (cond b (suc k) k == length (cond b (x ∷ ys) ys)) ≡ (suc n == suc m)
   end_on true x ys k n m h = eqb-suc-suc k (length ys) ∙ h ∙ sym (eqb-suc-suc n m)
@@ -36,20 +32,24 @@ module _ {A : Type 0} (keep : A → Bool) where
   end_first : (b : Bool) (x : A) (ys : List A) (m : ℕ) → b ≡ true → (0 == length (cond b (x ∷ ys) ys)) ≡ (0 == suc m)
   end_first b x ys m e = ap (λ (c : Bool). 0 == length (cond c (x ∷ ys) ys)) e ∙ eqb-zero-suc (length ys) ∙ sym (eqb-zero-suc m)
 
-  pub end_kept : (xs : List A) (n : ℕ) → IsKept xs n → (kept_before xs n == length (filter keep xs)) ≡ (n == length xs)
+  pub end_kept : (xs : List A) (n : ℕ) → IsKept xs n
+      → (kept_before keep xs n == length (filter keep xs)) ≡ (n == length xs)
   end_kept [] zero h = refl
   end_kept [] (suc n) h = refl
   end_kept (x ∷ xs) zero h = end_first (keep x) x (filter keep xs) (length xs) (h x refl)
-  end_kept (x ∷ xs) (suc n) h = end_on (keep x) x (filter keep xs) (kept_before xs n) n (length xs) (end_kept xs n h)
+  end_kept (x ∷ xs) (suc n) h = end_on (keep x) x (filter keep xs) (kept_before keep xs n) n (length xs)
+      (end_kept xs n h)
 
   -- the place behind an element that stands there
-  pub next_kept : (xs : List A) (n : ℕ) (x : A) → slice_get xs n ≡ Some x → kept_before xs (suc n) ≡ cond (keep x) (suc (kept_before xs n)) (kept_before xs n)
+  pub next_kept : (xs : List A) (n : ℕ) (x : A) → slice_get xs n ≡ Some x
+      → kept_before keep xs (suc n) ≡ cond (keep x) (suc (kept_before keep xs n)) (kept_before keep xs n)
   next_kept [] n x e = absurd (cc)
   next_kept (y ∷ xs) zero x e =
       let s : y ≡ x = cc in
       first_zero y x xs s
     where
-      first_zero : (y x : A) (xs : List A) → y ≡ x → cond (keep y) (suc (kept_before xs 0)) (kept_before xs 0) ≡ cond (keep x) 1 0
+      first_zero : (y x : A) (xs : List A) → y ≡ x
+          → cond (keep y) (suc (kept_before keep xs 0)) (kept_before keep xs 0) ≡ cond (keep x) 1 0
       first_zero y x xs s = ap (λ (z : A). cond (keep z) 1 0) s
   next_kept (y ∷ xs) (suc n) x e = on (keep y) (keep x) _ _ (next_kept xs n x e)
     where
@@ -59,11 +59,12 @@ module _ {A : Type 0} (keep : A → Bool) where
       on false true k l h = h
       on false false k l h = h
 
-  pub zero_kept : (xs : List A) → kept_before xs zero ≡ 0
+  pub zero_kept : (xs : List A) → kept_before keep xs zero ≡ 0
   zero_kept [] = refl
   zero_kept (x ∷ xs) = refl
 
-  past_kept : (xs : List A) (n : ℕ) → slice_get xs n ≡ None → kept_before xs (suc n) ≡ suc (kept_before xs n)
+  past_kept : (xs : List A) (n : ℕ) → slice_get xs n ≡ None
+      → kept_before keep xs (suc n) ≡ suc (kept_before keep xs n)
   past_kept [] zero e = refl
   past_kept [] (suc n) e = refl
   past_kept (y ∷ xs) zero e = absurd (cc)
@@ -74,35 +75,50 @@ module _ {A : Type 0} (keep : A → Bool) where
       on false k l h = h
 
   -- behind what is kept the place is one more
-  pub step_kept : (xs : List A) (n : ℕ) → IsKept xs n → kept_before xs (suc n) ≡ suc (kept_before xs n)
+  pub step_kept : (xs : List A) (n : ℕ) → IsKept xs n → kept_before keep xs (suc n) ≡ suc (kept_before keep xs n)
   step_kept xs n h = on (slice_get xs n) refl
     where
-      on : (o : Option A) → slice_get xs n ≡ o → kept_before xs (suc n) ≡ suc (kept_before xs n)
+      on : (o : Option A) → slice_get xs n ≡ o → kept_before keep xs (suc n) ≡ suc (kept_before keep xs n)
       on None e = past_kept xs n e
-      on (Some x) e = next_kept xs n x e ∙ ap (λ (b : Bool). cond b (suc (kept_before xs n)) (kept_before xs n)) (h x e)
+      on (Some x) e = next_kept xs n x e ∙ ap (λ (b : Bool). cond b (suc (kept_before keep xs n))
+          (kept_before keep xs n)) (h x e)
 
   -- behind what is taken out the place is the same
-  pub step_dropped : (xs : List A) (n : ℕ) (x : A) → slice_get xs n ≡ Some x → keep x ≡ false → kept_before xs (suc n) ≡ kept_before xs n
-  step_dropped xs n x e h = next_kept xs n x e ∙ ap (λ (b : Bool). cond b (suc (kept_before xs n)) (kept_before xs n)) h
+  pub step_dropped : (xs : List A) (n : ℕ) (x : A) → slice_get xs n ≡ Some x → keep x ≡ false
+      → kept_before keep xs (suc n) ≡ kept_before keep xs n
+  step_dropped xs n x e h = next_kept xs n x e ∙ ap (λ (b : Bool). cond b (suc (kept_before keep xs n))
+      (kept_before keep xs n)) h
 
   -- the first that passes a test, which only those pass that are kept
-  suc_of : (b : Bool) (xs : List A) → b ≡ true → (o : Option ℕ) → option_map suc (option_map (kept_before xs) o) ≡ option_map (λ n. cond b (suc (kept_before xs n)) (kept_before xs n)) o
+  suc_of : (b : Bool) (xs : List A) → b ≡ true → (o : Option ℕ)
+      → option_map suc (option_map (kept_before keep xs) o) ≡ option_map
+      (λ n. cond b (suc (kept_before keep xs n)) (kept_before keep xs n)) o
   suc_of b xs e None = refl
-  suc_of b xs e (Some n) = ap (λ (c : Bool). Some (cond c (suc (kept_before xs n)) (kept_before xs n))) (sym e)
+  suc_of b xs e (Some n) = ap (λ (c : Bool). Some (cond c (suc (kept_before keep xs n)) (kept_before keep xs n)))
+      (sym e)
 
-  same_of : (b : Bool) (xs : List A) → b ≡ false → (o : Option ℕ) → option_map (kept_before xs) o ≡ option_map (λ n. cond b (suc (kept_before xs n)) (kept_before xs n)) o
+  same_of : (b : Bool) (xs : List A) → b ≡ false → (o : Option ℕ)
+      → option_map (kept_before keep xs) o ≡ option_map (λ n. cond b (suc (kept_before keep xs n))
+      (kept_before keep xs n)) o
   same_of b xs e None = refl
-  same_of b xs e (Some n) = ap (λ (c : Bool). Some (cond c (suc (kept_before xs n)) (kept_before xs n))) (sym e)
+  same_of b xs e (Some n) = ap (λ (c : Bool). Some (cond c (suc (kept_before keep xs n)) (kept_before keep xs n)))
+      (sym e)
 
-  behind_of : (x : A) (xs : List A) (o : Option ℕ) → option_map (kept_before (x ∷ xs)) (option_map suc o) ≡ option_map (λ n. cond (keep x) (suc (kept_before xs n)) (kept_before xs n)) o
+  behind_of : (x : A) (xs : List A) (o : Option ℕ)
+      → option_map (kept_before keep (x ∷ xs)) (option_map suc o) ≡ option_map
+      (λ n. cond (keep x) (suc (kept_before keep xs n)) (kept_before keep xs n)) o
   behind_of x xs None = refl
   behind_of x xs (Some n) = refl
 
-  pub first_kept : (test : A → Bool) (xs : List A) → ((x : A) → test x ≡ true → keep x ≡ true) → first_where test (filter keep xs) ≡ option_map (kept_before xs) (first_where test xs)
+  pub first_kept : (test : A → Bool) (xs : List A) → ((x : A) → test x ≡ true → keep x ≡ true)
+      → first_where test (filter keep xs) ≡ option_map (kept_before keep xs) (first_where test xs)
   first_kept test [] h = refl
   first_kept test (x ∷ xs) h = on (keep x) (test x) refl refl (first_kept test xs h)
     where
-      on : (b c : Bool) → keep x ≡ b → test x ≡ c → first_where test (filter keep xs) ≡ option_map (kept_before xs) (first_where test xs) → first_where test (cond b (x ∷ filter keep xs) (filter keep xs)) ≡ option_map (kept_before (x ∷ xs)) (if c then Some 0 else option_map suc (first_where test xs))
+      on : (b c : Bool) → keep x ≡ b → test x ≡ c
+          → first_where test (filter keep xs) ≡ option_map (kept_before keep xs) (first_where test xs)
+          → first_where test (cond b (x ∷ filter keep xs) (filter keep xs)) ≡ option_map (kept_before keep (x ∷ xs))
+          (if c then Some 0 else option_map suc (first_where test xs))
       on true true e f again = ap (λ (t : Bool). if t then Some 0 else option_map suc (first_where test (filter keep xs))) f
       on true false e f again =
           ap (λ (t : Bool). if t then Some 0 else option_map suc (first_where test (filter keep xs))) f

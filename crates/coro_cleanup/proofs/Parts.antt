@@ -4,6 +4,7 @@ use Rattle.std.proofs.lemmas.Option.{slice_get-map}
 use Rattle.std.specs.Prelude.{Some, None, Option, IsTrue, option_map, unwrap_or, is_some, filter, map, slice_get, ◌==◌, ◌||◌}
 use Rattle.coro_base.specs.declared.name.Name.{Name}
 use Rattle.coro_cleanup.specs.Cleanable.{IsDefined, IsNoIntrinsic}
+pub use Rattle.coro_cleanup.specs.Cleaned.{instrs_of, moved_in}
 use Rattle.coro_cleanup.specs.Cleanup.{clean_block, clean_function, clean_module, is_kept_callee, is_kept_declaration, is_kept_instr}
 use Rattle.coro_cleanup.proofs.Kept.{IsKept, any_kept, any_mapped, end_kept, first_kept, first_mapped, get_kept, kept_before}
 use Rattle.ir_model.specs.Names.{block_labelled, declaration_named, function_at, function_named, global_named, no_function, position_of, same_name}
@@ -74,14 +75,6 @@ markers_clean f name =
     any_mapped clean_block _ _ (λ b. any_kept is_kept_instr (is_marker_of name) b.instrs (id_no_marker name)) f.blocks
 
 -- ---- what stands at a place
-
-abbrev pub instrs_of : Option Block → List Instr
-instrs_of None = []
-instrs_of (Some b) = b.instrs
-
--- the place of what stands at a place, in the module without the calls of coro.id
-abbrev pub moved_in : Option Block → ℕ → ℕ
-moved_in b at = kept_before is_kept_instr (instrs_of b) at
 
 pub fetch_clean : (f : Function) (block at : ℕ) → IsKept is_kept_instr (instrs_of (slice_get f.blocks block)) at → fetch (clean_function f) block (moved_in (slice_get f.blocks block) at) ≡ fetch f block at
 fetch_clean f block at h =

@@ -2,8 +2,10 @@
 use Rattle.std.proofs.Common.{◌≡◌, ℕ, suc, ◌-◌, ◌<◌, Bool, true, false, List, [], ◌∷◌, length, refl, sym, ap, ◌∙◌, subst, inl, inr, arith, add-one}
 use Rattle.std.proofs.lemmas.Option.{slice_get_within}
 use Rattle.std.specs.Prelude.{ℤ, Some, None, Ok, Err, Option, Result, option_map, map, slice_get, cond, if◌then◌else◌, ◌==◌}
-use Rattle.agreement.proofs.Lockstep.{Advance, ShowsSame, Simulates, lockstep_within}
+use Rattle.agreement.proofs.Lockstep.{Advance, ShowsSame, Simulates, lockstep_one, lockstep_within}
+use Rattle.agreement.proofs.Costs.{weaken_by}
 use Rattle.agreement.specs.Agreements.{AgreesWithin}
+use Rattle.agreement.specs.Costs.{AgreesBy}
 use Rattle.agreement.specs.Machines.{IsFine, IsRunning, Machine}
 use Rattle.coro_base.specs.declared.cause.Cause.{Cause}
 use Rattle.coro_base.specs.declared.name.Name.{Name}
@@ -11,6 +13,7 @@ use Rattle.coro_base.specs.declared.outcome.Event.{Event}
 use Rattle.coro_base.specs.declared.outcome.Outcome.{Outcome}
 use Rattle.coro_base.specs.declared.outcome.Word.{Word}
 use Rattle.coro_cleanup.specs.Cleanable.{IsCleanable, IsNoIntrinsic}
+use Rattle.coro_cleanup.specs.Cleaned.{IsCleanedOf, plain_machine}
 use Rattle.coro_cleanup.specs.Cleanup.{clean_module, is_kept_declaration, is_kept_instr}
 use Rattle.coro_cleanup.proofs.Kept.{IsKept, get_kept, kept_before, step_dropped}
 use Rattle.coro_cleanup.proofs.Parts.{instrs_of, kept_name}
@@ -309,6 +312,17 @@ module _ (m : Module) (answers : List ℤ) (ok : IsCleanable m) where
 
     pub agrees : AgreesWithin 1 (PlainAt m entry args answers) (PlainAt (clean_module m) entry args answers)
     agrees = lockstep_within A B 1 Related left simulates (λ s t r. ap (λ (x : PlainState). x.world.allocs) (sym r.is))
+
+    pub corresponds : AgreesBy (IsCleanedOf m) (IsCleanedOf m) A (λ s. 1) B (λ t. 1)
+    corresponds =
+        weaken_by Related Related (IsCleanedOf m) (IsCleanedOf m) A (λ s. 1) (λ s. 1) B (λ t. 1) (λ t. 1)
+        (λ s t r. r.is) (λ s t r. r.is) (λ n fine. omega arith) (λ n. omega arith)
+        (lockstep_one A B Related left simulates (λ s t r. ap (λ (x : PlainState). x.world.allocs) (sym r.is)))
+
+pub clean_corresponds : (m : Module) → IsCleanable m → (entry : ℕ) (args : List Word) (answers : List ℤ)
+    → AgreesBy (IsCleanedOf m) (IsCleanedOf m) (plain_machine m entry args answers) (λ s. 1)
+    (plain_machine (clean_module m) entry args answers) (λ t. 1)
+clean_corresponds m ok entry args answers = corresponds m answers ok entry args
 
 pub clean_agrees : (m : Module) → IsCleanable m → (entry : ℕ) (args : List Word) (answers : List ℤ) → AgreesWithin 1 (PlainAt m entry args answers) (PlainAt (clean_module m) entry args answers)
 clean_agrees m ok entry args answers = agrees m answers ok entry args

@@ -8,6 +8,7 @@ use Rattle.coro_base.specs.declared.name.Name.{Name}
 use Rattle.coro_base.specs.declared.outcome.Outcome.{Outcome}
 use Rattle.coro_base.specs.declared.outcome.Word.{Word}
 use Rattle.coro_cleanup.specs.Cleanable.{IsCleanable, IsCleanableBlock, IsCleanableFunction, IsCleanableInstr, IsCleanablePhi, IsDefined, IsNoIntrinsic}
+pub use Rattle.coro_cleanup.specs.Cleaned.{change_of, cleaned, cleaned_activation, moved_at}
 use Rattle.coro_cleanup.specs.Cleanup.{clean_block, clean_function, clean_module, is_kept_declaration, is_kept_instr}
 use Rattle.coro_cleanup.proofs.Kept.{IsKept, kept_before, step_kept, zero_kept}
 use Rattle.coro_cleanup.proofs.Parts.{block_clean, fetch_clean, fits_clean, function_clean, instrs_of, markers_clean, declared_clean, moved_in, named_clean, operand_clean, position_clean}
@@ -75,25 +76,6 @@ phis_fit m ok func block = on (slice_get (function_at m func).blocks block) refl
     on (Some b) e = (each_at (IsCleanableBlock m) (function_at m func).blocks block b (function_fits m ok func) e).phis
 
 -- ---- the state of the other run
-
-abbrev pub change_of : Module → Change
-change_of m = record { values = λ env. env; declaration = kept_before is_kept_declaration m.declarations }
-
-abbrev pub moved_at : Module → ℕ → ℕ → ℕ → ℕ
-moved_at m func block at = moved_in (slice_get (function_at m func).blocks block) at
-
-abbrev pub cleaned_activation : Module → PlainActivation → PlainActivation
-cleaned_activation m a = record a { at = moved_at m a.func a.block a.at }
-
-abbrev pub cleaned : Module → PlainState → PlainState
-cleaned m s =
-    record {
-      world = changed_world (change_of m) s.world;
-      top = cleaned_activation m s.top;
-      below = map (cleaned_activation m) s.below;
-      elided = s.elided;
-      outcome = s.outcome;
-    }
 
 abbrev pub cleaned_result : Module → Result PlainState Cause → Result PlainState Cause
 cleaned_result m (Err cause) = Err cause

@@ -1,3 +1,4 @@
 pub mod Cleanup
 pub mod Cleanable
 pub mod Free
+pub mod Cleaned

@@ -5,6 +5,7 @@
 //! as many allocator calls (clause `agrees`).
 #![tactic(auto)]
 
+pub mod cleaned_runs;
 mod pass;
 
 pub use pass::clean;

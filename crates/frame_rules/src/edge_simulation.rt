@@ -6,8 +6,11 @@
 
 ghost use Rattle.std.specs.Prelude.{ℕ, ℤ, List};
 ghost use Rattle.agreement.specs.Agreements.{AgreesWithin};
+ghost use Rattle.agreement.specs.Costs.{AgreesBy};
 ghost use Rattle.coro_base.specs.declared.outcome.Word.{Word};
 ghost use Rattle.coro_meaning.specs.Source.{SourceAt};
+ghost use Rattle.first_pass_meaning.specs.early_states.Beside.{source_machine};
+ghost use Rattle.frame_rules.specs.edge_simulation.Beside.{IsNearlySplitOf, IsSplitOf};
 ghost use Rattle.frame_rules.specs.edge_states.MovedState.{AreEdgesKept, edges_split};
 ghost use Rattle.ir_model.specs.declared.module.Frame.{Frame};
 ghost use Rattle.ir_model.specs.declared.module.Module.{Module};
@@ -19,6 +22,15 @@ ghost use Rattle.first_pass_meaning.specs.sound_states.Named.{AreLocalsNamed, Ar
 /// an edge being the same as any other, and that a block with a suspend ends in a switch.
 pub fn edge_blocks_keep_meaning()
     ensures { (m : Module) → AreLocalsNamed m → AreEdgesKept m → (sizes : List Frame) (entry : ℕ) (args : List Word) (answers : List ℤ) → AgreesWithin 2 (SourceAt m sizes entry args answers) (SourceAt (edges_split m) sizes entry args answers) }
+{}
+
+/// Each state is the module's with its places moved; those in between are one step away from one.
+pub fn edge_blocks_keep_states()
+    ensures { (m : Module) → AreLocalsNamed m → AreEdgesKept m
+        → (sizes : List Frame) (entry : ℕ) (args : List Word) (answers : List ℤ)
+        → AgreesBy (IsSplitOf m) (IsNearlySplitOf m sizes entry args answers)
+        (source_machine m sizes entry args answers) (λ s. 2) (source_machine (edges_split m) sizes entry args answers)
+        (λ t. 1) }
 {}
 
 /// Each local that the result defines is a position of its function's table of names, where each of the module is.

@@ -5,15 +5,18 @@
 
 ghost use Rattle.std.specs.Prelude.{◌≡◌, ℕ, ℤ, true, List, [], None, Some, slice_get};
 ghost use Rattle.agreement.specs.Agreements.{AgreesWithin};
+ghost use Rattle.agreement.specs.Costs.{AgreesBy};
 ghost use Rattle.coro_base.specs.declared.outcome.Word.{Word};
 ghost use Rattle.coro_meaning.specs.Source.{SourceAt};
 ghost use Rattle.coro_shape.specs.Switches.{wrong_switch};
+ghost use Rattle.first_pass_meaning.specs.early_states.Beside.{source_machine};
 ghost use Rattle.first_pass_rules.specs.early_local_rules.Local.{BreaksNoLocalRule};
 ghost use Rattle.early_lower.specs.Early.{early_module};
 ghost use Rattle.first_pass_rules.specs.early_path_rules.Shape.{KeepsShape};
 ghost use Rattle.first_pass_rules.specs.early_rules.Named.{AreTabled, HasTabledLocals};
 ghost use Rattle.frame_rules.specs.edge_agreement.Labels.{HasNamedLabels};
 ghost use Rattle.edge_rules.specs.Edges.{first_wrong_edge};
+ghost use Rattle.frame_rules.specs.edge_simulation.Beside.{IsEarlySplitOf, IsNearlyEarlySplitOf};
 ghost use Rattle.frame_rules.specs.edge_states.MovedState.{AreEdgesKept, KeepsEdges, edges_split};
 ghost use Rattle.function_parts.specs.Locals.{locals_of};
 ghost use Rattle.ir_check.specs.Refused.{IsRefused};
@@ -58,4 +61,13 @@ pub fn first_pass_names_what_it_defines()
 /// blocks.
 pub fn accepted_edges_keep_meaning()
     ensures { (text : List ℕ) (m : Module) → StandsFor text m → IsRefused Stage.Source m None → (sizes : List Frame) (entry : ℕ) (args : List Word) (answers : List ℤ) → AgreesWithin 4 (SourceAt m sizes entry args answers) (SourceAt (edges_split (early_module m)) sizes entry args answers) }
+{}
+
+/// Its states stand beside those of such a run, where one step of the source pays for four.
+pub fn accepted_edges_keep_states()
+    ensures { (text : List ℕ) (m : Module) → StandsFor text m → IsRefused Stage.Source m None
+        → (sizes : List Frame) (entry : ℕ) (args : List Word) (answers : List ℤ)
+        → AgreesBy (IsEarlySplitOf m) (IsNearlyEarlySplitOf m sizes entry args answers)
+        (source_machine m sizes entry args answers) (λ s. 4)
+        (source_machine (edges_split (early_module m)) sizes entry args answers) (λ t. 1) }
 {}

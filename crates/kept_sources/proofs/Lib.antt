@@ -11,3 +11,4 @@ pub mod Modules
 pub mod EdgeNeeds
 pub mod EdgeWindows
 pub mod Whole
+pub mod States

@@ -12,6 +12,7 @@
 
 ghost use Rattle.std.specs.Prelude.{◌≡◌, ℕ, ℤ, List, None, Some, true};
 ghost use Rattle.agreement.specs.Agreements.{AgreesWithin};
+ghost use Rattle.agreement.specs.Costs.{AgreesBy};
 ghost use Rattle.coro_base.specs.declared.outcome.Word.{Word};
 ghost use Rattle.coro_meaning.specs.Source.{SourceAt};
 ghost use Rattle.coro_shape.specs.OneOfEach.{wrong_call};
@@ -29,11 +30,14 @@ ghost use Rattle.ir_model.specs.declared.module.Function.{Function};
 ghost use Rattle.ir_model.specs.declared.module.Module.{Module};
 ghost use Rattle.ir_model.specs.declared.operand.Intrinsic.{Intrinsic};
 ghost use Rattle.ir_paths.specs.declared.point.Point.{Point};
+ghost use Rattle.kept_sources.specs.Beside.{IsKeptOf, IsNearlyKeptOf};
 ghost use Rattle.kept_values.specs.Crossing.{AreDefinite, IsDefinite};
 ghost use Rattle.kept_values.specs.Handed.{HandsOn, HasPlainNames, HavePlainNames};
 ghost use Rattle.kept_values.specs.Kept.{Keep, KeptAt};
+ghost use Rattle.kept_values.specs.Machines.{kept_machine, source_machine};
 ghost use Rattle.kept_values.specs.Needed.{IsNeededBehind, given_by};
-ghost use Rattle.kept_values.specs.SuspendRules.{AllKeepSuspendRules, IsCallAt, IsSwitched, KeepsSuspendRules};
+ghost use Rattle.kept_values.specs.SuspendRules.{AllKeepSuspendRules, IsCallAt, IsSwitched, KeepsNeeded};
+ghost use Rattle.kept_values.specs.SuspendRules.{KeepsSuspendRules};
 ghost use Rattle.name_rules.specs.declared.stage.Stage.{Stage};
 
 /// A function that breaks none of the rules of functions, F2 among them, reads no value before its definition.
@@ -106,4 +110,15 @@ pub fn accepted_edges_have_plain_names()
 /// in which a resume hands on at least the values that cross its suspend and what isn't a value that may cross.
 pub fn accepted_sources_hand_on_what_crosses()
     ensures { (text : List ℕ) (m : Module) → StandsFor text m → IsRefused Stage.Source m None → (keep : Keep) → HandsOn (edges_split (early_module m)) keep → (sizes : List Frame) (entry : ℕ) (args : List Word) (answers : List ℤ) → AgreesWithin 4 (SourceAt m sizes entry args answers) (KeptAt (edges_split (early_module m)) keep sizes entry args answers) }
+{}
+
+/// Its states stand beside those of a run in which a resume hands on at least what is needed behind it, where one
+/// step of the source pays for four.
+pub fn accepted_sources_keep_what_is_needed()
+    ensures { (text : List ℕ) (m : Module) → StandsFor text m → IsRefused Stage.Source m None → (keep : Keep)
+        → KeepsNeeded (edges_split (early_module m)) keep
+        → (sizes : List Frame) (entry : ℕ) (args : List Word) (answers : List ℤ)
+        → AgreesBy (IsKeptOf m sizes answers) (IsNearlyKeptOf m sizes entry args answers)
+        (source_machine m sizes entry args answers) (λ s. 4)
+        (kept_machine (edges_split (early_module m)) keep sizes entry args answers) (λ t. 1) }
 {}

@@ -9,8 +9,10 @@
 
 ghost use Rattle.std.specs.Prelude.{Bool, ℕ, ℤ, List, None, Ok};
 ghost use Rattle.agreement.specs.Agreements.{AgreesWithin};
+ghost use Rattle.agreement.specs.Costs.{AgreesBy};
 ghost use Rattle.canonical_text.specs.Items.{module_text};
 ghost use Rattle.coro_base.specs.declared.outcome.Word.{Word};
+ghost use Rattle.coro_cleanup.specs.Cleaned.{plain_machine};
 ghost use Rattle.coro_cleanup.specs.Cleanup.{clean_module};
 ghost use Rattle.coro_split.specs.Parts.{split_module};
 ghost use Rattle.coroutine_frames.specs.Frames.{AreLayouts};
@@ -25,6 +27,7 @@ ghost use Rattle.printed_modules.specs.names_apart.Words.{AreNamesFew};
 ghost use Rattle.name_order.specs.Order.{function_order, module_order};
 ghost use Rattle.name_order.specs.Shape.{IsFunction, IsShaped};
 ghost use Rattle.name_rules.specs.declared.stage.Stage.{Stage};
+ghost use Rattle.printed_modules.specs.order_meaning.Beside.{IsInOrderOf};
 ghost use Rattle.printed_modules.specs.order_meaning.Held.{HoldsResults};
 ghost use Rattle.plain_meaning.specs.Plain.{PlainAt};
 ghost use Rattle.printed_grammar.specs.Bytes.{AreBytes};
@@ -38,6 +41,13 @@ pub fn ordered_names_are_placed()
 /// Each run of a module without coroutines agrees within 1 with the run of it with the names of each function in the order of their first occurrence.
 pub fn names_in_order_keep_meaning()
     ensures { (m : Module) → IsShaped m → AreNamesApart m → (entry : ℕ) (args : List Word) (answers : List ℤ) → AgreesWithin 1 (PlainAt m entry args answers) (PlainAt (module_order m) entry args answers) }
+{}
+
+/// At each step the values, slots and results are the same, at the names to which theirs go.
+pub fn names_in_order_keep_states()
+    ensures { (m : Module) → IsShaped m → AreNamesApart m → (entry : ℕ) (args : List Word) (answers : List ℤ)
+        → AgreesBy (IsInOrderOf m) (IsInOrderOf m) (plain_machine m entry args answers) (λ s. 1)
+        (plain_machine (module_order m) entry args answers) (λ t. 1) }
 {}
 
 /// Each run of what is lowered of a source that breaks no rule agrees within 1 with the run of what the text that is printed of it stands for.

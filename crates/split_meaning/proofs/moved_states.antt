@@ -9,3 +9,4 @@ pub mod Actions
 pub mod Steps
 pub mod Soundness
 pub mod Simulation
+pub mod Costs

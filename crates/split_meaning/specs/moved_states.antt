@@ -1,3 +1,4 @@
 pub mod Moving
 pub mod MovedState
 pub mod Near
+pub mod Beside

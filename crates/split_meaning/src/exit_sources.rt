@@ -5,6 +5,7 @@
 
 ghost use Rattle.std.specs.Prelude.{ℕ, ℤ, Bool, List, None, Ok};
 ghost use Rattle.agreement.specs.Agreements.{AgreesWithin};
+ghost use Rattle.agreement.specs.Costs.{AgreesBy, IsNear};
 ghost use Rattle.coro_base.specs.declared.outcome.Word.{Word};
 ghost use Rattle.coroutine_frames.specs.Frames.{AreLayouts};
 ghost use Rattle.early_lower.specs.Early.{early_module};
@@ -16,10 +17,23 @@ ghost use Rattle.ir_model.specs.declared.module.Module.{Module};
 ghost use Rattle.name_rules.specs.declared.stage.Stage.{Stage};
 ghost use Rattle.spill_reload.specs.Framed.{IsFramedForm};
 ghost use Rattle.split_meaning.specs.exit_states.Exits.{exits_split};
+ghost use Rattle.split_meaning.specs.moved_states.Beside.{IsMovedIn, framed_machine};
 
 /// Each framed run of the framed form of a source that a text stands for and that breaks no rule agrees within 2 with the run where
 /// edges that leave windows have blocks.
 pub fn accepted_exits_keep_framed_meaning()
     ensures { (text : List ℕ) (m : Module) → StandsFor text m → IsRefused Stage.Source m None → (share : Bool) (layouts : Layouts) → AreLayouts m share (Ok layouts) → (n : Module) → IsFramedForm layouts (early_module m) n
         → (entry : ℕ) (args : List Word) (answers : List ℤ) → AgreesWithin 2 (FramedAt n layouts entry args answers) (FramedAt (exits_split n) layouts entry args answers) }
+{}
+
+/// Its states stand beside those of the run where edges that leave windows have blocks.
+pub fn accepted_exits_keep_framed_states()
+    ensures { (text : List ℕ) (m : Module) → StandsFor text m → IsRefused Stage.Source m None
+        → (share : Bool) (layouts : Layouts) → AreLayouts m share (Ok layouts) → (n : Module)
+        → IsFramedForm layouts (early_module m) n
+        → (entry : ℕ) (args : List Word) (answers : List ℤ)
+        → AgreesBy (IsMovedIn n (exits_split n)) (IsNear
+        (framed_machine (exits_split n) layouts entry args answers) 2 (IsMovedIn n (exits_split n)))
+        (framed_machine n layouts entry args answers) (λ s. 2)
+        (framed_machine (exits_split n) layouts entry args answers) (λ t. 1) }
 {}

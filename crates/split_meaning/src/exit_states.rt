@@ -7,7 +7,9 @@
 
 ghost use Rattle.std.specs.Prelude.{◌≡◌, ℕ, ℤ, List, true};
 ghost use Rattle.agreement.specs.Agreements.{AgreesWithin};
+ghost use Rattle.agreement.specs.Costs.{AgreesBy, IsNear};
 ghost use Rattle.coro_base.specs.declared.outcome.Word.{Word};
+ghost use Rattle.coro_meaning.specs.declared.state.State.{State};
 ghost use Rattle.coro_split.specs.Parts.{split_module};
 ghost use Rattle.first_pass_meaning.specs.sound_states.Named.{AreLocalsNamed};
 ghost use Rattle.frame_layout.specs.declared.layout.Layouts.{Layouts};
@@ -16,6 +18,7 @@ ghost use Rattle.ir_model.specs.declared.module.Function.{Function};
 ghost use Rattle.ir_model.specs.declared.module.Module.{Module};
 ghost use Rattle.split_meaning.specs.exit_states.Exits.{AreExitsKept, KeepsExits, exits_split};
 ghost use Rattle.split_meaning.specs.exit_states.Parted.{parted_module};
+ghost use Rattle.split_meaning.specs.moved_states.Beside.{AllPayFor, IsMovedIn, framed_machine};
 ghost use Rattle.split_meaning.specs.moved_states.Moving.{IsMovedTo};
 ghost use Rattle.window_exits.specs.ExitBlocks.{with_exit_blocks};
 
@@ -29,6 +32,25 @@ pub fn exit_blocks_move_coroutines()
 /// that coroutines break no rule of functions, and not K3, and that jumps alone lead to their blocks with phis.
 pub fn exit_blocks_keep_framed_meaning()
     ensures { (m : Module) → AreLocalsNamed m → AreExitsKept m → (layouts : Layouts) (entry : ℕ) (args : List Word) (answers : List ℤ) → AgreesWithin 2 (FramedAt m layouts entry args answers) (FramedAt (exits_split m) layouts entry args answers) }
+{}
+
+/// Each state is the module's with its places moved; those in between are one step away from one.
+pub fn exit_blocks_keep_framed_states()
+    ensures { (m : Module) → AreLocalsNamed m → AreExitsKept m
+        → (layouts : Layouts) (entry : ℕ) (args : List Word) (answers : List ℤ)
+        → AgreesBy (IsMovedIn m (exits_split m)) (IsNear (framed_machine (exits_split m) layouts entry args answers) 2
+        (IsMovedIn m (exits_split m))) (framed_machine m layouts entry args answers) (λ s. 2)
+        (framed_machine (exits_split m) layouts entry args answers) (λ t. 1) }
+{}
+
+/// They cost a step where an edge leaves a window and nothing elsewhere, by whatever steps cost the next pass.
+pub fn exit_blocks_cost_at_edges()
+    ensures { (m : Module) → AreLocalsNamed m → AreExitsKept m
+        → (layouts : Layouts) (entry : ℕ) (args : List Word) (answers : List ℤ) (price cost : State → ℕ)
+        → AllPayFor m (exits_split m) layouts answers price cost
+        → AgreesBy (IsMovedIn m (exits_split m)) (IsNear (framed_machine (exits_split m) layouts entry args answers) 2
+        (IsMovedIn m (exits_split m))) (framed_machine m layouts entry args answers) price
+        (framed_machine (exits_split m) layouts entry args answers) cost }
 {}
 
 /// Splitting first puts these blocks, and then makes the parts.

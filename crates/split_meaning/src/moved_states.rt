@@ -5,6 +5,7 @@
 
 ghost use Rattle.std.specs.Prelude.{◌≡◌, ℕ, ℤ, List};
 ghost use Rattle.agreement.specs.Agreements.{AgreesWithin};
+ghost use Rattle.agreement.specs.Costs.{AgreesBy, IsNear as IsWithin};
 ghost use Rattle.coro_base.specs.declared.outcome.Outcome.{Outcome};
 ghost use Rattle.coro_base.specs.declared.outcome.Word.{Word};
 ghost use Rattle.coro_meaning.specs.State.{function_of};
@@ -15,6 +16,7 @@ ghost use Rattle.frame_layout.specs.declared.layout.Layouts.{Layouts};
 ghost use Rattle.framed_meaning.specs.Framed.{FramedAt, framed_given, framed_next, framed_step};
 ghost use Rattle.ir_model.specs.declared.module.Module.{Module};
 ghost use Rattle.ordinary_step.specs.Step.{fetch};
+ghost use Rattle.split_meaning.specs.moved_states.Beside.{IsMovedOf, PaysFor, framed_machine};
 ghost use Rattle.split_meaning.specs.moved_states.MovedState.{moved_module, moved_state};
 ghost use Rattle.split_meaning.specs.moved_states.Moving.{AllMove, KeepsKinds, Moving};
 ghost use Rattle.split_meaning.specs.moved_states.Near.{HoldsIn, IsNear};
@@ -33,4 +35,23 @@ pub fn framed_steps_are_near()
 /// run agrees within 2 with the run of the module.
 pub fn moves_keep_framed_meaning()
     ensures { (mv : Moving) (m : Module) → KeepsKinds mv → AreLocalsNamed m → AllMove mv m → (layouts : Layouts) (entry : ℕ) (args : List Word) (answers : List ℤ) → AgreesWithin 2 (FramedAt m layouts entry args answers) (FramedAt (moved_module mv m) layouts entry args answers) }
+{}
+
+/// Each state is the module's with its places moved; those in between are one step away from one.
+pub fn moves_keep_framed_states()
+    ensures { (mv : Moving) (m : Module) → KeepsKinds mv → AreLocalsNamed m → AllMove mv m
+        → (layouts : Layouts) (entry : ℕ) (args : List Word) (answers : List ℤ)
+        → AgreesBy (IsMovedOf mv m) (IsWithin (framed_machine (moved_module mv m) layouts entry args answers) 2
+        (IsMovedOf mv m)) (framed_machine m layouts entry args answers) (λ s. 2)
+        (framed_machine (moved_module mv m) layouts entry args answers) (λ t. 1) }
+{}
+
+/// They cost a step where an edge gets a block and nothing elsewhere, by whatever steps cost the next pass.
+pub fn moves_cost_at_edges()
+    ensures { (mv : Moving) (m : Module) → KeepsKinds mv → AreLocalsNamed m → AllMove mv m
+        → (layouts : Layouts) (entry : ℕ) (args : List Word) (answers : List ℤ) (price cost : State → ℕ)
+        → PaysFor mv m layouts answers price cost
+        → AgreesBy (IsMovedOf mv m) (IsWithin (framed_machine (moved_module mv m) layouts entry args answers) 2
+        (IsMovedOf mv m)) (framed_machine m layouts entry args answers) price
+        (framed_machine (moved_module mv m) layouts entry args answers) cost }
 {}

@@ -1,8 +1,9 @@
 -- The runs of the module whose coroutines' edges have blocks are those of the module.
 use Rattle.std.proofs.Common.{◌≡◌, ◌⊎◌, inl, inr, ℕ, ◌<◌, List, [], ◌∷◌, refl, sym, ap, ◌∙◌, subst, arith}
 use Rattle.std.specs.Prelude.{ℤ, None, Ok, Err, Result, map}
-use Rattle.agreement.proofs.Lockstep.{Advance, IsBetween, ShowsSame, Simulates, lockstep_within}
+use Rattle.agreement.proofs.Lockstep.{Advance, IsBetween, ShowsSame, Simulates, lockstep_near, lockstep_within}
 use Rattle.agreement.specs.Agreements.{AgreesWithin}
+use Rattle.agreement.specs.Costs.{AgreesBy}
 use Rattle.agreement.specs.Machines.{IsFine, IsRunning, Machine, iterate}
 use Rattle.block_memory.specs.Memory.{access_bytes, encode}
 use Rattle.block_memory.specs.declared.block.MemoryBlock.{MemoryBlock}
@@ -18,6 +19,7 @@ use Rattle.coro_meaning.specs.declared.state.State.{State}
 use Rattle.frame_rules.proofs.edge_states.Calls.{called_moved}
 use Rattle.frame_rules.proofs.edge_states.Performs.{step_near}
 use Rattle.frame_rules.proofs.edge_states.States.{operand_moved}
+use Rattle.frame_rules.specs.edge_simulation.Beside.{IsNearlySplitOf, IsSplitOf}
 use Rattle.frame_rules.specs.edge_states.MovedState.{AreEdgesKept, edges_split, moved_state}
 use Rattle.frame_rules.specs.edge_states.Near.{IsBefore, IsNear}
 use Rattle.ir_model.specs.declared.module.Frame.{Frame}
@@ -28,6 +30,7 @@ use Rattle.ordinary_step.specs.Step.{action_of, fetch, first_world, global_block
 use Rattle.ordinary_step.specs.Values.{access_of, stored}
 use Rattle.ordinary_step.specs.declared.world.World.{World}
 use Rattle.first_pass_meaning.proofs.sound_states.Steps.{first_sound, source_step_sound}
+use Rattle.first_pass_meaning.specs.early_states.Beside.{source_machine}
 use Rattle.first_pass_meaning.specs.sound_states.Named.{AreLocalsNamed}
 use Rattle.first_pass_meaning.specs.sound_states.Sound.{IsSound}
 use Rattle.source_program.specs.Given.{Given}
@@ -102,9 +105,8 @@ module _ (m : Module) (sizes : List Frame) (answers : List ℤ) (names : AreLoca
     abbrev B : Machine State
     B = record { start = first_state (edges_split m) entry args; step = step k; seen = λ s. seen_of (edges_split m) s.world s.outcome }
 
-    record Related (s t : State) : Type 0 where
-      is : t ≡ moved_state m s
-      holds : IsSound m s
+    abbrev Related : State → State → Type 0
+    Related = IsSplitOf m
 
     stays_by : (x : Given) (s : State) (o : Outcome) → (IsRunning o → ⊥) → advance_by x (continue x) s o ≡ s
     stays_by x s (Outcome.Returned v) over = refl
@@ -150,5 +152,15 @@ module _ (m : Module) (sizes : List Frame) (answers : List ℤ) (names : AreLoca
     pub agrees : AgreesWithin 2 (SourceAt m sizes entry args answers) (SourceAt (edges_split m) sizes entry args answers)
     agrees = lockstep_within A B 2 Related (λ x. 0) simulates (λ s t r. ap (λ (x : State). x.world.allocs) (sym r.is))
 
+    pub corresponds : AgreesBy Related (IsNearlySplitOf m sizes entry args answers) A (λ s. 2) B (λ t. 1)
+    corresponds = lockstep_near A B 2 Related (λ x. 0) simulates
+        (λ s t r. ap (λ (x : State). x.world.allocs) (sym r.is))
+
 pub edges_agree : (m : Module) → AreLocalsNamed m → AreEdgesKept m → (sizes : List Frame) (entry : ℕ) (args : List Word) (answers : List ℤ) → AgreesWithin 2 (SourceAt m sizes entry args answers) (SourceAt (edges_split m) sizes entry args answers)
 edges_agree m names keeps sizes entry args answers = agrees m sizes answers names keeps entry args
+
+pub edges_correspond : (m : Module) → AreLocalsNamed m → AreEdgesKept m
+    → (sizes : List Frame) (entry : ℕ) (args : List Word) (answers : List ℤ)
+    → AgreesBy (IsSplitOf m) (IsNearlySplitOf m sizes entry args answers) (source_machine m sizes entry args answers)
+    (λ s. 2) (source_machine (edges_split m) sizes entry args answers) (λ t. 1)
+edges_correspond m names keeps sizes entry args answers = corresponds m sizes answers names keeps entry args

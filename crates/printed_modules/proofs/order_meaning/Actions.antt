@@ -21,6 +21,7 @@ use Rattle.ir_model.specs.declared.operand.Arg.{Arg}
 use Rattle.ir_model.specs.declared.operand.Callee.{Callee}
 use Rattle.ir_model.specs.declared.operand.Intrinsic.{Intrinsic}
 use Rattle.ir_model.specs.declared.operand.Operand.{Operand}
+pub use Rattle.printed_modules.specs.order_meaning.Beside.{moved_slot}
 use Rattle.printed_modules.specs.order_rules.Renumbered.{StaysApart, renumbered_arg, renumbered_callee, renumbered_case, renumbered_instr, renumbered_operand, renumbered_term}
 use Rattle.printed_modules.proofs.order_meaning.Moved.{AreFoundAlike, AreMoved, IsHeld, IsHeldResult, args_moved, indices_moved, operand_moved, result_moved, set_moved, target_moved, with_functions}
 use Rattle.ordinary_step.specs.Step.{Action, AtInstr, AtTerm, Context, Coro, Deallocate, Done, Enter, Fetched, GoTo, NewSlot, Nowhere, Return, Stuck, Work, action_of, alloca, allocated, allocator_call, branch, by_pred, call, compared, done, fits_function, has_markers, if_alignment, indirect_call, instr_action, intrinsic_call, is_alignment, named_call, observed, set_memory, set_value, switch, term_action, with_length, words_of}
@@ -34,9 +35,6 @@ abbrev pub renumbered_here : (ℕ → ℕ) → Fetched → Fetched
 renumbered_here to Nowhere = Nowhere
 renumbered_here to (AtInstr i) = AtInstr (renumbered_instr to i)
 renumbered_here to (AtTerm t) = AtTerm (renumbered_term to t)
-
-abbrev pub moved_slot : (ℕ → ℕ) → Slot → Slot
-moved_slot to s = record { alloca = to s.alloca; block = s.block }
 
 abbrev pub work : World → Env → Work
 work world values = record { world = world; values = values }

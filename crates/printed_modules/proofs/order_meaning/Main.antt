@@ -3,8 +3,10 @@ use Rattle.std.proofs.Common.{◌≡◌, ℕ, ◌<◌, List, [], ◌∷◌, leng
 use Rattle.std.proofs.lemmas.Option.{slice_get_within}
 use Rattle.std.specs.Prelude.{ℤ, map, slice_get, unwrap_or}
 use Rattle.agreement.specs.Agreements.{AgreesWithin}
+use Rattle.agreement.specs.Costs.{AgreesBy}
 use Rattle.coro_base.specs.declared.name.Name.{Name}
 use Rattle.coro_base.specs.declared.outcome.Word.{Word}
+use Rattle.coro_cleanup.specs.Cleaned.{plain_machine}
 use Rattle.first_pass_rules.proofs.early_rules.Shaped.{function_shaped}
 use Rattle.ir_model.specs.Names.{function_at, no_function}
 use Rattle.ir_model.specs.declared.instr.Instr.{Instr}
@@ -20,8 +22,9 @@ use Rattle.name_order.specs.Order.{function_order, module_order}
 use Rattle.name_order.specs.Shape.{Each, IsBlock, IsFunction, IsInstr, IsParam, IsPhi, IsPlaced, IsShaped, Some_of}
 use Rattle.printed_modules.proofs.order_meaning.Moved.{IsHeld, IsHeldResult}
 use Rattle.printed_modules.proofs.order_meaning.Placed.{ordered_placed}
-use Rattle.printed_modules.proofs.order_meaning.Simulation.{agrees}
+use Rattle.printed_modules.proofs.order_meaning.Simulation.{agrees, corresponds}
 use Rattle.printed_modules.proofs.order_meaning.States.{HeldIn, IsBlockHeld, IsOrdered}
+use Rattle.printed_modules.specs.order_meaning.Beside.{IsInOrderOf}
 use Rattle.printed_modules.specs.order_meaning.Held.{HoldsResults, IsBlockPlaced, IsParamPlaced, IsPhiPlaced, SetsPlaced}
 use Rattle.plain_meaning.specs.Plain.{PlainAt}
 use Rattle.step_laws.specs.Changed.{result_of}
@@ -83,3 +86,9 @@ all_ordered m shaped apart func = on (slice_get m.functions func) refl
 
 pub order_agrees : (m : Module) → IsShaped m → AreNamesApart m → (entry : ℕ) (args : List Word) (answers : List ℤ) → AgreesWithin 1 (PlainAt m entry args answers) (PlainAt (module_order m) entry args answers)
 order_agrees m shaped apart entry args answers = agrees m answers (all_ordered m shaped apart) entry args
+
+pub order_corresponds : (m : Module) → IsShaped m → AreNamesApart m
+    → (entry : ℕ) (args : List Word) (answers : List ℤ)
+    → AgreesBy (IsInOrderOf m) (IsInOrderOf m) (plain_machine m entry args answers) (λ s. 1)
+    (plain_machine (module_order m) entry args answers) (λ t. 1)
+order_corresponds m shaped apart entry args answers = corresponds m answers (all_ordered m shaped apart) entry args

@@ -18,24 +18,11 @@ use Rattle.ir_model.specs.declared.module.Param.{Param}
 use Rattle.ir_model.specs.declared.operand.Arg.{Arg}
 use Rattle.ir_model.specs.declared.operand.Operand.{Operand}
 use Rattle.printed_modules.proofs.order_rules.Parts.{equal_same}
+pub use Rattle.printed_modules.specs.order_meaning.Beside.{AreMoved, IsHeld, IsHeldResult}
 use Rattle.printed_modules.specs.order_rules.Renumbered.{StaysApart, renumbered_arg, renumbered_case, renumbered_incoming, renumbered_operand, renumbered_param, renumbered_phi}
 use Rattle.name_order.specs.Shape.{Each}
 use Rattle.ordinary_step.specs.Step.{incoming_from, is_word, phi_values, target_of, with_all, with_params}
 use Rattle.ordinary_step.specs.Values.{Env, address_from, arg_value, arg_values, index_of, indices_of, number_at, operand_value, value_in, with_result, with_value}
-
--- a name of the one table goes to one of the other, by their lengths
-abbrev pub IsHeld : (ℕ → ℕ) → ℕ → ℕ → ℕ → Type 0
-IsHeld to k l r = (r < k) × (to r < l)
-
-abbrev pub IsHeldResult : (ℕ → ℕ) → ℕ → ℕ → Option ℕ → Type 0
-IsHeldResult to k l None = Unit {0}
-IsHeldResult to k l (Some r) = IsHeld to k l r
-
--- each name has its value at the name to which it goes
-pub record AreMoved (to : ℕ → ℕ) (k l : ℕ) (vs ws : Env) : Type 0 where
-  pub each : (v : ℕ) → value_in ws (to v) ≡ value_in vs v
-  pub wide : length vs ≡ k
-  pub other : length ws ≡ l
 
 set_same : (env : Env) (r : ℕ) (x : Value) → r < length env → value_in (with_value env r x) r ≡ x
 set_same [] r x lt = absurd (omega arith)

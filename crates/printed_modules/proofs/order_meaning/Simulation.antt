@@ -1,8 +1,10 @@
 -- A run and that with the names in order go side by side, one step with one.
 use Rattle.std.proofs.Common.{◌≡◌, ℕ, inl, List, [], ◌∷◌, length, Option, Some, None, Result, Ok, Err, refl, sym, ap, ◌∙◌, subst, arith}
 use Rattle.std.specs.Prelude.{ℤ, if◌then◌else◌, map, slice_get}
-use Rattle.agreement.proofs.Lockstep.{Advance, ShowsSame, Simulates, lockstep_within}
+use Rattle.agreement.proofs.Lockstep.{Advance, ShowsSame, Simulates, lockstep_one, lockstep_within}
+use Rattle.agreement.proofs.Costs.{weaken_by}
 use Rattle.agreement.specs.Agreements.{AgreesWithin}
+use Rattle.agreement.specs.Costs.{AgreesBy}
 use Rattle.agreement.specs.Machines.{IsFine, IsRunning, Machine}
 use Rattle.block_memory.specs.Memory.{access_bytes, encode, owner_rights}
 use Rattle.block_memory.specs.declared.block.Kind.{Kind}
@@ -20,6 +22,7 @@ use Rattle.ir_model.specs.declared.module.Function.{Function}
 use Rattle.ir_model.specs.declared.module.GlobalItem.{GlobalItem}
 use Rattle.ir_model.specs.declared.module.Module.{Module}
 use Rattle.ir_model.specs.declared.operand.Operand.{Operand}
+use Rattle.printed_modules.specs.order_meaning.Beside.{IsInOrderOf}
 use Rattle.name_order.specs.Order.{function_order, module_order}
 use Rattle.printed_modules.proofs.order_meaning.Actions.{MovedAction, action_moved}
 use Rattle.printed_modules.proofs.order_meaning.Modules.{are_like, fetch_same, found_alike, function_there}
@@ -186,3 +189,10 @@ module _ (m : Module) (answers : List ℤ) (ordered : (func : ℕ) → IsOrdered
 
     pub agrees : AgreesWithin 1 (PlainAt m entry args answers) (PlainAt n entry args answers)
     agrees = lockstep_within A B 1 R none simulates (λ s t r. sym (ap (λ (x : PlainState). x.world.allocs) r.is))
+
+    pub corresponds : AgreesBy (IsInOrderOf m) (IsInOrderOf m) A (λ s. 1) B (λ t. 1)
+    corresponds =
+        weaken_by R R (IsInOrderOf m) (IsInOrderOf m) A (λ s. 1) (λ s. 1) B (λ t. 1) (λ t. 1)
+        (λ s t r. record { ordered = ordered; beside = r }) (λ s t r. record { ordered = ordered; beside = r })
+        (λ n fine. omega arith) (λ n. omega arith)
+        (lockstep_one A B R none simulates (λ s t r. sym (ap (λ (x : PlainState). x.world.allocs) r.is)))

@@ -15,6 +15,9 @@ use Rattle.ir_model.specs.declared.module.Function.{Function}
 use Rattle.ir_model.specs.declared.module.Module.{Module}
 use Rattle.ir_model.specs.declared.module.Param.{Param}
 use Rattle.ir_model.specs.declared.operand.Intrinsic.{Intrinsic}
+pub use Rattle.printed_modules.specs.order_meaning.Beside.{AreOrderedBelow, HeldIn, HeldResultIn, IsBlockHeld}
+pub use Rattle.printed_modules.specs.order_meaning.Beside.{IsOrdered, IsOrderedOf, MovedIn, ordered_like}
+pub use Rattle.printed_modules.specs.order_meaning.Beside.{ordered_state}
 use Rattle.printed_modules.specs.order_rules.Renumbered.{IsRenumbered, renumbered_block, renumbered_function}
 use Rattle.name_order.specs.Order.{function_order, module_order}
 use Rattle.name_order.specs.Shape.{Each}
@@ -29,25 +32,6 @@ use Rattle.plain_meaning.specs.Plain.{PlainGiven, counted, plain_act, plain_call
 use Rattle.plain_meaning.specs.declared.state.PlainActivation.{PlainActivation}
 use Rattle.plain_meaning.specs.declared.state.PlainState.{PlainState}
 use Rattle.step_laws.specs.Changed.{result_at, result_of}
-
--- ---- a function that moves its names, and holds what it sets
-
-abbrev pub HeldIn : (ℕ → ℕ) → Function → ℕ → Type 0
-HeldIn to f r = IsHeld to (length f.names) (length (function_order f).names) r
-
-abbrev pub HeldResultIn : (ℕ → ℕ) → Function → Option ℕ → Type 0
-HeldResultIn to f r = IsHeldResult to (length f.names) (length (function_order f).names) r
-
-abbrev pub MovedIn : (ℕ → ℕ) → Function → Env → Env → Type 0
-MovedIn to f vs ws = AreMoved to (length f.names) (length (function_order f).names) vs ws
-
-abbrev pub IsBlockHeld : (ℕ → ℕ) → Function → Block → Type 0
-IsBlockHeld to f b = Each (λ (p : Phi). HeldIn to f p.result) b.phis × Each (λ (i : Instr). HeldResultIn to f (result_of i)) b.instrs
-
-pub record IsOrdered (f : Function) : Type 0 where
-  pub renumbered : IsRenumbered f (function_order f)
-  pub params : Each (λ (p : Param). HeldIn renumbered.to f p.name) f.params
-  pub blocks : Each (IsBlockHeld renumbered.to f) f.blocks
 
 abbrev pub given_by : Module → List ℤ → PlainGiven
 given_by m answers = record { code = m; answers = answers }
@@ -81,28 +65,17 @@ module _ (m : Module) (answers : List ℤ) (ordered : (func : ℕ) → IsOrdered
   abbrev HeldAt : ℕ → Option ℕ → Type 0
   HeldAt func r = HeldResultIn (to_in func) (function_at m func) r
 
-  -- the activation with other values and another name for what it returns
   abbrev pub like : PlainActivation → Env → Option ℕ → PlainActivation
-  like a ws res = record a { values = ws; slots = map (moved_slot (to_in a.func)) a.slots; result = res }
+  like = ordered_like m ordered
 
-  -- the activations below, of which the nearest waits for a value
   abbrev pub AreBelow : Option ℕ → Option ℕ → List PlainActivation → List PlainActivation → Type 0
-  AreBelow r q [] [] = Unit {0}
-  AreBelow r q [] (b ∷ bs) = ⊥
-  AreBelow r q (a ∷ as') [] = ⊥
-  AreBelow r q (a ∷ as') (b ∷ bs) =
-      (q ≡ option_map (to_in a.func) r) × HeldAt a.func r × ((ws : Env) × (res : Option ℕ) × (b ≡ like a ws res) × MovedAt a.func a.values ws × AreBelow a.result res as' bs)
+  AreBelow = AreOrderedBelow m ordered
 
   abbrev pub state_like : PlainState → Env → Option ℕ → List PlainActivation → PlainState
-  state_like s ws res bs = record s { top = like s.top ws res; below = bs }
+  state_like = ordered_state m ordered
 
-  pub record Related (s t : PlainState) : Type 0 where
-    pub values : Env
-    pub result : Option ℕ
-    pub below : List PlainActivation
-    pub is : t ≡ state_like s values result below
-    pub same : MovedAt s.top.func s.top.values values
-    pub acts : AreBelow s.top.result result s.below below
+  abbrev pub Related : PlainState → PlainState → Type 0
+  Related = IsOrderedOf m ordered
 
   -- where the first goes on, the second goes on to a related state
   abbrev pub Goes : Result PlainState Cause → Result PlainState Cause → Type 0

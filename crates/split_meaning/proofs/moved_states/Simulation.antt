@@ -1,8 +1,9 @@
 -- The framed runs of the module whose functions have blocks on some of their edges are those of the module.
 use Rattle.std.proofs.Common.{◌≡◌, ◌⊎◌, inl, inr, ℕ, ◌<◌, List, [], refl, sym, ap, ◌∙◌, subst, arith}
 use Rattle.std.specs.Prelude.{ℤ, None, Ok, Err, Result, map}
-use Rattle.agreement.proofs.Lockstep.{Advance, IsBetween, ShowsSame, Simulates, lockstep_within}
+use Rattle.agreement.proofs.Lockstep.{Advance, IsBetween, ShowsSame, Simulates, lockstep_near, lockstep_within}
 use Rattle.agreement.specs.Agreements.{AgreesWithin}
+use Rattle.agreement.specs.Costs.{AgreesBy, IsNear as IsWithin}
 use Rattle.agreement.specs.Machines.{IsFine, IsRunning, Machine, iterate}
 use Rattle.block_memory.specs.Memory.{access_bytes, encode}
 use Rattle.block_memory.specs.declared.block.MemoryBlock.{MemoryBlock}
@@ -31,6 +32,7 @@ use Rattle.split_meaning.proofs.moved_states.Calls.{called_moved}
 use Rattle.split_meaning.proofs.moved_states.Parts.{operand_moved}
 use Rattle.split_meaning.proofs.moved_states.Soundness.{first_holds, step_holds}
 use Rattle.split_meaning.proofs.moved_states.Steps.{step_near}
+use Rattle.split_meaning.specs.moved_states.Beside.{IsMovedOf, framed_machine}
 use Rattle.split_meaning.specs.moved_states.MovedState.{moved_module, moved_state}
 use Rattle.split_meaning.specs.moved_states.Moving.{AllMove, KeepsKinds, Moving}
 use Rattle.split_meaning.specs.moved_states.Near.{HoldsIn, IsBefore, IsNear}
@@ -50,7 +52,7 @@ module _ (mv : Moving) (kinds : KeepsKinds mv) (m : Module) (names : AreLocalsNa
       block_same : (x : GlobalItem) → global_block (moved_module mv m) x ≡ global_block m x
       block_same x = ap (λ (v : Value). record (global_block m x) { bytes = encode (access_bytes (access_of x.ty)) (stored (access_of x.ty) v) }) (operand_moved mv kinds m 0 [] x.ty x.init)
 
-  first_same : (entry : ℕ) (args : List Word) → first_state (moved_module mv m) entry args ≡ moved_state mv m (first_state m entry args)
+  pub first_same : (entry : ℕ) (args : List Word) → first_state (moved_module mv m) entry args ≡ moved_state mv m (first_state m entry args)
   first_same entry args =
       ap (λ (w : World). record (first_state (moved_module mv m) entry args) { world = w }) world_same
       ∙ ap (λ (a : Activation). record { world = first_world m; instances = []; top = a; below = []; outcome = Outcome.Running }) (called_moved mv kinds m entry (map Value.Int args) None Mode.Plain refl (moves entry) (names entry).params)
@@ -79,7 +81,7 @@ module _ (mv : Moving) (kinds : KeepsKinds mv) (m : Module) (names : AreLocalsNa
     is_made_then : framed_step k (moved_state mv m s) ≡ or_undefined k.given (moved_state mv m s) made_then
     is_made_then = ap (framed_advance k (moved_state mv m s)) runs
 
-    arrives : Arrives (framed_step g s) (framed_step k (moved_state mv m s))
+    pub arrives : Arrives (framed_step g s) (framed_step k (moved_state mv m s))
     arrives =
         subst (λ (t : State). Arrives t (framed_step k (moved_state mv m s))) (sym is_made)
         (subst (Arrives (or_undefined g.given s made)) (sym is_made_then)
@@ -94,9 +96,8 @@ module _ (mv : Moving) (kinds : KeepsKinds mv) (m : Module) (names : AreLocalsNa
     abbrev B : Machine State
     B = record { start = first_state (moved_module mv m) entry args; step = framed_step k; seen = λ s. seen_of (moved_module mv m) s.world s.outcome }
 
-    record Related (s t : State) : Type 0 where
-      is : t ≡ moved_state mv m s
-      holds : HoldsIn mv m s
+    abbrev Related : State → State → Type 0
+    Related = IsMovedOf mv m
 
     stays_by : (x : FramedGiven) (s : State) (o : Outcome) → (IsRunning o → ⊥) → framed_advance x s o ≡ s
     stays_by x s (Outcome.Returned v) over = refl
@@ -142,5 +143,17 @@ module _ (mv : Moving) (kinds : KeepsKinds mv) (m : Module) (names : AreLocalsNa
     agrees : AgreesWithin 2 (λ n. seen_of m (iterate (framed_step g) n (first_state m entry args)).world (iterate (framed_step g) n (first_state m entry args)).outcome) (λ n. seen_of (moved_module mv m) (iterate (framed_step k) n (first_state (moved_module mv m) entry args)).world (iterate (framed_step k) n (first_state (moved_module mv m) entry args)).outcome)
     agrees = lockstep_within A B 2 Related (λ x. 0) simulates (λ s t r. ap (λ (x : State). x.world.allocs) (sym r.is))
 
+    corresponds : AgreesBy Related (IsWithin B 2 Related) A (λ s. 2) B (λ t. 1)
+    corresponds = lockstep_near A B 2 Related (λ x. 0) simulates
+        (λ s t r. ap (λ (x : State). x.world.allocs) (sym r.is))
+
 pub moves_agree : (mv : Moving) (m : Module) → KeepsKinds mv → AreLocalsNamed m → AllMove mv m → (layouts : Layouts) (entry : ℕ) (args : List Word) (answers : List ℤ) → AgreesWithin 2 (FramedAt m layouts entry args answers) (FramedAt (moved_module mv m) layouts entry args answers)
 moves_agree mv m kinds names moves layouts entry args answers = agrees mv kinds m names moves layouts.coroutines answers entry args
+
+pub moves_correspond : (mv : Moving) (m : Module) → KeepsKinds mv → AreLocalsNamed m → AllMove mv m
+    → (layouts : Layouts) (entry : ℕ) (args : List Word) (answers : List ℤ)
+    → AgreesBy (IsMovedOf mv m) (IsWithin (framed_machine (moved_module mv m) layouts entry args answers) 2
+    (IsMovedOf mv m)) (framed_machine m layouts entry args answers) (λ s. 2)
+    (framed_machine (moved_module mv m) layouts entry args answers) (λ t. 1)
+moves_correspond mv m kinds names moves layouts entry args answers = corresponds mv kinds m names moves
+    layouts.coroutines answers entry args

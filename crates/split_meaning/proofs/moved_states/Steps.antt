@@ -266,7 +266,7 @@ module _ (mv : Moving) (kinds : KeepsKinds mv) (m : Module) (layouts : List Layo
     next_moved None r q e = e
     next_moved (Some x) r q e = refl
 
-    instr_moved : (i : Instr) → AtInstr i ≡ here → framed_next k (moved_state mv m s) (AtInstr i) ≡ moved_result mv m (framed_next g s (AtInstr i))
+    pub instr_moved : (i : Instr) → AtInstr i ≡ here → framed_next k (moved_state mv m s) (AtInstr i) ≡ moved_result mv m (framed_next g s (AtInstr i))
     instr_moved i e =
         ap (λ (o : Option (Result State Cause)). unwrap_or o (framed_act k (moved_state mv m s) (action_of (framed_context k (moved_state mv m s)) (work_of (moved_state mv m s)) (AtInstr i)))) (given_call_moved mv kinds m names moves layouts answers s (AtInstr i))
         ∙ next_moved (given_call g s (AtInstr i)) (framed_act g s (action_of (framed_context g s) (work_of s) (AtInstr i))) (framed_act k (moved_state mv m s) (action_of (framed_context k (moved_state mv m s)) (work_of (moved_state mv m s)) (AtInstr i)))
