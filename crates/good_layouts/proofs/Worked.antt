@@ -3,10 +3,11 @@ use Rattle.std.proofs.Common.{◌≡◌, ◌≢◌, ◌⊎◌, inl, inr, ℕ, ze
 use Rattle.std.specs.Prelude.{slice_get}
 use Rattle.field_placing.specs.Placed.{Always}
 use Rattle.frame_layout.specs.Layouts.{placed}
+use Rattle.frame_layout.specs.Layouts as layouts
 use Rattle.frame_layout.specs.declared.layout.Field.{Field}
 use Rattle.frame_layout.specs.declared.layout.Layout.{Layout}
 use Rattle.frame_layout.specs.declared.layout.PlacedField.{PlacedField}
-use Rattle.good_layouts.specs.Good.{AreApart, AreShown, IsGoodField, IsGoodLayout, offset_of}
+use Rattle.good_layouts.specs.Good.{AreApart, AreFit, AreShown, IsGoodField, IsGoodLayout, is_alignment, offset_of}
 use Rattle.good_layouts.specs.Worked.{a_value, the_index, value_at, worked_fields, worked_layout}
 
 -- what holds of each of three elements
@@ -74,4 +75,25 @@ is_good =
       rounded = refl;
       from = omega arith;
       within = omega arith;
+    }
+
+-- ---- the fields are fit
+
+is_none_promise : (k : ℕ) (x : Field) → slice_get worked_fields k ≡ Some x → layouts.is_promise x.kind ≡ true → ⊥
+is_none_promise = three (λ (k : ℕ) (x : Field). layouts.is_promise x.kind ≡ true → ⊥) a_value a_value the_index (λ e. absurd (cc)) (λ e. absurd (cc)) (λ e. absurd (cc))
+
+is_last_index : (k : ℕ) (x : Field) → slice_get worked_fields k ≡ Some x → layouts.is_index x.kind ≡ true → k ≡ 2
+is_last_index = three (λ (k : ℕ) (x : Field). layouts.is_index x.kind ≡ true → k ≡ 2) a_value a_value the_index (λ e. absurd (cc)) (λ e. absurd (cc)) (λ e. refl)
+
+pub fields_fit : AreFit worked_fields
+fields_fit =
+    record {
+      aligned = three (λ (k : ℕ) (x : Field). is_alignment x.align ≡ true) a_value a_value the_index refl refl refl;
+      one_promise = λ j k x y e f p q. absurd (is_none_promise j x e p);
+      one_index = λ j k x y e f p q. is_last_index j x e p ∙ sym (is_last_index k y f q);
+      last = 2;
+      index = the_index;
+      is_there = refl;
+      is_index = refl;
+      takes_bytes = omega arith;
     }

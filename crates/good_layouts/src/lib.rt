@@ -19,8 +19,9 @@ pub fn plain_layouts_are_good()
     ensures { (coroutine : ℕ) (fields : List TheField) (l : TheLayout) → AreFit fields → IsLaidOutPlain coroutine fields (Ok l) → IsGoodLayout fields Always l }
 {}
 
-/// Of two layouts of the same fields, which conflict, the one is good, and the other, in which two of them share bytes, isn't.
+/// Of two layouts of the same fields, which are fit and conflict, the one is good, and the other, in which two share bytes, isn't.
 pub fn shared_bytes_tell_layouts_apart()
+    ensures fit { AreFit worked_fields }
     ensures good { IsGoodLayout worked_fields Always (worked_layout 20) }
     ensures other { IsGoodLayout worked_fields Always (worked_layout 18) → ⊥ }
 {}
