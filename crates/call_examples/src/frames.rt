@@ -1,7 +1,7 @@
-use coro_base::{Items, Name, Text};
-use frame_lines::{FrameLine, print_frames, read_frames};
+use ir_base::{Items, Name, Text};
 use std::alloc::{AllocError, Global};
 use std::test::Fail;
+use text_frame_lines::{FrameLine, print_frames, read_frames};
 
 fn frame(alloc: Global) -> Result<Items<FrameLine>, AllocError> {
     let mut all = Items::new(alloc);

@@ -1,11 +1,11 @@
 //! The worked rows of a memory.
 
 ghost use Rattle.std.specs.Prelude.{◌≡◌};
-ghost use Rattle.block_memory.specs.declared.pointer.Pointer.{Pointer};
-ghost use Rattle.block_memory.specs.declared.pointer.Value.{Value};
+ghost use Rattle.run_memory.specs.declared.pointer.Pointer.{Pointer};
+ghost use Rattle.run_memory.specs.declared.pointer.Value.{Value};
 
-use block_memory::{Access, Kind, Memory, Offset, Pointer, Value};
-use coro_base::{Cause, Word};
+use ir_base::{Cause, Word};
+use run_memory::{Access, Kind, Memory, Offset, Pointer, Value};
 use std::alloc::Global;
 use std::process::Abort;
 use std::test::Fail;

@@ -1,6 +1,6 @@
-use coro_base::{Name, Text};
-use coro_names::{entry_of, print_name};
+use ir_base::{Name, Text};
 use std::test::Fail;
+use text_names::{entry_of, print_name};
 
 #[test]
 fn names_are_written_and_found(rt: HostRuntime) -> Result<(), Fail> {

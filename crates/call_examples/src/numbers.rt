@@ -2,8 +2,8 @@
 
 ghost use Rattle.std.specs.Prelude.{◌≡◌};
 
-use coro_base::{BinOp, CastOp, Cause, Flags, Pred, Word};
-use ir_ints::{Num, binary, cast, icmp, select};
+use ir_base::{BinOp, CastOp, Cause, Flags, Pred, Word};
+use run_ints::{Num, binary, cast, icmp, select};
 
 const NONE: Flags = Flags {
     nuw: false,

@@ -3,8 +3,8 @@
 ghost use Rattle.std.specs.Prelude.{◌≤◌, ◌&&◌, nat_lt, IsTrue, length};
 ghost use Rattle.std.specs.List.{list_all};
 
-use bit_reach::{Graph, reached};
-use coro_base::Items;
+use flow_bits::{Graph, reached};
+use ir_base::Items;
 use std::alloc::{AllocError, Global};
 use std::test::Fail;
 

@@ -1,12 +1,12 @@
 //! A coroutine with one suspend and a promise.
 
-use coro_base::{FuncId, Items, Name, Place, Short, ValueId};
-use coro_shape::{
-    Answer, first_second_final, first_suspend_too_many, first_wrong_call, first_wrong_promise,
-    first_wrong_switch, shape_of,
-};
+use ir_base::{FuncId, Items, Name, Place, Short, ValueId};
 use ir_model::{
     Arg, Block, Callee, Case, Function, Instr, Intrinsic, IrType, Module, Operand, Terminator,
+};
+use rule_shape::{
+    Answer, first_second_final, first_suspend_too_many, first_wrong_call, first_wrong_promise,
+    first_wrong_switch, shape_of,
 };
 use std::alloc::{AllocError, Global};
 use std::test::Fail;

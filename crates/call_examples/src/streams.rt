@@ -1,4 +1,4 @@
-use coro_io::{
+use cli_io::{
     ByteSink, ByteSource, Failed, ReadAllError, ReadSource, Sink, Source, WriteFault, WriteSink,
     read_all, write_all,
 };

@@ -1,6 +1,6 @@
-use coro_base::Name;
-use ir_symbols::{Mark, Sym, Word, symbols_of};
+use ir_base::Name;
 use std::test::Fail;
+use text_symbols::{Mark, Sym, Word, symbols_of};
 
 /// A sign for each symbol.
 fn sign(symbol: &Sym) -> char {

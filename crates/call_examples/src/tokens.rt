@@ -1,4 +1,4 @@
-use ir_lexer::{Kind, Next, Span, Token, next_token};
+use text_lexer::{Kind, Next, Span, Token, next_token};
 
 fn token(kind: Kind, start: usize, end: usize) -> Next {
     Next::Tok(Token {

@@ -1,9 +1,9 @@
 //! `corolower`: lowers LLVM's switched-resume coroutines, and runs what it lowered.
 #![tactic(auto)]
 
-use coro_base::Status;
-use coro_cli::{drive, told};
-use coro_io::{ReadSource, WriteSink};
+use cli_drive::{drive, told};
+use cli_io::{ReadSource, WriteSink};
+use ir_base::Status;
 use std::process::ExitCode;
 use std::{env, io};
 

@@ -2,7 +2,7 @@
 //!
 //! `solve` gives it at each node, of the facts that all paths from the starts carry there, and bottom where none
 //! leads (clauses `nodes` and `least`). It does so for each analysis that obeys the laws of the trait `Flow`; the
-//! first analysis is `bit_reach`.
+//! first analysis is `flow_bits`.
 #![tactic(auto)]
 
 mod flow;

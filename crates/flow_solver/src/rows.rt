@@ -4,7 +4,7 @@ ghost use Rattle.std.specs.Prelude.{◌≡◌, ◌<◌, ◌∷◌, ◌++◌, [],
 ghost use Rattle.flow_solver.specs.Paths.{HasNodes};
 ghost use Rattle.flow_solver.specs.Outgoing.{AreOutgoing};
 
-use coro_base::Short;
+use ir_base::Short;
 use std::alloc::{AllocError, Global};
 
 fn empty_rows(alloc: Global, nodes: usize) -> Result<Vec<Short<usize>>, AllocError>

@@ -4,7 +4,7 @@ ghost use Rattle.std.specs.Prelude.{◌≡◌, ◌<◌, OnOk, IfOk, length, repl
 ghost use Rattle.flow_solver.specs.Steps.{AreFacts, IsPut, IsRaised, IsWaiting};
 
 use crate::flow::Flow;
-use coro_base::Items;
+use ir_base::Items;
 use std::alloc::{AllocError, Global};
 use std::collections::VecDeque;
 

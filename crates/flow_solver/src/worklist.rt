@@ -9,7 +9,7 @@ use crate::flow::Flow;
 use crate::graph::Graph;
 use crate::rows::{mostly_rise, outgoing, row_of, target};
 use crate::state::{State, blank, fact_at, raise};
-use coro_base::Short;
+use ir_base::Short;
 use std::alloc::{AllocError, Global};
 
 /// The starts' own facts at their nodes.

@@ -1,10 +1,10 @@
 -- Frames that are bounded aren't too large.
 use Rattle.std.proofs.Common.{◌≡◌, ℕ, zero, suc, ◌+◌, ◌^◌, ◌<◌, ◌≤◌, Bool, true, false, List, [], ◌∷◌, Some, Err, refl, subst, ap, ◌∙◌, sym, arith}
 use Rattle.std.specs.Prelude.{IsTrue, slice_get}
-use Rattle.coroutine_frames.specs.Frames.{AreLayouts, IsLayout, IsTooLarge, BehindFrame, BehindOther, Here}
-use Rattle.coroutine_frames.specs.Held.{crossing_values, fields_of, frame_slots, held_by, held_of}
-use Rattle.coroutine_frames.specs.declared.module_frames.LayoutsError.{LayoutsError}
-use Rattle.field_placing.specs.Ends.{end_of}
+use Rattle.frame_contents.specs.Frames.{AreLayouts, IsLayout, IsTooLarge, BehindFrame, BehindOther, Here}
+use Rattle.frame_contents.specs.Held.{crossing_values, fields_of, frame_slots, held_by, held_of}
+use Rattle.frame_contents.specs.declared.module_frames.LayoutsError.{LayoutsError}
+use Rattle.frame_placing.specs.Ends.{end_of}
 use Rattle.frame_bounds.proofs.Ending.{all_weights, plain_ends, total, weights_total}
 use Rattle.frame_bounds.proofs.Holding.{fields_in}
 use Rattle.frame_bounds.specs.Bounds.{AreSmall, NoneTooLarge, frame_bound}

@@ -3,14 +3,14 @@ use Rattle.std.proofs.Common.{◌≡◌, ℕ, zero, suc, ◌+◌, ◌-◌, ◌%�
 use Rattle.std.specs.Prelude.{IsTrue, IsFalse, slice_index}
 use Rattle.std.proofs.lemmas.Bool.{both_ways, cases_Bool, cases_lt}
 use Rattle.std.proofs.lemmas.Nat.{mod_below}
-use Rattle.field_placing.proofs.Aligned.{IsRest, rest_aligned}
-use Rattle.field_placing.proofs.Firsts.{is_order}
-use Rattle.field_placing.proofs.Greatest.{end_within}
-use Rattle.field_placing.proofs.Ranks.{rank, rank_rises, rank_within}
-use Rattle.field_placing.specs.Ends.{end_of}
-use Rattle.field_placing.specs.Placed.{Always, CanStand, IsByteOf, IsItsPlace, IsPlaced, IsTaken}
-use Rattle.field_placing.specs.Rooms.{alignment_at, comes_first, is_promise, size_at}
-use Rattle.field_placing.specs.declared.room.Room.{Room}
+use Rattle.frame_placing.proofs.Aligned.{IsRest, rest_aligned}
+use Rattle.frame_placing.proofs.Firsts.{is_order}
+use Rattle.frame_placing.proofs.Greatest.{end_within}
+use Rattle.frame_placing.proofs.Ranks.{rank, rank_rises, rank_within}
+use Rattle.frame_placing.specs.Ends.{end_of}
+use Rattle.frame_placing.specs.Placed.{Always, CanStand, IsByteOf, IsItsPlace, IsPlaced, IsTaken}
+use Rattle.frame_placing.specs.Rooms.{alignment_at, comes_first, is_promise, size_at}
+use Rattle.frame_placing.specs.declared.room.Room.{Room}
 use Rattle.frame_bounds.proofs.Sums.{any, weigh, weigh_same, weigh_shift, weigh_none, weigh_with}
 
 -- how far the next multiple is

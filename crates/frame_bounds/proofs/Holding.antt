@@ -1,15 +1,15 @@
 -- What a frame holds takes no more than the bound.
 use Rattle.std.proofs.Common.{◌≡◌, ℕ, zero, suc, ◌+◌, ◌≤◌, Bool, true, false, List, [], ◌∷◌, ◌++◌, map, max, None, Some, Option, refl, ap, ◌∙◌, arith}
 use Rattle.std.specs.Prelude.{if◌then◌else◌}
-use Rattle.coroutine_frames.specs.Held.{field_of, fields_of, held_blocks, held_by, held_instr, held_instrs, held_params, held_phis, if_result, if_value, index_field, result_size, slot_held, suspend_count, value_held, value_size}
-use Rattle.coroutine_frames.specs.declared.held.Holding.{Holding}
-use Rattle.field_placing.specs.declared.room.Room.{Room}
+use Rattle.frame_contents.specs.Held.{field_of, fields_of, held_blocks, held_by, held_instr, held_instrs, held_params, held_phis, if_result, if_value, index_field, result_size, slot_held, suspend_count, value_held, value_size}
+use Rattle.frame_contents.specs.declared.held.Holding.{Holding}
+use Rattle.frame_placing.specs.declared.room.Room.{Room}
 use Rattle.frame_bounds.proofs.Ending.{total}
 use Rattle.frame_bounds.specs.Bounds.{block_bound, blocks_bound, field_bound, frame_bound, instr_bound, instrs_bound, params_bound, phis_bound, result_bound, value_bound}
 use Rattle.frame_layout.specs.Frames.{index_size}
 use Rattle.frame_layout.specs.Layouts.{room_of, rooms_of}
 use Rattle.frame_layout.specs.declared.layout.Field.{Field}
-use Rattle.function_parts.specs.Contents.{result_of}
+use Rattle.ir_parts.specs.Contents.{result_of}
 use Rattle.ir_model.specs.Ty.{Ty}
 use Rattle.ir_model.specs.declared.instr.Instr.{Instr}
 use Rattle.ir_model.specs.declared.instr.Phi.{Phi}

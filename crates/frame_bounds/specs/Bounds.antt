@@ -1,9 +1,9 @@
 -- A bound on what the frame of a coroutine takes, by what stands in it alone: no analysis is asked for.
 use Rattle.std.specs.Prelude.{◌≡◌, ℕ, false, List, [], None, Some, Option, Err, IsTrue, max, slice_get, ◌+◌, ◌∷◌, ◌≤◌, ◌^◌}
-use Rattle.coroutine_frames.specs.Frames.{AreLayouts}
-use Rattle.coroutine_frames.specs.Held.{result_size, value_size}
-use Rattle.coroutine_frames.specs.declared.module_frames.LayoutsError.{LayoutsError}
-use Rattle.function_parts.specs.Contents.{result_of}
+use Rattle.frame_contents.specs.Frames.{AreLayouts}
+use Rattle.frame_contents.specs.Held.{result_size, value_size}
+use Rattle.frame_contents.specs.declared.module_frames.LayoutsError.{LayoutsError}
+use Rattle.ir_parts.specs.Contents.{result_of}
 use Rattle.ir_model.specs.Layout.{size_of}
 use Rattle.ir_model.specs.declared.instr.Instr.{Instr}
 use Rattle.ir_model.specs.declared.instr.Phi.{Phi}
@@ -11,7 +11,7 @@ use Rattle.ir_model.specs.declared.module.Block.{Block}
 use Rattle.ir_model.specs.declared.module.Function.{Function}
 use Rattle.ir_model.specs.declared.module.Module.{Module}
 use Rattle.ir_model.specs.declared.module.Param.{Param}
-use Rattle.type_sizes.specs.Cut.{capped}
+use Rattle.ir_sizes.specs.Cut.{capped}
 
 -- a field takes its size, and no more than its alignment to be aligned
 abbrev pub field_bound : ℕ → ℕ → ℕ

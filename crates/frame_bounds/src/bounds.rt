@@ -3,11 +3,11 @@
 ghost use Rattle.std.specs.Prelude.{◌≡◌, ◌+◌, IfSome};
 ghost use Rattle.frame_bounds.specs.Bounds.{block_bound, blocks_bound, field_bound, frame_bound as frame_bound_of, instr_bound, instrs_bound, params_bound, phis_bound, result_bound, value_bound};
 
-use coro_base::ValueId;
-use coroutine_frames::{result_size, value_size};
-use function_parts::result_of;
+use frame_contents::{result_size, value_size};
+use ir_base::ValueId;
 use ir_model::{Block, Function, Instr, Param, Phi};
-use type_sizes::Sizes;
+use ir_parts::result_of;
+use ir_sizes::Sizes;
 
 fn field_bound(size: u64, align: u64) -> Option<u64>
     ensures { IfSome result (λ n. n ≡ field_bound size align) }

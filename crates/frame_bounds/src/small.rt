@@ -5,9 +5,9 @@ ghost use Rattle.frame_bounds.specs.Bounds.{AreSmall, NoneTooLarge, frame_bound 
 
 use crate::bounds::frame_bound;
 use ir_model::{Function, Module};
-use module_names::Names;
+use ir_sizes::Sizes;
+use ir_tables::Names;
 use std::alloc::{AllocError, Global};
-use type_sizes::Sizes;
 
 /// The most bytes that a frame may end at.
 const LIMIT: u64 = 16777216;

@@ -5,11 +5,11 @@ use Rattle.std.specs.List.{Contains, list_any}
 use Rattle.std.proofs.lemmas.Bool.{and_from, and_parts, cases_lt, eq-eqb, eqb-true, lt-ltb, ltb-true, or_cases, or_left, or_right}
 use Rattle.std.proofs.lemmas.List.{length-map}
 use Rattle.std.proofs.lemmas.List.Elements.{Contains-append_cases, Contains-append_left, Contains-append_right}
-use Rattle.field_placing.proofs.Choosing.{placing_by_pairs}
-use Rattle.field_placing.specs.Placed.{AreKeptApart, AreOpposed, IsPair}
-use Rattle.field_placing.specs.Placings.{IsPlacing, IsPlacingBy}
-use Rattle.field_placing.specs.declared.placing.Placing.{Placing}
-use Rattle.field_placing.specs.declared.room.Room.{Room}
+use Rattle.frame_placing.proofs.Choosing.{placing_by_pairs}
+use Rattle.frame_placing.specs.Placed.{AreKeptApart, AreOpposed, IsPair}
+use Rattle.frame_placing.specs.Placings.{IsPlacing, IsPlacingBy}
+use Rattle.frame_placing.specs.declared.placing.Placing.{Placing}
+use Rattle.frame_placing.specs.declared.room.Room.{Room}
 use Rattle.frame_layout.specs.Conflicts.{conflict, field_conflicts, has_pair, is_apart, is_apart_at, pairs_from, pairs_of, share}
 use Rattle.frame_layout.specs.Layouts.{IsPlaced, promise_of, room_of, rooms_of}
 use Rattle.frame_layout.specs.Rows.{seconds_of}

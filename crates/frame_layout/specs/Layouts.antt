@@ -1,8 +1,8 @@
 -- The layout of a frame by its fields.
 use Rattle.std.specs.Prelude.{◌≡◌, ℕ, Bool, true, false, ◌<◌, ◌&&◌, ◌||◌, ◌==◌, List, Option, None, Some, Result, Ok, Err, IsTrue, length, map, nat_lt, position, slice_get, slice_index_or, unwrap_or}
-use Rattle.field_placing.specs.Placings.{IsPlacing, IsPlainPlacing}
-use Rattle.field_placing.specs.declared.placing.Placing.{Placing}
-use Rattle.field_placing.specs.declared.room.Room.{Room}
+use Rattle.frame_placing.specs.Placings.{IsPlacing, IsPlainPlacing}
+use Rattle.frame_placing.specs.declared.placing.Placing.{Placing}
+use Rattle.frame_placing.specs.declared.room.Room.{Room}
 use Rattle.frame_layout.specs.declared.layout.Field.{Field}
 use Rattle.frame_layout.specs.declared.layout.FieldKind.{FieldKind}
 use Rattle.frame_layout.specs.declared.layout.Layout.{Layout}

@@ -1,7 +1,7 @@
 -- The sides of groups on which fields are.
 use Rattle.std.specs.Prelude.{◌≢◌, ◌⊎◌, ◌↔◌, ℕ, List, [], map, ◌+◌, ◌∷◌, ◌++◌, if◌then◌else◌}
 use Rattle.std.specs.List.{Contains}
-use Rattle.field_placing.specs.Placed.{IsPair}
+use Rattle.frame_placing.specs.Placed.{IsPair}
 use Rattle.frame_layout.specs.Conflicts.{is_apart}
 use Rattle.frame_layout.specs.declared.layout.Field.{Field}
 

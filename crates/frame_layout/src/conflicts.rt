@@ -7,7 +7,7 @@ ghost use Rattle.frame_layout.specs.Rows.{AreTables, marks_by};
 use crate::layout::Field;
 use crate::marks::{first_marks, is_apart_at, mark_all, mark_rows, push_marked};
 use crate::rows::{row_of, rows_by_first, rows_by_second};
-use coro_base::{Items, SuspendId};
+use ir_base::{Items, SuspendId};
 use std::alloc::{AllocError, Global};
 
 /// Values that cross suspends, slots that may be alive at them, and slots that conflict, by one half of the pairs and the other.
@@ -60,7 +60,7 @@ fn marks_of(
 
 /// The pairs of positions in `fields`, the lower one first and in order, of fields that conflict, so that they may not share
 /// bytes. The promise and the index conflict with all fields, two values where they cross one suspend, a value and a slot where
-/// the slot may be alive at a suspend that the value crosses, and two slots where `slot_conflicts` names them.
+/// the slot may be alive at a suspend that the value crosses, and two slots where `frame_conflicts` names them.
 pub fn field_conflicts(
     alloc: Global,
     fields: &[Field],

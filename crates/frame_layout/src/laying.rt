@@ -1,7 +1,7 @@
 //! The layouts of frames.
 
 ghost use Rattle.std.specs.Prelude.{◌≡◌, ℕ, IfOk, List, map, position};
-ghost use Rattle.field_placing.specs.declared.placing.Placing.{Placing as ThePlacing};
+ghost use Rattle.frame_placing.specs.declared.placing.Placing.{Placing as ThePlacing};
 ghost use Rattle.frame_layout.specs.Conflicts.{field_conflicts};
 ghost use Rattle.frame_layout.specs.Layouts.{IsLaidOut, IsLaidOutPlain, IsLayoutBy, IsPlaced, index_offset as index_offset_of, is_index as is_index_kind, is_promise as is_promise_kind, placed as placed_at, promise_of as promise_position, rooms_of as rooms_of_fields};
 ghost use Rattle.frame_layout.specs.Sides.{AreNamed};
@@ -11,8 +11,8 @@ use crate::layout::{Field, FieldKind, Layout, PlacedField};
 use crate::order::{offset_at, order_of};
 use crate::rows::rows_by_first;
 use crate::sides::{one_pairs, other_pairs};
-use coro_base::{Data, FuncId, Items, SuspendId};
-use field_placing::{Placing, Room, place, place_by, place_plain};
+use frame_placing::{Placing, Room, place, place_by, place_plain};
+use ir_base::{Data, FuncId, Items, SuspendId};
 use std::alloc::{AllocError, Global};
 use thiserror::Error;
 

@@ -4,7 +4,7 @@ ghost use Rattle.std.specs.Prelude.{◌≡◌, IfOk, slice_index_or};
 ghost use Rattle.frame_layout.specs.Frames.{index_alone, index_size};
 
 use crate::order::offset_at;
-use coro_base::{FuncId, Items, Name};
+use ir_base::{FuncId, Items, Name};
 use std::alloc::{AllocError, Global};
 
 /// What a field holds.

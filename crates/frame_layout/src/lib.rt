@@ -2,7 +2,7 @@
 //! "Coroutine Transformation").
 //!
 //! `field_conflicts` gives exactly the pairs of fields that conflict. `lay_out`, `lay_out_by` (which takes no pairs)
-//! and `lay_out_plain` give the layout by the placing of `field_placing`, with the fields in order of offset. They
+//! and `lay_out_plain` give the layout by the placing of `frame_placing`, with the fields in order of offset. They
 //! give `FrameTooLarge` exactly where the plain layout ends above 2^24. `index_alone` gives the layout of a frame
 //! that holds the index alone.
 #![tactic(auto)]

@@ -6,7 +6,7 @@ ghost use Rattle.frame_layout.specs.Rows.{marked_pairs, with_marks, with_rows};
 
 use crate::layout::{Field, FieldKind};
 use crate::rows::row_of;
-use coro_base::Items;
+use ir_base::Items;
 use std::alloc::{AllocError, Global};
 
 /// Whether a field of a kind shares bytes with none.

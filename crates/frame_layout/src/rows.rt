@@ -3,7 +3,7 @@
 ghost use Rattle.std.specs.Prelude.{◌≡◌, ◌<◌, ◌++◌, ◌∷◌, ◌==◌, ℕ, [], IfOk, OnOk, get_or, if◌then◌else◌, length, slice_set};
 ghost use Rattle.frame_layout.specs.Rows.{firsts_of, seconds_of};
 
-use coro_base::Items;
+use ir_base::Items;
 use std::alloc::{AllocError, Global};
 
 /// Adds empty rows up to a row.

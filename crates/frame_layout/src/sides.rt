@@ -8,7 +8,7 @@ ghost use Rattle.frame_layout.specs.Sides.{all_pairs, apart_pairs, one_pairs as 
 
 use crate::layout::Field;
 use crate::marks::is_apart;
-use coro_base::SuspendId;
+use ir_base::SuspendId;
 use std::alloc::{AllocError, Global};
 
 /// The group that keeps the promise and the index apart from all fields.

@@ -1,6 +1,6 @@
 -- The sizes of types, and where their parts lie.
 use Rattle.std.specs.Prelude.{ℕ, zero, suc, max, Bool, true, false, List, [], Some, None, Option, option_map, ◌+◌, ◌-◌, ◌*◌, ◌/◌, ◌&&◌, ◌∷◌, if◌then◌else◌, ◌==◌}
-use Rattle.coro_base.specs.declared.name.Name.{Name}
+use Rattle.ir_base.specs.declared.name.Name.{Name}
 use Rattle.ir_model.specs.Names.{same_name}
 use Rattle.ir_model.specs.Ty.{Ty, Tys, array, field, int, named, none, ptr, structure, token}
 use Rattle.ir_model.specs.declared.module.Module.{Module}

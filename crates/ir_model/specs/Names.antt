@@ -1,6 +1,6 @@
 -- Finding things in a module by their names.
 use Rattle.std.specs.Prelude.{ℕ, suc, Bool, true, false, List, [], length, drop, slice_get, Some, None, codes, decimal, Option, unwrap_or, option_map, ◌-◌, ◌&&◌, ◌∷◌, ◌++◌, if◌then◌else◌, ◌==◌}
-use Rattle.coro_base.specs.declared.name.Name.{Name}
+use Rattle.ir_base.specs.declared.name.Name.{Name}
 use Rattle.ir_model.specs.declared.operand.Intrinsic.{Intrinsic}
 use Rattle.ir_model.specs.declared.operand.Operand.{Operand}
 use Rattle.ir_model.specs.declared.module.Function.{Function}

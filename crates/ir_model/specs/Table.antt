@@ -1,6 +1,6 @@
 -- The one table of the names of intrinsics and allocators.
 use Rattle.std.specs.Prelude.{ℕ, List, [], ◌∷◌, codes, Option, Some, None, if◌then◌else◌}
-use Rattle.coro_base.specs.declared.name.Name.{Name}
+use Rattle.ir_base.specs.declared.name.Name.{Name}
 use Rattle.ir_model.specs.Names.{same_text}
 use Rattle.ir_model.specs.declared.operand.Allocator.{Allocator}
 use Rattle.ir_model.specs.declared.operand.Callee.{Callee}

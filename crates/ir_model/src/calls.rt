@@ -7,7 +7,7 @@ ghost use Rattle.ir_model.specs.Calls.{result_of_call, first_result_in, first_re
 use crate::instr::Instr;
 use crate::module::{Block, Function};
 use crate::operand::{Callee, Intrinsic};
-use coro_base::ValueId;
+use ir_base::ValueId;
 
 fn number_of(i: Intrinsic) -> u8
     ensures { result ≡ intrinsic_number i }

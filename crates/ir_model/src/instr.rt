@@ -4,7 +4,7 @@ ghost use Rattle.std.specs.Prelude.{◌≡◌, IsTrue, ◌↔◌};
 
 use crate::ir_type::IrType;
 use crate::operand::{Arg, Callee, Operand};
-use coro_base::{BinOp, CastOp, Data, Flags, Items, Pred, Short, ValueId};
+use ir_base::{BinOp, CastOp, Data, Flags, Items, Pred, Short, ValueId};
 use std::alloc::{AllocError, Global};
 
 /// An instruction that is no phi and no terminator (LangRef, "Instruction Reference").

@@ -4,7 +4,7 @@ ghost use Rattle.std.specs.Prelude.{◌≡◌, IfOk, IsTrue, ◌↔◌};
 ghost use Rattle.ir_model.specs.Ty.{Ty, int, ptr, token, array, structure, named, to_tys};
 ghost use Rattle.ir_model.specs.TypeView.{bits_of, ty_of};
 
-use coro_base::{Data, Name};
+use ir_base::{Data, Name};
 use std::alloc::{AllocError, Global};
 use std::marker::Model;
 

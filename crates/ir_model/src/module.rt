@@ -5,7 +5,7 @@ ghost use Rattle.std.specs.Prelude.{◌≡◌};
 use crate::instr::{Instr, Phi, Terminator};
 use crate::ir_type::IrType;
 use crate::operand::Operand;
-use coro_base::{Data, Items, Name, ValueId};
+use ir_base::{Data, Items, Name, ValueId};
 use std::alloc::{AllocError, Global};
 
 /// A basic block: its label, its phis, its other instructions and its terminator.

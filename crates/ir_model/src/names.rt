@@ -3,7 +3,7 @@
 ghost use Rattle.std.specs.Prelude.{◌≡◌, IfOk};
 ghost use Rattle.ir_model.specs.Names.{numbered};
 
-use coro_base::{Name, Text};
+use ir_base::{Name, Text};
 use itoa::Buffer;
 use std::alloc::{AllocError, Global};
 

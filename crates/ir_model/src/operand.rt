@@ -3,7 +3,7 @@
 ghost use Rattle.std.specs.Prelude.{◌≡◌};
 
 use crate::ir_type::IrType;
-use coro_base::{Data, Name, ValueId};
+use ir_base::{Data, Name, ValueId};
 use std::alloc::{AllocError, Global};
 
 /// A value as the text writes it. A literal is from -(2^64 - 1) to 2^64 - 1.

@@ -5,7 +5,7 @@ ghost use Rattle.ir_model.specs.Names.{same_text};
 ghost use Rattle.ir_model.specs.Table.{intrinsic_word, allocator_word, all_intrinsics, all_allocators, intrinsic_in, allocator_in, callee_named};
 
 use crate::operand::{Allocator, Callee, Intrinsic};
-use coro_base::Name;
+use ir_base::Name;
 
 const INTRINSICS: [Intrinsic; 20] = [
     Intrinsic::CoroId,

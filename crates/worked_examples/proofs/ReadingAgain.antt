@@ -2,11 +2,11 @@
 use Rattle.std.proofs.Common.{◌≡◌, ℕ, Bool, true, false, List}
 use Rattle.std.specs.Prelude.{IsTrue, ◌↔◌, Result, Ok, Err, IfOk}
 use Rattle.std.proofs.lemmas.Bool.{false≢true}
-use Rattle.ir_grammar.specs.Text.{StandsFor}
+use Rattle.text_grammar.specs.Text.{StandsFor}
 use Rattle.ir_model.specs.declared.module.Module.{Module}
-use Rattle.ir_parser.specs.Reading.{IsReading}
-use Rattle.ir_parser.specs.declared.text.Parsed.{Parsed}
-use Rattle.printed_grammar.specs.ReadBack.{IsReadBack}
+use Rattle.text_parser.specs.Reading.{IsReading}
+use Rattle.text_parser.specs.declared.text.Parsed.{Parsed}
+use Rattle.text_canonical.specs.grammar.ReadBack.{IsReadBack}
 use Rattle.worked_examples.specs.ReadAgain.{IsPrintedAgain, IsReadAgain, StandsForOne}
 
 same_module : (m n : Module) → Parsed.Module n ≡ Parsed.Module m → m ≡ n

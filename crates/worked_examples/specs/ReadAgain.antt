@@ -1,8 +1,8 @@
 -- Which texts are read, printed and read again as the same module.
 use Rattle.std.specs.Prelude.{◌≡◌, ℕ, Bool, true, List}
-use Rattle.ir_grammar.specs.Text.{StandsFor}
+use Rattle.text_grammar.specs.Text.{StandsFor}
 use Rattle.ir_model.specs.declared.module.Module.{Module}
-use Rattle.printed_grammar.specs.Bytes.{AreBytes}
+use Rattle.text_canonical.specs.grammar.Bytes.{AreBytes}
 
 -- the text stands for some module
 pub record StandsForOne (text : List ℕ) : Type 0 where

@@ -3,11 +3,11 @@
 ghost use Rattle.std.specs.Prelude.{IfOk};
 ghost use Rattle.worked_examples.specs.ReadAgain.{IsPrintedAgain, IsReadAgain};
 
-use coro_base::Data;
+use ir_base::Data;
 use ir_model::Module;
-use ir_parser::{Parsed, parse};
-use ir_printer::print_module;
 use std::alloc::{AllocError, Global};
+use text_parser::{Parsed, parse};
+use text_printer::print_module;
 
 /// Whether the printed text of a module stands for the same module.
 #[tactic(auto, using(crate::proofs::ReadingAgain::same_again, crate::proofs::ReadingAgain::none_again))]

@@ -1,8 +1,8 @@
 //! What the program answers.
 
-use coro_base::Status;
-use coro_cli::drive;
-use coro_io::{ByteSink, ByteSource};
+use cli_drive::drive;
+use cli_io::{ByteSink, ByteSource};
+use ir_base::Status;
 use std::alloc::{AllocError, Global};
 
 /// The status of a run, and what its two sinks hold.

@@ -7,9 +7,9 @@
 use crate::sight::Sight;
 use anyhow::Result;
 use ir_model::Module;
-use ir_parser::{Parsed, parse};
 use std::alloc::{AllocError, Global};
 use std::fs;
+use text_parser::{Parsed, parse};
 
 /// The words of a line.
 #[derive(Drop)]

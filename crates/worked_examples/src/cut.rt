@@ -5,8 +5,8 @@
 
 use crate::refusal::is_told;
 use anyhow::Result;
-use ir_lexer::{Next, next_token};
 use std::fs;
+use text_lexer::{Next, next_token};
 
 /// Whether what is left of a text begins with an item, or nothing is left.
 fn is_item_next(rest: &[u8]) -> bool {

@@ -1,13 +1,13 @@
 //! What public calls give on a function, as text.
 
-use block_paths::{EdgeKind, after_end, edge_kind, reach, successors};
-use coro_base::{Item, Place};
-use escape_flow::{elidable_callees, elidable_sites};
+use elide_sites::{elidable_callees, elidable_sites};
+use flow_blocks::{EdgeKind, after_end, edge_kind, reach, successors};
+use frame_classes::{SlotClass, classes};
+use frame_conflicts::{alive_at, conflicts};
+use frame_crossing::crossing;
+use ir_base::{Item, Place};
 use ir_model::{Function, Module};
-use slot_conflicts::{alive_at, conflicts};
-use slot_lifetime::{SlotClass, classes};
 use std::alloc::{AllocError, Global};
-use suspend_crossing::crossing;
 
 /// A text of words with spaces between.
 #[derive(Drop)]

@@ -1,5 +1,5 @@
 use Rattle.std.proofs.Common.{sym, subst, ◌∙◌}
-use Rattle.bit_reach.proofs.Within.{edges_within, starts_within}
+use Rattle.flow_bits.proofs.Within.{edges_within, starts_within}
 use Rattle.call_examples.proofs.reach.words.Goals as goal
 use Rattle.flow_solver.specs.Paths.{HasNodes}
 

@@ -1,6 +1,6 @@
 use Rattle.std.proofs.Common.{subst}
-use Rattle.ir_parser.specs.Reading.{IsReading}
-use Rattle.ir_parser.specs.declared.text.Parsed.{Parsed}
+use Rattle.text_parser.specs.Reading.{IsReading}
+use Rattle.text_parser.specs.declared.text.Parsed.{Parsed}
 use Rattle.worked_examples.proofs.ReadingAgain.{nothing_read}
 use Rattle.worked_examples.proofs.again.is_read_again.Goals as goal
 

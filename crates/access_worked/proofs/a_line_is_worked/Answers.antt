@@ -1,5 +1,0 @@
-use Rattle.access_worked.proofs.Stores.{line_runs}
-use Rattle.access_worked.proofs.a_line_is_worked.Goals as goal
-
-pub returns : goal.returns
-returns c = line_runs

@@ -1,5 +1,0 @@
-use Rattle.access_worked.proofs.Begun.{begun_stands}
-use Rattle.access_worked.proofs.begin_keeps_what_stands.Goals as goal
-
-pub returns : goal.returns
-returns c = begun_stands

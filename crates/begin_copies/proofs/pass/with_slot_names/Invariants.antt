@@ -1,6 +1,0 @@
-use Rattle.std.proofs.Common.{◌≡◌, ◌++◌}
-use Rattle.begin_copies.specs.Slots.{slot_names}
-use Rattle.begin_copies.proofs.pass.with_slot_names.Given as goal
-
-abbrev pub invariant-loop-k : goal.invariant-loop-k
-invariant-loop-k l = l.all ≡ l.names ++ slot_names l.k

@@ -1,6 +1,0 @@
-use Rattle.std.proofs.Common.{◌≡◌, drop}
-use Rattle.begin_copies.specs.Slots.{set_fetches}
-use Rattle.begin_copies.proofs.slots.set_fetches.Given as goal
-
-abbrev pub invariant-loop-slot : goal.invariant-loop-slot
-invariant-loop-slot l = set_fetches l.table (drop l.slot-index l.slots) ≡ set_fetches l.initial.table l.slots

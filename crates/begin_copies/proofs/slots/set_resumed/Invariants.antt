@@ -1,6 +1,0 @@
-use Rattle.std.proofs.Common.{◌≡◌, drop}
-use Rattle.begin_copies.specs.Slots.{set_resumed}
-use Rattle.begin_copies.proofs.slots.set_resumed.Given as goal
-
-abbrev pub invariant-loop-point : goal.invariant-loop-point
-invariant-loop-point l = set_resumed l.flags (drop l.point-index l.suspends) ≡ set_resumed l.initial.flags l.suspends

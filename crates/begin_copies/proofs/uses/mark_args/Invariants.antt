@@ -1,6 +1,0 @@
-use Rattle.std.proofs.Common.{◌≡◌, drop}
-use Rattle.begin_copies.specs.Uses.{mark_args}
-use Rattle.begin_copies.proofs.uses.mark_args.Given as goal
-
-abbrev pub invariant-loop-arg : goal.invariant-loop-arg
-invariant-loop-arg l = mark_args l.slots l.used (drop l.arg-index l.args) ≡ mark_args l.slots l.initial.used l.args

@@ -1,6 +1,0 @@
-use Rattle.std.proofs.Common.{◌≡◌, ◌++◌, drop}
-use Rattle.begin_copies.specs.BeginCopies.{puts}
-use Rattle.begin_copies.proofs.written.push_puts.Given as goal
-
-abbrev pub invariant-loop-slot : goal.invariant-loop-slot
-invariant-loop-slot l = l.all ++ puts (drop l.slot-index l.slots) ≡ l.initial.all ++ puts l.slots

@@ -1,8 +1,0 @@
-use Rattle.std.proofs.Common.{ap, length, arith}
-use Rattle.block_paths.proofs.Bounds.{all_there}
-use Rattle.block_paths.proofs.edges.all_edges.Goals as goal
-
-pub returns : goal.returns
-returns c =
-    let len = ap length c.as_slice-block-items.ensures in
-    all_there c.args.function.now c.loop-at.at c.loop-at.edges (omega (arith, len)) c.loop-at.invariant

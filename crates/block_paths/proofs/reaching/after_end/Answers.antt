@@ -1,7 +1,0 @@
-use Rattle.std.proofs.Common.{◌∙◌, subst}
-use Rattle.flow_solver.specs.Paths.{IsListed}
-use Rattle.block_paths.proofs.Bounds.{successors_bounded}
-use Rattle.block_paths.proofs.reaching.after_end.Goals as goal
-
-pub found-requires : goal.found-requires
-found-requires c = λ b h. successors_bounded c.args.function.now c.args.end b (subst (IsListed b) (c.as_slice.ensures.value ∙ c.in_ok-starts.ensures) h)

@@ -1,5 +1,0 @@
-use Rattle.std.proofs.Common.{◌≡◌, map, take}
-use Rattle.block_paths.proofs.reaching.asked.Given as goal
-
-abbrev pub invariant-loop-block : goal.invariant-loop-block
-invariant-loop-block l = l.starts.items ≡ map (λ b. (b, 1)) (take l.block-index l.blocks)

@@ -1,0 +1,42 @@
+-- What is answered, where the first broken rule or the lowering is told.
+use Rattle.std.proofs.Common.{◌≡◌, ℕ, Bool, List, Option, Ok, Err, subst}
+use Rattle.std.specs.Prelude.{Result, IfOk}
+use Rattle.std.specs.Io.KnownBytes.{Appends}
+use Rattle.ir_base.specs.declared.status.Options.{Options}
+use Rattle.ir_base.specs.declared.status.Status.{Status}
+use Rattle.cli_drive.specs.Answers.{IsAnswer, IsMadeOf, IsMadeOfAcceptance, IsMadeOfRefusal, IsMadeOfRules, check_answer, checked_run, options_of, verdict_status}
+use Rattle.cli_drive.specs.Endings.{Gives, IsTold}
+use Rattle.cli_drive.specs.declared.verdict.Answer.{Answer}
+use Rattle.cli_words.specs.declared.words.RunWords.{RunWords}
+use Rattle.cli_words.specs.declared.words.Words.{Words}
+use Rattle.rule_all.specs.Refused.{IsRefused}
+use Rattle.ir_model.specs.declared.module.Module.{Module}
+use Rattle.compiler.specs.Lowering.{IsLowering}
+use Rattle.compiler.specs.declared.whole.Lowering.{Lowering}
+use Rattle.frame_acceptance.specs.Acceptance.{IsAcceptance, IsRefusedFor}
+use Rattle.frame_acceptance.specs.declared.accepting.Acceptance.{Acceptance}
+use Rattle.rule_modules.specs.declared.order.Refusal.{Refusal}
+use Rattle.rule_names.specs.declared.stage.Stage.{Stage}
+
+pub run_where_checked : {E : Type 0} (m : Module) (w : RunWords) (refusal : Option Refusal) (r : Result Answer E) → IsRefused Stage.Plain m refusal → IfOk r (λ a. a ≡ checked_run refusal m w) → IfOk r (λ a. IsMadeOfRules Stage.Plain m (λ x. checked_run x m w) a)
+run_where_checked m w refusal (Ok a) refused is = record { refusal = refusal; refused = refused; is = is }
+run_where_checked m w refusal (Err e) refused is = is
+
+pub checked_by : {E : Type 0} (stage : Stage) (m : Module) (refusal : Option Refusal) (r : Result Answer E) → IsRefused stage m refusal → IfOk r (λ a. a ≡ check_answer m refusal) → IfOk r (λ a. IsMadeOfRules stage m (check_answer m) a)
+checked_by stage m refusal (Ok a) refused is = record { refusal = refusal; refused = refused; is = is }
+checked_by stage m refusal (Err e) refused is = is
+
+pub made_by : {E : Type 0} (plain : Bool) (options : Options) (bytes : List ℕ) (make : Lowering → Answer) (l : Lowering) (r : Result Answer E) → options ≡ options_of plain → IsLowering options bytes l → IfOk r (λ a. a ≡ make l) → IfOk r (λ a. IsMadeOf plain bytes make a)
+made_by plain options bytes make l (Ok a) same lowered is = record { lowering = l; lowered = subst (λ (o : Options). IsLowering o bytes l) same lowered; is = is }
+made_by plain options bytes make l (Err e) same lowered is = is
+
+pub refused_by : {E : Type 0} (m : Module) (refusal : Option Refusal) (r : Result Answer E) → IsRefusedFor m refusal → IfOk r (λ a. a ≡ check_answer m refusal) → IfOk r (λ a. IsMadeOfRefusal m (check_answer m) a)
+refused_by m refusal (Ok a) refused is = record { refusal = refusal; refused = refused; is = is }
+refused_by m refusal (Err e) refused is = is
+
+pub accepted_by : {E : Type 0} (m : Module) (share : Bool) (make : Acceptance → Answer) (x : Acceptance) (r : Result Answer E) → IsAcceptance m share x → IfOk r (λ a. a ≡ make x) → IfOk r (λ a. IsMadeOfAcceptance m share make a)
+accepted_by m share make x (Ok a) accepted is = record { acceptance = x; accepted = accepted; is = is }
+accepted_by m share make x (Err e) accepted is = is
+
+pub gives_by : (w : Words) (bytes : List ℕ) (out out-new err err-new : Option (List ℕ)) (status : Status) (a : Answer) → IsAnswer w bytes a → (IsTold status → verdict_status a.verdict ≡ status) → (IsTold status → Appends out out-new a.out) → (IsTold status → Appends err err-new a.err) → IsTold status → Gives w bytes out out-new err err-new status
+gives_by w bytes out out-new err err-new status a is ends gives-out gives-err t = record { answer = a; is = is; ends = ends t; out = gives-out t; err = gives-err t }

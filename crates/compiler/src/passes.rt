@@ -1,0 +1,38 @@
+//! The passes in a row.
+
+ghost use Rattle.std.specs.Prelude.{◌≡◌, IfOk};
+ghost use Rattle.pass_early.specs.Early.{early_module};
+ghost use Rattle.compiler.specs.Lowering.{lowered_module};
+ghost use Rattle.pass_frames.specs.Framed.{IsFramedForm};
+
+use frame_layout::Layouts;
+use ir_model::Module;
+use pass_cleanup::clean;
+use pass_early::early;
+use pass_frames::frame_up;
+use pass_split::split;
+use std::alloc::{AllocError, Global};
+
+/// The framed form of a source: saves are written out, and what coroutines keep behind their suspends goes into their frames.
+pub fn framed_module(
+    alloc: Global,
+    source: &Module,
+    layouts: &Layouts,
+) -> Result<Module, AllocError>
+    ensures { IfOk result (λ framed. IsFramedForm layouts.now (early_module source.now) framed) }
+{
+    let first = early(alloc, source)?;
+    frame_up(alloc, &first, layouts)
+}
+
+/// The module without coroutines: they are split, and what is left of the coro intrinsics is removed.
+pub fn lowered_module(
+    alloc: Global,
+    framed: &Module,
+    layouts: &Layouts,
+) -> Result<Module, AllocError>
+    ensures { IfOk result (λ m. m ≡ lowered_module layouts.now framed.now) }
+{
+    let split = split(alloc, framed, layouts)?;
+    clean(alloc, &split)
+}

@@ -1,0 +1,11 @@
+pub mod All
+pub mod Carried
+pub mod Definitions
+pub mod Edges
+pub mod Items
+pub mod Names
+pub mod NoCoroutine
+pub mod Rules
+pub mod Transfers
+pub mod Uses
+pub mod Values

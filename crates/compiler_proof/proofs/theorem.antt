@@ -1,0 +1,6 @@
+pub mod Elided
+pub mod Entries
+pub mod Numbered
+pub mod Rows
+pub mod Stack
+pub mod Whole

@@ -1,0 +1,4 @@
+pub mod Coroutines
+pub mod Row
+pub mod Sources
+pub mod Unnamed

@@ -1,0 +1,4 @@
+pub mod cleanup
+pub mod order
+pub mod theorem
+pub mod whole

@@ -1,0 +1,3 @@
+pub mod accepted
+pub mod rules
+pub mod unnamed_intrinsics

@@ -1,0 +1,24 @@
+-- Calls that a run begins with, in a source and in what is lowered of it.
+use Rattle.std.specs.Prelude.{◌≡◌, ℕ, ℤ, false, List, Some, slice_get}
+use Rattle.ir_base.specs.declared.outcome.Word.{Word}
+use Rattle.ir_model.specs.declared.module.Function.{Function}
+use Rattle.ir_model.specs.declared.module.Module.{Module}
+
+-- the function at a position, its arguments, and the answers to the calls that the run observes
+pub record Run : Type 0 where
+  pub entry : ℕ
+  pub args : List Word
+  pub answers : List ℤ
+
+-- the entry is a function that is no coroutine
+pub record IsCallable (m : Module) (entry : ℕ) : Type 0 where
+  pub function : Function
+  pub there : slice_get m.functions entry ≡ Some function
+  pub plain : function.coroutine ≡ false
+
+-- in the other module the function of that name is at the other position
+pub record IsEntry (m n : Module) (entry other : ℕ) : Type 0 where
+  pub callable : IsCallable m entry
+  pub counterpart : Function
+  pub is : slice_get n.functions other ≡ Some counterpart
+  pub name : counterpart.name ≡ callable.function.name

@@ -1,6 +1,0 @@
-pub mod Entries
-pub mod Rows
-pub mod Whole
-pub mod Stack
-pub mod Numbered
-pub mod Elided

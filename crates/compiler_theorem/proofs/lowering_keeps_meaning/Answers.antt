@@ -1,5 +1,0 @@
-use Rattle.compiler_theorem.proofs.Whole.{keeps_meaning}
-use Rattle.compiler_theorem.proofs.lowering_keeps_meaning.Goals as goal
-
-pub returns : goal.returns
-returns g c = keeps_meaning g.P.Relates.renewed g.P.Relates.renewing g.P.Relates.framed g.P.Relates.framing

@@ -1,5 +1,0 @@
-use Rattle.coro_cleanup.proofs.Simulation.{clean_corresponds}
-use Rattle.coro_cleanup.proofs.cleaned_runs.cleaning_keeps_states.Goals as goal
-
-pub returns : goal.returns
-returns c = clean_corresponds

@@ -1,6 +1,0 @@
-use Rattle.std.proofs.Common.{◌≡◌, ◌++◌, drop, map}
-use Rattle.coro_cleanup.specs.Cleanup.{clean_function}
-use Rattle.coro_cleanup.proofs.pass.clean_functions.Given as goal
-
-abbrev pub invariant-loop-function : goal.invariant-loop-function
-invariant-loop-function l = l.all ++ map clean_function (drop l.function-index l.functions) ≡ map clean_function l.functions

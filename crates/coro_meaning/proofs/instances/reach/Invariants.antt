@@ -1,9 +1,0 @@
-use Rattle.std.proofs.Common.{◌≡◌, ℕ, suc, ◌-◌, length}
-use Rattle.coro_meaning.specs.Indexes.{number_at}
-use Rattle.coro_meaning.proofs.instances.reach.Given as goal
-
-abbrev pub invariant-loop-table : goal.invariant-loop-table
-invariant-loop-table l = (i : ℕ) → number_at l.table.items i ≡ number_at l.initial.table.items i
-
-abbrev pub decreases-loop-table : goal.decreases-loop-table
-decreases-loop-table l = suc l.at - length l.table.items

@@ -1,8 +1,0 @@
-use Rattle.std.proofs.Common.{◌≡◌, drop}
-use Rattle.std.specs.Prelude.{find}
-use Rattle.coro_meaning.specs.Source.{has_promise_at}
-use Rattle.coro_meaning.specs.SourceEffects.{given_of}
-use Rattle.coro_meaning.proofs.promise.keeper_of.Given as goal
-
-abbrev pub invariant-loop-instance : goal.invariant-loop-instance
-invariant-loop-instance l = find (λ x. has_promise_at (given_of l.given) l.block x) l.instances ≡ find (λ x. has_promise_at (given_of l.given) l.block x) (drop l.instance-index l.instances)

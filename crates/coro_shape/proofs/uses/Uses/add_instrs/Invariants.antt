@@ -1,6 +1,0 @@
-use Rattle.std.proofs.Common.{◌≡◌, drop}
-use Rattle.coro_shape.specs.Uses.{counted_instrs}
-use Rattle.coro_shape.proofs.uses.Uses.add_instrs.Given as goal
-
-abbrev pub invariant-loop-instr : goal.invariant-loop-instr
-invariant-loop-instr l = counted_instrs l.self (drop l.instr-index l.instrs) ≡ counted_instrs l.initial.self l.instrs

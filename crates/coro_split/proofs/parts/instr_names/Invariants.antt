@@ -1,6 +1,0 @@
-use Rattle.std.proofs.Common.{◌≡◌, ◌++◌, ◌∷◌, drop, take, map, filter, length, ◌-◌, ◌+◌}
-use Rattle.coro_split.specs.Parts.{instr_names}
-use Rattle.coro_split.proofs.parts.instr_names.Given as goal
-
-abbrev pub invariant-loop-k : goal.invariant-loop-k
-invariant-loop-k l = l.names ≡ instr_names l.k

@@ -1,6 +1,0 @@
-use Rattle.std.proofs.Common.{◌≡◌, ◌++◌, ◌∷◌, drop, take, map, filter, length, ◌-◌, ◌+◌}
-use Rattle.coro_split.specs.Parts.{is_alloca}
-use Rattle.coro_split.proofs.parts.push_allocas.Given as goal
-
-abbrev pub invariant-loop-instr : goal.invariant-loop-instr
-invariant-loop-instr l = l.all ++ filter is_alloca (drop l.instr-index l.instrs) ≡ l.initial.all ++ filter is_alloca l.instrs

@@ -1,6 +1,0 @@
-use Rattle.std.proofs.Common.{◌≡◌, ◌++◌, ◌∷◌, drop, take, map, filter, length, ◌-◌, ◌+◌}
-use Rattle.coro_split.specs.Parts.{split_functions}
-use Rattle.coro_split.proofs.pass.split_functions.Given as goal
-
-abbrev pub invariant-loop-function : goal.invariant-loop-function
-invariant-loop-function l = l.all ++ split_functions l.left (drop l.function-index l.functions) ≡ split_functions l.layouts l.functions

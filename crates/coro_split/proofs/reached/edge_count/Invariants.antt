@@ -1,6 +1,0 @@
-use Rattle.std.proofs.Common.{◌≡◌, ◌++◌, ◌∷◌, drop, take, map, filter, length, ◌-◌, ◌+◌}
-use Rattle.coro_split.specs.Reached.{edges_of}
-use Rattle.coro_split.proofs.reached.edge_count.Given as goal
-
-abbrev pub invariant-loop-block : goal.invariant-loop-block
-invariant-loop-block l = l.count + edges_of (drop l.block-index l.blocks) ≡ edges_of l.blocks

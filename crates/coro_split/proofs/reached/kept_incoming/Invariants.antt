@@ -1,6 +1,0 @@
-use Rattle.std.proofs.Common.{◌≡◌, ◌++◌, ◌∷◌, drop, take, map, filter, length, ◌-◌, ◌+◌}
-use Rattle.coro_split.specs.Reached.{is_flagged}
-use Rattle.coro_split.proofs.reached.kept_incoming.Given as goal
-
-abbrev pub invariant-loop-one : goal.invariant-loop-one
-invariant-loop-one l = l.all ++ filter (λ i. is_flagged l.flags i.from) (drop l.one-index l.incoming) ≡ filter (λ i. is_flagged l.flags i.from) l.incoming

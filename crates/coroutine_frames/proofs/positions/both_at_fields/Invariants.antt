@@ -1,6 +1,0 @@
-use Rattle.std.proofs.Common.{◌≡◌, ◌++◌, None, drop, get_or}
-use Rattle.coroutine_frames.specs.Held.{both_at_fields}
-use Rattle.coroutine_frames.proofs.positions.both_at_fields.Given as goal
-
-abbrev pub invariant-loop-pair : goal.invariant-loop-pair
-invariant-loop-pair l = l.all.items ++ both_at_fields (λ v. get_or l.table v None) (drop l.pair-index l.pairs) ≡ both_at_fields (λ v. get_or l.table v None) l.pairs

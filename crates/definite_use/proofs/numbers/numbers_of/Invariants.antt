@@ -1,6 +1,0 @@
-use Rattle.std.proofs.Common.{take}
-use Rattle.definite_use.specs.Questions.{AreNumbered}
-use Rattle.definite_use.proofs.numbers.numbers_of.Given as goal
-
-abbrev pub invariant-loop-found : goal.invariant-loop-found
-invariant-loop-found l = AreNumbered l.names (take l.found-index l.opens) l.all.numbers l.all.values

@@ -1,8 +1,0 @@
-use Rattle.std.proofs.Common.{◌≡◌, ℕ, ◌<◌, false, Some}
-use Rattle.std.specs.Prelude.{slice_get}
-use Rattle.definite_use.specs.Questions.{is_told}
-use Rattle.definite_use.specs.declared.open_use.OpenUse.{OpenUse}
-use Rattle.definite_use.proofs.rule.first_told.Given as goal
-
-abbrev pub invariant-loop-at : goal.invariant-loop-at
-invariant-loop-at l = (i : ℕ) (u : OpenUse) → i < l.at → slice_get l.opens i ≡ Some u → is_told l.numbers l.chunk l.made l.words u ≡ false

@@ -1,6 +1,0 @@
-use Rattle.std.proofs.Common.{◌≡◌, ◌++◌, drop, map}
-use Rattle.early_lower.specs.BeginName.{named_block}
-use Rattle.early_lower.proofs.begin_name.named_blocks.Given as goal
-
-abbrev pub invariant-loop-block : goal.invariant-loop-block
-invariant-loop-block l = l.all ++ map (named_block l.id) (drop l.block-index l.blocks) ≡ map (named_block l.id) l.blocks

@@ -1,6 +1,0 @@
-use Rattle.std.proofs.Common.{◌≡◌, drop}
-use Rattle.early_lower.specs.Early.{flagged_by}
-use Rattle.early_lower.proofs.frames.flag_by.Given as goal
-
-abbrev pub invariant-loop-block : goal.invariant-loop-block
-invariant-loop-block l = flagged_by l.flags (drop l.block-index l.blocks) ≡ flagged_by l.initial.flags l.blocks

@@ -1,6 +1,0 @@
-use Rattle.std.proofs.Common.{◌≡◌, ◌++◌, drop, map}
-use Rattle.early_lower.specs.Renaming.{renamed_phi}
-use Rattle.early_lower.proofs.renaming.Renaming.phis.Given as goal
-
-abbrev pub invariant-loop-phi : goal.invariant-loop-phi
-invariant-loop-phi l = l.all ++ map (renamed_phi l.self) (drop l.phi-index l.phis) ≡ map (renamed_phi l.self) l.phis

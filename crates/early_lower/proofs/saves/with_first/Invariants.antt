@@ -1,5 +1,0 @@
-use Rattle.std.proofs.Common.{◌≡◌, ◌++◌, drop}
-use Rattle.early_lower.proofs.saves.with_first.Given as goal
-
-abbrev pub invariant-loop-arg : goal.invariant-loop-arg
-invariant-loop-arg l = l.all ++ drop l.arg-index l.others ≡ l.initial.all ++ l.others

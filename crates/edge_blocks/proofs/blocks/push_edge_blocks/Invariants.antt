@@ -1,6 +1,0 @@
-use Rattle.std.proofs.Common.{◌≡◌, ◌++◌, drop, map}
-use Rattle.edge_blocks.specs.EdgeBlocks.{edge_block}
-use Rattle.edge_blocks.proofs.blocks.push_edge_blocks.Given as goal
-
-abbrev pub invariant-loop-edge : goal.invariant-loop-edge
-invariant-loop-edge l = l.all ++ map edge_block (drop l.edge-index l.edges) ≡ l.initial.all ++ map edge_block l.edges

@@ -1,6 +1,0 @@
-use Rattle.std.proofs.Common.{◌≡◌, ◌++◌, drop}
-use Rattle.edge_blocks.specs.EdgeBlocks.{split_blocks}
-use Rattle.edge_blocks.proofs.blocks.split_blocks.Given as goal
-
-abbrev pub invariant-loop-block : goal.invariant-loop-block
-invariant-loop-block l = l.all ++ split_blocks l.flags l.table.items l.next (drop l.block-index l.blocks) ≡ split_blocks l.flags l.table.items l.first l.blocks

@@ -1,6 +1,0 @@
-use Rattle.std.proofs.Common.{◌≡◌, ◌++◌, drop, length}
-use Rattle.edge_blocks.specs.Edges.{edges_by}
-use Rattle.edge_blocks.proofs.edges.edges_of.Given as goal
-
-abbrev pub invariant-loop-block : goal.invariant-loop-block
-invariant-loop-block l = l.all ++ edges_by l.flags l.next (drop l.block-index l.block-items) ≡ edges_by l.flags (length l.function.names) l.block-items

@@ -1,6 +1,0 @@
-use Rattle.std.proofs.Common.{◌≡◌, drop}
-use Rattle.edge_blocks.specs.Edges.{flagged_by}
-use Rattle.edge_blocks.proofs.edges.flag_by.Given as goal
-
-abbrev pub invariant-loop-block : goal.invariant-loop-block
-invariant-loop-block l = flagged_by l.flags (drop l.block-index l.blocks) ≡ flagged_by l.initial.flags l.blocks

@@ -1,6 +1,0 @@
-use Rattle.std.proofs.Common.{◌≡◌, ◌++◌, drop}
-use Rattle.edge_blocks.specs.EdgeBlocks.{split_cases}
-use Rattle.edge_blocks.proofs.terms.split_cases.Given as goal
-
-abbrev pub invariant-loop-case : goal.invariant-loop-case
-invariant-loop-case l = l.all ++ split_cases l.flags l.resumes l.next (drop l.case-index l.cases) ≡ split_cases l.flags l.resumes l.first l.cases

@@ -1,7 +1,0 @@
-use Rattle.std.proofs.Common.{◌≡◌, drop}
-use Rattle.std.specs.List.{list_any}
-use Rattle.edge_rules.specs.Edges.{differs}
-use Rattle.edge_rules.proofs.edges.any_differs.Given as goal
-
-abbrev pub invariant-loop-one : goal.invariant-loop-one
-invariant-loop-one l = list_any (differs l.incoming) l.incoming ≡ list_any (differs l.incoming) (drop l.one-index l.incoming)

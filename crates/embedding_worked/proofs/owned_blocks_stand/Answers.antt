@@ -1,5 +1,0 @@
-use Rattle.embedding_worked.proofs.Frames.{owned_block_stands}
-use Rattle.embedding_worked.proofs.owned_blocks_stand.Goals as goal
-
-pub returns : goal.returns
-returns c = owned_block_stands

@@ -1,5 +1,0 @@
-use Rattle.embedding_worked.proofs.Slots.{slot_stands_in_frame}
-use Rattle.embedding_worked.proofs.slots_stand_in_frames.Goals as goal
-
-pub returns : goal.returns
-returns c = slot_stands_in_frame

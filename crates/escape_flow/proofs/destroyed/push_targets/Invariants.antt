@@ -1,6 +1,0 @@
-use Rattle.std.proofs.Common.{◌≡◌, ◌++◌, drop}
-use Rattle.escape_flow.specs.Destroyed.{targets_of}
-use Rattle.escape_flow.proofs.destroyed.push_targets.Given as goal
-
-abbrev pub invariant-loop-edge : goal.invariant-loop-edge
-invariant-loop-edge l = l.all ++ targets_of l.way (drop l.edge-index l.edges) ≡ l.initial.all ++ targets_of l.way l.edges

@@ -1,6 +1,0 @@
-use Rattle.std.proofs.Common.{◌≡◌, map, take}
-use Rattle.escape_flow.specs.Destroyed.{is_odd}
-use Rattle.escape_flow.proofs.destroyed.told.Given as goal
-
-abbrev pub invariant-loop-word : goal.invariant-loop-word
-invariant-loop-word l = l.all ≡ map is_odd (take l.word-index l.words)

@@ -1,7 +1,0 @@
-use Rattle.std.proofs.Common.{◌≡◌, drop}
-use Rattle.std.specs.List.{list_any}
-use Rattle.escape_flow.specs.Sites.{ends_use}
-use Rattle.escape_flow.proofs.sites.end_use.Given as goal
-
-abbrev pub invariant-loop-point : goal.invariant-loop-point
-invariant-loop-point l = list_any (ends_use l.function l.call) (drop l.point-index l.points) ≡ list_any (ends_use l.function l.call) l.points

@@ -1,7 +1,0 @@
-use Rattle.std.proofs.Common.{map, take}
-use Rattle.field_placing.specs.Placed.{IsPair}
-use Rattle.field_placing.specs.Steps.{AreEarlier}
-use Rattle.field_placing.proofs.earlier.earlier.Given as goal
-
-abbrev pub invariant-loop-pair : goal.invariant-loop-pair
-invariant-loop-pair l = AreEarlier l.rooms l.promise (IsPair (take l.pair-index l.conflicts)) (map (λ row. row.items) l.rows.items)

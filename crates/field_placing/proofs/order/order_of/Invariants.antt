@@ -1,5 +1,0 @@
-use Rattle.field_placing.proofs.Orders.{AreCounted}
-use Rattle.field_placing.proofs.order.order_of.Given as goal
-
-abbrev pub invariant-loop-k : goal.invariant-loop-k
-invariant-loop-k l = AreCounted l.k l.order.items

@@ -1,8 +1,0 @@
-use Rattle.field_placing.specs.Placed.{AreKeptApart}
-use Rattle.field_placing.proofs.Both.{is_apart}
-use Rattle.field_placing.proofs.Choosing.{too_large}
-use Rattle.field_placing.proofs.placing.place_by.Goals as goal
-
-pub returns-in-None : goal.returns-in-None
-returns-in-None c =
-    too_large c.args.rooms.now c.args.promise (AreKeptApart c.args.conflicts.now c.args.one.now c.args.other.now) (is_apart c.args.rooms.now c.args.promise c.args.conflicts.now c.args.one.now c.args.other.now) (rw c.in-None.is at c.in_ok-place_behind.ensures)

@@ -1,6 +1,0 @@
-use Rattle.std.proofs.Common.{take}
-use Rattle.field_placing.proofs.Covering.{IsGathered}
-use Rattle.field_placing.proofs.sides.bars_of.Given as goal
-
-abbrev pub invariant-loop-k : goal.invariant-loop-k
-invariant-loop-k l = IsGathered l.rooms l.offsets (take l.k-index l.fields) l.bars.items

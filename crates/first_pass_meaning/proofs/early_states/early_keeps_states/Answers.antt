@@ -1,5 +1,0 @@
-use Rattle.first_pass_meaning.proofs.early_states.Composition.{early_corresponds}
-use Rattle.first_pass_meaning.proofs.early_states.early_keeps_states.Goals as goal
-
-pub returns : goal.returns
-returns c = early_corresponds

@@ -1,4 +1,0 @@
-pub mod Names
-pub mod Suspending
-pub mod Simulation
-pub mod Tables

@@ -1,4 +1,0 @@
-pub mod Fits
-pub mod Kept
-pub mod Acts
-pub mod Steps

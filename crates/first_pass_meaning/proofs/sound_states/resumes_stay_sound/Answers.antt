@@ -1,5 +1,0 @@
-use Rattle.first_pass_meaning.proofs.sound_states.Acts.{continue_sound}
-use Rattle.first_pass_meaning.proofs.sound_states.resumes_stay_sound.Goals as goal
-
-pub returns : goal.returns
-returns c = continue_sound

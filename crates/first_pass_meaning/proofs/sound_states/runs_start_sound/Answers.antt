@@ -1,5 +1,0 @@
-use Rattle.first_pass_meaning.proofs.sound_states.Steps.{first_sound}
-use Rattle.first_pass_meaning.proofs.sound_states.runs_start_sound.Goals as goal
-
-pub returns : goal.returns
-returns c = first_sound

@@ -1,5 +1,0 @@
-use Rattle.first_pass_meaning.proofs.sound_states.Steps.{step_sound}
-use Rattle.first_pass_meaning.proofs.sound_states.steps_stay_sound.Goals as goal
-
-pub returns : goal.returns
-returns c = step_sound

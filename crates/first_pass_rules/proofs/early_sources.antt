@@ -1,5 +1,0 @@
-pub mod Tables
-pub mod Accepted
-pub mod Laid
-pub mod Alike
-pub mod Kept

@@ -1,9 +1,0 @@
-pub mod early_crossing
-pub mod early_elision
-pub mod early_frames
-pub mod early_local_rules
-pub mod early_path_rules
-pub mod early_rules
-pub mod early_slots
-pub mod early_sources
-pub mod named_texts

@@ -1,0 +1,16 @@
+use Rattle.std.proofs.Common.{arith, get_or, subst}
+use Rattle.flow_solver.specs.Paths.{HasNodes}
+use Rattle.flow_facts.proofs.Above.{nodes-more}
+use Rattle.flow_facts.proofs.Points.{read-again, take-all}
+use Rattle.flow_facts.proofs.chains.above_edges.Goals as goal
+
+pub loop-from-preserved : goal.loop-from-preserved
+loop-from-preserved c =
+    record {
+      edges = nodes-more c.loop-from.count c.in_ok-count.count c.args.edges.now c.loop-from.from-index (get_or c.args.edges.now c.loop-from.from-index (0, 0)) c.loop-from-test.true (read-again c.args.edges.now c.loop-from.from-index (0, 0) c.loop-from-test.true)
+          (omega arith) (omega arith) (omega arith) c.loop-from.invariant.edges;
+      least = omega arith;
+    }
+
+pub returns-clause-edges : goal.returns-clause-edges
+returns-clause-edges c = subst (HasNodes c.loop-from.count) (take-all c.args.edges.now c.loop-from.from-index (let le = c.loop-from-test.false in omega (arith, le))) c.loop-from.invariant.edges

@@ -1,0 +1,6 @@
+use Rattle.std.proofs.Common.{take}
+use Rattle.flow_points.specs.Rows.{AreCleared}
+use Rattle.flow_points.proofs.marks.Marks.clear_all.Given as goal
+
+abbrev pub invariant-loop-point : goal.invariant-loop-point
+invariant-loop-point l = AreCleared (take l.point-index l.points) l.initial.self l.self

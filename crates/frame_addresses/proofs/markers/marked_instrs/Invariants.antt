@@ -1,6 +1,0 @@
-use Rattle.std.proofs.Common.{◌≡◌, ◌++◌, drop, filter}
-use Rattle.frame_addresses.specs.Placing.{stays}
-use Rattle.frame_addresses.proofs.markers.marked_instrs.Given as goal
-
-abbrev pub invariant-loop-instr : goal.invariant-loop-instr
-invariant-loop-instr l = l.all ++ filter (stays l.marked) (drop l.instr-index l.instrs) ≡ filter (stays l.marked) l.instrs

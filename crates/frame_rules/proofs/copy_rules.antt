@@ -1,4 +1,0 @@
-pub mod Slots
-pub mod Names
-pub mod Copied
-pub mod KeptCopies

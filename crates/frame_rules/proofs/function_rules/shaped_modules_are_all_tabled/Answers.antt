@@ -1,5 +1,0 @@
-use Rattle.frame_rules.proofs.function_rules.Shaped.{all_shaped}
-use Rattle.frame_rules.proofs.function_rules.shaped_modules_are_all_tabled.Goals as goal
-
-pub returns : goal.returns
-returns c = all_shaped

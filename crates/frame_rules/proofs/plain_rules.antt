@@ -1,6 +1,0 @@
-pub mod Places
-pub mod Sentences
-pub mod Once
-mod Faults
-pub mod Accepted
-pub mod Told

@@ -1,3 +1,0 @@
-pub mod MovedState
-pub mod Ways
-pub mod Near

@@ -1,3 +1,0 @@
-pub mod Tabled
-pub mod Kept
-pub mod Signatures

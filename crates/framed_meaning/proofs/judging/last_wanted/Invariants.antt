@@ -1,9 +1,0 @@
-use Rattle.framed_meaning.specs.FramedEffects.{fits, framed_of}
-use Rattle.framed_meaning.proofs.Chains.{IsCandidate, after}
-use Rattle.framed_meaning.proofs.judging.last_wanted.Given as goal
-
-abbrev pub invariant-loop-candidate : goal.invariant-loop-candidate
-invariant-loop-candidate l = IsCandidate (fits (framed_of l.program) l.block l.wanted) l.block l.instances l.candidate
-
-abbrev pub decreases-loop-candidate : goal.decreases-loop-candidate
-decreases-loop-candidate l = after l.candidate

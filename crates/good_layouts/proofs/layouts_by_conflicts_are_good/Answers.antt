@@ -1,5 +1,0 @@
-use Rattle.good_layouts.proofs.Laid.{shared_good}
-use Rattle.good_layouts.proofs.layouts_by_conflicts_are_good.Goals as goal
-
-pub returns : goal.returns
-returns c = shared_good

@@ -1,7 +1,0 @@
--- The empty text.
-use Rattle.std.proofs.Common.{[], refl}
-use Rattle.ir_grammar.specs.Items.{module_of}
-use Rattle.ir_grammar.specs.Text.{StandsFor}
-
-pub empty_text : StandsFor [] (module_of [])
-empty_text = record { whole = refl; items = []; are = refl; kept = refl }

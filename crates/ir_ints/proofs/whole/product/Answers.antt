@@ -1,5 +1,0 @@
-use Rattle.ir_ints.proofs.Products.{product_is}
-use Rattle.ir_ints.proofs.whole.product.Goals as goal
-
-pub returns : goal.returns
-returns c = product_is c.args.a c.args.b c.requires.a_small c.requires.b_small

@@ -1,0 +1,4 @@
+pub mod Alike
+pub mod Counted
+pub mod Crossing
+pub mod Values

@@ -1,0 +1,2 @@
+pub mod CellKinds
+pub mod Keepable

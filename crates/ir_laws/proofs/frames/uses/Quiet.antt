@@ -1,0 +1,30 @@
+-- Lemmas on quiet, that speak of no pass.
+use Rattle.std.proofs.Common.{◌≡◌, ℕ, ◌+◌, List, [], ◌∷◌}
+use Rattle.std.specs.Prelude.{Some, slice_get}
+use Rattle.ir_laws.proofs.paths.crossing.Spots.{Spot}
+use Rattle.rule_uses.specs.Uses.{locals_in, phi_values}
+use Rattle.flow_solver.specs.Paths.{IsListed}
+use Rattle.ir_parts.specs.Contents.{ending_operands, result_of}
+use Rattle.pass_intrinsics.specs.Cuts.{cut_at}
+use Rattle.pass_intrinsics.specs.declared.cuts.Cut.{Cut}
+use Rattle.pass_intrinsics.specs.declared.shape.Part.{Part}
+use Rattle.pass_intrinsics.specs.declared.shape.Shape.{Shape}
+use Rattle.ir_model.specs.Names.{position_of}
+use Rattle.ir_model.specs.declared.instr.Incoming.{Incoming}
+use Rattle.ir_model.specs.declared.instr.Instr.{Instr}
+use Rattle.ir_model.specs.declared.instr.Phi.{Phi}
+use Rattle.ir_model.specs.declared.module.Block.{Block}
+use Rattle.ir_model.specs.declared.module.Function.{Function}
+use Rattle.ir_model.specs.declared.operand.Operand.{Operand}
+use Rattle.ir_paths.specs.Paths.{targets}
+use Rattle.ir_laws.proofs.frames.uses.Lowering.{ComesBy}
+
+-- A value isn't used on paths of a function: A says so of paths that come to the front of a block, and N of those that come to a place in
+-- a block, before some instructions. Paths end where the part returns.
+pub record IsQuiet (f h : Function) (s : Shape) (part : Part) (v : ℕ) (A : ℕ → Type 0) (N : ℕ → ℕ → Block → List Instr → Type 0) : Type 0 where
+  pub front : (q : ℕ) (b : Block) → slice_get h.blocks q ≡ Some b → A q → (IsListed v (phi_values b) → ⊥) → N q 0 b b.instrs
+  pub used : (q at : ℕ) (b : Block) (i : Instr) (is : List Instr) → Spot h q at b (i ∷ is) → N q at b (i ∷ is) → (cut_at s part i is ≡ Cut.Returns → ⊥) → ComesBy f s i v → ⊥
+  pub next : (q at : ℕ) (b : Block) (i : Instr) (is : List Instr) → Spot h q at b (i ∷ is) → N q at b (i ∷ is) → (cut_at s part i is ≡ Cut.Returns → ⊥) → (result_of i ≡ Some v → ⊥) → N q (at + 1) b is
+  pub term : (q at : ℕ) (b : Block) → Spot h q at b [] → N q at b [] → IsListed v (locals_in (ending_operands b.term)) → ⊥
+  pub edge : (q at : ℕ) (b : Block) → Spot h q at b [] → N q at b [] → (label : ℕ) → IsListed label (targets b.term) → A (position_of h label)
+  pub phi : (q at : ℕ) (b : Block) → Spot h q at b [] → N q at b [] → (to : ℕ) (c : Block) (x : Phi) (i : Incoming) → slice_get h.blocks to ≡ Some c → IsListed x c.phis → IsListed i x.incoming → i.value ≡ Operand.Local v → position_of h i.from ≡ q → ⊥

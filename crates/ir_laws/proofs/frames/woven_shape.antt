@@ -1,0 +1,3 @@
+pub mod OwnEdges
+pub mod Shaped
+pub mod Suspends

@@ -1,0 +1,5 @@
+pub mod Names
+pub mod SlotsAlike
+pub mod Still
+pub mod Strands
+pub mod Tests

@@ -1,0 +1,3 @@
+pub mod NewUses
+pub mod Spots
+pub mod Values

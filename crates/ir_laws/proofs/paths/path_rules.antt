@@ -1,0 +1,4 @@
+pub mod Outside
+pub mod SavedWindows
+pub mod Where
+pub mod Windows

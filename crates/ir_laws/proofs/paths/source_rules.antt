@@ -1,0 +1,4 @@
+pub mod Behind
+pub mod Locals
+pub mod Makers
+pub mod Windows

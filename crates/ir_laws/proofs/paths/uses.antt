@@ -1,0 +1,3 @@
+pub mod Groups
+pub mod Paths
+pub mod Sources

@@ -1,0 +1,11 @@
+pub mod CellKinds
+pub mod DefinedKinds
+pub mod Indices
+pub mod Lists
+pub mod Members
+pub mod PartFacts
+pub mod Planned
+pub mod Puts
+pub mod Slots
+pub mod Times
+pub mod Types

@@ -1,0 +1,4 @@
+pub mod Numbered
+pub mod Sources
+pub mod Steps
+pub mod Words

@@ -1,0 +1,11 @@
+pub mod Accepted
+pub mod Called
+pub mod Contents
+pub mod Edges
+pub mod Local
+pub mod Names
+pub mod Parts
+pub mod Uses
+pub mod ValueKinds
+pub mod Values
+pub mod Whole

@@ -1,0 +1,7 @@
+pub mod Holding
+pub mod KeptValues
+pub mod Order
+pub mod Outside
+pub mod Passes
+pub mod SavedUses
+pub mod Windows

@@ -1,0 +1,5 @@
+pub mod Items
+pub mod Kept
+pub mod Made
+pub mod Spellings
+pub mod Unreserved

@@ -1,0 +1,70 @@
+-- What the name of a part tells of the name that it is made of.
+use Rattle.std.proofs.Common.{◌≡◌, ℕ, ◌<◌, true, false, List, [], ◌∷◌, ◌++◌, refl, sym, ap, ◌∙◌, arith}
+use Rattle.std.proofs.lemmas.Bool.{and_from, le-leb, or_parts}
+use Rattle.std.proofs.lemmas.Fmt.{decimal_injective, decimal_is_IsNumeral}
+use Rattle.std.proofs.lemmas.List.{append_cancel_right}
+use Rattle.std.proofs.lemmas.Str.Parse.{digit_from_value}
+use Rattle.std.specs.Prelude.{codes, decimal, nat_le, ◌^◌}
+use Rattle.std.specs.List.{list_all}
+use Rattle.std.specs.Str.Parse.{AllDigits}
+use Rattle.ir_base.specs.declared.name.Name.{Name}
+use Rattle.ir_model.specs.Names.{same_name, same_text, spelling}
+use Rattle.rule_names.specs.Reserved.{is_digit, is_odd, part_name}
+use Rattle.ir_laws.specs.facts.same_names.Short.{IsShort}
+use Rattle.ir_laws.proofs.facts.Truth.{same_name-itself}
+
+pub never_same : (a b : Name) → same_name a b ≡ false → a ≡ b → ⊥
+never_same a b e same = let other : false ≡ true = sym e ∙ ap (λ (x : Name). same_name x b) same ∙ same_name-itself b in absurd (cc)
+
+-- ---- the last byte of a text
+
+abbrev last_of : ℕ → List ℕ → ℕ
+last_of d [] = d
+last_of d (x ∷ xs) = last_of x xs
+
+last_behind : (d : ℕ) (xs : List ℕ) (y : ℕ) (ys : List ℕ) → last_of d (xs ++ y ∷ ys) ≡ last_of y ys
+last_behind d [] y ys = refl
+last_behind d (x ∷ xs) y ys = last_behind x xs y ys
+
+letters : (d e : List ℕ) → d ++ codes ".resume" ≡ e ++ codes ".destroy" → ◌≡◌ {A = ℕ} 101 121
+letters d e same = sym (last_behind 0 d 46 (codes "resume")) ∙ ap (last_of 0) same ∙ last_behind 0 e 46 (codes "destroy")
+
+other_last : (d e : List ℕ) → d ++ codes ".resume" ≡ e ++ codes ".destroy" → ⊥
+other_last d e same = omega (arith, letters d e same)
+
+-- ---- numbers are digits
+
+are_digits : (ds : List ℕ) → AllDigits 10 ds → list_all is_digit ds ≡ true
+are_digits [] h = refl
+are_digits (c ∷ cs) h =
+    let range = digit_from_value c h.0 in
+    and_from (is_digit c) (list_all is_digit cs) (and_from (nat_le 48 c) (nat_le c 57) (le-leb 48 c (omega (arith, range))) (le-leb c 57 (omega (arith, range)))) (are_digits cs h.1)
+
+pub number_is_digits : (n : ℕ) → n < 2 ^ 64 → list_all is_digit (decimal n) ≡ true
+number_is_digits n h = are_digits (decimal n) (decimal_is_IsNumeral n h).0.1
+
+-- ---- names that are spelled alike
+
+no_digits : (n : ℕ) (t : List ℕ) → n < 2 ^ 64 → is_odd (Name.Text t) ≡ false → decimal n ≡ t → ⊥
+no_digits n t h odd e =
+    let other : false ≡ true = sym ((or_parts (same_text t (codes "llvm")) (list_all is_digit t) odd).1) ∙ sym (ap (list_all is_digit) e) ∙ number_is_digits n h in
+    absurd (cc)
+
+spelled_alike : (a b : Name) → IsShort a → IsShort b → is_odd a ≡ false → is_odd b ≡ false → spelling a ≡ spelling b → a ≡ b
+spelled_alike (Name.Number m) (Name.Number n) p q h k e = ap Name.Number (decimal_injective m n p q e)
+spelled_alike (Name.Number m) (Name.Text t) p q h k e = absurd (no_digits m t p k e)
+spelled_alike (Name.Text s) (Name.Number n) p q h k e = absurd (no_digits n s q h (sym e))
+spelled_alike (Name.Text s) (Name.Text t) p q h k e = ap Name.Text e
+
+abbrev text_of : Name → List ℕ
+text_of (Name.Number n) = []
+text_of (Name.Text t) = t
+
+pub resumes_alike : (a b : Name) → IsShort a → IsShort b → is_odd a ≡ false → is_odd b ≡ false → part_name a (codes ".resume") ≡ part_name b (codes ".resume") → a ≡ b
+resumes_alike a b p q h k e = spelled_alike a b p q h k (append_cancel_right (spelling a) (spelling b) (codes ".resume") (ap text_of e))
+
+pub destroys_alike : (a b : Name) → IsShort a → IsShort b → is_odd a ≡ false → is_odd b ≡ false → part_name a (codes ".destroy") ≡ part_name b (codes ".destroy") → a ≡ b
+destroys_alike a b p q h k e = spelled_alike a b p q h k (append_cancel_right (spelling a) (spelling b) (codes ".destroy") (ap text_of e))
+
+pub resume_is_no_destroy : (a b : Name) → part_name a (codes ".resume") ≡ part_name b (codes ".destroy") → ⊥
+resume_is_no_destroy a b e = other_last (spelling a) (spelling b) (ap text_of e)

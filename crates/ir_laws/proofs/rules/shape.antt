@@ -1,0 +1,9 @@
+pub mod Begin
+pub mod Beginning
+pub mod Edges
+pub mod Ordered
+pub mod Results
+pub mod Saves
+pub mod Stands
+pub mod Steady
+pub mod Unneeded

@@ -1,0 +1,4 @@
+pub mod Carried
+pub mod Labels
+pub mod Threads
+pub mod Uses

@@ -1,0 +1,16 @@
+pub mod Alike
+pub mod All
+pub mod Carried
+pub mod Edges
+pub mod Fronts
+pub mod Instructions
+pub mod Laid
+pub mod Once
+pub mod Operands
+pub mod Pieces
+pub mod Rules
+pub mod Told
+pub mod Unbroken
+pub mod Uses
+pub mod ValueKinds
+pub mod Values

@@ -1,0 +1,5 @@
+pub mod Begun
+pub mod Found
+pub mod Gathered
+pub mod OneOfEach
+pub mod Switches

@@ -1,0 +1,5 @@
+pub mod facts
+pub mod frames
+pub mod paths
+pub mod rules
+pub mod texts

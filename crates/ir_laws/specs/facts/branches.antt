@@ -1,0 +1,2 @@
+pub mod MovedState
+pub mod Ways

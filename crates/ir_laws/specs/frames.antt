@@ -1,0 +1,10 @@
+pub mod begin_order
+pub mod counted
+pub mod crossing
+pub mod needed
+pub mod replaced
+pub mod rows
+pub mod same_names
+pub mod shape
+pub mod suspend_counts
+pub mod woven_shape

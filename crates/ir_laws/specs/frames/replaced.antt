@@ -1,0 +1,4 @@
+pub mod Kinds
+pub mod Parted
+pub mod Replaced
+pub mod Splittable

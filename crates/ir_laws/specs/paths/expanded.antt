@@ -1,0 +1,2 @@
+pub mod Avoided
+pub mod Tokens

@@ -1,0 +1,16 @@
+pub mod begin_order
+pub mod counted
+pub mod function_rules
+pub mod local_rules
+pub mod names_apart
+pub mod order_rules
+pub mod path_rules
+pub mod plain_rules
+pub mod replaced
+pub mod rows
+pub mod source_rules
+pub mod sources
+pub mod spelled
+pub mod unused
+pub mod woven_rules
+pub mod woven_shape

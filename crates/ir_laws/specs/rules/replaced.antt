@@ -1,0 +1,3 @@
+pub mod Instructions
+pub mod Returns
+pub mod Splittable

@@ -1,0 +1,5 @@
+pub mod Blocks
+pub mod Fronts
+pub mod Pairs
+pub mod Parts
+pub mod Weaving

@@ -1,0 +1,2 @@
+pub mod order_meaning
+pub mod spelled

@@ -1,0 +1,35 @@
+//! What rewriting a function leaves of the rules, whatever pass does it, and what accepted modules keep.
+
+pub mod address_rules;
+pub mod begin_order;
+pub mod counted;
+pub mod crossing;
+pub mod edges;
+pub mod fetching_rules;
+pub mod function_rules;
+pub mod known_labels;
+pub mod local_rules;
+pub mod named_results;
+pub mod names_apart;
+pub mod order_rules;
+pub mod path_rules;
+pub mod plain_rules;
+pub mod refusals;
+pub mod renamed;
+pub mod replaced;
+pub mod rows;
+pub mod same_names;
+pub mod shape;
+pub mod short_names;
+pub mod slots_behind;
+pub mod source_rules;
+pub mod sources;
+pub mod spelled;
+pub mod threaded;
+pub mod threading;
+pub mod turned;
+pub mod unused;
+pub mod uses;
+pub mod widths;
+pub mod woven_rules;
+pub mod woven_shape;

@@ -1,6 +1,0 @@
-use Rattle.ir_parser.proofs.TextRead.{if_told}
-use Rattle.ir_parser.proofs.text.parse.Goals as goal
-
--- src/text.rt:92:1
-pub returns-clause-told : goal.returns-clause-told
-returns-clause-told c = if_told c.args.text.now c.read.result c.read.ensures

@@ -1,6 +1,0 @@
-use Rattle.ir_parser.proofs.TextRead.{one_module}
-use Rattle.ir_parser.proofs.text.stands_for_one.Goals as goal
-
--- src/text.rt:105:1
-pub returns : goal.returns
-returns c = one_module

@@ -1,6 +1,0 @@
-use Rattle.std.proofs.Common.{◌≡◌, ◌++◌, drop}
-use Rattle.canonical_text.specs.Blocks.{cases_text}
-use Rattle.ir_printer.proofs.blocks.push_cases.Given as goal
-
-abbrev pub invariant-loop-case : goal.invariant-loop-case
-invariant-loop-case l = l.out.items ++ cases_text l.names (drop l.case-index l.cases) ≡ l.initial.out.items ++ cases_text l.names l.cases

@@ -1,6 +1,0 @@
-use Rattle.std.proofs.Common.{◌≡◌, ◌++◌, drop}
-use Rattle.canonical_text.specs.Items.{functions_text}
-use Rattle.ir_printer.proofs.items.push_functions.Given as goal
-
-abbrev pub invariant-loop-function : goal.invariant-loop-function
-invariant-loop-function l = l.out.items ++ functions_text (drop l.function-index l.functions) ≡ l.initial.out.items ++ functions_text l.functions

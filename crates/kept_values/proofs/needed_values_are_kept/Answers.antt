@@ -1,5 +1,0 @@
-use Rattle.kept_values.proofs.Main.{kept_corresponds}
-use Rattle.kept_values.proofs.needed_values_are_kept.Goals as goal
-
-pub returns : goal.returns
-returns c = λ m keep sizes entry args answers ok keeps. kept_corresponds m keep sizes entry args answers ok keeps

@@ -1,5 +1,0 @@
-use Rattle.lowered_forms.proofs.begin_order.Before.{slots_before}
-use Rattle.lowered_forms.proofs.begin_order.copied_slots_stand_before_begin.Goals as goal
-
-pub returns : goal.returns
-returns c = slots_before

@@ -1,5 +1,0 @@
-use Rattle.lowered_forms.proofs.begin_order.Sizes.{held_sized}
-use Rattle.lowered_forms.proofs.begin_order.held_sizes_are_words.Goals as goal
-
-pub returns : goal.returns
-returns c = held_sized

@@ -1,5 +1,0 @@
-use Rattle.lowered_forms.proofs.cleanable_sources.Sources.{sources_cleanable}
-use Rattle.lowered_forms.proofs.cleanable_sources.accepted_sources_are_cleanable.Goals as goal
-
-pub returns : goal.returns
-returns c = sources_cleanable

@@ -1,4 +1,0 @@
-pub mod Unsplit
-pub mod Uses
-pub mod Tokens
-pub mod Kept

@@ -1,5 +1,0 @@
-use Rattle.lowered_forms.proofs.frame_numbers.Edges.{edges_as_many}
-use Rattle.lowered_forms.proofs.frame_numbers.suspends_are_as_many_where_edges_have_blocks.Goals as goal
-
-pub returns : goal.returns
-returns c = edges_as_many

@@ -1,5 +1,0 @@
-use Rattle.lowered_forms.proofs.framed_shape.Fits.{cells_fit}
-use Rattle.lowered_forms.proofs.framed_shape.crossing_values_are_for_cells_where_edges_have_blocks.Goals as goal
-
-pub returns : goal.returns
-returns c = cells_fit

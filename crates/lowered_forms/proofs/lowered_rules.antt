@@ -1,3 +1,0 @@
-pub mod Exited
-pub mod Row
-pub mod Whence

@@ -1,5 +1,0 @@
-use Rattle.lowered_forms.proofs.lowered_sources.Row.{all_accepted}
-use Rattle.lowered_forms.proofs.lowered_sources.lowered_sources_are_accepted.Goals as goal
-
-pub returns : goal.returns
-returns c = all_accepted

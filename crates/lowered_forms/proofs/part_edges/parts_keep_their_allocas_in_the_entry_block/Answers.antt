@@ -1,5 +1,0 @@
-use Rattle.lowered_forms.proofs.part_edges.Late.{part_allocas_kept}
-use Rattle.lowered_forms.proofs.part_edges.parts_keep_their_allocas_in_the_entry_block.Goals as goal
-
-pub returns : goal.returns
-returns c = part_allocas_kept

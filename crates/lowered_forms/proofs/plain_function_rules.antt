@@ -1,8 +1,0 @@
-pub mod Defined
-pub mod Edges
-pub mod Known
-pub mod Local
-pub mod Once
-pub mod Turned
-pub mod Uses
-pub mod Whole

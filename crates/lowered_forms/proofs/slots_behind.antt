@@ -1,4 +1,0 @@
-pub mod Walks
-pub mod Operands
-pub mod Slots
-pub mod Behind

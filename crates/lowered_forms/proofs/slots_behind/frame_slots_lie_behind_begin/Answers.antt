@@ -1,5 +1,0 @@
-use Rattle.lowered_forms.proofs.slots_behind.Behind.{blocks_behind}
-use Rattle.lowered_forms.proofs.slots_behind.frame_slots_lie_behind_begin.Goals as goal
-
-pub returns : goal.returns
-returns c = blocks_behind

@@ -1,3 +1,0 @@
-pub mod Pointers
-pub mod Standing
-pub mod Kept

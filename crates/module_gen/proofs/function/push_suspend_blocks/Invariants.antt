@@ -1,7 +1,0 @@
-use Rattle.std.proofs.Common.{◌≡◌, ◌++◌}
-use Rattle.module_gen.specs.Pieces.{each}
-use Rattle.module_gen.specs.Suspending.{blocks_of_suspend}
-use Rattle.module_gen.proofs.function.push_suspend_blocks.Given as goal
-
-abbrev pub invariant-loop-j : goal.invariant-loop-j
-invariant-loop-j l = l.all ≡ l.initial.all ++ each (blocks_of_suspend l.coroutine) l.j

@@ -1,7 +1,0 @@
-use Rattle.std.proofs.Common.{◌≡◌, ◌∷◌, []}
-use Rattle.module_gen.specs.Pieces.{each}
-use Rattle.module_gen.specs.Suspending.{coroutine_function}
-use Rattle.module_gen.proofs.generated.coroutine_functions.Given as goal
-
-abbrev pub invariant-loop-number : goal.invariant-loop-number
-invariant-loop-number l = l.all ≡ each (λ k. coroutine_function (record { number = k; suspends = l.suspends }) ∷ []) l.number

@@ -1,8 +1,0 @@
-use Rattle.std.proofs.Common.{◌≡◌, ◌++◌, ◌∷◌, []}
-use Rattle.std.specs.Prelude.{codes}
-use Rattle.ir_model.specs.Names.{numbered}
-use Rattle.module_gen.specs.Pieces.{each}
-use Rattle.module_gen.proofs.main_function.push_handle_names.Given as goal
-
-abbrev pub invariant-loop-k : goal.invariant-loop-k
-invariant-loop-k l = l.all ≡ l.initial.all ++ each (λ k. numbered (codes "h") k ∷ []) l.k

@@ -1,7 +1,0 @@
-use Rattle.std.proofs.Common.{◌≡◌, ◌+◌, ◌++◌}
-use Rattle.module_gen.specs.Pieces.{each}
-use Rattle.module_gen.specs.Generated.{round}
-use Rattle.module_gen.proofs.main_function.push_resumes.Given as goal
-
-abbrev pub invariant-loop-j : goal.invariant-loop-j
-invariant-loop-j l = l.all ≡ l.initial.all ++ each (λ j. round l.seed l.coroutines (j + 1)) l.j

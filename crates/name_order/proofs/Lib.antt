@@ -1,5 +1,0 @@
-pub mod Holds
-pub mod Parts
-pub mod Bodies
-pub mod Modules
-pub mod Shaped

@@ -1,7 +1,0 @@
-use Rattle.std.proofs.Common.{◌≡◌, drop}
-use Rattle.coro_base.specs.declared.outcome.Item.{Item}
-use Rattle.name_rules.specs.Items.{first_item}
-use Rattle.name_rules.proofs.items.first_declaration.Given as goal
-
-abbrev pub invariant-loop-item : goal.invariant-loop-item
-invariant-loop-item g l = first_item Item.Declaration (g.R.ModuleRule.says l.rule).on_declaration 0 l.items ≡ first_item Item.Declaration (g.R.ModuleRule.says l.rule).on_declaration l.at (drop l.item-index l.items)

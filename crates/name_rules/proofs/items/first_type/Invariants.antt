@@ -1,7 +1,0 @@
-use Rattle.std.proofs.Common.{◌≡◌, drop}
-use Rattle.coro_base.specs.declared.outcome.Item.{Item}
-use Rattle.name_rules.specs.Items.{first_item}
-use Rattle.name_rules.proofs.items.first_type.Given as goal
-
-abbrev pub invariant-loop-item : goal.invariant-loop-item
-invariant-loop-item g l = first_item Item.Type (g.R.ModuleRule.says l.rule).on_type 0 l.items ≡ first_item Item.Type (g.R.ModuleRule.says l.rule).on_type l.at (drop l.item-index l.items)

@@ -1,0 +1,4 @@
+pub mod NamedActs
+pub mod NamedParts
+pub mod NamedSlots
+pub mod Simulation

@@ -1,0 +1,4 @@
+pub mod Named
+pub mod Renamed
+pub mod Saved
+pub mod Unsaved

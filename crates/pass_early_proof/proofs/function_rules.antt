@@ -1,0 +1,3 @@
+pub mod Depths
+pub mod Early
+pub mod Tabled

@@ -1,0 +1,10 @@
+pub mod Carried
+pub mod Defined
+pub mod Fitting
+pub mod Followed
+pub mod Known
+pub mod Names
+pub mod Rules
+pub mod Sources
+pub mod Turned
+pub mod ValueKinds

@@ -1,0 +1,13 @@
+pub mod Acting
+pub mod Actions
+pub mod Acts
+pub mod Composition
+pub mod Invariant
+pub mod Kept
+pub mod Parts
+pub mod Preserved
+pub mod Rules
+pub mod Sameness
+pub mod Simulation
+pub mod Slots
+pub mod Switches

@@ -1,0 +1,3 @@
+pub mod Simulation
+pub mod Suspending
+pub mod Tables

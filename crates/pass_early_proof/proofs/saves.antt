@@ -1,0 +1,14 @@
+pub mod Apart
+pub mod Behind
+pub mod Blocks
+pub mod Instrs
+pub mod Laws
+pub mod Left
+pub mod Parts
+pub mod Plain
+pub mod Points
+pub mod Saves
+pub mod Slots
+pub mod Tokens
+pub mod Ways
+pub mod Windows

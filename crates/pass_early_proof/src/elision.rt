@@ -1,0 +1,4 @@
+//! The analyses of elision find the same in what the first pass makes of a source.
+
+pub mod early;
+pub mod sources;

@@ -1,0 +1,3 @@
+pub mod Placed
+pub mod Turning
+pub mod Unmarked

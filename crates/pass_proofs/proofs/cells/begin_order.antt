@@ -1,0 +1,2 @@
+pub mod CelledBlocks
+pub mod Sums

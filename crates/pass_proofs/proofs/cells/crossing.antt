@@ -1,0 +1,6 @@
+pub mod Calls
+pub mod Complete
+pub mod Follows
+pub mod Like
+pub mod Values
+pub mod Whole

@@ -1,0 +1,4 @@
+pub mod Apart
+pub mod Begin
+pub mod Unneeded
+pub mod Written

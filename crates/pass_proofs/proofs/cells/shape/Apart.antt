@@ -1,0 +1,92 @@
+-- Where edges have blocks, suspends stand apart.
+use Rattle.std.proofs.Common.{◌≡◌, ℕ, ◌+◌, true, [], length, sym, ap, ◌∙◌, arith}
+use Rattle.std.specs.Prelude.{Some, None, Option, slice_get}
+use Rattle.ir_laws.proofs.frames.crossing.Paths.{point_found}
+use Rattle.ir_laws.specs.frames.crossing.Crossed.{AreSuspendsApart, IsApart}
+use Rattle.ir_laws.specs.facts.crossing.Crossed.{is_switch}
+use Rattle.rule_shape.specs.OneOfEach.{wrong_call}
+use Rattle.rule_shape.specs.Switches.{wrong_switch}
+use Rattle.rule_uses.specs.Uses.{made_by_phis}
+use Rattle.ir_laws.proofs.facts.Members.{at_each}
+use Rattle.pass_proofs.proofs.edges.rules.Kept.{rules_kept, suspend_blocks}
+use Rattle.pass_proofs.proofs.edges.rules.Switched.{switched}
+use Rattle.ir_laws.specs.frames.rows.Returns.{HaveOwnReturns, return_labels}
+use Rattle.ir_laws.specs.rules.rows.Returns.{IsSwitched}
+use Rattle.pass_proofs.proofs.edges.shape.Kept.{calls_kept, switches_kept}
+use Rattle.pass_edges.specs.EdgeBlocks.{with_edge_blocks}
+use Rattle.flow_solver.specs.Paths.{IsListed}
+use Rattle.pass_proofs.proofs.edges.calls.Fetched.{call_suspends}
+use Rattle.ir_laws.proofs.paths.shape.Fetched.{ordered_value}
+use Rattle.ir_laws.proofs.rules.shape.Ordered.{IsSuspendValue, all_ordered, placed_calls}
+use Rattle.ir_laws.proofs.frames.shape.Points.{HasPoint, destroy_listed, point_there, resume_listed}
+use Rattle.ir_laws.proofs.paths.shape.Steady.{is_suspend}
+use Rattle.ir_laws.proofs.rules.shape.Unneeded.{suspend_result}
+use Rattle.pass_proofs.proofs.cells.shape.Unneeded.{unneeded}
+use Rattle.ir_parts.specs.Contents.{result_of}
+use Rattle.ir_laws.specs.rules.function_rules.Kept.{KeepsFunctionRules}
+use Rattle.pass_intrinsics.specs.Shapes.{suspends_of as all_suspends}
+use Rattle.ir_model.specs.Names.{position_of}
+use Rattle.ir_model.specs.declared.instr.Instr.{Instr}
+use Rattle.ir_model.specs.declared.module.Block.{Block}
+use Rattle.ir_model.specs.declared.module.Function.{Function}
+use Rattle.ir_model.specs.declared.module.Module.{Module}
+use Rattle.ir_model.specs.declared.operand.Intrinsic.{Intrinsic}
+use Rattle.ir_paths.specs.Windows.{destroy_label, instr_at, instr_in, is_call_of, label_at, label_of_term, resume_label}
+use Rattle.ir_paths.specs.declared.point.Point.{Point}
+use Rattle.frame_crossing.specs.Paths.{phis_at, phis_in}
+
+module _ (m : Module) (k : ℕ) (f : Function) (rules : KeepsFunctionRules m k f) (coroutine : f.coroutine ≡ true) (own : HaveOwnReturns f) (calls : wrong_call k f ≡ None) (switches : wrong_switch k f ≡ None) where
+  no_phis : (label : ℕ) → IsListed label (return_labels (all_suspends f)) → phis_at f (position_of f label) ≡ []
+  no_phis label l = let x = own.own label l in ap phis_in x.got ∙ ap (made_by_phis []) x.no_phis
+
+  module _ (s : Point) (b : Block) (got : slice_get f.blocks s.block ≡ Some b) (i : Instr) (there : slice_get b.instrs s.at ≡ Some i) (suspends : is_suspend i ≡ true) where
+    w : IsSwitched b s.at i
+    w = switched k f coroutine switches s.block s.at b i got there (call_suspends i suspends)
+
+    p : HasPoint (all_suspends f) b
+    p = point_there f s.block b got s.at i there suspends
+
+    same_block : (c : Block) → slice_get f.blocks s.block ≡ Some c → b ≡ c
+    same_block c e = let both : Some b ≡ Some c = sym got ∙ e in cc
+
+    last_is : (c : Block) → slice_get f.blocks s.block ≡ Some c → length c.instrs ≡ s.at + 1
+    last_is c e = ap (λ (d : Block). length d.instrs) (sym (same_block c e)) ∙ sym w.last
+
+    switch_is : (c : Block) → slice_get f.blocks s.block ≡ Some c → is_switch c.term ≡ true
+    switch_is c e = ap (λ (d : Block). is_switch d.term) (sym (same_block c e)) ∙ ap is_switch w.is
+
+    label_is : (n : ℕ) → label_at n (slice_get f.blocks s.block) ≡ label_of_term n b.term
+    label_is n = ap (label_at n) got
+
+    resume_none : phis_at f (position_of f (resume_label f s)) ≡ []
+    resume_none = ap (λ (l : ℕ). phis_at f (position_of f l)) (label_is 0 ∙ sym p.is_of.resume) ∙ no_phis p.point.resume (resume_listed (all_suspends f) p.point p.listed)
+
+    destroy_none : phis_at f (position_of f (destroy_label f s)) ≡ []
+    destroy_none = ap (λ (l : ℕ). phis_at f (position_of f l)) (label_is 1 ∙ sym p.is_of.destroy) ∙ no_phis p.point.destroy (destroy_listed (all_suspends f) p.point p.listed)
+
+    value_is : (j : Instr) (v : ℕ) → instr_at f s ≡ Some j → result_of j ≡ Some v → IsSuspendValue f v
+    value_is j v e r =
+        let both : Some i ≡ Some j = sym there ∙ sym (ap (λ (o : Option Block). instr_in o s.at) got) ∙ e in
+        let one : i ≡ j = cc in
+        ordered_value (IsSuspendValue f) (length b.phis) b.instrs
+        (at_each _ f.blocks s.block b (all_ordered (IsSuspendValue f) f.blocks (placed_calls k f coroutine calls switches)) got)
+        s.at i there suspends v (sym (suspend_result i suspends) ∙ ap result_of one ∙ r)
+
+    apart : IsApart f s
+    apart = record {
+      last = last_is;
+      switch = switch_is;
+      resume = resume_none;
+      destroy = destroy_none;
+      unused = λ j v e r. unneeded k f coroutine switches v (value_is j v e r) s;
+    }
+
+  pub suspends_apart : AreSuspendsApart f
+  suspends_apart s l =
+      let x = point_found (is_call_of Intrinsic.CoroSuspend) f s l in
+      let at : x.position ≡ s.block = (let e : s.block ≡ 0 + x.position = x.is_block in omega (arith, e)) in
+      apart s x.block (ap (slice_get f.blocks) (sym at) ∙ x.got) x.instr x.there x.passes
+
+pub edges_apart : (m : Module) (k : ℕ) (f : Function) → KeepsFunctionRules m k f → f.coroutine ≡ true → wrong_call k f ≡ None → wrong_switch k f ≡ None → AreSuspendsApart (with_edge_blocks f)
+edges_apart m k f rules coroutine calls switches =
+    suspends_apart m k (with_edge_blocks f) (rules_kept m k f rules) coroutine (suspend_blocks m k f rules coroutine switches) (calls_kept m k f rules coroutine calls switches) (switches_kept m k f rules coroutine calls switches)

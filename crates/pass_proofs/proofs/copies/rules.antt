@@ -1,0 +1,4 @@
+pub mod Copied
+pub mod KeptCopies
+pub mod Names
+pub mod Slots

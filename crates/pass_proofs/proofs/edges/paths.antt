@@ -1,0 +1,11 @@
+pub mod Behind
+pub mod Blocks
+pub mod Edges
+pub mod Left
+pub mod Legs
+pub mod Phis
+pub mod Points
+pub mod Slots
+pub mod Tables
+pub mod Whole
+pub mod Windows

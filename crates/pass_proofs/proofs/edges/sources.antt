@@ -1,0 +1,4 @@
+pub mod Accepted
+pub mod Known
+pub mod Rules
+pub mod States

@@ -1,0 +1,44 @@
+-- The states of a source that breaks no rule, and those after the first pass where coroutines' edges have blocks.
+use Rattle.std.proofs.Common.{ℕ, List}
+use Rattle.std.specs.Prelude.{ℤ, None}
+use Rattle.run_agreement.proofs.Costs.{compose_by}
+use Rattle.run_agreement.specs.Costs.{AgreesBy}
+use Rattle.run_agreement.specs.Machines.{Machine}
+use Rattle.ir_base.specs.declared.outcome.Word.{Word}
+use Rattle.run_source.specs.declared.state.State.{State}
+use Rattle.pass_early.specs.Early.{early_module}
+use Rattle.pass_early_proof.proofs.early_states.Composition.{early_corresponds}
+use Rattle.run_states.proofs.early_states.Scaled.{scale_by}
+use Rattle.pass_early_proof.specs.early_states.Beside.{IsEarlyOf, IsNearlyEarlyOf, source_machine}
+use Rattle.pass_early_proof.proofs.source_rules.Accepted.{all_named_keep}
+use Rattle.ir_laws.proofs.rules.sources.Tables.{all_tabled}
+use Rattle.ir_laws.proofs.texts.named_texts.Placed.{locals_named, uses_named}
+use Rattle.pass_proofs.proofs.edges.simulation.Simulation.{edges_correspond}
+use Rattle.pass_proofs.proofs.edges.sources.Accepted.{accepted_kept, locals_now}
+use Rattle.pass_proofs.specs.edges.simulation.Beside.{IsEarlySplitOf, IsNearlyEarlySplitOf, IsNearlySplitOf, IsSplitOf}
+use Rattle.pass_proofs.specs.edges.states.MovedState.{edges_split}
+use Rattle.rule_all.specs.Refused.{IsRefused}
+use Rattle.text_grammar.specs.Text.{StandsFor}
+use Rattle.ir_model.specs.declared.module.Frame.{Frame}
+use Rattle.ir_model.specs.declared.module.Module.{Module}
+use Rattle.rule_names.specs.declared.stage.Stage.{Stage}
+
+module _ (text : List ℕ) (m : Module) (stands : StandsFor text m) (accepted : IsRefused Stage.Source m None)
+    (sizes : List Frame) (entry : ℕ) (args : List Word) (answers : List ℤ) where
+  abbrev run : Module → Machine State
+  run k = source_machine k sizes entry args answers
+
+  abbrev early : Module
+  early = early_module m
+
+  pub accepted_corresponds : AgreesBy (IsEarlySplitOf m) (IsNearlyEarlySplitOf m sizes entry args answers) (run m)
+      (λ s. 4) (run (edges_split early)) (λ t. 1)
+  accepted_corresponds =
+      compose_by (IsEarlyOf m) (IsNearlyEarlyOf m sizes entry args answers) (IsSplitOf early)
+      (IsNearlySplitOf early sizes entry args answers) (run m) (λ s. 4) (run early) (λ s. 2)
+      (run (edges_split early)) (λ t. 1)
+      (scale_by (IsEarlyOf m) (IsNearlyEarlyOf m sizes entry args answers) (run m) (λ s. 2) (run early) (λ t. 1) 2
+      (early_corresponds m (locals_named text m stands) (uses_named text m stands)
+      (all_named_keep m accepted (all_tabled text m stands)) sizes entry args answers))
+      (edges_correspond early (locals_now text m stands accepted) (accepted_kept text m stands accepted) sizes entry
+      args answers)

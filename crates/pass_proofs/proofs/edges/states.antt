@@ -1,0 +1,10 @@
+pub mod Actions
+pub mod Acts
+pub mod Calls
+pub mod Intrinsics
+pub mod Parts
+pub mod Performs
+pub mod Resumes
+pub mod States
+pub mod Suspends
+pub mod Ways

@@ -1,0 +1,15 @@
+pub mod Cuts
+pub mod Ends
+pub mod Kept
+pub mod Local
+pub mod Names
+pub mod Noted
+pub mod Operands
+pub mod Places
+pub mod Shape
+pub mod Single
+pub mod Sources
+pub mod Suspends
+pub mod Threaded
+pub mod Unnamed
+pub mod Whole

@@ -1,0 +1,4 @@
+pub mod Agreement
+pub mod Exits
+pub mod Points
+pub mod Ways

@@ -1,0 +1,14 @@
+pub mod Alone
+pub mod Before
+pub mod Begins
+pub mod Blocks
+pub mod Celled
+pub mod Copied
+pub mod CopiedBlocks
+pub mod Edged
+pub mod Fields
+pub mod Framed
+pub mod Puts
+pub mod Sizes
+pub mod Tables
+pub mod Turned

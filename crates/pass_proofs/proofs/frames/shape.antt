@@ -1,0 +1,5 @@
+pub mod Addresses
+pub mod Cells
+pub mod Fetched
+pub mod Fits
+pub mod Framed

@@ -1,0 +1,13 @@
+pub mod Behind
+pub mod Definite
+pub mod EdgeNeeds
+pub mod EdgeWindows
+pub mod Modules
+pub mod Names
+pub mod Places
+pub mod Scalars
+pub mod States
+pub mod Suspends
+pub mod Tokens
+pub mod Whole
+pub mod Windows

@@ -1,0 +1,4 @@
+pub mod Crossed
+pub mod Ending
+pub mod Steps
+pub mod Ways

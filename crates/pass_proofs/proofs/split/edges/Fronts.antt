@@ -1,0 +1,109 @@
+-- Where allocas stand in the function that is cut, and so in its pieces.
+use Rattle.std.proofs.Common.{◌≡◌, ◌⊎◌, inl, inr, ⊎_elim, ℕ, suc, ◌+◌, true, false, List, [], ◌∷◌, ◌++◌, length, refl, sym, ap, ◌∙◌, arith}
+use Rattle.std.specs.Prelude.{Some, filter, map, not, slice_get}
+use Rattle.pass_split.specs.Parts.{allocas_first, is_alloca, is_no_alloca, origins_for, with_allocas_first}
+use Rattle.pass_split.specs.Pieces.{pieced_phi}
+use Rattle.ir_laws.proofs.facts.Members.{each_there}
+use Rattle.ir_laws.proofs.rules.renamed.Switches.{none_part}
+use Rattle.ir_laws.proofs.facts.local_rules.Woven.{other_number}
+use Rattle.ir_laws.proofs.rules.path_rules.Holding.{of_parts}
+use Rattle.flow_solver.specs.Paths.{IsListed}
+use Rattle.frame_layout.specs.declared.layout.Layout.{Layout}
+use Rattle.ir_parts.specs.Parts.{instr_place, parts_of}
+use Rattle.pass_intrinsics.specs.Cuts.{goes_on}
+use Rattle.pass_intrinsics.specs.Shapes.{shape_of}
+use Rattle.pass_intrinsics.specs.declared.shape.Part.{Part}
+use Rattle.pass_intrinsics.specs.declared.shape.Shape.{Shape}
+use Rattle.ir_model.specs.declared.instr.Instr.{Instr}
+use Rattle.ir_model.specs.declared.instr.Phi.{Phi}
+use Rattle.ir_model.specs.declared.module.Block.{Block}
+use Rattle.ir_model.specs.declared.module.Function.{Function}
+use Rattle.ir_model.specs.declared.module.Module.{Module}
+use Rattle.rule_locals.specs.Entries.{allocates_late}
+use Rattle.rule_locals.specs.Instrs.{on_instr}
+use Rattle.pass_proofs.proofs.split.edges.Allocas.{HasFront, HasNoAlloca, IsNoAlloca, all_allocas, front_pieces, no_allocas, none_allocas, still_none}
+use Rattle.pass_proofs.proofs.split.edges.Cuttable.{IsCuttable, IsPiece}
+use Rattle.pass_proofs.proofs.split.edges.Labels.{whole}
+use Rattle.ir_laws.proofs.paths.uses.Paths.{place_of}
+use Rattle.pass_proofs.proofs.split.edges.Pieces.{HasHead, head_is}
+use Rattle.ir_laws.proofs.facts.Numbers.{label_of}
+use Rattle.pass_proofs.proofs.split.edges.Sources.{cut_source, cuttable}
+use Rattle.ir_laws.proofs.paths.replaced.Known.{of_listed}
+use Rattle.pass_proofs.specs.split.rules.Splittable.{IsSplittable}
+
+-- ---- the rule, instruction by instruction
+
+no_later : (l at j : ℕ) (i : Instr) → allocates_late (instr_place l (suc at) j) i ≡ false → is_alloca i ≡ false
+no_later l at j (Instr.Alloca r ty align) e = let late : true ≡ false = sym (ap not (other_number (suc at) 0 (λ d. absurd (omega (arith, d))))) ∙ e in absurd (cc)
+no_later l at j _ e = refl
+
+module _ (m : Module) (k : ℕ) (f : Function) (begin : ℕ) (x : IsSplittable m k f begin) where
+  -- the allocas of the function stand in its first block
+  pub own_allocas : (at : ℕ) (b : Block) → slice_get f.blocks (suc at) ≡ Some b → HasNoAlloca b
+  own_allocas at b e =
+      let parts = of_parts (λ y. on_instr allocates_late y.0 y.1 ≡ false) k f (none_part (on_instr allocates_late) (parts_of k f) x.rules.local.allocas) in
+      each_there IsNoAlloca b.instrs (λ j i d. no_later k at (length b.phis + j) i ((parts.blocks (suc at) b e).instrs j i d))
+
+  -- a block of the function that is cut is the first, or has no alloca
+  kind_in : (bs : List Block) → ((at : ℕ) (b : Block) → slice_get bs (suc at) ≡ Some b → HasNoAlloca b) → (c : Block) → IsListed c bs → (slice_get bs 0 ≡ Some c) ⊎ HasNoAlloca c
+  kind_in [] h c l = absurd l
+  kind_in (b ∷ bs) h c (inl e) = inl (ap (λ (d : Block). Some d) (sym e))
+  kind_in (b ∷ bs) h c (inr l) = inr (let q = place_of bs c l in h q.0 c q.1)
+
+  ramp_allocas : (bs : List Block) → ((at : ℕ) (b : Block) → slice_get bs (suc at) ≡ Some b → HasNoAlloca b) → (at : ℕ) (b : Block) → slice_get (with_allocas_first bs) (suc at) ≡ Some b → HasNoAlloca b
+  ramp_allocas [] h at b e = h at b e
+  ramp_allocas (c ∷ cs) h at b e = h at b e
+
+  source_kind : (part : Part) (c : Block) → IsListed c (cut_source part f).blocks → (slice_get (cut_source part f).blocks 0 ≡ Some c) ⊎ HasNoAlloca c
+  source_kind Part.Ramp c l = kind_in (with_allocas_first f.blocks) (ramp_allocas f.blocks own_allocas) c l
+  source_kind Part.Resume c l = kind_in f.blocks own_allocas c l
+  source_kind Part.Destroy c l = kind_in f.blocks own_allocas c l
+
+  -- in the ramp the allocas of the first block stand first
+  ramp_front : (bs : List Block) (r : Block) → slice_get (with_allocas_first bs) 0 ≡ Some r → (b : Block) × (r ≡ allocas_first b)
+  ramp_front [] r e = absurd (cc)
+  ramp_front (b ∷ bs) r e = let same : r ≡ allocas_first b = cc in (b, same)
+
+  source_front : (part : Part) → goes_on part ≡ false → (r : Block) → slice_get (cut_source part f).blocks 0 ≡ Some r → (b : Block) × (r ≡ allocas_first b)
+  source_front Part.Ramp g r e = ramp_front f.blocks r e
+  source_front Part.Resume g r e = absurd (cc)
+  source_front Part.Destroy g r e = absurd (cc)
+
+  module _ (layout : Layout) (part : Part) where
+    abbrev s : Shape
+    s = shape_of f layout
+
+    abbrev h : Function
+    h = cut_source part f
+
+    ok : IsCuttable s part h
+    ok = cuttable m k f begin x layout part
+
+    -- a piece with an alloca is one of the first block
+    pub first_has : (c : Block) (z : IsPiece s part (origins_for s part h) h.blocks (whole s part h) c) (i : Instr) → IsListed i c.instrs → is_alloca i ≡ true → slice_get h.blocks 0 ≡ Some z.block
+    first_has c z i l e =
+        ⊎_elim
+        (λ first. first)
+        (λ none.
+        absurd
+        (still_none c.instrs
+        (of_listed HasNoAlloca z.of.pieces c
+        (none_allocas s part z.block.term z.block.label (map (pieced_phi s part (origins_for s part h) z.block.label) z.block.phis) z.of.start z.of.last z.block.instrs z.of.pieces z.of.are none)
+        z.piece)
+        i l e))
+        (source_kind part z.block z.listed)
+
+    -- and in the ramp the first one
+    pub ramp_has : goes_on part ≡ false → (c : Block) (z : IsPiece s part (origins_for s part h) h.blocks (whole s part h) c) (i : Instr) → IsListed i c.instrs → is_alloca i ≡ true → c.label ≡ z.block.label
+    ramp_has g c z i l e =
+        let y = source_front part g z.block (first_has c z i l e) in
+        let same : z.block.instrs ≡ filter is_alloca y.0.instrs ++ filter is_no_alloca y.0.instrs = ap (λ (b : Block). b.instrs) y.1 in
+        let phis : List Phi = map (pieced_phi s part (origins_for s part h) z.block.label) z.block.phis in
+        on (filter is_alloca y.0.instrs) phis z.of.pieces
+        (front_pieces s part z.block.term z.block.label phis z.of.start z.of.last z.block.instrs z.of.pieces z.of.are (filter is_alloca y.0.instrs) (filter is_no_alloca y.0.instrs) same (all_allocas y.0.instrs) (no_allocas y.0.instrs))
+        (head_is s part z.block.term z.block.label phis z.of.start z.of.last z.block.instrs z.of.pieces z.of.are) z.piece
+      where
+        on : (xs : List Instr) (ps : List Phi) (cs : List Block) → HasFront s part xs cs → HasHead s part z.block.label ps cs → IsListed c cs → c.label ≡ z.block.label
+        on xs ps [] a b n = absurd n
+        on xs ps (d ∷ ds) a b (inl q) = ap label_of q ∙ b.0
+        on xs ps (d ∷ ds) a b (inr n) = absurd (still_none c.instrs (of_listed HasNoAlloca ds c a.1 n) i l e)

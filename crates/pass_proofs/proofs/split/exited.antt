@@ -1,0 +1,2 @@
+pub mod Exited
+pub mod Whence

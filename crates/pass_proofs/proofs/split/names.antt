@@ -1,0 +1,4 @@
+pub mod Items
+pub mod Made
+pub mod Parts
+pub mod Sources

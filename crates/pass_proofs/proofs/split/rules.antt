@@ -1,0 +1,13 @@
+pub mod Carried
+pub mod Cutting
+pub mod Instructions
+pub mod Known
+pub mod Laws
+pub mod Local
+pub mod NewKinds
+pub mod PartKinds
+pub mod PartValues
+pub mod Parted
+pub mod Pruned
+pub mod Reached
+pub mod ValueLaws

@@ -1,0 +1,152 @@
+-- The rules that look at parts of a function one by one: no part of a coroutine breaks them, nor what a function that is no coroutine becomes.
+use Rattle.std.proofs.Common.{◌≡◌, ℕ, ◌<◌, Bool, true, false, List, [], ◌∷◌, length, refl, sym, ap, ◌∙◌, subst, arith}
+use Rattle.std.specs.List.{list_all}
+use Rattle.std.specs.Prelude.{None, Option, Some, is_some, not, slice_get, ◌||◌}
+use Rattle.ir_base.specs.declared.name.Name.{Name}
+use Rattle.ir_base.specs.declared.outcome.Place.{Place}
+use Rattle.pass_split.specs.Parts.{plain_of, plain_shape}
+use Rattle.ir_laws.proofs.rules.local_rules.Carried.{none_of, passing}
+use Rattle.ir_laws.proofs.rules.local_rules.Fitting.{either, no_either}
+use Rattle.ir_laws.proofs.facts.Truth.{and_both, first_no}
+use Rattle.frame_layout.specs.declared.layout.Layout.{Layout}
+use Rattle.ir_parts.specs.Contents.{part_types}
+use Rattle.ir_parts.specs.Parts.{OfInstr, Part as FunctionPart, Signature, first_part, parts_of}
+use Rattle.ir_laws.specs.rules.function_rules.Kept.{KeepsFunctionRules}
+use Rattle.pass_intrinsics.specs.Lowered.{number_of_save}
+use Rattle.pass_intrinsics.specs.Shapes.{shape_of}
+use Rattle.pass_intrinsics.specs.declared.shape.Part.{Part}
+use Rattle.pass_intrinsics.specs.declared.shape.Shape.{Shape}
+use Rattle.ir_model.specs.Names.{declaration_named, global_named}
+use Rattle.ir_model.specs.Ty.{Ty, ptr}
+use Rattle.ir_model.specs.declared.instr.Instr.{Instr}
+use Rattle.ir_model.specs.declared.module.Function.{Function}
+use Rattle.ir_model.specs.declared.module.Module.{Module}
+use Rattle.ir_model.specs.declared.operand.Arg.{Arg}
+use Rattle.ir_model.specs.declared.operand.Callee.{Callee}
+use Rattle.ir_model.specs.declared.operand.Intrinsic.{Intrinsic}
+use Rattle.rule_locals.specs.Calls.{calls_closed}
+use Rattle.rule_locals.specs.Extents.{breaks_extents}
+use Rattle.rule_locals.specs.Instrs.{on_instr}
+use Rattle.rule_locals.specs.Intrinsics.{calls_inner, is_inner, misplaces}
+use Rattle.rule_locals.specs.Transfers.{breaks_transfers}
+use Rattle.rule_names.specs.Known.{is_label, is_value, knows_name, knows_type, names_unknown}
+use Rattle.rule_names.specs.declared.stage.Stage.{Stage}
+use Rattle.ir_laws.specs.frames.same_names.Parts.{HasPart, HasPartsOf}
+use Rattle.pass_proofs.proofs.split.rules.Carried.{Carries, part_carried, plain_carried}
+use Rattle.ir_laws.proofs.rules.replaced.Known.{called_before, types_before}
+use Rattle.pass_proofs.proofs.split.rules.Known.{known_carried, now_known}
+use Rattle.pass_proofs.proofs.split.rules.Local.{calls_carried, closed_before, closed_carried, deep, deep_again, depths_carried, extents_carried, transfers_carried}
+use Rattle.ir_laws.proofs.rules.fetching_rules.Puts.{ptr_shallow as shallow_ptr}
+use Rattle.ir_laws.proofs.frames.replaced.Modules.{all_known}
+use Rattle.ir_laws.proofs.frames.replaced.Saves.{saves_below}
+use Rattle.ir_laws.specs.rules.replaced.Instructions.{KeepsRulesOfInstructions, names_strange}
+use Rattle.pass_proofs.specs.split.rules.Parted.{IsDestroy, IsPartOf, IsRamp, IsResume}
+use Rattle.run_laws.specs.changed.Changed.{Each}
+use Rattle.rule_types.specs.Depth.{is_shallow}
+use Rattle.rule_types.specs.Limits.{all_fit, breaks_limits, is_block_past}
+use Rattle.rule_types.specs.Signatures.{calls_otherwise}
+
+part_there : (n : Module) (x : Name) → HasPart n x → knows_name n x ≡ true
+part_there n x h = ap (λ (o : Option ℕ). is_some o || (is_some (declaration_named n x) || is_some (global_named n x))) h.signature.is_named
+
+-- nothing is called that isn't known
+calls_known : (m : Module) (values labels : ℕ → Bool) (p : Place) (x : FunctionPart) → names_unknown m values labels p x ≡ false → on_instr (closed_before m) p x ≡ on_instr (calls_closed m) p x
+calls_known m values labels p (OfInstr (Instr.Call r must_tail ty callee args)) e =
+    ap (λ (b : Bool). calls_closed m p (Instr.Call r must_tail ty callee args) || not b) (called_before m values labels p (OfInstr (Instr.Call r must_tail ty callee args)) e) ∙ or_false (calls_closed m p (Instr.Call r must_tail ty callee args))
+  where
+    or_false : (b : Bool) → (b || false) ≡ b
+    or_false true = refl
+    or_false false = refl
+calls_known m values labels p (OfInstr _) e = refl
+calls_known m values labels p _ e = refl
+
+closed_too : (m : Module) (values labels : ℕ → Bool) (xs : List (Place × FunctionPart)) → first_part (on_instr (calls_closed m)) xs ≡ None → first_part (names_unknown m values labels) xs ≡ None → first_part (on_instr (closed_before m)) xs ≡ None
+closed_too m values labels xs d e = none_of (on_instr (closed_before m)) xs (both xs (passing (on_instr (calls_closed m)) xs d) (passing (names_unknown m values labels) xs e))
+  where
+    both : (ys : List (Place × FunctionPart)) → Each (λ x. on_instr (calls_closed m) x.0 x.1 ≡ false) ys → Each (λ x. names_unknown m values labels x.0 x.1 ≡ false) ys → Each (λ x. on_instr (closed_before m) x.0 x.1 ≡ false) ys
+    both [] a b = tt
+    both (y ∷ ys) a b = (calls_known m values labels y.0 y.1 b.0 ∙ a.0, both ys a.1 b.1)
+
+-- ---- the parts of a coroutine
+
+-- the signature of a part is that of the function, or void(ptr)
+signature_types : (P : List Ty → Type 0) → (s : Shape) (part : Part) (f g : Function) → IsPartOf s f part g → P (part_types (Signature f)) → P (ptr ∷ []) → P (part_types (Signature g))
+signature_types P s _ f _ IsRamp a b = a
+signature_types P s _ f _ IsResume a b = b
+signature_types P s _ f _ IsDestroy a b = b
+
+module _ (m n : Module) (k l : ℕ) (f g : Function) (h : HasPartsOf m n) (stands : slice_get m.functions k ≡ Some f) (rules : KeepsFunctionRules m k f) where
+  -- what is known of the names of parts, for calls that store them
+  abbrev Own : Shape → (Place → FunctionPart → Bool) → Type 0
+  Own s extra = (p : Place) (r : Option ℕ) (must_tail : Bool) (ty : Option Ty) (x : Intrinsic) (args : List Arg) → extra p (OfInstr (Instr.Call r must_tail ty (Callee.Intrinsic x) args)) ≡ false → is_inner x ≡ true → (knows_name n s.resume_name ≡ true) × (knows_name n s.destroy_name ≡ true)
+
+  abbrev values : ℕ → Bool
+  values = is_value k f
+
+  abbrev labels : ℕ → Bool
+  labels = is_label k f
+
+  known_signature : (p q : Place) → names_unknown m values labels p (Signature f) ≡ false → names_strange n q (Signature f) ≡ false
+  known_signature p q e = now_known m n h values labels q (Signature f) (all_known m n h (part_types (Signature f)) ∙ types_before m values labels p (Signature f) e) refl refl
+
+  -- each rule is carried where each signature is
+  module _ (s : Shape) (part : Part) (saves : (r : Option ℕ) (j : ℕ) → number_of_save s r ≡ Some j → j < length s.suspends)
+      (carry : (breaks now : Place → FunctionPart → Bool) → Carries s part 0 breaks now → ((p q : Place) → breaks p (Signature f) ≡ false → now q (Signature g) ≡ false) → first_part breaks (parts_of k f) ≡ None → first_part now (parts_of l g) ≡ None)
+      (types : (P : List Ty → Type 0) → P (part_types (Signature f)) → P (ptr ∷ []) → P (part_types (Signature g)))
+      (extra : Place → FunctionPart → Bool) (own : Own s extra) (none : first_part extra (parts_of k f) ≡ None) where
+    strange_signature : (p q : Place) → either (either (names_unknown m values labels) (calls_otherwise m)) extra p (Signature f) ≡ false → names_strange n q (Signature g) ≡ false
+    strange_signature p q e =
+        let before = first_no (names_unknown m values labels p (Signature f)) false (first_no (names_unknown m values labels p (Signature f) || false) (extra p (Signature f)) e) in
+        now_known m n h values labels q (Signature g)
+        (types (λ (ts : List Ty). list_all (knows_type n) ts ≡ true) (all_known m n h (part_types (Signature f)) ∙ types_before m values labels p (Signature f) before) refl) refl refl
+
+    deep_signature : (p q : Place) → either (breaks_limits Stage.Plain m None) (calls_otherwise m) p (Signature f) ≡ false → breaks_limits Stage.Plain n None q (Signature g) ≡ false
+    deep_signature p q e =
+        types (λ (ts : List Ty). (is_block_past Stage.Plain q.block || not (all_fit n ts)) ≡ false)
+        (deep_again m n h s part saves p q (part_types (Signature f)) (part_types (Signature f)) refl (first_no (breaks_limits Stage.Plain m None p (Signature f)) false e))
+        (deep m n h s part saves q (ptr ∷ []) (and_both (is_shallow n.types ptr) true (shallow_ptr n.types) refl))
+
+    pub instructions_kept : KeepsRulesOfInstructions n l g
+    instructions_kept =
+        let calls = rules.calls in
+        record {
+          known = carry (either (either (names_unknown m values labels) (calls_otherwise m)) extra) (names_strange n) (known_carried m n h values labels s part saves extra own) strange_signature
+              (no_either (either (names_unknown m values labels) (calls_otherwise m)) extra (parts_of k f) (no_either (names_unknown m values labels) (calls_otherwise m) (parts_of k f) rules.known calls) none);
+          depths = carry (either (breaks_limits Stage.Plain m None) (calls_otherwise m)) (breaks_limits Stage.Plain n None) (depths_carried m n h s part saves) deep_signature
+              (no_either (breaks_limits Stage.Plain m None) (calls_otherwise m) (parts_of k f) rules.depths calls);
+          calls = carry (calls_otherwise m) (calls_otherwise n) (calls_carried m n h s part saves) (λ p q e. refl) calls;
+          closed_calls = carry (either (on_instr (closed_before m)) (calls_otherwise m)) (on_instr (calls_closed n)) (closed_carried m n h s part saves) (λ p q e. refl)
+              (no_either (on_instr (closed_before m)) (calls_otherwise m) (parts_of k f) (closed_too m values labels (parts_of k f) rules.local.closed_calls rules.known) calls);
+          extents = carry (either (on_instr (breaks_extents Stage.Source m)) (calls_otherwise m)) (on_instr (breaks_extents Stage.Plain n)) (extents_carried m n h s part saves) (λ p q e. refl)
+              (no_either (on_instr (breaks_extents Stage.Source m)) (calls_otherwise m) (parts_of k f) rules.local.extents calls);
+          transfers = carry (either (on_instr (breaks_transfers Stage.Source f)) (calls_otherwise m)) (on_instr (breaks_transfers Stage.Plain g)) (transfers_carried m n h s part saves f g) (λ p q e. refl)
+              (no_either (on_instr (breaks_transfers Stage.Source f)) (calls_otherwise m) (parts_of k f) rules.local.transfers calls);
+        }
+
+-- a coroutine's parts
+pub parts_kept : (m n : Module) (k l : ℕ) (layout : Layout) (part : Part) (f g : Function) → HasPartsOf m n → slice_get m.functions k ≡ Some f → f.coroutine ≡ true → KeepsFunctionRules m k f → IsPartOf (shape_of f layout) f part g → KeepsRulesOfInstructions n l g
+parts_kept m n k l layout part f g h stands coroutine rules is =
+    let s : Shape = shape_of f layout in
+    let resume : knows_name n s.resume_name ≡ true = part_there n s.resume_name (h.resumes k f stands coroutine) in
+    let destroy : knows_name n s.destroy_name ≡ true = part_there n s.destroy_name (h.destroys k f stands coroutine) in
+    instructions_kept m n k l f g h stands rules s part (saves_below f layout)
+    (λ breaks now over signature e. part_carried s part 0 breaks now over (omega arith) k l f g is signature e) (λ P a b. signature_types P s part f g is a b) (λ p x. false) (λ p r must_tail ty x args e o. (resume, destroy)) (never (parts_of k f))
+  where
+    never : (xs : List (Place × FunctionPart)) → first_part (λ p x. false) xs ≡ None
+    never [] = refl
+    never (x ∷ xs) = never xs
+
+-- a function that is no coroutine stores no parts
+no_parts : (n : Module) (s : Shape) (p : Place) (r : Option ℕ) (must_tail : Bool) (ty : Option Ty) (x : Intrinsic) (args : List Arg) → on_instr (calls_inner false) p (OfInstr (Instr.Call r must_tail ty (Callee.Intrinsic x) args)) ≡ false → is_inner x ≡ true → (knows_name n s.resume_name ≡ true) × (knows_name n s.destroy_name ≡ true)
+no_parts n s p r must_tail ty x args e is = let t : true ≡ false = sym is ∙ e in absurd (cc)
+
+pub no_saves : (f : Function) (r : Option ℕ) (j : ℕ) → number_of_save (plain_shape f) r ≡ Some j → j < length (plain_shape f).suspends
+no_saves f None j e = absurd (cc)
+no_saves f (Some r) j e = absurd (cc)
+
+pub plain_kept : (m n : Module) (k l : ℕ) (f : Function) → HasPartsOf m n → slice_get m.functions k ≡ Some f → f.coroutine ≡ false → KeepsFunctionRules m k f → KeepsRulesOfInstructions n l (plain_of (plain_shape f) f)
+plain_kept m n k l f h stands coroutine rules =
+    let s : Shape = plain_shape f in
+    instructions_kept m n k l f (plain_of s f) h stands rules s Part.Ramp (no_saves f)
+    (λ breaks now over signature e. plain_carried s 0 breaks now over (omega arith) k l f signature e) (λ P a b. a) (on_instr (calls_inner false)) (no_parts n s)
+    (subst (λ (b : Bool). first_part (misplaces Stage.Source b) (parts_of k f) ≡ None) coroutine rules.local.misplaced)

@@ -1,0 +1,32 @@
+-- Names and values of parts, where the locals that they name are their own.
+use Rattle.std.proofs.Common.{◌≡◌, ℕ, true, false}
+use Rattle.std.specs.Prelude.{None, Some, slice_get}
+use Rattle.pass_split.specs.Parts.{plain_of, plain_shape}
+use Rattle.frame_layout.specs.declared.layout.Layout.{Layout}
+use Rattle.ir_laws.specs.rules.function_rules.Kept.{KeepsFunctionRules}
+use Rattle.pass_intrinsics.specs.Cuts.{goes_on}
+use Rattle.pass_intrinsics.specs.Shapes.{shape_of}
+use Rattle.pass_intrinsics.specs.declared.shape.Part.{Part}
+use Rattle.ir_model.specs.declared.module.Function.{Function}
+use Rattle.ir_model.specs.declared.module.Module.{Module}
+use Rattle.rule_names.specs.Known.{first_unknown}
+use Rattle.ir_laws.specs.frames.same_names.Parts.{HasPartsOf}
+use Rattle.pass_proofs.proofs.split.rules.Instructions.{parts_kept, plain_kept}
+use Rattle.ir_laws.proofs.rules.replaced.Locals.{all_names_known}
+use Rattle.pass_proofs.proofs.split.rules.ValueLaws.{parts_values, plain_values}
+use Rattle.ir_laws.specs.rules.replaced.Instructions.{KnowsItsLocals}
+use Rattle.pass_proofs.specs.split.rules.Parted.{IsPartOf}
+use Rattle.ir_laws.specs.frames.replaced.Parted.{IsSmall}
+use Rattle.ir_laws.specs.rules.replaced.Returns.{ReturnsNothing}
+use Rattle.pass_proofs.specs.split.rules.Splittable.{IsSplittable}
+use Rattle.rule_values.specs.Values.{first_wrong_value}
+
+pub parts_named : (m n : Module) (k l : ℕ) (layout : Layout) (part : Part) (begin : ℕ) (f g : Function) → HasPartsOf m n → slice_get m.functions k ≡ Some f → IsSplittable m k f begin → IsSmall (shape_of f layout) → IsPartOf (shape_of f layout) f part g → KnowsItsLocals l g → (goes_on part ≡ true → ReturnsNothing l g) → (first_unknown n l g ≡ None) × (first_wrong_value n l g ≡ None)
+parts_named m n k l layout part begin f g h stands splittable small is own returns =
+    let known : first_unknown n l g ≡ None = all_names_known n l g (parts_kept m n k l layout part f g h stands splittable.coroutine splittable.rules is).known own in
+    (known, parts_values m n k l layout part begin f g h splittable.rules splittable.named small is known returns)
+
+pub plain_named : (m n : Module) (k l : ℕ) (f : Function) → HasPartsOf m n → slice_get m.functions k ≡ Some f → f.coroutine ≡ false → KeepsFunctionRules m k f → KnowsItsLocals l (plain_of (plain_shape f) f) → (first_unknown n l (plain_of (plain_shape f) f) ≡ None) × (first_wrong_value n l (plain_of (plain_shape f) f) ≡ None)
+plain_named m n k l f h stands coroutine rules own =
+    let known : first_unknown n l (plain_of (plain_shape f) f) ≡ None = all_names_known n l (plain_of (plain_shape f) f) (plain_kept m n k l f h stands coroutine rules).known own in
+    (known, plain_values m n k l f h coroutine rules known)

@@ -1,0 +1,3 @@
+pub mod Reachable
+pub mod Split
+pub mod Tabled

@@ -1,0 +1,9 @@
+pub mod addresses
+pub mod cells
+pub mod copies
+pub mod edges
+pub mod exits
+pub mod fetch
+pub mod frames
+pub mod kept
+pub mod split

@@ -1,0 +1,2 @@
+pub mod begin_order
+pub mod rules

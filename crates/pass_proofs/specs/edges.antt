@@ -1,0 +1,4 @@
+pub mod paths
+pub mod rules
+pub mod simulation
+pub mod states

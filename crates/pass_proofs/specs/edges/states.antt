@@ -1,0 +1,3 @@
+pub mod MovedState
+pub mod Near
+pub mod Ways

@@ -1,0 +1,3 @@
+pub mod begin_order
+pub mod rules
+pub mod shape

@@ -1,0 +1,4 @@
+pub mod Parted
+pub mod Pieced
+pub mod Reached
+pub mod Splittable

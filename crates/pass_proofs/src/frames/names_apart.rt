@@ -1,0 +1,12 @@
+//! Lemmas on names apart.
+
+ghost use Rattle.frame_layout.specs.declared.layout.Layout.{Layout};
+ghost use Rattle.ir_model.specs.declared.module.Function.{Function};
+ghost use Rattle.ir_model.specs.declared.module.Module.{Module};
+ghost use Rattle.ir_laws.specs.rules.names_apart.Words.{AreFew, IsTableOf, early_words, framed_words};
+ghost use Rattle.pass_frames.specs.Framed.{IsFramedCoroutine};
+
+/// So do the passes that build its frame.
+pub fn framed_names_are_apart()
+    ensures { (m : Module) (l : Layout) (f g : Function) → IsFramedCoroutine m l f g → IsTableOf early_words f.names → AreFew g.names → IsTableOf framed_words g.names }
+{}

@@ -1,0 +1,123 @@
+//! That sources that break no rule keep what is asked of values that a resume hands on.
+//!
+//! An accepted source is one that a text stands for and that breaks no rule. Its saves are written out, and its edges
+//! get blocks. Then a resume may leave out what doesn't cross its suspend by `frame_crossing`, if it is a value
+//! that may cross. Each such run agrees within 4 with that of the source (`accepted_sources_hand_on_what_crosses`),
+//! and within 2 before edges get blocks (`accepted_early_sources_hand_on_what_crosses`).
+//!
+//! What `pass_kept_proof` asks holds there by F2 with the types of values (`functions_are_definite`) and by K2,
+//! K3, K6
+//! and K7 (`coroutines_keep_suspend_rules`). Blocks on edges leave these (`edge_blocks_keep_suspend_rules`). It also
+//! holds by N1, K1, K2, Y1 and Y2 (`functions_have_plain_names`).
+
+ghost use Rattle.std.specs.Prelude.{ℕ, ◌≡◌, None, true, Some, List, ℤ};
+ghost use Rattle.ir_laws.specs.rules.function_rules.Kept.{KeepsFunctionRules};
+ghost use Rattle.ir_model.specs.declared.module.Function.{Function};
+ghost use Rattle.ir_model.specs.declared.module.Module.{Module};
+ghost use Rattle.pass_kept_proof.specs.Crossing.{IsDefinite, AreDefinite};
+ghost use Rattle.rule_shape.specs.Switches.{wrong_switch};
+ghost use Rattle.ir_model.specs.declared.operand.Intrinsic.{Intrinsic};
+ghost use Rattle.ir_paths.specs.declared.point.Point.{Point};
+ghost use Rattle.pass_kept_proof.specs.SuspendRules.{IsCallAt, IsSwitched, KeepsSuspendRules, AllKeepSuspendRules, KeepsNeeded};
+ghost use Rattle.pass_kept_proof.specs.Needed.{IsNeededBehind, given_by};
+ghost use Rattle.ir_laws.specs.rules.path_rules.Paths.{KeepsPaths};
+ghost use Rattle.ir_laws.specs.rules.path_rules.Shape.{KeepsShape};
+ghost use Rattle.rule_shape.specs.OneOfEach.{wrong_call};
+ghost use Rattle.pass_kept_proof.specs.Handed.{HasPlainNames, HavePlainNames, HandsOn};
+ghost use Rattle.pass_early.specs.Early.{early_module};
+ghost use Rattle.rule_all.specs.Refused.{IsRefused};
+ghost use Rattle.text_grammar.specs.Text.{StandsFor};
+ghost use Rattle.rule_names.specs.declared.stage.Stage.{Stage};
+ghost use Rattle.run_agreement.specs.Agreements.{AgreesWithin};
+ghost use Rattle.ir_base.specs.declared.outcome.Word.{Word};
+ghost use Rattle.run_source.specs.Source.{SourceAt};
+ghost use Rattle.ir_model.specs.declared.module.Frame.{Frame};
+ghost use Rattle.pass_kept_proof.specs.Kept.{Keep, KeptAt};
+ghost use Rattle.pass_edges.specs.EdgeBlocks.{with_edge_blocks};
+ghost use Rattle.pass_proofs.specs.edges.states.MovedState.{KeepsEdges, edges_split};
+ghost use Rattle.run_agreement.specs.Costs.{AgreesBy};
+ghost use Rattle.pass_proofs.specs.kept.sources.Beside.{IsKeptOf, IsNearlyKeptOf};
+ghost use Rattle.pass_kept_proof.specs.Machines.{kept_machine, source_machine};
+
+/// A function that breaks none of the rules of functions, F2 among them, reads no value before its definition.
+pub fn functions_are_definite()
+    ensures { (m : Module) (k : ℕ) (f : Function) → KeepsFunctionRules m k f → IsDefinite f }
+{}
+
+/// A suspend of a coroutine without fault of K3 is followed at once by its switch.
+pub fn suspends_are_switched()
+    ensures { (k : ℕ) (f : Function) → f.coroutine ≡ true → wrong_switch k f ≡ None → (s : Point) → IsCallAt Intrinsic.CoroSuspend f s → IsSwitched f s }
+{}
+
+/// What it makes isn't needed behind it.
+pub fn results_of_suspends_are_unread()
+    ensures { (k : ℕ) (f : Function) → f.coroutine ≡ true → wrong_switch k f ≡ None → (s : Point) (c : IsCallAt Intrinsic.CoroSuspend f s) (v : ℕ) → given_by c.instr ≡ Some v → IsNeededBehind f s v → ⊥ }
+{}
+
+/// A coroutine that breaks none of the rules of functions, of its calls and of paths keeps what is asked of saves, suspends and windows.
+pub fn coroutines_keep_suspend_rules()
+    ensures { (m : Module) (k : ℕ) (f : Function) → f.coroutine ≡ true → KeepsFunctionRules m k f → KeepsShape k f → KeepsPaths k f → KeepsSuspendRules f }
+{}
+
+/// A function that breaks none of the rules of functions, and as a coroutine none of its calls, keeps what is asked of names and of the end's block.
+pub fn functions_have_plain_names()
+    ensures { (m : Module) (k : ℕ) (f : Function) → KeepsFunctionRules m k f → (f.coroutine ≡ true → wrong_call k f ≡ None) → HasPlainNames f }
+{}
+
+/// What the first pass makes of a source that a text stands for and that breaks no rule keeps what is asked of saves, suspends and windows.
+pub fn accepted_sources_keep_suspend_rules()
+    ensures { (text : List ℕ) (m : Module) → StandsFor text m → IsRefused Stage.Source m None → AllKeepSuspendRules (early_module m) }
+{}
+
+/// It reads no value before its definition.
+pub fn accepted_sources_are_definite()
+    ensures { (text : List ℕ) (m : Module) → StandsFor text m → IsRefused Stage.Source m None → AreDefinite (early_module m) }
+{}
+
+/// It keeps what is asked of names and of the ends' blocks.
+pub fn accepted_sources_have_plain_names()
+    ensures { (text : List ℕ) (m : Module) → StandsFor text m → IsRefused Stage.Source m None → HavePlainNames (early_module m) }
+{}
+
+/// Each run of such a source agrees within 2 with each run of what the first pass makes of it in which a resume hands on at least the values that
+/// cross its suspend and what isn't a value that may cross.
+pub fn accepted_early_sources_hand_on_what_crosses()
+    ensures { (text : List ℕ) (m : Module) → StandsFor text m → IsRefused Stage.Source m None → (keep : Keep) → HandsOn (early_module m) keep → (sizes : List Frame) (entry : ℕ) (args : List Word) (answers : List ℤ) → AgreesWithin 2 (SourceAt m sizes entry args answers) (KeptAt (early_module m) keep sizes entry args answers) }
+{}
+
+/// A coroutine that keeps what is asked of saves, suspends and windows keeps it where its edges have blocks.
+pub fn edge_blocks_keep_suspend_rules()
+    ensures { (f : Function) → KeepsEdges f → KeepsSuspendRules f → KeepsSuspendRules (with_edge_blocks f) }
+{}
+
+/// So does what the first pass makes of a source that a text stands for and that breaks no rule, where its coroutines' edges have blocks.
+pub fn accepted_edges_keep_suspend_rules()
+    ensures { (text : List ℕ) (m : Module) → StandsFor text m → IsRefused Stage.Source m None → AllKeepSuspendRules (edges_split (early_module m)) }
+{}
+
+/// Nor is a value read there before its definition.
+pub fn accepted_edges_are_definite()
+    ensures { (text : List ℕ) (m : Module) → StandsFor text m → IsRefused Stage.Source m None → AreDefinite (edges_split (early_module m)) }
+{}
+
+/// What is asked of names and of the ends' blocks is kept there, too.
+pub fn accepted_edges_have_plain_names()
+    ensures { (text : List ℕ) (m : Module) → StandsFor text m → IsRefused Stage.Source m None → HavePlainNames (edges_split (early_module m)) }
+{}
+
+/// Each run of a source that a text stands for and that breaks no rule agrees within 4 with each run, where saves are written out and edges have blocks,
+/// in which a resume hands on at least the values that cross its suspend and what isn't a value that may cross.
+pub fn accepted_sources_hand_on_what_crosses()
+    ensures { (text : List ℕ) (m : Module) → StandsFor text m → IsRefused Stage.Source m None → (keep : Keep) → HandsOn (edges_split (early_module m)) keep → (sizes : List Frame) (entry : ℕ) (args : List Word) (answers : List ℤ) → AgreesWithin 4 (SourceAt m sizes entry args answers) (KeptAt (edges_split (early_module m)) keep sizes entry args answers) }
+{}
+
+/// Its states stand beside those of a run in which a resume hands on at least what is needed behind it, where one
+/// step of the source pays for four.
+pub fn accepted_sources_keep_what_is_needed()
+    ensures { (text : List ℕ) (m : Module) → StandsFor text m → IsRefused Stage.Source m None → (keep : Keep)
+        → KeepsNeeded (edges_split (early_module m)) keep
+        → (sizes : List Frame) (entry : ℕ) (args : List Word) (answers : List ℤ)
+        → AgreesBy (IsKeptOf m sizes answers) (IsNearlyKeptOf m sizes entry args answers)
+        (source_machine m sizes entry args answers) (λ s. 4)
+        (kept_machine (edges_split (early_module m)) keep sizes entry args answers) (λ t. 1) }
+{}

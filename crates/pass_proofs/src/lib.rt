@@ -1,0 +1,13 @@
+//! The proofs of the passes behind the first, one module a pass: what each keeps of meaning and rules, and what
+//! it asks.
+#![tactic(auto)]
+
+pub mod addresses;
+pub mod cells;
+pub mod copies;
+pub mod edges;
+pub mod exits;
+pub mod fetch;
+pub mod frames;
+pub mod kept;
+pub mod split;

@@ -1,0 +1,15 @@
+//! Lemmas on plain functions.
+
+ghost use Rattle.std.specs.Prelude.{◌≡◌, ℕ, Some, false, slice_get};
+ghost use Rattle.pass_split.specs.Parts.{plain_of, plain_shape};
+ghost use Rattle.ir_laws.specs.rules.function_rules.Kept.{KeepsFunctionRules};
+ghost use Rattle.ir_model.specs.declared.module.Function.{Function};
+ghost use Rattle.ir_model.specs.declared.module.Module.{Module};
+ghost use Rattle.ir_laws.specs.rules.plain_rules.Kept.{KeepsPlainRules};
+ghost use Rattle.ir_laws.specs.frames.same_names.Parts.{HasPartsOf};
+
+/// A function that is no coroutine and breaks none of the rules of functions breaks none of those of modules without coroutines
+/// in a module with the parts of the coroutines.
+pub fn turned_functions_keep_plain_rules()
+    ensures { (m n : Module) (k l : ℕ) (f : Function) → HasPartsOf m n → slice_get m.functions k ≡ Some f → f.coroutine ≡ false → KeepsFunctionRules m k f → KeepsPlainRules n l (plain_of (plain_shape f) f) }
+{}

@@ -1,0 +1,32 @@
+//! In the parts into which a coroutine is split what is used is defined, and defined once.
+//!
+//! Each local that they use is theirs and is made on each path to its use, and stands once (N1, N2 of locals, F2).
+
+ghost use Rattle.std.specs.Prelude.{ℕ, None, ◌≡◌, []};
+ghost use Rattle.rule_uses.specs.Undefined.{IsFirstUndefined};
+ghost use Rattle.rule_uses.specs.Uses.{uses_of};
+ghost use Rattle.frame_layout.specs.declared.layout.Layout.{Layout};
+ghost use Rattle.pass_intrinsics.specs.Shapes.{shape_of};
+ghost use Rattle.pass_intrinsics.specs.declared.shape.Part.{Part};
+ghost use Rattle.ir_model.specs.declared.module.Function.{Function};
+ghost use Rattle.ir_model.specs.declared.module.Module.{Module};
+ghost use Rattle.pass_proofs.specs.split.rules.Parted.{IsPartOf};
+ghost use Rattle.pass_proofs.specs.split.rules.Splittable.{IsSplittable};
+ghost use Rattle.ir_laws.specs.rules.replaced.Instructions.{KnowsItsLocals};
+ghost use Rattle.ir_parts.specs.Locals.{locals_of};
+ghost use Rattle.rule_names.specs.Definitions.{first_twice};
+
+/// No path of a part of a coroutine reaches a use without its value (F2).
+pub fn parts_make_what_they_use()
+    ensures { (m : Module) (k l : ℕ) (layout : Layout) (part : Part) (begin : ℕ) (f g : Function) → IsSplittable m k f begin → IsPartOf (shape_of f layout) f part g → IsFirstUndefined g (uses_of l g) None }
+{}
+
+/// The locals that a part names are its own (N2).
+pub fn parts_name_their_own_locals()
+    ensures { (m : Module) (k l : ℕ) (layout : Layout) (part : Part) (begin : ℕ) (f g : Function) → IsSplittable m k f begin → IsPartOf (shape_of f layout) f part g → KnowsItsLocals l g }
+{}
+
+/// A part defines each of its locals once (N1).
+pub fn parts_define_locals_once()
+    ensures { (m : Module) (k l : ℕ) (layout : Layout) (part : Part) (begin : ℕ) (f g : Function) → IsSplittable m k f begin → IsPartOf (shape_of f layout) f part g → first_twice [] (locals_of l g) ≡ None }
+{}

@@ -1,0 +1,49 @@
+-- What a resumed activation has done when it has made a slot anew.
+use Rattle.std.specs.Prelude.{ℕ, Bool, true, List, [], length, Some, None, ◌≡◌, ◌+◌, ◌∷◌, ◌==◌}
+use Rattle.std.specs.List.{list_any}
+use Rattle.run_memory.specs.Memory.{fresh}
+use Rattle.run_source.specs.State.{function_of}
+use Rattle.run_source.specs.declared.state.State.{State}
+use Rattle.run_source.specs.declared.state.Mode.{Mode}
+use Rattle.run_framed.specs.Framed.{at_point, with_mode}
+use Rattle.ir_model.specs.Layout.{size_of}
+use Rattle.ir_model.specs.Ty.{Ty}
+use Rattle.ir_model.specs.declared.instr.Instr.{Instr}
+use Rattle.ir_model.specs.declared.module.Function.{Function}
+use Rattle.run_step.specs.Step.{AtInstr, alloca_kind, fetch, is_alignment}
+use Rattle.run_step.specs.Values.{pointer_to, with_value}
+use Rattle.pass_renewed_proof.specs.Renewed.{RenewedGiven, renewed_from}
+
+-- there is one live block more, whose address the alloca gives, and which is the activation's own
+abbrev pub made_anew : RenewedGiven → State → ℕ → Ty → ℕ → State
+made_anew g s a ty align =
+    let block = length s.world.memory in
+    record s {
+      world = record s.world { memory = fresh s.world.memory (size_of g.given.code ty) align (alloca_kind (function_of g.given s)) };
+      top = record s.top { at = s.top.at + 1; values = with_value s.top.values a (pointer_to block); slots = record { alloca = a; block = block } ∷ s.top.slots };
+    }
+
+-- ---- all slots of a function
+
+-- an alloca of the entry block
+pub record Anew : Type 0 where
+  pub name : ℕ
+  pub at : ℕ
+  pub ty : Ty
+  pub align : ℕ
+
+-- these are the flagged allocas of the entry block from a position on, with alignments that there are
+abbrev pub AreNext : (ℕ → Bool) → Function → ℕ → List Anew → Type 0
+AreNext flags f at [] = renewed_from flags f at ≡ None
+AreNext flags f at (x ∷ xs) =
+    (renewed_from flags f at ≡ Some (record { block = 0; at = x.at })) × (fetch f 0 x.at ≡ AtInstr (Instr.Alloca x.name x.ty x.align)) × (flags x.name ≡ true)
+    × (is_alignment x.align ≡ true) × AreNext flags f (x.at + 1) xs
+
+-- one after another
+abbrev pub made_all : RenewedGiven → ℕ → ℕ → State → List Anew → State
+made_all g from label s [] = s
+made_all g from label s (x ∷ xs) =
+    made_all g from label (made_anew g (at_point (with_mode s (Mode.Entering from label)) (record { block = 0; at = x.at })) x.name x.ty x.align) xs
+
+abbrev pub is_named : List Anew → ℕ → Bool
+is_named xs v = list_any (λ x. x.name == v) xs

@@ -1,0 +1,162 @@
+//! A resumed activation may make its local slots anew: the second step on the way from the meaning of sources to that of framed modules.
+//!
+//! The meaning is `RenewedAt`; three worked runs come to their events in it (`renewed_runs`). That it agrees with the
+//! one before isn't proved, but what this is to be made of is. An ordinary step doesn't see that blocks have ended
+//! into which none of its operands leads (`ended_blocks_are_not_seen`). It spreads no pointer into some blocks if no
+//! operand that it may spread is one (`pointers_are_not_spread`). It is made over a target memory where only what it
+//! reads stands there (`read_steps_are_carried`). That is so too where it uses slots that come to stand in blocks of
+//! their own with it (`slot_steps_are_carried`, `places_change`).
+//!
+//! What a resume hands on is right once the slots are made anew (`slots_are_made_anew`, `slot_values_stand`,
+//! `steady_distances_are_kept`). A local slot that was used before a suspend isn't used behind it without a start
+//! between (`local_slots_are_parted`), also by activations that have left (`windows_keep_slots`,
+//! `left_points_go_on`).
+#![tactic(auto)]
+
+ghost use Rattle.std.specs.Prelude.{ℕ, Bool, true, false, List, length, slice_get, Some, None, ◌≡◌, ◌≢◌, ◌≤◌, ◌<◌, ◌^◌, ◌++◌, ◌∷◌, [], ◌==◌, IsTrue, if◌then◌else◌, ◌+◌, ◌⊎◌, Option};
+ghost use Rattle.run_memory.specs.Memory.{end, fresh, is_live, killed_block, same_kind, start, with_block};
+ghost use Rattle.run_memory.specs.declared.block.Kind.{Kind as TheKind};
+ghost use Rattle.run_laws.specs.memory.Standing.{blank_block};
+ghost use Rattle.run_memory.specs.declared.block.MemoryBlock.{MemoryBlock as Block};
+ghost use Rattle.run_laws.specs.memory.Pointers.{Extends};
+ghost use Rattle.pass_renewed_proof.specs.Places.{AreStanding, HasFewer, IsBlank, IsFree, IsReady, hiding, unseen};
+ghost use Rattle.pass_renewed_proof.specs.Muted.{muted};
+ghost use Rattle.run_laws.specs.embedded.Making.{whole_home};
+ghost use Rattle.run_memory.specs.Memory.{owner_rights};
+ghost use Rattle.run_laws.specs.memory.Pointers.{Home, home_of};
+ghost use Rattle.pass_renewed_proof.specs.Steps.{AreOver, AreSet, GoesOver, IsRead, given_at};
+ghost use Rattle.run_step.specs.Step.{AtInstr, Context, Fetched, Work, action_of, fetch, is_alignment};
+ghost use Rattle.pass_renewed_proof.specs.Muted.{IsShownOperand, muted_action, muted_work};
+ghost use Rattle.pass_renewed_proof.specs.Shown.{AreShownBlocks, IsShownAction, spread_at};
+ghost use Rattle.run_laws.specs.changed.Changed.{Each, operands_at};
+ghost use Rattle.ir_model.specs.Names.{position_of};
+ghost use Rattle.ir_model.specs.Ty.{Ty};
+ghost use Rattle.ir_model.specs.declared.module.Function.{Function};
+ghost use Rattle.ir_model.specs.declared.module.Module.{Module};
+ghost use Rattle.ir_model.specs.declared.operand.Arg.{Arg as TheArg};
+ghost use Rattle.run_laws.specs.memory.Pointers.{IsValue};
+ghost use Rattle.run_step.specs.Values.{Env, arg_value, distance, element, indices_of, pointer_to, value_in};
+ghost use Rattle.run_memory.specs.declared.pointer.Value.{Value as TheValue};
+ghost use Rattle.pass_kept_proof.specs.Kept.{kept};
+ghost use Rattle.ir_base.specs.declared.outcome.Outcome.{Outcome as TheOutcome};
+ghost use Rattle.run_source.specs.State.{function_of};
+ghost use Rattle.run_source.specs.declared.state.Mode.{Mode as TheMode};
+ghost use Rattle.run_source.specs.declared.state.State.{State as TheState};
+ghost use Rattle.pass_renewed_proof.specs.Entering.{Anew, AreNext, is_named, made_all, made_anew};
+ghost use Rattle.run_agreement.specs.Machines.{iterate};
+ghost use Rattle.pass_renewed_proof.specs.Renewed.{RenewedGiven, renew_after, renewed_from, renewed_step, renewed_values};
+ghost use Rattle.pass_renewed_proof.specs.SlotEnvs.{AreMadeAnew, AreRoots, AreSlotEnvs};
+ghost use Rattle.pass_renewed_proof.specs.SlotRules.{AreSteady, IsMarkerAt};
+ghost use Rattle.run_laws.specs.embedded.Related.{IsSameDistance};
+ghost use Rattle.ir_model.specs.declared.instr.Instr.{Instr as TheInstr};
+ghost use Rattle.ir_model.specs.declared.operand.Intrinsic.{Intrinsic as TheIntrinsic};
+ghost use Rattle.ir_paths.specs.Facts.{IsWindow};
+ghost use Rattle.ir_paths.specs.declared.point.Window.{Window as TheWindow};
+ghost use Rattle.pass_kept_proof.specs.SuspendRules.{IsCallAt};
+ghost use Rattle.pass_renewed_proof.specs.Left.{IsLeftAt};
+ghost use Rattle.rule_slots.specs.Closed.{IsClosed};
+ghost use Rattle.ir_paths.specs.Paths.{Leads, entry_point, has_point};
+ghost use Rattle.ir_paths.specs.Slots.{is_escaped};
+ghost use Rattle.ir_paths.specs.Windows.{IsInWindow, end_block, leaves, suspend_of};
+ghost use Rattle.ir_paths.specs.declared.point.Point.{Point};
+ghost use Rattle.pass_renewed_proof.specs.Ahead.{IsBehindSuspendCall, IsUsedAhead, IsUsedBefore, IsUsedBehind, WasUsed};
+ghost use Rattle.pass_renewed_proof.specs.Ready.{IsPartPlaced, IsPlaced, IsUsing, Place, faded, shown_of, stood};
+ghost use Rattle.frame_classes.specs.Alive.{MayBeAlive};
+ghost use Rattle.frame_classes.specs.Classes.{NeedsFrame, parting, suspends};
+ghost use Rattle.frame_slots.specs.Spots.{IsBehind, IsStart, Spot};
+ghost use Rattle.rule_windows.specs.Sets.{IsAfterEnd};
+ghost use Rattle.rule_windows.specs.Windows.{own_edges};
+ghost use Rattle.pass_renewed_proof.specs.LocalSlot as local_slot;
+ghost use Rattle.pass_renewed_proof.specs.RestartedSlots as restarted_slots;
+ghost use Rattle.pass_renewed_proof.specs.EscapedRestart as escaped_restart;
+
+/// Each worked run comes to the events, the outcome and the count of allocator calls of the source.
+#[tactic(none)]
+pub fn renewed_runs()
+    ensures local_slot { local_slot.Computes }
+    ensures restarted_slots { restarted_slots.Computes }
+    ensures escaped_restart { escaped_restart.Computes }
+{}
+
+/// An ordinary step does the same where blocks have ended into which none of its operands leads.
+pub fn ended_blocks_are_not_seen()
+    ensures { (hides : ℕ → Bool) (c : Context) (w : Work) (here : Fetched) → hides (length w.world.memory) ≡ false → Each (IsShownOperand hides c w) (operands_at here) → action_of c (muted_work hides w) here ≡ muted_action hides (action_of c w here) }
+{}
+
+/// An ordinary step spreads no pointer into some blocks, where none of the operands that it may spread is one.
+pub fn pointers_are_not_spread()
+    ensures { (hides : ℕ → Bool) (c : Context) (w : Work) (here : Fetched) → hides (length w.world.memory) ≡ false → AreShownBlocks hides w.world.memory → Each (IsShownOperand hides c w) (spread_at here) → IsShownAction hides w.values (action_of c w here) }
+{}
+
+/// An ordinary step of the source that isn't undefined is made by the target in the same way, where no pointer is about into blocks that are hidden, and
+/// where what the instruction reads stands in the target; whatever its other names have, they keep it.
+pub fn read_steps_are_carried()
+    ensures { (homes : List Home) (hides : ℕ → Bool) (c : Context) (w x : Work) (here : Fetched) → c.rights ≡ owner_rights → AreOver homes hides w.world x.world → ((b : ℕ) → hides b ≡ true → (home_of homes b).is_seen ≡ false) → hides (length w.world.memory) ≡ false → IsRead homes c w.values x.values here → GoesOver homes hides (given_at here) w x (action_of c w here) (action_of c x here) }
+{}
+
+/// A block of undefined bytes comes to stand in a block of the target that is ready for it, and so does a new one, whose block in the target lives at once; a block to which no pointer leads may be hidden, and the target
+/// may have more blocks, and give back those in which nothing stands; and pointers to a block are no longer about where no byte is part of one.
+pub fn places_change()
+    ensures seated { (homes more : List Home) (m k n : List Block) (b c : ℕ) (y : Block) → Extends homes more → length homes ≤ length more → b < length more → ((d : ℕ) → d ≢ b → home_of more d ≡ home_of homes d) → home_of more b ≡ whole_home c → slice_get n c ≡ Some y → y.owned ≡ None → y.size < 2 ^ 64 → ((d : ℕ) → d ≢ b → slice_get k d ≡ slice_get m d) → ((x : Block) → slice_get k b ≡ Some x → x.size ≤ y.size) → ((x : Block) → slice_get k b ≡ Some x → is_live x.life ≡ true → IsBlank x × IsReady n c x) → IsFree homes m b c → AreStanding homes m n → AreStanding more k n }
+    ensures hidden { (homes : List Home) (hides : ℕ → Bool) (m k n : List Block) (b : ℕ) → (home_of homes b).is_seen ≡ false → ((d : ℕ) → d ≢ b → slice_get k d ≡ slice_get m d) → ((x : Block) → slice_get k b ≡ Some x → (y : Block) × (slice_get m b ≡ Some y) × (y.size ≡ x.size)) → AreStanding homes (muted hides m) n → AreStanding homes (muted (hiding hides b) k) n }
+    ensures fewer { (homes : List Home) (m k n : List Block) → HasFewer homes m k n → AreStanding homes m n → AreStanding homes k n }
+    ensures grown { (homes : List Home) (m n k : List Block) → ((b : ℕ) → (home_of homes b).is_seen ≡ true → (y : Block) × (slice_get n (home_of homes b).block ≡ Some y)) → AreStanding homes m n → AreStanding homes m (n ++ k) }
+    ensures given_back { (homes : List Home) (m n : List Block) (c : ℕ) → ((b : ℕ) (x : Block) → slice_get m b ≡ Some x → is_live x.life ≡ true → (home_of homes b).block ≢ c) → AreStanding homes m n → AreStanding homes m (with_block n c killed_block) }
+    ensures made { (homes : List Home) (m n : List Block) (x : Block) (kind : TheKind) → length homes ≡ length m → x.size < 2 ^ 64 → IsBlank x → same_kind kind TheKind.Constant ≡ false → ((b : ℕ) → (home_of homes b).is_seen ≡ true → (y : Block) × (slice_get n (home_of homes b).block ≡ Some y)) → AreStanding homes m n → AreStanding (homes ++ whole_home (length n) ∷ []) (m ++ x ∷ []) (n ++ blank_block x.size x.align kind ∷ []) }
+    ensures lives { (n : List Block) (size align : ℕ) (kind : TheKind) (marked : Bool) → start (if marked then end (fresh n size align kind) (length n) else fresh n size align kind) (length n) ≡ fresh n size align kind }
+    ensures forgotten { (homes more : List Home) (m n : List Block) (b : ℕ) → length more ≡ length homes → ((d : ℕ) → d ≢ b → home_of more d ≡ home_of homes d) → home_of more b ≡ unseen (home_of homes b) → AreShownBlocks (λ d. d == b) m → AreStanding homes m n → AreStanding more m n }
+{}
+
+/// Where a resumed activation may come to a use of a slot, the use stands behind the suspend; a local slot that was used has no such use there, is started there only if
+/// it isn't escaped, and isn't alive at the suspend if it is.
+pub fn local_slots_are_parted()
+    ensures behind { (f : Function) (slot : ℕ) (s : Point) (label : ℕ) → has_point (own_edges f s) (entry_point f label) ≡ true → (position_of f label ≡ end_block f → ⊥) → IsUsedAhead f slot (position_of f label) 0 → IsUsedBehind f slot s }
+    ensures unused { (f : Function) (slot : ℕ) → (¬ NeedsFrame f slot) → (s : Point) → IsTrue (has_point (suspends f) s) → WasUsed f slot s → IsUsedBehind f slot s → ⊥ }
+    ensures unstarted { (f : Function) (slot : ℕ) → (¬ NeedsFrame f slot) → IsTrue (is_escaped f slot) → (s : Point) → IsTrue (has_point (suspends f) s) → WasUsed f slot s → (spot : Spot) → IsStart f slot spot → IsBehind f s (parting (is_escaped f slot) f slot) spot → ⊥ }
+    ensures dead { (f : Function) (slot : ℕ) → (¬ NeedsFrame f slot) → IsTrue (is_escaped f slot) → (s : Point) → IsTrue (has_point (suspends f) s) → IsUsedBefore f slot s → MayBeAlive f slot s → ⊥ }
+{}
+
+/// An ordinary step that uses slots is made by the target in the same way, where each of their blocks stands in a block that is its own, or comes to stand there
+/// because it holds nothing and no pointer is about into it; no pointer into the blocks of a set is spread, and pointers into them are no longer about afterwards.
+pub fn slot_steps_are_carried()
+    ensures step { (homes : List Home) (hides quiet : ℕ → Bool) (ps : List Place) (c : Context) (w x : Work) (here : Fetched) → c.rights ≡ owner_rights → IsUsing homes hides quiet ps c w x here → GoesOver (stood homes ps) (shown_of hides ps) (given_at here) w x (action_of c w here) (action_of c x here) }
+    ensures spread { (homes : List Home) (hides quiet : ℕ → Bool) (ps : List Place) (c : Context) (w x : Work) (here : Fetched) → IsUsing homes hides quiet ps c w x here → Each (IsShownOperand quiet c w) (spread_at here) → IsShownAction quiet w.values (action_of c w here) }
+    ensures parts { (homes : List Home) (hides quiet : ℕ → Bool) (ps : List Place) (c : Context) (w x : Work) (here : Fetched) → IsUsing homes hides quiet ps c w x here → (inbounds : Bool) (v u : TheValue) (d e : Option ℕ) → IsPlaced ps v u → IsSameDistance d e → IsPartPlaced ps (element w.world.memory inbounds v d) (element x.world.memory inbounds u e) }
+    ensures faded { (quiet hides : ℕ → Bool) (homes : List Home) (m n : List Block) (ps : List Place) → Each (λ (p : Place). p.block < length homes) ps → AreShownBlocks quiet m → AreStanding homes (muted hides m) n → AreStanding (faded quiet homes ps) (muted hides m) n }
+{}
+
+/// A getelementptr whose indices into structures are literals has the same distance where its indices stand for those of the source.
+pub fn steady_distances_are_kept()
+    ensures { (homes : List Home) (m : Module) (env other : Env) (ty : Ty) (args : List TheArg) → AreSteady m ty args → Each (λ (a : TheArg). IsValue homes (arg_value m env a) (arg_value m other a)) args → IsSameDistance (distance m ty (indices_of m env args)) (distance m ty (indices_of m other args)) }
+{}
+
+/// An activation that has left is between the save and its suspend until it comes to the suspend, to the end and behind it; what it uses there stands in a window or after the end.
+pub fn left_points_go_on()
+    ensures saved { (f : Function) (k s : Point) → IsCallAt TheIntrinsic.CoroSave f k → suspend_of f k ≡ Some s → Leads f [] k s → IsLeftAt f (record { block = k.block; at = k.at + 1 }) }
+    ensures goes_on { (f : Function) (k s : Point) → IsCallAt TheIntrinsic.CoroSave f k → suspend_of f k ≡ Some s → (p : Point) (i : TheInstr) → fetch f p.block p.at ≡ AtInstr i → IsInWindow f k s p → IsLeftAt f (record { block = p.block; at = p.at + 1 }) }
+    ensures branches { (f : Function) (k s : Point) → IsCallAt TheIntrinsic.CoroSave f k → suspend_of f k ≡ Some s → (w : TheWindow) → w.save ≡ k → w.suspend ≡ s → IsWindow f w → (p q : Point) → IsInWindow f k s p → leaves p q w ≡ false → IsLeftAt f q }
+    ensures ended { (f : Function) (p : Point) → IsCallAt TheIntrinsic.CoroEnd f p → IsAfterEnd f (record { block = p.block; at = p.at + 1 }) }
+    ensures closed { (f : Function) (p : Point) → (IsCallAt TheIntrinsic.CoroSuspend f p → ⊥) → (IsBehindSuspendCall f p.block p.at → ⊥) → (p.block ≡ end_block f → p.at ≡ 0 → ⊥) → IsLeftAt f p → IsClosed f p }
+{}
+
+/// Where no marker of a slot stands in the window of a save, what was used before the save or in the window was used before the suspend, and what may be alive there may be alive at the suspend.
+pub fn windows_keep_slots()
+    ensures used { (f : Function) (slot : ℕ) (k s : Point) → IsCallAt TheIntrinsic.CoroSave f k → suspend_of f k ≡ Some s → ((q : Point) → IsInWindow f k s q → (IsMarkerAt f TheIntrinsic.LifetimeStart slot q → ⊥) × (IsMarkerAt f TheIntrinsic.LifetimeEnd slot q → ⊥)) → Leads f [] k s → (p : Point) → (p ≡ k) ⊎ IsInWindow f k s p → IsUsedBefore f slot p → IsUsedBefore f slot s }
+    ensures alive { (f : Function) (slot : ℕ) (k s : Point) → IsCallAt TheIntrinsic.CoroSave f k → suspend_of f k ≡ Some s → ((q : Point) → IsInWindow f k s q → (IsMarkerAt f TheIntrinsic.LifetimeStart slot q → ⊥) × (IsMarkerAt f TheIntrinsic.LifetimeEnd slot q → ⊥)) → Leads f [] k s → (p : Point) → (p ≡ k) ⊎ IsInWindow f k s p → MayBeAlive f slot p → MayBeAlive f slot s }
+{}
+
+/// What an activation has stands for what the source's has where values are kept, where a step gives a name that is no address in a slot, and where addresses in slots are moved to slots that were made anew.
+pub fn slot_values_stand()
+    ensures renewed { (homes : List Home) (roots : ℕ → Option ℕ) (env other mid : Env) → AreRoots roots → AreSlotEnvs homes roots env other → AreMadeAnew roots other mid → AreSlotEnvs homes roots env (renewed_values roots mid mid) }
+    ensures kept { (homes : List Home) (roots : ℕ → Option ℕ) (keep : ℕ → Bool) (env other : Env) → ((v a : ℕ) → roots v ≡ Some a → keep a ≡ true) → AreSlotEnvs homes roots env other → AreSlotEnvs homes roots (kept keep env) (kept keep other) }
+    ensures set { (homes more : List Home) (roots : ℕ → Option ℕ) (given : Option ℕ) (w x v y : Work) → Extends homes more → ((name a : ℕ) → roots name ≡ Some a → given ≡ Some name → ⊥) → AreRoots roots → AreSlotEnvs homes roots w.values x.values → AreSet more given w x v y → AreSlotEnvs more roots v.values y.values }
+{}
+
+/// A resumed activation makes a flagged slot anew in one step: it lives, is the activation's own, and the next one or the label follows; behind all of them each has the address of a block, and the other names have what they had.
+pub fn slots_are_made_anew()
+    ensures one { (g : RenewedGiven) (s : TheState) (from label a align : ℕ) (ty : Ty) → s.outcome ≡ TheOutcome.Running → s.top.mode ≡ TheMode.Entering from label → fetch (function_of g.given s) s.top.block s.top.at ≡ AtInstr (TheInstr.Alloca a ty align) → g.flags s.top.func a ≡ true → is_alignment align ≡ true → renewed_step g s ≡ renew_after g (made_anew g s a ty align) from label (renewed_from (g.flags s.top.func) (function_of g.given s) (s.top.at + 1)) }
+    ensures all { (g : RenewedGiven) (from label : ℕ) (xs : List Anew) (at : ℕ) (s : TheState) → s.outcome ≡ TheOutcome.Running → AreNext (g.flags s.top.func) (function_of g.given s) at xs → iterate (renewed_step g) (length xs) (renew_after g s from label (renewed_from (g.flags s.top.func) (function_of g.given s) at)) ≡ renew_after g (made_all g from label s xs) from label None }
+    ensures anew { (g : RenewedGiven) (from label : ℕ) (xs : List Anew) (s : TheState) (v : ℕ) → is_named xs v ≡ true → v < length s.top.values → (c : ℕ) × (value_in (made_all g from label s xs).top.values v ≡ pointer_to c) }
+    ensures others { (g : RenewedGiven) (from label : ℕ) (xs : List Anew) (s : TheState) (v : ℕ) → is_named xs v ≡ false → value_in (made_all g from label s xs).top.values v ≡ value_in s.top.values v }
+    ensures room { (g : RenewedGiven) (from label : ℕ) (xs : List Anew) (s : TheState) → length (made_all g from label s xs).top.values ≡ length s.top.values }
+{}

@@ -1,0 +1,101 @@
+//! The pass over the module.
+
+ghost use Rattle.std.specs.Prelude.{◌≡◌, IfOk, OnOk, ◌++◌};
+ghost use Rattle.pass_exits.specs.ExitBlocks.{with_exit_blocks};
+ghost use Rattle.pass_split.specs.Parts.{marked_parts, split_function, first_layout, other_layouts, layouts_after, split_functions, split_module};
+
+use crate::parts::{plain_of, push_parts};
+use frame_layout::{Layout, Layouts, index_alone};
+use ir_base::{Data, Items};
+use ir_model::{Function, Module};
+use pass_exits::with_exit_blocks;
+use pass_intrinsics::shape_of;
+use std::alloc::{AllocError, Global};
+
+/// Adds what a function becomes, by the first of these layouts where it is a coroutine.
+fn push_function(
+    alloc: Global,
+    all: &mut Items<Function>,
+    layouts: &[Layout],
+    function: &Function,
+) -> Result<(), AllocError>
+    ensures { OnOk result (all.new ≡ all.old ++ split_function (first_layout layouts.now) function.now) }
+{
+    if !function.coroutine {
+        all.push(plain_of(alloc, function)?)?;
+        return Ok(());
+    }
+    match layouts {
+        [] => push_coroutine(alloc, all, &index_alone(alloc, 0, 0)?, function),
+        [layout, ..] => push_coroutine(alloc, all, layout, function),
+    }
+}
+
+/// Adds the parts of a coroutine whose edges that leave a window have blocks with marks.
+fn push_marked(
+    alloc: Global,
+    all: &mut Items<Function>,
+    layout: &Layout,
+    function: &Function,
+) -> Result<(), AllocError>
+    ensures { OnOk result (all.new ≡ all.old ++ marked_parts layout.now function.now) }
+{
+    let shape = shape_of(alloc, function, layout)?;
+    push_parts(alloc, all, &shape, function)
+}
+
+fn push_coroutine(
+    alloc: Global,
+    all: &mut Items<Function>,
+    layout: &Layout,
+    function: &Function,
+) -> Result<(), AllocError>
+    ensures { OnOk result (all.new ≡ all.old ++ marked_parts layout.now (with_exit_blocks function.now)) }
+{
+    let marked = with_exit_blocks(alloc, function)?;
+    push_marked(alloc, all, layout, &marked)
+}
+
+/// The layouts that are left behind a function.
+fn layouts_after<'a>(function: &Function, layouts: &'a [Layout]) -> &'a [Layout]
+    ensures { result.now ≡ layouts_after function.now layouts.now }
+{
+    if !function.coroutine {
+        return layouts;
+    }
+    match layouts {
+        [] => layouts,
+        [_, others @ ..] => others,
+    }
+}
+
+fn split_functions(
+    alloc: Global,
+    layouts: &[Layout],
+    functions: &[Function],
+) -> Result<Items<Function>, AllocError>
+    ensures { IfOk result (λ x. x ≡ split_functions layouts.now functions.now) }
+{
+    let mut all = Items::new(alloc);
+    let mut left = layouts;
+    for function in functions {
+        push_function(alloc, &mut all, left, function)?;
+        left = layouts_after(function, left);
+    }
+    Ok(all)
+}
+
+/// The module with each coroutine `f` split into its ramp `f`, `f.resume` and `f.destroy` ("Coroutines in LLVM", the pass
+/// CoroSplit), by the layouts of its coroutines in order of the text. Of the coro intrinsics it calls none but `coro.id`.
+/// Functions that aren't coroutines keep their names and types; types, globals and declarations stay.
+pub fn split(alloc: Global, source: &Module, layouts: &Layouts) -> Result<Module, AllocError>
+    ensures { IfOk result (λ x. x ≡ split_module layouts.now source.now) }
+{
+    let coroutines = layouts.coroutines.as_slice();
+    Ok(Module {
+        types: source.types.copied(alloc)?,
+        globals: source.globals.copied(alloc)?,
+        declarations: source.declarations.copied(alloc)?,
+        functions: split_functions(alloc, coroutines, source.functions.as_slice())?,
+    })
+}

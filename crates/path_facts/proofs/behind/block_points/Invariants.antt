@@ -1,6 +1,0 @@
-use Rattle.std.proofs.Common.{◌≡◌, ◌++◌, ◌-◌}
-use Rattle.ir_paths.specs.Paths.{block_points}
-use Rattle.path_facts.proofs.behind.block_points.Given as goal
-
-abbrev pub invariant-loop-back : goal.invariant-loop-back
-invariant-loop-back l = l.all ++ block_points l.block (l.count - l.back) ≡ block_points l.block l.count

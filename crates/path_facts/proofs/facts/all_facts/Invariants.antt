@@ -1,6 +1,0 @@
-use Rattle.std.proofs.Common.{take}
-use Rattle.path_facts.specs.HaveFacts.{HaveFacts}
-use Rattle.path_facts.proofs.facts.all_facts.Given as goal
-
-abbrev pub invariant-loop-function : goal.invariant-loop-function
-invariant-loop-function l = HaveFacts (take l.function-index l.functions) l.all

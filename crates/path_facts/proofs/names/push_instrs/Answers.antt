@@ -1,6 +1,0 @@
-use Rattle.ir_paths.specs.Slots.{exposes}
-use Rattle.path_facts.proofs.Adding.{more-step}
-use Rattle.path_facts.proofs.names.push_instrs.Goals as goal
-
-pub loop-instr-preserved : goal.loop-instr-preserved
-loop-instr-preserved c = more-step exposes c.args.instrs.now c.loop-instr.instr-index c.instr-item.result c.args.names.now c.loop-instr.names c.push_exposed.new.names c.loop-instr-test.true c.instr-item.is c.loop-instr.invariant c.in_ok-push_exposed.ensures

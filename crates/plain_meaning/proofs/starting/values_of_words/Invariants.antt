@@ -1,6 +1,0 @@
-use Rattle.std.proofs.Common.{◌≡◌, map, take}
-use Rattle.block_memory.specs.declared.pointer.Value.{Value}
-use Rattle.plain_meaning.proofs.starting.values_of_words.Given as goal
-
-abbrev pub invariant-loop-word : goal.invariant-loop-word
-invariant-loop-word l = l.all ≡ map Value.Int (take l.word-index l.words)

@@ -1,6 +1,0 @@
-use Rattle.point_graph.proofs.Paths.{reached-are}
-use Rattle.point_graph.proofs.Tests.{if-ok}
-use Rattle.point_graph.proofs.graph.PointGraph.reached_from.Goals as goal
-
-pub returns-clause-found : goal.returns-clause-found
-returns-clause-found c = if-ok c.search.result _ _ (reached-are c.args.function.now c.args.starts.now c.args.avoided.now) c.search.ensures.found

@@ -1,6 +1,0 @@
-use Rattle.std.proofs.Common.{take}
-use Rattle.point_graph.specs.Rows.{AreCleared}
-use Rattle.point_graph.proofs.marks.Marks.clear_all.Given as goal
-
-abbrev pub invariant-loop-point : goal.invariant-loop-point
-invariant-loop-point l = AreCleared (take l.point-index l.points) l.initial.self l.self

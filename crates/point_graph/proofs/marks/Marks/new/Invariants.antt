@@ -1,6 +1,0 @@
-use Rattle.std.proofs.Common.{◌≡◌, ◌+◌, length, map, take}
-use Rattle.point_graph.specs.Rows.{AreBlank}
-use Rattle.point_graph.proofs.marks.Marks.new.Given as goal
-
-abbrev pub invariant-loop-block : goal.invariant-loop-block
-invariant-loop-block l = record { sizes : map length l.rows.items ≡ map (λ b. length b.instrs + 1) (take l.block-index l.block-items); blank : AreBlank l.rows.items }

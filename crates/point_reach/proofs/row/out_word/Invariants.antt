@@ -1,6 +1,0 @@
-use Rattle.std.proofs.Common.{◌≡◌, drop}
-use Rattle.point_reach.specs.Rows.{out_word}
-use Rattle.point_reach.proofs.row.out_word.Given as goal
-
-abbrev pub invariant-loop-pass : goal.invariant-loop-pass
-invariant-loop-pass l = out_word l.shut l.word (drop l.pass-index l.row) ≡ out_word l.shut l.first l.row

@@ -1,5 +1,0 @@
-use Rattle.printed_modules.proofs.cleaned_sources.Sources.{cleaned_agrees}
-use Rattle.printed_modules.proofs.cleaned_sources.cleaned_sources_keep_meaning.Goals as goal
-
-pub returns : goal.returns
-returns c = cleaned_agrees

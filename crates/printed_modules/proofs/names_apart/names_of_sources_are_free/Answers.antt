@@ -1,5 +1,0 @@
-use Rattle.printed_modules.proofs.names_apart.Sources.{source_tables}
-use Rattle.printed_modules.proofs.names_apart.names_of_sources_are_free.Goals as goal
-
-pub returns : goal.returns
-returns c = source_tables

@@ -1,5 +1,0 @@
-use Rattle.printed_modules.proofs.order_rules.Modules.{order_breaks_none}
-use Rattle.printed_modules.proofs.order_rules.names_in_order_break_no_rule.Goals as goal
-
-pub returns : goal.returns
-returns c = order_breaks_none

@@ -1,5 +1,0 @@
-use Rattle.renewed_slots.proofs.MutedSteps.{step_muted}
-use Rattle.renewed_slots.proofs.ended_blocks_are_not_seen.Goals as goal
-
-pub returns : goal.returns
-returns c = λ hides d w here new shown. step_muted hides d w new here shown

@@ -1,5 +1,0 @@
-use Rattle.renewed_slots.proofs.ShownSteps.{step_shown}
-use Rattle.renewed_slots.proofs.pointers_are_not_spread.Goals as goal
-
-pub returns : goal.returns
-returns c = λ hides d w here new shown operands. step_shown hides d w new shown here operands

@@ -1,0 +1,7 @@
+use Rattle.std.proofs.Common.{◌≡◌, drop}
+use Rattle.ir_base.specs.declared.outcome.Item.{Item}
+use Rattle.rule_names.specs.Items.{first_item}
+use Rattle.rule_names.proofs.items.first_declaration.Given as goal
+
+abbrev pub invariant-loop-item : goal.invariant-loop-item
+invariant-loop-item g l = first_item Item.Declaration (g.R.ModuleRule.says l.rule).on_declaration 0 l.items ≡ first_item Item.Declaration (g.R.ModuleRule.says l.rule).on_declaration l.at (drop l.item-index l.items)

@@ -1,0 +1,6 @@
+use Rattle.std.proofs.Common.{◌≡◌, ◌++◌, drop}
+use Rattle.rule_slots.specs.Steps.{steps_in}
+use Rattle.rule_slots.proofs.steps.push_steps.Given as goal
+
+abbrev pub invariant-loop-instr : goal.invariant-loop-instr
+invariant-loop-instr l = l.all ++ steps_in (drop l.instr-index l.instrs) ≡ l.initial.all ++ steps_in l.instrs

@@ -1,0 +1,6 @@
+use Rattle.std.proofs.Common.{◌≡◌, drop}
+use Rattle.ir_paths.specs.Windows.{label_in}
+use Rattle.rule_windows.proofs.labels.label_in.Given as goal
+
+abbrev pub invariant-loop-case : goal.invariant-loop-case
+invariant-loop-case l = label_in l.number l.cases l.default ≡ label_in l.number (drop l.case-index l.cases) l.default

@@ -1,0 +1,14 @@
+pub mod Blocks
+pub mod Bytes
+pub mod Done
+pub mod Held
+pub mod Lines
+pub mod Loaded
+pub mod Marked
+pub mod Ranges
+pub mod ReadSteps
+pub mod Reading
+pub mod Related
+pub mod Touched
+pub mod Turned
+pub mod Walk

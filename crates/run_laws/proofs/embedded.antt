@@ -1,0 +1,11 @@
+pub mod Carried
+pub mod Deallocated
+pub mod Made
+pub mod Marked
+pub mod Memories
+pub mod Mirrors
+pub mod NewBlocks
+pub mod Owners
+pub mod Refills
+pub mod SlotDeaths
+pub mod Values

@@ -1,0 +1,10 @@
+pub mod Changes
+pub mod Comparisons
+pub mod Copies
+pub mod Homes
+pub mod Itself
+pub mod Loads
+pub mod Matching
+pub mod Mirrored
+pub mod Stores
+pub mod Written

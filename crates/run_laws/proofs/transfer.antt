@@ -1,0 +1,11 @@
+pub mod Alone
+pub mod Carried
+pub mod Grown
+pub mod Makes
+pub mod Marks
+pub mod Muted
+pub mod Over
+pub mod Places
+pub mod Ready
+pub mod Sets
+pub mod Shapes

@@ -1,0 +1,5 @@
+pub mod Deaths
+pub mod Making
+pub mod Marks
+pub mod Refilled
+pub mod Related

@@ -1,0 +1,11 @@
+use Rattle.std.proofs.Common.{arith}
+use Rattle.run_memory.proofs.Blocks.{change_at, change_past}
+use Rattle.run_memory.specs.Memory.{ended}
+use Rattle.run_memory.proofs.memory.Memory.end.Goals as goal
+
+pub returns-then-block-len : goal.returns-then-block-len
+returns-then-block-len c =
+    change_at c.self.inside.blocks.items c.args.self.now c.args.block ended c.index_mut-x.result.now c.end.new.self c.self.view_is c.index_mut-x.ensures.value (omega arith) c.end.ensures.value
+
+pub returns-else-block-len : goal.returns-else-block-len
+returns-else-block-len c = change_past c.self.inside.blocks.items c.args.self.now c.args.block ended c.self.view_is (omega arith)

@@ -1,0 +1,17 @@
+use Rattle.std.proofs.Common.{◌≡◌, ◌∙◌, ap, sym, arith}
+use Rattle.run_plain.specs.Plain.{plain_step}
+use Rattle.run_plain.specs.PlainEffects.{given_of}
+use Rattle.run_plain.specs.declared.state.PlainState.{PlainState}
+use Rattle.run_plain.proofs.Iterating.{iterate-next, over}
+use Rattle.run_plain.proofs.progress.run_state.Goals as goal
+
+pub returns-then-is_over-clause-done : goal.returns-then-is_over-clause-done
+returns-then-is_over-clause-done c =
+    over (given_of c.args.program.now) c.loop-made.made c.args.n c.args.state.now c.loop-made.state (omega (arith, c.loop-made-test.true)) c.loop-made.invariant (sym c.is_over.ensures ∙ c.if-is_over.true)
+
+pub loop-made-preserved : goal.loop-made-preserved
+loop-made-preserved c =
+    let g = given_of c.args.program.now in
+    c.in_ok-step_state.ensures.done
+    ∙ ap (λ (s : PlainState). plain_step g s) c.loop-made.invariant
+    ∙ iterate-next (plain_step g) c.loop-made.made c.args.state.now

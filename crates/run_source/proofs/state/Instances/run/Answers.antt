@@ -1,0 +1,20 @@
+use Rattle.std.proofs.Common.{◌≡◌, ◌<◌, ◌∙◌, ◌∷◌, ap, arith, length, List, Some, None, refl, sym, true, false}
+use Rattle.std.specs.Prelude.{slice_set}
+use Rattle.ir_paths.specs.declared.point.Point.{Point}
+use Rattle.run_step.specs.Values.{Env}
+use Rattle.run_step.specs.declared.world.Slot.{Slot}
+use Rattle.run_source.specs.declared.state.Instance.{Instance}
+use Rattle.run_source.specs.declared.state.Status.{Status}
+use Rattle.run_source.proofs.Indexes.{not-there, put-indexed, put-is, same-there}
+use Rattle.run_source.proofs.state.Instances.run.Goals as goal
+
+pub invariant_of-self : goal.invariant_of-self
+invariant_of-self c =
+    let lt : c.args.i < length c.self.inside.list.items = omega arith in
+    put-indexed c.self.inside.list.items c.self.inside.last.items c.self.inside.earlier.items c.args.i c.index_mut.result.now c.set_status.new.instance c.self.invariant lt c.index_mut.ensures.value (ap (λ (y : Instance). y.block) c.set_status.ensures) (ap (λ (y : Instance). y.start) c.set_status.ensures)
+
+pub returns-then-i-len : goal.returns-then-i-len
+returns-then-i-len c = λ x g.
+    let lt : c.args.i < length c.self.inside.list.items = omega arith in
+    ap (slice_set c.self.inside.list.items c.args.i) c.set_status.ensures
+    ∙ put-is c.self.inside.list.items c.args.self.now c.args.i c.index_mut.result.now x (λ (y : Instance). record y { status = Status.Running }) c.self.view_is lt c.index_mut.ensures.value g

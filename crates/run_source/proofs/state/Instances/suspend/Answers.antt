@@ -1,0 +1,17 @@
+use Rattle.std.proofs.Common.{◌<◌, ◌∙◌, ap, arith, length, Some}
+use Rattle.std.specs.Prelude.{slice_set}
+use Rattle.run_source.specs.declared.state.Instance.{Instance}
+use Rattle.run_source.specs.declared.state.Status.{Status}
+use Rattle.run_source.proofs.Indexes.{put-indexed, put-is}
+use Rattle.run_source.proofs.state.Instances.suspend.Goals as goal
+
+pub invariant_of-self : goal.invariant_of-self
+invariant_of-self c =
+    let lt : c.args.i < length c.self.inside.list.items = omega arith in
+    put-indexed c.self.inside.list.items c.self.inside.last.items c.self.inside.earlier.items c.args.i c.index_mut.result.now c.sleep.new.instance c.self.invariant lt c.index_mut.ensures.value (ap (λ (y : Instance). y.block) c.sleep.ensures) (ap (λ (y : Instance). y.start) c.sleep.ensures)
+
+pub returns-then-i-len : goal.returns-then-i-len
+returns-then-i-len c = λ x g.
+    let lt : c.args.i < length c.self.inside.list.items = omega arith in
+    ap (slice_set c.self.inside.list.items c.args.i) c.sleep.ensures
+    ∙ put-is c.self.inside.list.items c.args.self.now c.args.i c.index_mut.result.now x (λ (y : Instance). record y { status = Status.Suspended c.args.suspend c.args.values; last_save = Some c.args.saved }) c.self.view_is lt c.index_mut.ensures.value g

@@ -1,0 +1,12 @@
+pub mod Actions
+pub mod Calls
+pub mod Costs
+pub mod Ending
+pub mod Entering
+pub mod Frames
+pub mod Parts
+pub mod Simulation
+pub mod Sleeping
+pub mod Soundness
+pub mod States
+pub mod Steps

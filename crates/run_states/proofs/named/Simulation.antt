@@ -1,0 +1,9 @@
+-- Lemmas on simulation, that speak of no pass.
+use Rattle.std.proofs.Common.{◌≡◌, refl}
+use Rattle.run_agreement.specs.Machines.{IsRunning}
+use Rattle.ir_base.specs.declared.outcome.Outcome.{Outcome}
+
+pub running_is : (o : Outcome) → IsRunning o → o ≡ Outcome.Running
+running_is (Outcome.Returned v) h = absurd h
+running_is Outcome.Running h = refl
+running_is (Outcome.Undefined cause place) h = absurd h

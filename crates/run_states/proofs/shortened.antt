@@ -1,0 +1,4 @@
+pub mod Short
+pub mod ShortActs
+pub mod ShortStates
+pub mod ShortSteps

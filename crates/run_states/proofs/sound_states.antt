@@ -1,0 +1,4 @@
+pub mod Acts
+pub mod Fits
+pub mod Kept
+pub mod Steps

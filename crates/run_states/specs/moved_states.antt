@@ -1,0 +1,4 @@
+pub mod Beside
+pub mod MovedState
+pub mod Moving
+pub mod Near

@@ -1,0 +1,1 @@
+//! Lemmas on early states.

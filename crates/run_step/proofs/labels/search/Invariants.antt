@@ -1,0 +1,6 @@
+use Rattle.std.proofs.Common.{◌≡◌, ◌+◌, drop}
+use Rattle.run_step.proofs.LabelPositions.{leading}
+use Rattle.run_step.proofs.labels.search.Given as goal
+
+abbrev pub invariant-loop-at : goal.invariant-loop-at
+invariant-loop-at l = leading l.label l.blocks ≡ l.at + leading l.label (drop l.at l.blocks)

@@ -1,8 +1,0 @@
-use Rattle.std.proofs.Common.{◌≡◌}
-use Rattle.slot_conflicts.proofs.Order.{none_in_row}
-use Rattle.slot_conflicts.proofs.Places.{no_both}
-use Rattle.slot_conflicts.specs.Conflicts.{ConflictAt}
-use Rattle.slot_conflicts.proofs.answer.push_slot.Goals as goal
-
-pub returns-else-is_frame : goal.returns-else-is_frame
-returns-else-is_frame c = none_in_row (ConflictAt c.args.function.now) c.args.one c.args.pairs.now (λ k h. no_both c.is_frame.result (c.is_frame.ensures.1 (record { slot = h.one; is_slot = h.is_one })) c.if-is_frame.false) c.requires.pairs

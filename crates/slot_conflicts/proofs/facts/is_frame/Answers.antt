@@ -1,5 +1,0 @@
-use Rattle.slot_conflicts.proofs.Frames.{frame_told}
-use Rattle.slot_conflicts.proofs.facts.is_frame.Goals as goal
-
-pub returns : goal.returns
-returns c = frame_told c.args.function.now c.args.classes.now c.requires c.args.at c.is_frame_class.result c.is_frame_class.ensures

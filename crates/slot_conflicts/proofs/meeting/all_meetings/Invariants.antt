@@ -1,6 +1,0 @@
-use Rattle.std.proofs.Common.{ℕ}
-use Rattle.slot_conflicts.specs.Known.{AreMetFor}
-use Rattle.slot_conflicts.proofs.meeting.all_meetings.Given as goal
-
-abbrev pub invariant-loop-other : goal.invariant-loop-other
-invariant-loop-other l = AreMetFor l.chunks l.one l.other l.met

@@ -1,6 +1,0 @@
-use Rattle.std.proofs.Common.{ℕ}
-use Rattle.slot_conflicts.specs.Meeting.{HaveMet}
-use Rattle.slot_conflicts.proofs.meeting.meet.Given as goal
-
-abbrev pub invariant-loop-bit : goal.invariant-loop-bit
-invariant-loop-bit l = HaveMet l.one l.other l.bit l.initial.words l.words

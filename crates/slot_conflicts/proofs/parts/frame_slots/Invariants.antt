@@ -1,6 +1,0 @@
-use Rattle.slot_conflicts.specs.Known.{IsFrameAt}
-use Rattle.slot_conflicts.specs.Parts.{AreBelow}
-use Rattle.slot_conflicts.proofs.parts.frame_slots.Given as goal
-
-abbrev pub invariant-loop-at : goal.invariant-loop-at
-invariant-loop-at l = AreBelow (IsFrameAt l.function) l.at l.all

@@ -1,6 +1,0 @@
-use Rattle.std.proofs.Common.{◌≡◌, map, take}
-use Rattle.slot_conflicts.specs.Started.{marked_pass}
-use Rattle.slot_conflicts.proofs.started.pass_row.Given as goal
-
-abbrev pub invariant-loop-mark : goal.invariant-loop-mark
-invariant-loop-mark l = l.row.items ≡ map (marked_pass l.names) (take l.mark-index l.marks)

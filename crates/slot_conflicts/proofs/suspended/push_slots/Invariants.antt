@@ -1,7 +1,0 @@
-use Rattle.std.proofs.Common.{◌≤◌}
-use Rattle.slot_conflicts.specs.Conflicts.{AliveAt}
-use Rattle.slot_conflicts.specs.Pairs.{AreUpTo}
-use Rattle.slot_conflicts.proofs.suspended.push_slots.Given as goal
-
-abbrev pub invariant-loop-at : goal.invariant-loop-at
-invariant-loop-at l = (l.start ≤ l.at) × AreUpTo (AliveAt l.function) l.at 0 l.pairs

@@ -1,7 +1,0 @@
-use Rattle.std.proofs.Common.{ℕ}
-use Rattle.slot_conflicts.specs.Conflicts.{AliveAt}
-use Rattle.slot_conflicts.specs.Pairs.{AreUpTo}
-use Rattle.slot_conflicts.proofs.suspended.push_suspends.Given as goal
-
-abbrev pub invariant-loop-suspend : goal.invariant-loop-suspend
-invariant-loop-suspend l = AreUpTo (AliveAt l.function) l.at l.suspend l.pairs

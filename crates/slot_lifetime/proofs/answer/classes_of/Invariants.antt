@@ -1,6 +1,0 @@
-use Rattle.std.proofs.Common.{◌≡◌, ◌++◌, drop}
-use Rattle.slot_lifetime.specs.Answer.{classes_from}
-use Rattle.slot_lifetime.proofs.answer.classes_of.Given as goal
-
-abbrev pub invariant-loop-slot : goal.invariant-loop-slot
-invariant-loop-slot l = l.all ++ classes_from l.ramp l.words l.at (drop l.slot-index l.slots) ≡ classes_from l.ramp l.words 0 l.slots

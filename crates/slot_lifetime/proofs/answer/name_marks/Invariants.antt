@@ -1,6 +1,0 @@
-use Rattle.std.proofs.Common.{take}
-use Rattle.slot_lifetime.specs.Answer.{AreNamed}
-use Rattle.slot_lifetime.proofs.answer.name_marks.Given as goal
-
-abbrev pub invariant-loop-name : goal.invariant-loop-name
-invariant-loop-name l = AreNamed (take l.name-index l.names) l.marks

@@ -1,5 +1,0 @@
-use Rattle.slot_lifetime.specs.Answer.{HaveFrameWords}
-use Rattle.slot_lifetime.proofs.answer.words_below.Given as goal
-
-abbrev pub invariant-loop-chunk : goal.invariant-loop-chunk
-invariant-loop-chunk l = HaveFrameWords l.function l.slots l.chunk l.words

@@ -1,5 +1,0 @@
-use Rattle.slot_lifetime.proofs.Passing.{shape_of_starts}
-use Rattle.slot_lifetime.proofs.frame.across_word.Goals as goal
-
-pub behind_rows-requires-clause-shape : goal.behind_rows-requires-clause-shape
-behind_rows-requires-clause-shape c = shape_of_starts c.args.function.now c.args.chunk.now c.requires.chunk

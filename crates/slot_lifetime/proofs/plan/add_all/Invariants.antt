@@ -1,8 +1,0 @@
-use Rattle.std.proofs.Common.{◌≡◌, ◌||◌, take}
-use Rattle.ir_paths.specs.Paths.{has_point}
-use Rattle.ir_paths.specs.declared.point.Point.{Point}
-use Rattle.point_graph.specs.Rows.{is_marked}
-use Rattle.slot_lifetime.proofs.plan.add_all.Given as goal
-
-abbrev pub invariant-loop-point : goal.invariant-loop-point
-invariant-loop-point l = (p : Point) → is_marked l.set p ≡ (is_marked l.initial.set p || has_point (take l.point-index l.points) p)

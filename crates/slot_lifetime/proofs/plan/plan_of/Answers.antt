@@ -1,9 +1,0 @@
-use Rattle.std.proofs.Common.{subst, sym}
-use Rattle.ir_model.specs.declared.operand.Intrinsic.{Intrinsic}
-use Rattle.point_reach.specs.Reached.{HaveShape}
-use Rattle.slot_lifetime.proofs.Passing.{shape_of_calls}
-use Rattle.slot_lifetime.specs.Rows.{all_bits}
-use Rattle.slot_lifetime.proofs.plan.plan_of.Goals as goal
-
-pub behind_rows-requires-clause-shape : goal.behind_rows-requires-clause-shape
-behind_rows-requires-clause-shape c = subst (HaveShape c.args.function.now) (sym c.in_ok-suspends.ensures) (shape_of_calls Intrinsic.CoroSuspend all_bits c.args.function.now)

@@ -1,6 +1,0 @@
-use Rattle.std.proofs.Common.{◌≡◌, map, take}
-use Rattle.slot_lifetime.specs.Rows.{row_word}
-use Rattle.slot_lifetime.proofs.rows.block_words.Given as goal
-
-abbrev pub invariant-loop-row : goal.invariant-loop-row
-invariant-loop-row l = l.all ≡ map (row_word 0) (take l.row-index l.rows)

@@ -1,6 +1,0 @@
-use Rattle.std.proofs.Common.{◌≡◌, map, take}
-use Rattle.slot_lifetime.specs.Rows.{call_word}
-use Rattle.slot_lifetime.proofs.rows.call_row.Given as goal
-
-abbrev pub invariant-loop-instr : goal.invariant-loop-instr
-invariant-loop-instr l = l.row ≡ map (call_word l.intrinsic l.word) (take l.instr-index l.block.instrs)

@@ -1,7 +1,0 @@
-use Rattle.std.proofs.Common.{◌≡◌, drop}
-use Rattle.std.specs.Prelude.{bit_and}
-use Rattle.slot_lifetime.specs.Rows.{row_word, zipped}
-use Rattle.slot_lifetime.proofs.rows.common_in_row.Given as goal
-
-abbrev pub invariant-loop-word : goal.invariant-loop-word
-invariant-loop-word l = row_word l.all (zipped bit_and l.at (drop l.word-index l.row) l.other) ≡ row_word l.first (zipped bit_and 0 l.row l.other)

@@ -1,7 +1,0 @@
-use Rattle.std.proofs.Common.{◌≡◌, ◌++◌, drop}
-use Rattle.std.specs.Prelude.{bit_and}
-use Rattle.slot_lifetime.specs.Rows.{zipped}
-use Rattle.slot_lifetime.proofs.rows.common_row.Given as goal
-
-abbrev pub invariant-loop-word : goal.invariant-loop-word
-invariant-loop-word l = l.all.items ++ zipped bit_and l.at (drop l.word-index l.row) l.other ≡ zipped bit_and 0 l.row l.other

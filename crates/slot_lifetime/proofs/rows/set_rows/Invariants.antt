@@ -1,6 +1,0 @@
-use Rattle.std.proofs.Common.{◌≡◌, ◌++◌, drop}
-use Rattle.slot_lifetime.specs.Rows.{set_rows}
-use Rattle.slot_lifetime.proofs.rows.set_rows.Given as goal
-
-abbrev pub invariant-loop-block : goal.invariant-loop-block
-invariant-loop-block l = l.rows ++ set_rows l.set l.at (drop l.block-index l.blocks) ≡ set_rows l.set 0 l.blocks

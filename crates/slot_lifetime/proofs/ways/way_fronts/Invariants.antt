@@ -1,6 +1,0 @@
-use Rattle.std.proofs.Common.{◌≡◌, ◌++◌, drop}
-use Rattle.slot_lifetime.specs.Ways.{fronts_from}
-use Rattle.slot_lifetime.proofs.ways.way_fronts.Given as goal
-
-abbrev pub invariant-loop-way : goal.invariant-loop-way
-invariant-loop-way l = l.all ++ fronts_from l.at (drop l.way-index l.ways) l.own ≡ fronts_from 0 l.ways l.own

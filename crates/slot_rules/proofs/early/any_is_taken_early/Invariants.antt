@@ -1,7 +1,0 @@
-use Rattle.std.proofs.Common.{◌≡◌, drop}
-use Rattle.std.specs.List.{list_any}
-use Rattle.slot_rules.specs.Early.{is_taken_early}
-use Rattle.slot_rules.proofs.early.any_is_taken_early.Given as goal
-
-abbrev pub invariant-loop-one : goal.invariant-loop-one
-invariant-loop-one l = list_any (is_taken_early l.slots.addresses l.ends.marks l.ends.other) l.incoming ≡ list_any (is_taken_early l.slots.addresses l.ends.marks l.ends.other) (drop l.one-index l.incoming)

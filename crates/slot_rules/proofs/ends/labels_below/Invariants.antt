@@ -1,6 +1,0 @@
-use Rattle.std.proofs.Common.{drop}
-use Rattle.slot_rules.specs.Early.{LabelsBelow}
-use Rattle.slot_rules.proofs.ends.labels_below.Given as goal
-
-abbrev pub invariant-loop-block : goal.invariant-loop-block
-invariant-loop-block l = LabelsBelow (drop l.block-index l.blocks) l.count → LabelsBelow l.blocks l.count

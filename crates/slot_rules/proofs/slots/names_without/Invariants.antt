@@ -1,6 +1,0 @@
-use Rattle.std.proofs.Common.{◌≡◌, ◌++◌, drop}
-use Rattle.slot_rules.specs.Slots.{names_without}
-use Rattle.slot_rules.proofs.slots.names_without.Given as goal
-
-abbrev pub invariant-loop-name : goal.invariant-loop-name
-invariant-loop-name l = l.all ++ names_without l.set (drop l.name-index l.names) ≡ names_without l.set l.names

@@ -1,6 +1,0 @@
-use Rattle.std.proofs.Common.{drop}
-use Rattle.flow_solver.specs.Paths.{HasNodes}
-use Rattle.slot_rules.proofs.steps.are_within.Given as goal
-
-abbrev pub invariant-loop-step : goal.invariant-loop-step
-invariant-loop-step l = HasNodes l.nodes (drop l.step-index l.steps) → HasNodes l.nodes l.steps

@@ -1,6 +1,0 @@
-use Rattle.std.proofs.Common.{◌≡◌, take}
-use Rattle.slot_rules.specs.Steps.{asked_at}
-use Rattle.slot_rules.proofs.steps.asked.Given as goal
-
-abbrev pub invariant-loop-name : goal.invariant-loop-name
-invariant-loop-name l = l.starts.items ≡ asked_at (take l.name-index l.names)

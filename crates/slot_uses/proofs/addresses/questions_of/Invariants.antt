@@ -1,6 +1,0 @@
-use Rattle.std.proofs.Common.{◌≡◌, ◌++◌, drop}
-use Rattle.slot_uses.specs.Words.{questions_from}
-use Rattle.slot_uses.proofs.addresses.questions_of.Given as goal
-
-abbrev pub invariant-loop-slot : goal.invariant-loop-slot
-invariant-loop-slot l = (l.at ≡ l.slot-index) × (l.all.items ++ questions_from l.at (drop l.slot-index l.slots) ≡ questions_from 0 l.slots)

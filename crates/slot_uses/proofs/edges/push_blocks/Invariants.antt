@@ -1,6 +1,0 @@
-use Rattle.std.proofs.Common.{◌≡◌, ◌++◌, drop}
-use Rattle.slot_uses.specs.Words.{uses_from}
-use Rattle.slot_uses.proofs.edges.push_blocks.Given as goal
-
-abbrev pub invariant-loop-block : goal.invariant-loop-block
-invariant-loop-block l = l.uses ++ uses_from l.function l.at (drop l.block-index l.blocks) ≡ l.initial.uses ++ uses_from l.function 0 l.blocks

@@ -1,6 +1,0 @@
-use Rattle.std.proofs.Common.{◌≡◌, ◌++◌, drop}
-use Rattle.slot_uses.specs.Words.{phis_uses}
-use Rattle.slot_uses.proofs.edges.push_phis.Given as goal
-
-abbrev pub invariant-loop-phi : goal.invariant-loop-phi
-invariant-loop-phi l = l.uses ++ phis_uses l.function l.to (drop l.phi-index l.phis) ≡ l.initial.uses ++ phis_uses l.function l.to l.phis

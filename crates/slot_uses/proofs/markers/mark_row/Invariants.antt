@@ -1,6 +1,0 @@
-use Rattle.std.proofs.Common.{◌≡◌, map, take}
-use Rattle.slot_uses.specs.Markers.{mark_of}
-use Rattle.slot_uses.proofs.markers.mark_row.Given as goal
-
-abbrev pub invariant-loop-instr : goal.invariant-loop-instr
-invariant-loop-instr l = l.row.items ≡ map mark_of (take l.instr-index l.instrs)

@@ -1,6 +1,0 @@
-use Rattle.std.proofs.Common.{◌≡◌, map, take}
-use Rattle.slot_uses.specs.Markers.{mark_row}
-use Rattle.slot_uses.proofs.markers.mark_rows.Given as goal
-
-abbrev pub invariant-loop-block : goal.invariant-loop-block
-invariant-loop-block l = l.rows.items ≡ map mark_row (take l.block-index l.blocks)

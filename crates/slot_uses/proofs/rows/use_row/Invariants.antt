@@ -1,6 +1,0 @@
-use Rattle.std.proofs.Common.{◌≡◌, map, take}
-use Rattle.slot_uses.specs.Words.{used}
-use Rattle.slot_uses.proofs.rows.use_row.Given as goal
-
-abbrev pub invariant-loop-instr : goal.invariant-loop-instr
-invariant-loop-instr l = l.row.items ≡ map (used l.words) (take l.instr-index l.instrs)

@@ -1,6 +1,0 @@
-use Rattle.std.proofs.Common.{◌≡◌, drop}
-use Rattle.slot_uses.specs.Words.{with_args}
-use Rattle.slot_uses.proofs.words.with_args.Given as goal
-
-abbrev pub invariant-loop-arg : goal.invariant-loop-arg
-invariant-loop-arg l = with_args l.words l.word (drop l.arg-index l.args) ≡ with_args l.words l.first l.args

@@ -1,5 +1,0 @@
-use Rattle.std.proofs.Common.{◌∙◌}
-use Rattle.source_program.proofs.program.SourceProgram.frame.Goals as goal
-
-pub returns-in-Some : goal.returns-in-Some
-returns-in-Some c = c.frame_or.ensures ∙ c.args.self.now.frames_found.frame c.args.func c.in-Some.found.now c.in-Some.ensures

@@ -1,5 +1,0 @@
-use Rattle.source_program.proofs.Looked.{final-is}
-use Rattle.source_program.proofs.program.SourceProgram.has_final.Goals as goal
-
-pub returns-in-Some-get : goal.returns-in-Some-get
-returns-in-Some-get c = final-is c.args.self.now.program.module c.args.self.now.facts c.args.self.now.tables c.args.func c.in-Some.function.now c.in-Some-get.table.now c.args.self.now.tables_found c.in-Some.ensures c.in-Some-get.ensures

@@ -1,6 +1,0 @@
-use Rattle.std.proofs.Common.{◌≡◌, length}
-use Rattle.source_program.proofs.Looked.{HasEach}
-use Rattle.source_program.proofs.table.all_tables.Given as goal
-
-abbrev pub invariant-loop-func : goal.invariant-loop-func
-invariant-loop-func l = record { count : length l.all ≡ l.func; each : HasEach l.functions l.facts l.all }

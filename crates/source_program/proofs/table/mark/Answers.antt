@@ -1,5 +1,0 @@
-use Rattle.ordinary_step.proofs.Marking.{one-marked}
-use Rattle.source_program.proofs.table.mark.Goals as goal
-
-pub returns : goal.returns
-returns c = one-marked c.args.table.now c.set.new.self c.args.at c.set.ensures

@@ -1,5 +1,0 @@
-use Rattle.split_meaning.proofs.moved_states.Soundness.{step_holds}
-use Rattle.split_meaning.proofs.moved_states.framed_states_stay_sound.Goals as goal
-
-pub returns : goal.returns
-returns c = λ mv m names moves layouts answers s holds. step_holds mv m layouts answers names moves s holds

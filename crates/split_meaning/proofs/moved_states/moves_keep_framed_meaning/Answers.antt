@@ -1,5 +1,0 @@
-use Rattle.split_meaning.proofs.moved_states.Simulation.{moves_agree}
-use Rattle.split_meaning.proofs.moved_states.moves_keep_framed_meaning.Goals as goal
-
-pub returns : goal.returns
-returns c = moves_agree

@@ -1,2 +1,0 @@
-pub mod exit_states
-pub mod moved_states

@@ -1,4 +1,0 @@
-pub mod Moving
-pub mod MovedState
-pub mod Near
-pub mod Beside

@@ -1,5 +1,0 @@
-pub mod Related
-pub mod Marks
-pub mod Making
-pub mod Deaths
-pub mod Refilled

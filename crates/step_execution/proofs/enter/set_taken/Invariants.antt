@@ -1,9 +1,0 @@
-use Rattle.std.proofs.Common.{◌≡◌, length}
-use Rattle.ordinary_step.specs.Effects.{with_taken}
-use Rattle.step_execution.proofs.enter.set_taken.Given as goal
-
-abbrev pub invariant-loop-left : goal.invariant-loop-left
-invariant-loop-left l = with_taken l.initial.values l.phis l.taken ≡ with_taken l.values l.left l.given
-
-abbrev pub decreases-loop-left : goal.decreases-loop-left
-decreases-loop-left l = length l.left

@@ -1,6 +1,0 @@
-use Rattle.std.proofs.Common.{◌≡◌, map, take}
-use Rattle.ordinary_step.specs.Step.{global_block}
-use Rattle.step_execution.proofs.start.first_world.Given as goal
-
-abbrev pub invariant-loop-global : goal.invariant-loop-global
-invariant-loop-global l = l.memory ≡ map (global_block l.program.module) (take l.global-index l.global-items)

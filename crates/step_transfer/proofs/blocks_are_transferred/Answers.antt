@@ -1,9 +1,0 @@
-use Rattle.step_transfer.proofs.Makes.{makes_over}
-use Rattle.step_transfer.proofs.Marks.{marks_over}
-use Rattle.step_transfer.proofs.blocks_are_transferred.Goals as goal
-
-pub returns-clause-made : goal.returns-clause-made
-returns-clause-made c = makes_over
-
-pub returns-clause-marked : goal.returns-clause-marked
-returns-clause-marked c = marks_over

@@ -1,6 +1,0 @@
-use Rattle.std.proofs.Common.{◌≤◌, take}
-use Rattle.suspend_crossing.specs.Crossing.{CrossedBy}
-use Rattle.suspend_crossing.proofs.answer.push_chunk.Given as goal
-
-abbrev pub invariant-loop-number : goal.invariant-loop-number
-invariant-loop-number l = (l.start ≤ l.number) × CrossedBy l.function (take l.number l.all.values) l.pairs

@@ -1,6 +1,0 @@
-use Rattle.std.proofs.Common.{◌≡◌, ◌++◌, drop}
-use Rattle.suspend_crossing.specs.Words.{made_starts}
-use Rattle.suspend_crossing.proofs.needed.push_made.Given as goal
-
-abbrev pub invariant-loop-from : goal.invariant-loop-from
-invariant-loop-from l = l.starts.items ++ made_starts l.made (drop l.from-index l.edges) ≡ l.initial.starts.items ++ made_starts l.made l.edges

@@ -1,6 +1,0 @@
-use Rattle.std.proofs.Common.{◌≡◌, ◌++◌, drop, filter}
-use Rattle.suspend_crossing.specs.EdgeUses.{is_behind}
-use Rattle.suspend_crossing.proofs.plan.on_ways.Given as goal
-
-abbrev pub invariant-loop-one : goal.invariant-loop-one
-invariant-loop-one l = l.all ++ filter (is_behind l.ways) (drop l.one-index l.uses) ≡ filter (is_behind l.ways) l.uses

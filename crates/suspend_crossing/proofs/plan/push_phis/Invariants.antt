@@ -1,6 +1,0 @@
-use Rattle.std.proofs.Common.{◌≡◌, ◌++◌, drop}
-use Rattle.suspend_crossing.specs.EdgeUses.{phis_uses}
-use Rattle.suspend_crossing.proofs.plan.push_phis.Given as goal
-
-abbrev pub invariant-loop-phi : goal.invariant-loop-phi
-invariant-loop-phi l = l.uses ++ phis_uses l.function l.to (drop l.phi-index l.phis) ≡ l.initial.uses ++ phis_uses l.function l.to l.phis

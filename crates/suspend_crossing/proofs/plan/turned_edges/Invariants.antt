@@ -1,6 +1,0 @@
-use Rattle.std.proofs.Common.{◌≡◌, map, take}
-use Rattle.suspend_crossing.specs.Words.{turned}
-use Rattle.suspend_crossing.proofs.plan.turned_edges.Given as goal
-
-abbrev pub invariant-loop-from : goal.invariant-loop-from
-invariant-loop-from l = l.all ≡ map turned (take l.from-index l.edges)

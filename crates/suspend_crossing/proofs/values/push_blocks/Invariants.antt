@@ -1,6 +1,0 @@
-use Rattle.std.proofs.Common.{◌≡◌, ◌++◌, drop}
-use Rattle.suspend_crossing.specs.Values.{blocks_defined}
-use Rattle.suspend_crossing.proofs.values.push_blocks.Given as goal
-
-abbrev pub invariant-loop-block : goal.invariant-loop-block
-invariant-loop-block l = l.all.items ++ blocks_defined (drop l.block-index l.blocks) ≡ l.initial.all.items ++ blocks_defined l.blocks

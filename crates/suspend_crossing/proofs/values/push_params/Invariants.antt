@@ -1,6 +1,0 @@
-use Rattle.std.proofs.Common.{◌≡◌, ◌++◌, drop}
-use Rattle.suspend_crossing.specs.Values.{params_defined}
-use Rattle.suspend_crossing.proofs.values.push_params.Given as goal
-
-abbrev pub invariant-loop-param : goal.invariant-loop-param
-invariant-loop-param l = l.all.items ++ params_defined (drop l.param-index l.params) ≡ l.initial.all.items ++ params_defined l.params

@@ -1,0 +1,10 @@
+use Rattle.std.proofs.Common.{◌≡◌, [], ◌∷◌, length}
+use Rattle.text_blocks.specs.Blocks.{begins_label, labelled_at}
+use Rattle.text_reader.specs.Many.{after, many_at}
+use Rattle.text_blocks.proofs.loops.blocks_behind.Given as goal
+
+abbrev pub invariant-loop-alloc : goal.invariant-loop-alloc
+invariant-loop-alloc l = after (l.fn.first ∷ []) (many_at begins_label (labelled_at l.types) l.fn.names l.fn.symbols) ≡ after l.all (many_at begins_label (labelled_at l.types) l.names l.rest)
+
+abbrev pub decreases-loop-alloc : goal.decreases-loop-alloc
+decreases-loop-alloc l = length l.rest

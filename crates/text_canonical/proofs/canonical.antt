@@ -1,0 +1,12 @@
+pub mod BlocksLexed
+pub mod Decimals
+pub mod InstrsLexed
+pub mod ItemsLexed
+pub mod Lexed
+pub mod OperandsLexed
+pub mod Pieces
+pub mod Spellings
+pub mod Steps
+pub mod Tokens
+pub mod TypesLexed
+pub mod WordsLexed

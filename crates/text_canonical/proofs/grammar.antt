@@ -1,0 +1,11 @@
+pub mod Again
+pub mod Attributes
+pub mod Blocks
+pub mod Bytes
+pub mod Functions
+pub mod Instructions
+pub mod Items
+pub mod Names
+pub mod Sound
+pub mod Types
+pub mod Whole

@@ -1,0 +1,5 @@
+pub mod Bodies
+pub mod Holds
+pub mod Modules
+pub mod Parts
+pub mod Shaped

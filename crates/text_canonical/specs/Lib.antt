@@ -1,0 +1,3 @@
+pub mod canonical
+pub mod grammar
+pub mod order

@@ -1,0 +1,14 @@
+pub mod BlockSymbols
+pub mod Blocks
+pub mod InstrSymbols
+pub mod Instrs
+pub mod ItemSymbols
+pub mod Items
+pub mod Lines
+pub mod Marks
+pub mod OperandSymbols
+pub mod Operands
+pub mod TypeSymbols
+pub mod Types
+pub mod Words
+pub mod Written

@@ -1,0 +1,2 @@
+-- The canonical text of modules.
+pub use Rattle.text_canonical.specs.canonical.Items.{module_text}

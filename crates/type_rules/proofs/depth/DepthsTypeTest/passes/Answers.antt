@@ -1,6 +1,0 @@
-use Rattle.std.proofs.Common.{◌∙◌}
-use Rattle.type_rules.proofs.Depths.{table_fits}
-use Rattle.type_rules.proofs.depth.DepthsTypeTest.passes.Goals as goal
-
-pub returns : goal.returns
-returns c = c.fits.ensures ∙ table_fits c.args.self.now.names.now.source.now.types c.as_slice.result.now c.args.ty.now (c.as_slice.ensures ∙ c.args.self.now.heights_are)

@@ -1,9 +1,0 @@
-use Rattle.std.proofs.Common.{◌≡◌, length}
-use Rattle.type_rules.specs.Signatures.{are_wanted}
-use Rattle.type_rules.proofs.signatures.are_wanted.Given as goal
-
-abbrev pub invariant-loop-wanted_left : goal.invariant-loop-wanted_left
-invariant-loop-wanted_left l = are_wanted l.wanted l.args ≡ are_wanted l.wanted_left l.given
-
-abbrev pub decreases-loop-wanted_left : goal.decreases-loop-wanted_left
-decreases-loop-wanted_left l = length l.wanted_left

@@ -1,5 +1,0 @@
-use Rattle.type_rules.proofs.Types.{decided}
-use Rattle.type_rules.proofs.signatures.is_same_type.Goals as goal
-
-pub returns : goal.returns
-returns c = decided c.is_same.result c.args.a.now c.args.b.now c.is_same.ensures

@@ -1,9 +1,0 @@
-use Rattle.std.proofs.Common.{◌≡◌, ◌++◌, drop}
-use Rattle.use_fetching.specs.Blocks.{fetched_phis, next_after_phis}
-use Rattle.use_fetching.proofs.phis.fetched_phis.Given as goal
-
-abbrev pub invariant-loop-phi : goal.invariant-loop-phi
-invariant-loop-phi l = record {
-  phis : l.all ++ fetched_phis l.fetches l.next (drop l.phi-index l.phis) ≡ fetched_phis l.fetches l.initial.next l.phis;
-  next : next_after_phis l.fetches l.next (drop l.phi-index l.phis) ≡ next_after_phis l.fetches l.initial.next l.phis;
-}

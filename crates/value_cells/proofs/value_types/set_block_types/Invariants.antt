@@ -1,6 +1,0 @@
-use Rattle.std.proofs.Common.{◌≡◌, drop}
-use Rattle.value_cells.specs.Kept.{with_block_types}
-use Rattle.value_cells.proofs.value_types.set_block_types.Given as goal
-
-abbrev pub invariant-loop-block : goal.invariant-loop-block
-invariant-loop-block l = with_block_types l.places l.types (drop l.block-index l.blocks) ≡ with_block_types l.places l.initial.types l.blocks

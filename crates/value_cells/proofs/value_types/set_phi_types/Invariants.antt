@@ -1,6 +1,0 @@
-use Rattle.std.proofs.Common.{◌≡◌, drop}
-use Rattle.value_cells.specs.Kept.{with_phi_types}
-use Rattle.value_cells.proofs.value_types.set_phi_types.Given as goal
-
-abbrev pub invariant-loop-phi : goal.invariant-loop-phi
-invariant-loop-phi l = with_phi_types l.places l.types (drop l.phi-index l.phis) ≡ with_phi_types l.places l.initial.types l.phis

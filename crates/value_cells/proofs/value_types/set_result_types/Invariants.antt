@@ -1,6 +1,0 @@
-use Rattle.std.proofs.Common.{◌≡◌, drop}
-use Rattle.value_cells.specs.Kept.{with_result_types}
-use Rattle.value_cells.proofs.value_types.set_result_types.Given as goal
-
-abbrev pub invariant-loop-instr : goal.invariant-loop-instr
-invariant-loop-instr l = with_result_types l.places l.types (drop l.instr-index l.instrs) ≡ with_result_types l.places l.initial.types l.instrs

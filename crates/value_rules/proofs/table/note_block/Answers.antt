@@ -1,7 +1,0 @@
-use Rattle.local_tables.specs.Tables.{noted}
-use Rattle.value_rules.proofs.Notings.{block_noted}
-use Rattle.value_rules.proofs.table.note_block.Goals as goal
-
-pub returns : goal.returns
-returns c =
-    block_noted c.args.block.now c.as_slice.result.now c.as_slice-2.result.now (noted c.args.table.now) (noted c.note_phis.new.table) (noted c.note_instrs.new.table) c.as_slice.ensures c.as_slice-2.ensures c.in_ok-note_phis.ensures c.in_ok-note_instrs.ensures

@@ -1,7 +1,0 @@
-use Rattle.std.proofs.Common.{◌≡◌, ℕ, drop}
-use Rattle.local_tables.specs.Tables.{first_in, noted, or_first}
-use Rattle.value_rules.specs.Kinds.{block_kind}
-use Rattle.value_rules.proofs.table.note_blocks.Given as goal
-
-abbrev pub invariant-loop-block : goal.invariant-loop-block
-invariant-loop-block l = (n : ℕ) → or_first (noted l.table n) (first_in block_kind (drop l.block-index l.blocks) n) ≡ or_first (noted l.initial.table n) (first_in block_kind l.blocks n)

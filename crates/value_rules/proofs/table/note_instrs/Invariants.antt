@@ -1,7 +1,0 @@
-use Rattle.std.proofs.Common.{◌≡◌, ℕ, drop}
-use Rattle.local_tables.specs.Tables.{first_in, noted, or_first}
-use Rattle.value_rules.specs.Kinds.{instr_kind}
-use Rattle.value_rules.proofs.table.note_instrs.Given as goal
-
-abbrev pub invariant-loop-instr : goal.invariant-loop-instr
-invariant-loop-instr l = (n : ℕ) → or_first (noted l.table n) (first_in instr_kind (drop l.instr-index l.instrs) n) ≡ or_first (noted l.initial.table n) (first_in instr_kind l.instrs n)

@@ -1,7 +1,0 @@
-use Rattle.std.proofs.Common.{◌≡◌, ℕ, drop}
-use Rattle.local_tables.specs.Tables.{first_in, noted, or_first}
-use Rattle.value_rules.specs.Kinds.{phi_kind}
-use Rattle.value_rules.proofs.table.note_phis.Given as goal
-
-abbrev pub invariant-loop-phi : goal.invariant-loop-phi
-invariant-loop-phi l = (n : ℕ) → or_first (noted l.table n) (first_in phi_kind (drop l.phi-index l.phis) n) ≡ or_first (noted l.initial.table n) (first_in phi_kind l.phis n)

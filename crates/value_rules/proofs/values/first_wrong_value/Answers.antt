@@ -1,7 +1,0 @@
-use Rattle.std.proofs.Common.{◌∙◌}
-use Rattle.local_tables.specs.Tables.{noted}
-use Rattle.value_rules.proofs.Notings.{wrong_by_table}
-use Rattle.value_rules.proofs.values.first_wrong_value.Goals as goal
-
-pub returns : goal.returns
-returns c = c.in_ok-place.ensures ∙ wrong_by_table c.args.names.now.source.now c.args.func c.args.function.now (noted c.in_ok-kinds.kinds) c.in_ok-kinds.ensures

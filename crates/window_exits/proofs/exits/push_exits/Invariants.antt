@@ -1,6 +1,0 @@
-use Rattle.std.proofs.Common.{◌≡◌, ◌++◌, drop}
-use Rattle.window_exits.specs.Exits.{exits_to}
-use Rattle.window_exits.proofs.exits.push_exits.Given as goal
-
-abbrev pub invariant-loop-label : goal.invariant-loop-label
-invariant-loop-label l = l.all ++ exits_to l.function l.at l.from (drop l.label-index l.labels) ≡ l.initial.all ++ exits_to l.function l.at l.from l.labels

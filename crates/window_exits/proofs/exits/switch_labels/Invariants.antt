@@ -1,5 +1,0 @@
-use Rattle.std.proofs.Common.{◌≡◌, ◌∷◌, map, take}
-use Rattle.window_exits.proofs.exits.switch_labels.Given as goal
-
-abbrev pub invariant-loop-case : goal.invariant-loop-case
-invariant-loop-case l = l.all ≡ l.default ∷ map (λ k. k.target) (take l.case-index l.cases)

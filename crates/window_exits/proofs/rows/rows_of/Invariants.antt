@@ -1,6 +1,0 @@
-use Rattle.std.proofs.Common.{◌≡◌, drop}
-use Rattle.window_exits.specs.Rows.{rows_by, rows_of}
-use Rattle.window_exits.proofs.rows.rows_of.Given as goal
-
-abbrev pub invariant-loop-number : goal.invariant-loop-number
-invariant-loop-number l = rows_by l.function l.number l.rows.items (drop l.number l.windows) ≡ rows_of l.function l.windows

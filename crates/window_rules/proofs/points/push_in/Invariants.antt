@@ -1,6 +1,0 @@
-use Rattle.std.proofs.Common.{◌≡◌, ◌++◌, drop}
-use Rattle.ir_paths.specs.Windows.{points_in}
-use Rattle.window_rules.proofs.points.push_in.Given as goal
-
-abbrev pub invariant-loop-block : goal.invariant-loop-block
-invariant-loop-block g l = l.all ++ points_in (g.T.InstrTest.instr_passes l.test) l.at (drop l.block-index l.blocks) ≡ l.initial.all ++ points_in (g.T.InstrTest.instr_passes l.test) 0 l.blocks

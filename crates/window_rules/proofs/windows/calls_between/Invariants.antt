@@ -1,6 +1,0 @@
-use Rattle.std.proofs.Common.{◌≡◌, ◌++◌, drop, filter}
-use Rattle.window_rules.specs.Windows.{is_call_between}
-use Rattle.window_rules.proofs.windows.calls_between.Given as goal
-
-abbrev pub invariant-loop-point : goal.invariant-loop-point
-invariant-loop-point l = l.all ++ filter (is_call_between l.function l.save l.suspend) (drop l.point-index l.back) ≡ filter (is_call_between l.function l.save l.suspend) l.back

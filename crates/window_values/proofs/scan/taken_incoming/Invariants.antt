@@ -1,6 +1,0 @@
-use Rattle.std.proofs.Common.{◌≡◌, drop}
-use Rattle.window_values.specs.Words.{taken_incoming}
-use Rattle.window_values.proofs.scan.taken_incoming.Given as goal
-
-abbrev pub invariant-loop-one : goal.invariant-loop-one
-invariant-loop-one l = taken_incoming l.function l.numbers l.chunk l.block l.told (drop l.one-index l.incoming) ≡ taken_incoming l.function l.numbers l.chunk l.block l.first l.incoming

@@ -1,6 +1,0 @@
-use Rattle.std.proofs.Common.{◌≡◌, drop}
-use Rattle.window_values.specs.Words.{told_incoming}
-use Rattle.window_values.proofs.scan.told_incoming.Given as goal
-
-abbrev pub invariant-loop-one : goal.invariant-loop-one
-invariant-loop-one l = told_incoming l.function l.numbers l.chunk l.told (drop l.one-index l.incoming) ≡ told_incoming l.function l.numbers l.chunk l.first l.incoming

@@ -1,6 +1,0 @@
-use Rattle.std.proofs.Common.{◌≡◌, map, take}
-use Rattle.window_values.specs.Words.{passed_word}
-use Rattle.window_values.proofs.words.passed_words.Given as goal
-
-abbrev pub invariant-loop-edge : goal.invariant-loop-edge
-invariant-loop-edge l = l.words.items ≡ map (passed_word l.made l.end) (take l.edge-index l.edges)

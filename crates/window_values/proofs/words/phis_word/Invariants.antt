@@ -1,6 +1,0 @@
-use Rattle.std.proofs.Common.{◌≡◌, drop}
-use Rattle.definite_use.specs.Questions.{phis_word}
-use Rattle.window_values.proofs.words.phis_word.Given as goal
-
-abbrev pub invariant-loop-phi : goal.invariant-loop-phi
-invariant-loop-phi l = phis_word l.numbers l.chunk l.word (drop l.phi-index l.phis) ≡ phis_word l.numbers l.chunk 0 l.phis
