@@ -6,7 +6,8 @@ use Rattle.ir_base.specs.declared.status.Options.{Options}
 use Rattle.pass_cleanup.proofs.Freed.{module_freed}
 use Rattle.pass_cleanup.specs.Cleanup.{clean_function, is_kept_instr}
 use Rattle.pass_cleanup.specs.Free.{calls_id_alone, is_free}
-use Rattle.pass_split.specs.Parts.{allocas_of, back_blocks, done_block, entry_instrs, head_blocks, is_alloca, later_part, layouts_after, marked_parts, first_layout, origins_for, part_blocks, parts_of, plain_of, plain_shape, ramp_of, ramp_source, split_function, split_functions, split_module}
+use Rattle.pass_split.specs.Parts.{back_blocks, done_block, entry_instrs, head_blocks, later_part, layouts_after, marked_parts, first_layout, origins_for, part_blocks, parts_of, plain_of, plain_shape, ramp_of, split_function, split_functions, split_module}
+use Rattle.pass_front.specs.Front.{allocas_of, is_alloca}
 use Rattle.pass_split.specs.Pieces.{all_pieces, begins_again, first_piecing, next_piecing, pass_block, piece, pieced, pieces_of, piecing_of, redirected_term, stop_label, stopped, with_instr, with_instrs}
 use Rattle.pass_split.specs.Reached.{is_flagged, kept_block, kept_blocks, pruned, reached}
 use Rattle.pass_split.specs.declared.origin.Origin.{Origin}
@@ -267,7 +268,7 @@ is_split f = not f.coroutine && is_fine f
 
 parts_fine : (s : Shape) (f : Function) → list_all is_split (parts_of s f) ≡ true
 parts_fine s f =
-    both _ _ (pruned_fine (ramp_of s (ramp_source f)) (part_fine s Part.Ramp (ramp_source f) (origins_for s Part.Ramp (ramp_source f))))
+    both _ _ (pruned_fine (ramp_of s f) (part_fine s Part.Ramp f (origins_for s Part.Ramp f)))
     (both _ _ (pruned_fine (later_part s Part.Resume s.resume_name f) (part_fine s Part.Resume f (origins_for s Part.Resume f)))
     (both _ _ (pruned_fine (later_part s Part.Destroy s.destroy_name f) (part_fine s Part.Destroy f (origins_for s Part.Destroy f))) refl))
 

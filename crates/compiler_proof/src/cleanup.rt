@@ -4,6 +4,7 @@ pub mod accepted;
 pub mod cleanable;
 pub mod cleanable_names;
 pub mod exits;
+pub mod front_rules;
 pub mod names;
 pub mod outside;
 pub mod rules;

@@ -4,8 +4,10 @@
 ghost use Rattle.run_source.specs.declared.state.State.{State};
 ghost use Rattle.compiler_proof.specs.theorem.Anew.{Anew};
 ghost use Rattle.compiler_proof.specs.theorem.Entries.{Run, IsEntry};
-ghost use Rattle.compiler_proof.specs.theorem.Lowered.{Lowered, IsLowered, printed_from};
+ghost use Rattle.compiler_proof.specs.theorem.Lowered.{AreAllocasFirst, Lowered, IsLowered, printed_from};
 ghost use Rattle.ir_model.specs.declared.module.Module.{Module};
+ghost use Rattle.frame_layout.specs.declared.layout.Layouts.{Layouts};
+ghost use Rattle.pass_frames.specs.Framed.{IsFramedForm};
 ghost use Rattle.std.specs.Prelude.{ℕ};
 ghost use Rattle.compiler_proof.specs.theorem.Prices.{Prices};
 ghost use Rattle.compiler_proof.specs.theorem.Theorem.{KeepsMeaning, Steps};
@@ -29,6 +31,11 @@ pub trait RelatesElided {
 
     ghost eliding: { Lowered → Module → Run → State → State → Type 0 };
 }
+
+/// In a framed form the entry of each coroutine begins with its allocas.
+pub fn allocas_stand_first_in_framed_forms()
+    ensures { (layouts : Layouts) (m n : Module) → IsFramedForm layouts m n → AreAllocasFirst n }
+{}
 
 /// What is printed of a source that breaks no rule agrees with it within its step factor, with frames that share
 /// bytes and with plain ones, where no call is elided.

@@ -7,6 +7,7 @@ pub mod begin_order;
 pub mod counted;
 pub mod crossing;
 pub mod edges;
+pub mod front_rules;
 pub mod needed;
 pub mod replaced;
 pub mod rows;

@@ -6,6 +6,7 @@ pub mod counted;
 pub mod crossing;
 pub mod edges;
 pub mod fetching_rules;
+pub mod front_rules;
 pub mod function_rules;
 pub mod known_labels;
 pub mod local_rules;

@@ -8,6 +8,7 @@ use Rattle.frame_contents.specs.declared.contents.Contents.{Contents}
 use Rattle.pass_edges.specs.EdgeBlocks.{with_edge_blocks}
 use Rattle.pass_addresses.specs.Placing.{with_frame_addresses}
 use Rattle.frame_layout.specs.declared.layout.Layout.{Layout}
+use Rattle.pass_front.specs.Front.{with_front_allocas}
 use Rattle.ir_model.specs.declared.module.Function.{Function}
 use Rattle.ir_model.specs.declared.module.Module.{Module}
 use Rattle.frame_classes.specs.declared.class.SlotClass.{SlotClass}
@@ -41,16 +42,16 @@ placed_by l f c g base names begin offsets marked (Ok x) base_is names_are begin
     ∙ ap (λ (t : List Bool). with_frame_addresses g (begin_of f) (offsets_of l f c (length g.names)) t) marked_are
 placed_by l f c g base names begin offsets marked (Err e) base_is names_are begin_is offsets_are marked_are is = is
 
-pub framed_by : {E : Type 0} (m : Module) (l : Layout) (f : Function) (c : Contents) (cells copies : Function) (before given : List ℕ) (r : Result Function E) → AreContents m f c → cells ≡ celled m f c → AreBefore cells before → given ≡ before →
-    copies ≡ copied f c cells given → IfOk r (λ g. g ≡ placed l f c copies) → IfOk r (λ g. IsFramedCoroutine m l f g)
-framed_by m l f c cells copies before given (Ok g) contents cells_are before_are same copies_are is = record {
+pub framed_by : {E : Type 0} (m : Module) (l : Layout) (f : Function) (c : Contents) (cells copies laid : Function) (before given : List ℕ) (r : Result Function E) → AreContents m f c → cells ≡ celled m f c → AreBefore cells before → given ≡ before →
+    copies ≡ copied f c cells given → laid ≡ placed l f c copies → IfOk r (λ g. g ≡ with_front_allocas laid) → IfOk r (λ g. IsFramedCoroutine m l f g)
+framed_by m l f c cells copies laid before given (Ok g) contents cells_are before_are same copies_are laid_is is = record {
   contents = c;
   contents_are = contents;
   before = before;
   before_are = subst (λ (x : Function). AreBefore x before) cells_are before_are;
-  is = is ∙ ap (placed l f c) (copies_are ∙ ap (λ (x : List ℕ). copied f c cells x) same ∙ ap (λ (x : Function). copied f c x before) cells_are);
+  is = is ∙ ap with_front_allocas (laid_is ∙ ap (placed l f c) (copies_are ∙ ap (λ (x : List ℕ). copied f c cells x) same ∙ ap (λ (x : Function). copied f c x before) cells_are));
 }
-framed_by m l f c cells copies before given (Err e) contents cells_are before_are same copies_are is = is
+framed_by m l f c cells copies laid before given (Err e) contents cells_are before_are same copies_are laid_is is = is
 
 -- ---- functions one by one
 

@@ -7,6 +7,7 @@ use Rattle.frame_contents.specs.declared.contents.Contents.{Contents}
 use Rattle.pass_edges.specs.EdgeBlocks.{with_edge_blocks}
 use Rattle.pass_addresses.specs.Placing.{with_frame_addresses}
 use Rattle.frame_layout.specs.Frames.{index_alone}
+use Rattle.pass_front.specs.Front.{with_front_allocas}
 use Rattle.frame_layout.specs.declared.layout.Layout.{Layout}
 use Rattle.frame_layout.specs.declared.layout.Layouts.{Layouts}
 use Rattle.ir_model.specs.Calls.{first_result}
@@ -78,13 +79,13 @@ begin_of f = unwrap_or (first_result Intrinsic.CoroBegin f) 0
 unfoldable pub placed : Layout → Function → Contents → Function → Function
 placed l f c g = with_frame_addresses g (begin_of f) (offsets_of l f c (length g.names)) (class_flags f c.classes SlotClass.Ramp)
 
--- g is the framed form of the coroutine
+-- g is the framed form of the coroutine: the allocas of its entry block stand in front, in their order
 pub record IsFramedCoroutine (m : Module) (l : Layout) (f g : Function) : Type 0 where
   pub contents : Contents
   pub contents_are : AreContents m f contents
   pub before : List ℕ
   pub before_are : AreBefore (celled m f contents) before
-  pub is : g ≡ placed l f contents (copied f contents (celled m f contents) before)
+  pub is : g ≡ with_front_allocas (placed l f contents (copied f contents (celled m f contents) before))
 
 -- ---- the module
 

@@ -19,6 +19,7 @@ use pass_cells::with_cells;
 use pass_copies::with_begin_copies;
 use pass_distances::Types;
 use pass_edges::with_edge_blocks;
+use pass_front::with_front_allocas;
 use std::alloc::{AllocError, Global};
 
 fn begin_of(function: &Function) -> ValueId
@@ -118,7 +119,7 @@ fn placed(
     with_frame_addresses(alloc, copied, begin, offsets.as_slice(), marked.as_slice())
 }
 
-/// The framed form of a coroutine with these contents.
+/// The framed form of a coroutine with these contents. The allocas of its entry block stand in front.
 #[tactic(auto, using(crate::proofs::Told::framed_by))]
 fn framed_with(
     alloc: Global,
@@ -136,7 +137,8 @@ fn framed_with(
     let begin = begin_block(&celled)?;
     let before = blocks_before(alloc, &celled, begin)?;
     let copied = copied(alloc, function, contents, &celled, begin, before.as_slice())?;
-    placed(alloc, layout, function, base, contents, &copied)
+    let laid = placed(alloc, layout, function, base, contents, &copied)?;
+    with_front_allocas(alloc, laid)
 }
 
 /// The framed form of a coroutine.

@@ -1,6 +1,8 @@
 //! Blocks on edges keep meaning and rules.
 
 pub mod calls;
+pub mod exit_rules;
+pub mod front_rules;
 pub mod numbers;
 pub mod paths;
 pub mod rules;

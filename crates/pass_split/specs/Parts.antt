@@ -1,6 +1,7 @@
 -- A coroutine split into its parts.
-use Rattle.std.specs.Prelude.{ℕ, zero, suc, Bool, true, false, List, [], map, filter, length, replicate, slice_get, slice_set, codes, ℤ, pos, Some, None, Option, ◌+◌, ◌-◌, ◌/◌, ◌∷◌, ◌++◌, if◌then◌else◌}
+use Rattle.std.specs.Prelude.{ℕ, zero, suc, Bool, true, false, List, [], map, length, replicate, slice_get, slice_set, codes, ℤ, pos, Some, None, Option, ◌+◌, ◌-◌, ◌/◌, ◌∷◌, ◌++◌, if◌then◌else◌}
 use Rattle.ir_base.specs.declared.name.Name.{Name}
+use Rattle.pass_front.specs.Front.{allocas_of}
 use Rattle.frame_layout.specs.Frames.{index_alone}
 use Rattle.frame_layout.specs.declared.layout.Layout.{Layout}
 use Rattle.frame_layout.specs.declared.layout.Layouts.{Layouts}
@@ -29,32 +30,6 @@ use Rattle.pass_intrinsics.specs.declared.shape.SuspendPoint.{SuspendPoint}
 use Rattle.pass_exits.specs.ExitBlocks.{with_exit_blocks}
 
 -- ---- the entry of the parts that go on behind a suspend
-
-abbrev pub is_alloca : Instr → Bool
-is_alloca (Instr.Alloca result ty align) = true
-is_alloca _ = false
-
--- the allocas of the source's entry block
-abbrev pub allocas_of : List Block → List Instr
-allocas_of [] = []
-allocas_of (b ∷ bs) = filter is_alloca b.instrs
-
-abbrev pub is_no_alloca : Instr → Bool
-is_no_alloca i = if is_alloca i then false else true
-
--- a block with its allocas in front
-abbrev pub allocas_first : Block → Block
-allocas_first b =
-    record { label = b.label; phis = b.phis; instrs = filter is_alloca b.instrs ++ filter is_no_alloca b.instrs; term = b.term }
-
--- the allocas of the entry block stand before begin and the saves, at which it is cut
-abbrev pub with_allocas_first : List Block → List Block
-with_allocas_first [] = []
-with_allocas_first (b ∷ bs) = allocas_first b ∷ bs
-
-abbrev pub ramp_source : Function → Function
-ramp_source f =
-    record { name = f.name; result = f.result; params = f.params; coroutine = f.coroutine; blocks = with_allocas_first f.blocks; names = f.names }
 
 -- the final suspend is no place to resume at
 abbrev pub goes_on_at : Part → SuspendPoint → Bool
@@ -206,7 +181,7 @@ later_part s part name f =
 
 abbrev pub parts_of : Shape → Function → List Function
 parts_of s f =
-    pruned (ramp_of s (ramp_source f))
+    pruned (ramp_of s f)
     ∷ pruned (later_part s Part.Resume s.resume_name f)
     ∷ pruned (later_part s Part.Destroy s.destroy_name f)
     ∷ []

@@ -1,10 +1,10 @@
 //! The parts of a coroutine.
 
-ghost use Rattle.std.specs.Prelude.{◌≡◌, ◌+◌, ◌-◌, IfOk, OnOk, ◌++◌, ◌∷◌, [], map, filter, codes};
+ghost use Rattle.std.specs.Prelude.{◌≡◌, ◌+◌, ◌-◌, IfOk, OnOk, ◌++◌, ◌∷◌, [], map, codes};
 ghost use Rattle.ir_base.specs.declared.name.Name.{Name as TheName};
 ghost use Rattle.ir_model.specs.Names.{numbered};
 ghost use Rattle.pass_split.specs.Pieces.{next_after, pieces_of, piecing_of, first_piecing, all_pieces};
-ghost use Rattle.pass_split.specs.Parts.{is_alloca, is_no_alloca, allocas_first, with_allocas_first, ramp_source, allocas_of, goes_on_at, is_entered, case_of, cases_from, entry_instrs, entry_term, entry_block, none_block, back_block, back_blocks, done_block, later_head, head_blocks, saved_name, back_name, pass_name, names_of_suspend, begun_mark, done_mark, entry_mark, none_mark, slot_mark, index_mark, frame_mark, label_names, suspend_names, instr_names, mark_names, names_of, origins_for, part_blocks, part_names, ramp_of, later_part, parts_of, plain_shape, plain_of};
+ghost use Rattle.pass_split.specs.Parts.{goes_on_at, is_entered, case_of, cases_from, entry_instrs, entry_term, entry_block, none_block, back_block, back_blocks, done_block, later_head, head_blocks, saved_name, back_name, pass_name, names_of_suspend, begun_mark, done_mark, entry_mark, none_mark, slot_mark, index_mark, frame_mark, label_names, suspend_names, instr_names, mark_names, names_of, origins_for, part_blocks, part_names, ramp_of, later_part, parts_of, plain_shape, plain_of};
 
 use crate::origin::Origin;
 use crate::origins::set_origins;
@@ -16,98 +16,11 @@ use ir_base::{Data, Items, Name, SuspendId, Text, ValueId};
 use ir_model::{
     Arg, Block, Case, Function, Instr, IntWidth, IrType, Operand, Param, Terminator, numbered_name,
 };
+use pass_front::allocas_of;
 use pass_intrinsics::{
     Part, Shape, SuspendPoint, address, goes_on, index_bytes, later, number_arg,
 };
 use std::alloc::{AllocError, Global};
-
-fn is_alloca(instr: &Instr) -> bool
-    ensures { result ≡ is_alloca instr.now }
-{
-    matches!(instr, Instr::Alloca { .. })
-}
-
-fn push_allocas(alloc: Global, all: &mut Items<Instr>, instrs: &[Instr]) -> Result<(), AllocError>
-    ensures { OnOk result (all.new ≡ all.old ++ filter is_alloca instrs.now) }
-{
-    for instr in instrs {
-        if is_alloca(instr) {
-            all.push(instr.copied(alloc)?)?;
-        }
-    }
-    Ok(())
-}
-
-/// The allocas of the source's entry block.
-fn allocas_of(alloc: Global, blocks: &[Block]) -> Result<Items<Instr>, AllocError>
-    ensures { IfOk result (λ x. x ≡ allocas_of blocks.now) }
-{
-    let mut all = Items::new(alloc);
-    if let [entry, ..] = blocks {
-        push_allocas(alloc, &mut all, entry.instrs.as_slice())?;
-    }
-    Ok(all)
-}
-
-fn push_others(alloc: Global, all: &mut Items<Instr>, instrs: &[Instr]) -> Result<(), AllocError>
-    ensures { OnOk result (all.new ≡ all.old ++ filter is_no_alloca instrs.now) }
-{
-    for instr in instrs {
-        if !is_alloca(instr) {
-            all.push(instr.copied(alloc)?)?;
-        }
-    }
-    Ok(())
-}
-
-/// The block with its allocas in front.
-fn allocas_first(alloc: Global, block: &Block) -> Result<Block, AllocError>
-    ensures { IfOk result (λ b. b ≡ allocas_first block.now) }
-{
-    let mut instrs = Items::new(alloc);
-    push_allocas(alloc, &mut instrs, block.instrs.as_slice())?;
-    push_others(alloc, &mut instrs, block.instrs.as_slice())?;
-    Ok(Block {
-        label: block.label,
-        phis: block.phis.copied(alloc)?,
-        instrs,
-        term: block.term.copied(alloc)?,
-    })
-}
-
-fn push_copies(alloc: Global, all: &mut Items<Block>, blocks: &[Block]) -> Result<(), AllocError>
-    ensures { OnOk result (all.new ≡ all.old ++ blocks.now) }
-{
-    for block in blocks {
-        all.push(block.copied(alloc)?)?;
-    }
-    Ok(())
-}
-
-fn with_allocas_first(alloc: Global, blocks: &[Block]) -> Result<Items<Block>, AllocError>
-    ensures { IfOk result (λ x. x ≡ with_allocas_first blocks.now) }
-{
-    let mut all = Items::new(alloc);
-    if let [entry, others @ ..] = blocks {
-        all.push(allocas_first(alloc, entry)?)?;
-        push_copies(alloc, &mut all, others)?;
-    }
-    Ok(all)
-}
-
-/// The coroutine with the allocas of its entry block in front.
-fn ramp_source(alloc: Global, function: &Function) -> Result<Function, AllocError>
-    ensures { IfOk result (λ f. f ≡ ramp_source function.now) }
-{
-    Ok(Function {
-        name: function.name.copied(alloc)?,
-        result: Data::copied(&function.result, alloc)?,
-        params: function.params.copied(alloc)?,
-        coroutine: function.coroutine,
-        blocks: with_allocas_first(alloc, function.blocks.as_slice())?,
-        names: function.names.copied(alloc)?,
-    })
-}
 
 fn goes_on_at(part: Part, point: &SuspendPoint) -> bool
     ensures { result ≡ goes_on_at part point.now }
@@ -602,8 +515,7 @@ pub fn push_parts(
 ) -> Result<(), AllocError>
     ensures { OnOk result (all.new ≡ all.old ++ parts_of shape.now function.now) }
 {
-    let source = ramp_source(alloc, function)?;
-    let ramp = pruned(alloc, ramp_of(alloc, shape, &source)?)?;
+    let ramp = pruned(alloc, ramp_of(alloc, shape, function)?)?;
     let resume = later_part(alloc, shape, Part::Resume, &shape.resume_name, function)?;
     let resume = pruned(alloc, resume)?;
     let destroy = later_part(alloc, shape, Part::Destroy, &shape.destroy_name, function)?;

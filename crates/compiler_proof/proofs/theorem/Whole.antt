@@ -7,10 +7,11 @@ use Rattle.run_agreement.specs.Machines.{at}
 use Rattle.pass_cleanup.specs.Cleanup.{clean_function}
 use Rattle.run_source.specs.declared.state.State.{State}
 use Rattle.compiler_proof.proofs.theorem.Entries.{entry_before}
+use Rattle.compiler_proof.proofs.theorem.Fronts.{allocas_stand_first}
 use Rattle.compiler_proof.proofs.theorem.Rows.{framed_within, somewhere_shown}
 use Rattle.compiler_proof.specs.theorem.Anew.{Anew}
 use Rattle.compiler_proof.specs.theorem.Entries.{IsEntry, Run}
-use Rattle.compiler_proof.specs.theorem.Lowered.{IsLowered, Lowered, framed_run, lowered_from, plain_run, printed_from, source_run, split_from}
+use Rattle.compiler_proof.specs.theorem.Lowered.{AreAllocasFirst, IsLowered, Lowered, early, framed_run, lowered_from, plain_run, printed_from, source_run, split_from}
 use Rattle.compiler_proof.specs.theorem.Prices.{Prices}
 use Rattle.compiler_proof.specs.theorem.Theorem.{KeepsMeaning, Steps}
 use Rattle.ir_model.specs.declared.module.Module.{Module}
@@ -40,6 +41,9 @@ module _ (R V Q W : Lowered → Anew → Run → State → State → Type 0) (a 
   ready = is_ready l.text l.source low.source.stands low.source.accepted l.share l.layouts low.laid l.framed
       low.is_framed
 
+  fronts : AreAllocasFirst l.framed
+  fronts = allocas_stand_first l.layouts (early l) l.framed low.is_framed
+
   abbrev f : ℕ
   f = 4 * (4 * size_factor l.source)
 
@@ -52,7 +56,7 @@ module _ (R V Q W : Lowered → Anew → Run → State → State → Type 0) (a 
       (compose_within f 4 (at (source_run l r)) (at (framed_run l l.framed r))
       (at (plain_run (split_from l l.framed) r other))
       (framed_within R V Q W a p l low h r entry.callable)
-      (h.parting h.good ready h.allocas r other split_entry))
+      (h.parting h.good ready fronts r other split_entry))
       (cleaned_agrees l.text l.source low.source.stands low.source.accepted l.share l.layouts low.laid l.framed
       low.is_framed other
       r.args r.answers))

@@ -47,8 +47,6 @@ pub record Steps (R V Q W : Lowered → Anew → Run → State → State → Typ
   -- waits for: prices counted by names and operands, a resume with the jump behind it
   pub paid : (r : Run) (n : ℕ) → IsCallable l.source r.entry → IsFine (at (kept_run l a r) n).outcome
       → cost_at (kept_run l a r) (price_kept l a r p) n ≤ (4 * size_factor l.source) * n
-  -- waits for: frames built with the allocas of entries first, which is false of the pass yet
-  pub allocas : AreAllocasFirst l.framed
   -- waits for: the simulation of parts
   pub parting : AreGoodLayouts (early l) l.layouts.coroutines → IsReady l.layouts l.framed → AreAllocasFirst l.framed
       → (r : Run) (other : ℕ) → IsEntry l.source (split_from l l.framed) r.entry other

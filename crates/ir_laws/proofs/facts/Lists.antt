@@ -1,15 +1,15 @@
 -- Lists: what is mapped, appended, counted, or stands at a place.
-use Rattle.std.proofs.Common.{List, [], ◌∷◌, ◌≡◌, Bool, refl, ℕ, zero, suc, ◌<◌, ◌++◌, length, ap, arith, ◌≤◌, ◌+◌, ◌∙◌, length-append, ⊎_elim, cond, sym, true, false, Some, ◌||◌, map, ◌&&◌, ◌⊎◌, inl, inr, None, subst, ◌/◌, ◌%◌, not}
+use Rattle.std.proofs.Common.{List, [], ◌∷◌, ◌≡◌, Bool, refl, ℕ, zero, suc, ◌<◌, ◌++◌, length, ap, arith, ◌≤◌, ◌+◌, ◌∙◌, length-append, ⊎_elim, cond, sym, true, false, Some, ◌||◌, map, ◌&&◌, ◌⊎◌, inl, inr, None, subst, append-nil, ◌/◌, ◌%◌, not}
 use Rattle.run_laws.specs.changed.Changed.{Each as EachOf, Each}
 use Rattle.std.specs.List.{list_any, list_all}
-use Rattle.std.specs.Prelude.{map, ◌||◌, Some, slice_get, slice_set, option_map, if◌then◌else◌, None, count_by, flat_map, find, ◌&&◌, replicate, Option, unwrap_or, ◌==◌, not, Bool, false, decimal}
+use Rattle.std.specs.Prelude.{map, ◌||◌, Some, slice_get, slice_set, option_map, if◌then◌else◌, None, count_by, flat_map, find, ◌&&◌, replicate, Option, filter, unwrap_or, ◌==◌, not, Bool, false, decimal}
 use Rattle.ir_model.specs.Names.{first_where, position_of, same_name, numbered, spelling}
 use Rattle.std.proofs.lemmas.Bool.{cases_lt, and_parts, and_from}
 use Rattle.ir_laws.specs.facts.expanded.Expansion.{expanded, number_at, place_of}
 use Rattle.ir_model.specs.declared.instr.Instr.{Instr}
 use Rattle.std.proofs.lemmas.List.Sums.{sum_by-cons, sum_by-append}
 use Rattle.ir_laws.specs.facts.renamed.Regular.{passes}
-use Rattle.ir_laws.proofs.facts.Numbers.{phi_name}
+use Rattle.ir_laws.proofs.facts.Numbers.{phi_name, First, IsSource, Same}
 use Rattle.ir_model.specs.declared.instr.Phi.{Phi}
 use Rattle.ir_model.specs.declared.module.Param.{Param}
 use Rattle.ir_model.specs.declared.instr.Incoming.{Incoming}
@@ -17,8 +17,9 @@ use Rattle.ir_model.specs.declared.operand.Operand.{Operand}
 use Rattle.ir_laws.proofs.facts.Options.{not_first}
 use Rattle.ir_base.specs.declared.name.Name.{Name}
 use Rattle.ir_laws.specs.facts.woven_rules.Pairs.{times}
-use Rattle.ir_laws.proofs.facts.Truth.{equal_numbers, same_name-itself as itself, glyph_byte, nothing_no_name}
+use Rattle.pass_front.specs.Front.{is_alloca, is_no_alloca, allocas_first, with_allocas_first}
 use Rattle.ir_model.specs.declared.module.Block.{Block}
+use Rattle.ir_laws.proofs.facts.Truth.{equal_numbers, same_name-itself as itself, glyph_byte, nothing_no_name}
 use Rattle.ir_model.specs.declared.module.Function.{Function}
 use Rattle.ir_laws.specs.facts.counted.Widths.{has_width}
 use Rattle.ir_model.specs.Ty.{Ty}
@@ -368,6 +369,121 @@ blank_length (suc n) = ap suc (blank_length n)
 pub none_of : {A : Type 0} (xs : List A) → length xs ≡ 0 → xs ≡ []
 none_of [] e = refl
 none_of (x ∷ xs) e = absurd (cc)
+
+abbrev pub in_front : List Instr → List Instr
+in_front is = filter is_alloca is ++ filter is_no_alloca is
+
+pub same_count : (is : List Instr) → length (filter is_alloca is) + length (filter is_no_alloca is) ≡ length is
+same_count [] = refl
+same_count (i ∷ is) = on (is_alloca i) (same_count is)
+  where
+    on : (b : Bool) → length (filter is_alloca is) + length (filter is_no_alloca is) ≡ length is → length (if b then i ∷ filter is_alloca is else filter is_alloca is) + length (if (if b then false else true) then i ∷ filter is_no_alloca is else filter is_no_alloca is) ≡ suc (length is)
+    on true e = omega (arith, e)
+    on false e = omega (arith, e)
+
+pub same_length : (is : List Instr) → length (in_front is) ≡ length is
+same_length is = length-append (filter is_alloca is) (filter is_no_alloca is) ∙ same_count is
+
+-- an alloca, or what stands no further back than before
+pub record CameFrom (is : List Instr) (j : ℕ) (i : Instr) : Type 0 where
+  pub at : ℕ
+  pub there : slice_get is at ≡ Some i
+  pub passes : is_alloca i ≡ true ⊎ (at ≤ j)
+
+of_allocas : (is : List Instr) (j : ℕ) (i : Instr) → slice_get (filter is_alloca is) j ≡ Some i → (at : ℕ) × ((slice_get is at ≡ Some i) × (is_alloca i ≡ true))
+of_allocas [] j i e = absurd (cc)
+of_allocas (x ∷ xs) j i e = on (is_alloca x) refl (of_allocas xs) j e
+  where
+    on : (b : Bool) → is_alloca x ≡ b → ((j : ℕ) (i : Instr) → slice_get (filter is_alloca xs) j ≡ Some i → (at : ℕ) × ((slice_get xs at ≡ Some i) × (is_alloca i ≡ true))) → (j : ℕ) → slice_get (if b then x ∷ filter is_alloca xs else filter is_alloca xs) j ≡ Some i → (at : ℕ) × ((slice_get (x ∷ xs) at ≡ Some i) × (is_alloca i ≡ true))
+    on true t more zero d = let same : x ≡ i = cc in (0, (d, ap is_alloca (sym same) ∙ t))
+    on true t more (suc j) d = let r = more j i d in (suc r.0, r.1)
+    on false t more j d = let r = more j i d in (suc r.0, r.1)
+
+of_others : (is : List Instr) (j : ℕ) (i : Instr) → slice_get (filter is_no_alloca is) j ≡ Some i → (at : ℕ) × ((slice_get is at ≡ Some i) × (at ≤ length (filter is_alloca is) + j))
+of_others [] j i e = absurd (cc)
+of_others (x ∷ xs) j i e = on (is_alloca x) (of_others xs) j e
+  where
+    on : (b : Bool) → ((j : ℕ) (i : Instr) → slice_get (filter is_no_alloca xs) j ≡ Some i → (at : ℕ) × ((slice_get xs at ≡ Some i) × (at ≤ length (filter is_alloca xs) + j))) → (j : ℕ) → slice_get (if (if b then false else true) then x ∷ filter is_no_alloca xs else filter is_no_alloca xs) j ≡ Some i → (at : ℕ) × ((slice_get (x ∷ xs) at ≡ Some i) × (at ≤ length (if b then x ∷ filter is_alloca xs else filter is_alloca xs) + j))
+    on true more j d = let r = more j i d in (suc r.0, (r.1.0, (let low = r.1.1 in omega (arith, low))))
+    on false more zero d = (0, (d, omega arith))
+    on false more (suc j) d = let r = more j i d in (suc r.0, (r.1.0, (let low = r.1.1 in omega (arith, low))))
+
+-- an element of two lists in a row
+pub of_row : {A : Type 0} (xs ys : List A) (j : ℕ) (x : A) → slice_get (xs ++ ys) j ≡ Some x → (slice_get xs j ≡ Some x) ⊎ ((k : ℕ) × ((slice_get ys k ≡ Some x) × (j ≡ length xs + k)))
+of_row [] ys j x e = inr (j, (e, omega arith))
+of_row (y ∷ xs) ys zero x e = inl e
+of_row (y ∷ xs) ys (suc j) x e = ⊎_elim (λ a. inl a) (λ b. inr (b.0, (b.1.0, (let at = b.1.1 in omega (arith, at))))) (of_row xs ys j x e)
+
+pub came_from : (is : List Instr) (j : ℕ) (i : Instr) → slice_get (in_front is) j ≡ Some i → CameFrom is j i
+came_from is j i e = ⊎_elim
+    (λ (a : slice_get (filter is_alloca is) j ≡ Some i). let r = of_allocas is j i a in record { at = r.0; there = r.1.0; passes = inl r.1.1 })
+    (λ (b : (k : ℕ) × ((slice_get (filter is_no_alloca is) k ≡ Some i) × (j ≡ length (filter is_alloca is) + k))).
+    let r = of_others is b.0 i b.1.0 in
+    let at = b.1.1 in
+    let low = r.1.1 in
+    record { at = r.0; there = r.1.0; passes = inr (omega (arith, at, low)) })
+    (of_row (filter is_alloca is) (filter is_no_alloca is) j i e)
+
+-- the last stays the last, where it is no alloca
+pub last_stays : (is : List Instr) (j : ℕ) (i : Instr) → slice_get (in_front is) j ≡ Some i → is_alloca i ≡ false → j < length (in_front is) → (x : CameFrom is j i) → x.at + 1 ≡ length is → x.at ≡ j
+last_stays is j i e other low x last = ⊎_elim
+    (λ (t : is_alloca i ≡ true). let no : true ≡ false = sym t ∙ other in absurd (cc))
+    (λ (le : x.at ≤ j). let same = same_length is in omega (arith, le, last, low, same))
+    x.passes
+
+pub source_of : (bs : List Block) (q : ℕ) (c : Block) → slice_get (with_allocas_first bs) q ≡ Some c → (b : Block) × ((slice_get bs q ≡ Some b) × IsSource b c)
+source_of [] q c e = absurd (cc)
+source_of (b ∷ bs) zero c e = let same : allocas_first b ≡ c = cc in (b, (refl, subst (IsSource b) same First))
+source_of (b ∷ bs) (suc q) c e = (c, (e, Same))
+
+pub to_source : (bs : List Block) (q : ℕ) (b : Block) → slice_get bs q ≡ Some b → (c : Block) × ((slice_get (with_allocas_first bs) q ≡ Some c) × IsSource b c)
+to_source [] q b e = absurd (cc)
+to_source (d ∷ bs) zero b e = let same : d ≡ b = cc in (allocas_first b, (ap (λ (x : Block). Some (allocas_first x)) same, First))
+to_source (d ∷ bs) (suc q) b e = (b, (e, Same))
+
+-- ---- once they stand in front they stay
+
+front_skip : (is rest : List Instr) → filter is_alloca (filter is_alloca is ++ rest) ≡ filter is_alloca is ++ filter is_alloca rest
+front_skip [] rest = refl
+front_skip (i ∷ is) rest = on (is_alloca i) refl (front_skip is rest)
+  where
+    on : (t : Bool) → is_alloca i ≡ t → filter is_alloca (filter is_alloca is ++ rest) ≡ filter is_alloca is ++ filter is_alloca rest → filter is_alloca ((if t then i ∷ filter is_alloca is else filter is_alloca is) ++ rest) ≡ (if t then i ∷ filter is_alloca is else filter is_alloca is) ++ filter is_alloca rest
+    on true e more = ap (λ (t : Bool). if t then i ∷ filter is_alloca (filter is_alloca is ++ rest) else filter is_alloca (filter is_alloca is ++ rest)) e ∙ ap (λ (js : List Instr). i ∷ js) more
+    on false e more = more
+
+front_none : (is : List Instr) → filter is_alloca (filter is_no_alloca is) ≡ []
+front_none [] = refl
+front_none (i ∷ is) = on (is_alloca i) refl (front_none is)
+  where
+    on : (t : Bool) → is_alloca i ≡ t → filter is_alloca (filter is_no_alloca is) ≡ [] → filter is_alloca (if (if t then false else true) then i ∷ filter is_no_alloca is else filter is_no_alloca is) ≡ []
+    on true e more = more
+    on false e more = ap (λ (t : Bool). if t then i ∷ filter is_alloca (filter is_no_alloca is) else filter is_alloca (filter is_no_alloca is)) e ∙ more
+
+others_skip : (is rest : List Instr) → filter is_no_alloca (filter is_alloca is ++ rest) ≡ filter is_no_alloca rest
+others_skip [] rest = refl
+others_skip (i ∷ is) rest = on (is_alloca i) refl (others_skip is rest)
+  where
+    on : (t : Bool) → is_alloca i ≡ t → filter is_no_alloca (filter is_alloca is ++ rest) ≡ filter is_no_alloca rest → filter is_no_alloca ((if t then i ∷ filter is_alloca is else filter is_alloca is) ++ rest) ≡ filter is_no_alloca rest
+    on true e more = ap (λ (t : Bool). if (if t then false else true) then i ∷ filter is_no_alloca (filter is_alloca is ++ rest) else filter is_no_alloca (filter is_alloca is ++ rest)) e ∙ more
+    on false e more = more
+
+others_twice : (is : List Instr) → filter is_no_alloca (filter is_no_alloca is) ≡ filter is_no_alloca is
+others_twice [] = refl
+others_twice (i ∷ is) = on (is_alloca i) refl (others_twice is)
+  where
+    on : (t : Bool) → is_alloca i ≡ t → filter is_no_alloca (filter is_no_alloca is) ≡ filter is_no_alloca is → filter is_no_alloca (if (if t then false else true) then i ∷ filter is_no_alloca is else filter is_no_alloca is) ≡ (if (if t then false else true) then i ∷ filter is_no_alloca is else filter is_no_alloca is)
+    on true e more = more
+    on false e more = ap (λ (t : Bool). if (if t then false else true) then i ∷ filter is_no_alloca (filter is_no_alloca is) else filter is_no_alloca (filter is_no_alloca is)) e ∙ ap (λ (js : List Instr). i ∷ js) more
+
+twice : (is : List Instr) → in_front (in_front is) ≡ in_front is
+twice is =
+    let a = front_skip is (filter is_no_alloca is) ∙ ap (λ (js : List Instr). filter is_alloca is ++ js) (front_none is) ∙ append-nil (filter is_alloca is) in
+    let b = others_skip is (filter is_no_alloca is) ∙ others_twice is in
+    λ k. a k ++ b k
+
+pub blocks_twice : (bs : List Block) → with_allocas_first (with_allocas_first bs) ≡ with_allocas_first bs
+blocks_twice [] = refl
+blocks_twice (b ∷ bs) = ap (λ (is : List Instr). record { label = b.label; phis = b.phis; instrs = is; term = b.term } ∷ bs) (twice b.instrs)
 
 pub one_longer : {A : Type 0} (xs : List A) (x : A) → length (xs ++ x ∷ []) ≡ suc (length xs)
 one_longer [] x = refl

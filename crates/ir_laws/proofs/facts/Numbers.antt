@@ -1,5 +1,5 @@
 -- Numbers, and tests of them.
-use Rattle.std.proofs.Common.{◌≡◌, ℕ, ◌+◌, ◌-◌, ◌<◌, min, arith, Some, Bool, List, refl, sym, ap, ◌∙◌, subst}
+use Rattle.std.proofs.Common.{◌≡◌, ℕ, ◌+◌, ◌-◌, ◌<◌, min, arith, Some, refl, Bool, List, sym, ap, ◌∙◌, subst}
 use Rattle.std.specs.Prelude.{Ok, Result, slice_get, None, Some, Option, option_map, map}
 use Rattle.ir_base.specs.declared.cause.Cause.{Cause}
 use Rattle.ir_model.specs.declared.instr.Phi.{Phi}
@@ -8,6 +8,7 @@ use Rattle.ir_model.specs.declared.instr.Incoming.{Incoming}
 use Rattle.ir_model.specs.declared.module.Block.{Block}
 use Rattle.ir_model.specs.declared.module.Function.{Function}
 use Rattle.ir_model.specs.declared.operand.Operand.{Operand}
+use Rattle.pass_front.specs.Front.{allocas_first}
 use Rattle.std.proofs.lemmas.Option.{slice_get-map}
 use Rattle.ir_base.specs.declared.name.Name.{Name}
 use Rattle.ir_model.specs.declared.module.Module.{Module}
@@ -40,6 +41,17 @@ pub record IsTakenBy (h : Function) (v from to : ℕ) : Type 0 where
   pub there : slice_get phi.incoming index ≡ Some incoming
   pub source : position_of h incoming.from ≡ from
   pub value : incoming.value ≡ Operand.Local v
+
+-- ---- blocks
+
+-- a block of the one is that of the other, or its allocas stand first
+pub data IsSource (b : Block) : Block → Type 0 where
+  Same : IsSource b b
+  First : IsSource b (allocas_first b)
+
+pub same_term : (b c : Block) → IsSource b c → (c.term ≡ b.term) × ((c.phis ≡ b.phis) × (c.label ≡ b.label))
+same_term b _ Same = (refl, (refl, refl))
+same_term b _ First = (refl, (refl, refl))
 
 pub names_stay_short : (m n : Module) → HaveSameNames m n → HaveShortNames m → HaveShortNames n
 names_stay_short m n h short k g there =

@@ -1,2 +1,4 @@
+pub mod Depths
 pub mod Shaped
 pub mod Signatures
+pub mod Tabled

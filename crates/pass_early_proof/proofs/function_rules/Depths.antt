@@ -1,5 +1,5 @@
 -- Types as deep as they may be in a source are so in what the first pass makes of it (rule L1).
-use Rattle.std.proofs.Common.{Bool, List, None, Option, Some, ap, false, if◌then◌else◌, length, map, not, refl, sym, true, ℕ, ◌&&◌, ◌++◌, ◌+◌, ◌||◌, ◌∙◌, ◌∷◌, ◌≡◌}
+use Rattle.std.proofs.Common.{Bool, List, None, Option, Some, ap, false, if◌then◌else◌, length, map, refl, sym, true, ℕ, ◌&&◌, ◌++◌, ◌+◌, ◌∙◌, ◌∷◌, ◌≡◌}
 use Rattle.std.specs.Prelude.{option_to_list, slice_get}
 use Rattle.ir_base.specs.declared.outcome.Place.{Place}
 use Rattle.ir_base.specs.declared.rule.Rule.{Rule}
@@ -7,7 +7,6 @@ use Rattle.ir_laws.proofs.rules.plain_rules.Places.{both_later}
 use Rattle.ir_laws.proofs.rules.local_rules.Accepted.{both_refused}
 use Rattle.pass_early_proof.proofs.local_rules.Carried.{Carries, StaysOut, carried}
 use Rattle.pass_early_proof.proofs.local_rules.Known.{arg_types_same, ending_types_same, instr_types_same}
-use Rattle.ir_laws.proofs.facts.Truth.{holds, second_no as or_second_out}
 use Rattle.pass_early_proof.proofs.local_rules.Sources.{of_function}
 use Rattle.pass_early_proof.proofs.local_rules.Turned.{Any, Begins, Saves, Stays, Turns, saved_args, turned_function}
 use Rattle.pass_early.specs.Early.{early_function, early_module, save_call}
@@ -33,8 +32,9 @@ use Rattle.rule_names.specs.Reserved.{reserved_names}
 use Rattle.rule_names.specs.declared.stage.Stage.{Stage}
 use Rattle.run_laws.specs.changed.Changed.{Each}
 use Rattle.rule_types.specs.Depth.{is_shallow}
-use Rattle.rule_types.specs.Limits.{all_fit, breaks_limits, first_past, is_block_past, is_past, is_spot, limits, value_past}
+use Rattle.rule_types.specs.Limits.{all_fit, breaks_limits, first_past, is_past, limits, value_past}
 use Rattle.rule_types.specs.Signatures.{other_types}
+use Rattle.ir_laws.proofs.rules.function_rules.Depths.{plain_part, types_fit}
 
 -- ---- the limits of a source
 
@@ -53,22 +53,6 @@ parts_within m k f e = on (is_past Stage.Source 65535 (length m.declarations + k
     on : (b : Bool) → (if b then Some (function_place k) else first_part (breaks_limits Stage.Source m (value_past Stage.Source 1048576 k f)) (parts_of k f)) ≡ None → first_part (breaks_limits Stage.Source m (value_past Stage.Source 1048576 k f)) (parts_of k f) ≡ None
     on true d = absurd (cc)
     on false d = d
-
--- ---- the types of a part
-
--- in a plain module the rule speaks of types alone
-pub plain_part : (m : Module) (p : Place) (x : Part) → all_fit m (part_types x) ≡ true → breaks_limits Stage.Plain m None p x ≡ false
-plain_part m p x e = on p.block
-  where
-    on : (o : Option ℕ) → (is_block_past Stage.Plain o || not (all_fit m (part_types x))) ≡ false
-    on None = ap not e
-    on (Some k) = ap not e
-
-pub types_fit : (stage : Stage) (m : Module) (past : Option Place) (p : Place) (x : Part) → breaks_limits stage m past p x ≡ false → all_fit m (part_types x) ≡ true
-types_fit stage m past p x e =
-    holds (all_fit m (part_types x))
-    (or_second_out (is_block_past stage p.block) (not (all_fit m (part_types x)))
-    (or_second_out (is_spot past p) (is_block_past stage p.block || not (all_fit m (part_types x))) e))
 
 -- the types of a save that is written
 save_fits : (types : List TypeItem) → (is_shallow types token && (is_shallow types ptr && true)) ≡ true

@@ -1,17 +1,14 @@
 -- What functions define are positions of their tables of names, also after the first pass.
 use Rattle.std.proofs.Common.{Bool, None, Option, Some, ap, arith, false, if◌then◌else◌, length, length-append, refl, subst, sym, true, unwrap_or, ℕ, ⊎_elim, ◌++◌, ◌+◌, ◌-◌, ◌<◌, ◌∙◌, ◌≡◌, ◌≤◌}
 use Rattle.std.specs.Prelude.{slice_get}
-use Rattle.ir_laws.proofs.rules.local_rules.Names.{is_definition, numbers}
 use Rattle.pass_early_proof.proofs.local_rules.Names.{name_apart, numbers_woven}
+use Rattle.ir_laws.proofs.rules.local_rules.Names.{numbers}
 use Rattle.ir_laws.proofs.rules.local_rules.Woven.{listed_woven}
 use Rattle.pass_early.specs.BeginName.{with_begin_name}
 use Rattle.pass_early.specs.Early.{after_blocks, early_function, early_named, renaming_of, save_names}
-use Rattle.ir_laws.proofs.rules.source_rules.Locals.{names_are}
 use Rattle.ir_laws.proofs.rules.source_rules.Order.{unbroken}
-use Rattle.ir_laws.proofs.rules.source_rules.Shaped.{name_listed}
 use Rattle.ir_laws.specs.rules.source_rules.Named.{AreTabled, HasTabledLocals}
 use Rattle.flow_solver.specs.Paths.{IsListed}
-use Rattle.ir_parts.specs.Locals.{locals_of}
 use Rattle.ir_laws.specs.rules.function_rules.Tabled.{AreAllTabled}
 use Rattle.rule_all.specs.Refused.{IsRefused}
 use Rattle.ir_model.specs.Names.{function_at, no_function}
@@ -19,16 +16,7 @@ use Rattle.ir_model.specs.declared.module.Function.{Function}
 use Rattle.ir_model.specs.declared.module.Module.{Module}
 use Rattle.rule_names.specs.declared.stage.Stage.{Stage}
 use Rattle.pass_early_proof.proofs.save_states.Calls.{names_length}
-
--- ---- definitions, and the numbers that they define
-
-pub numbers_below : (func : ℕ) (f : Function) → HasTabledLocals func f → (n : ℕ) → IsListed n (numbers f) → n < length f.names
-numbers_below func f tabled n listed =
-    let x = is_definition (locals_of func f) n (subst (IsListed n) (sym (names_are func f)) listed) in
-    subst (λ (k : ℕ). k < length f.names) x.1.1 (tabled x.0 x.1.0)
-
-pub tabled_by : (func : ℕ) (f : Function) → ((n : ℕ) → IsListed n (numbers f) → n < length f.names) → HasTabledLocals func f
-tabled_by func f below d listed = below d.name (subst (IsListed d.name) (names_are func f) (name_listed d (locals_of func f) listed))
+use Rattle.ir_laws.proofs.rules.function_rules.Tabled.{tabled_by}
 
 -- ---- modules
 

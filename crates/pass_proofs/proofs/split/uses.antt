@@ -3,7 +3,6 @@ pub mod Groups
 pub mod Known
 pub mod Later
 pub mod Laws
-pub mod Moved
 pub mod Names
 pub mod Once
 pub mod OnceFront
@@ -11,7 +10,6 @@ pub mod OnceLater
 pub mod OnceRamp
 pub mod Origins
 pub mod Paths
-pub mod Quiet
 pub mod Ramp
 pub mod Rules
 pub mod Sources

@@ -1,2 +1,1 @@
-//! The numbers of coroutines' frames fit their types: sizes, alignments and offsets of layouts, and how many
-//! suspends there are.
+//! Lemmas on numbers.

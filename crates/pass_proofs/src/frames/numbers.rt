@@ -1,4 +1,5 @@
-//! Lemmas on numbers.
+//! The numbers of coroutines' frames fit their types: sizes, alignments and offsets of layouts, and how many
+//! suspends there are.
 
 ghost use Rattle.std.specs.Prelude.{ℕ, List, ◌<◌, ◌^◌, Bool, Ok, ◌≤◌, length, ◌≡◌};
 ghost use Rattle.frame_layout.specs.declared.layout.Layout.{Layout};

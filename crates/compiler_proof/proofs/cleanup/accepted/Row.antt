@@ -9,7 +9,7 @@ use Rattle.compiler_proof.proofs.cleanup.rules.NoCoroutine.{none_left}
 use Rattle.compiler_proof.specs.cleanup.rules.Clean.{NameNothingGone}
 use Rattle.pass_cleanup.specs.Cleanup.{clean_module}
 use Rattle.pass_cleanup.specs.Free.{calls_id_alone}
-use Rattle.pass_split.specs.Parts.{later_part, marked_parts, parts_of, plain_of, plain_shape, ramp_of, ramp_source, split_module}
+use Rattle.pass_split.specs.Parts.{later_part, marked_parts, parts_of, plain_of, plain_shape, ramp_of, split_module}
 use Rattle.pass_split.specs.Reached.{pruned}
 use Rattle.frame_layout.specs.declared.layout.Layout.{Layout}
 use Rattle.frame_layout.specs.declared.layout.Layouts.{Layouts}
@@ -76,7 +76,7 @@ pub record IsSomePart (s : Shape) (f g : Function) : Type 0 where
   pub is : IsPartOf s f part g
 
 pub some_part : (s : Shape) (f g : Function) (number : ℕ) → slice_get (parts_of s f) number ≡ Some g → IsSomePart s f g
-some_part s f g zero e = let same : pruned (ramp_of s (ramp_source f)) ≡ g = cc in record { part = Part.Ramp; is = subst (IsPartOf s f Part.Ramp) same IsRamp }
+some_part s f g zero e = let same : pruned (ramp_of s f) ≡ g = cc in record { part = Part.Ramp; is = subst (IsPartOf s f Part.Ramp) same IsRamp }
 some_part s f g (suc zero) e = let same : pruned (later_part s Part.Resume s.resume_name f) ≡ g = cc in record { part = Part.Resume; is = subst (IsPartOf s f Part.Resume) same IsResume }
 some_part s f g (suc (suc zero)) e = let same : pruned (later_part s Part.Destroy s.destroy_name f) ≡ g = cc in record { part = Part.Destroy; is = subst (IsPartOf s f Part.Destroy) same IsDestroy }
 some_part s f g (suc (suc (suc k))) e = absurd (cc)

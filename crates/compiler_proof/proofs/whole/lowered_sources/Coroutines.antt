@@ -21,7 +21,8 @@ use Rattle.ir_laws.specs.frames.needed.Crossed.{AreFramesUnneeded}
 use Rattle.pass_proofs.specs.split.crossing.Ended.{AreEndedFirst}
 use Rattle.pass_proofs.proofs.frames.rules.Built.{form_kept, passes_fit}
 use Rattle.pass_proofs.specs.frames.rules.Buildable.{IsBuildable}
-use Rattle.pass_proofs.specs.frames.shape.Passes.{IsKept, PassesFit}
+use Rattle.ir_laws.specs.frames.shape.Passes.{IsKept}
+use Rattle.pass_proofs.specs.frames.shape.Passes.{PassesFit}
 use Rattle.ir_laws.proofs.rules.function_rules.Signatures.{go_by_signatures}
 use Rattle.ir_laws.specs.rules.function_rules.Kept.{KeepsFunctionRules}
 use Rattle.ir_laws.specs.facts.function_rules.Signatures.{HaveSameSignatures}
@@ -32,6 +33,12 @@ use Rattle.ir_model.specs.declared.module.Function.{Function}
 use Rattle.ir_model.specs.declared.module.Module.{Module}
 use Rattle.pass_early_proof.proofs.named_sources.BeginNames.{HasBeginName}
 use Rattle.compiler_proof.proofs.whole.lowered_sources.Sources.{early_named, early_others, early_rules, early_unnamed, early_unused, early_wide}
+use Rattle.ir_laws.proofs.facts.Lists.{blocks_twice}
+use Rattle.pass_proofs.proofs.split.front_rules.Paths.{ends_kept}
+use Rattle.pass_proofs.proofs.edges.front_rules.Paths.{frames_kept, nothing_kept}
+use Rattle.pass_proofs.proofs.edges.front_rules.Whole.{all_kept, jumps_kept}
+use Rattle.compiler_proof.proofs.cleanup.front_rules.Whole.{unnamed_kept}
+use Rattle.pass_front.specs.Front.{with_allocas_first, with_front_allocas}
 use Rattle.compiler_proof.proofs.whole.lowered_sources.Unnamed.{framed_free, framed_jumped}
 use Rattle.rule_names.specs.declared.stage.Stage.{Stage}
 use Rattle.ir_laws.proofs.texts.named_texts.Placed.{locals_named, uses_named}
@@ -45,6 +52,7 @@ use Rattle.pass_exits.specs.ExitBlocks.{with_exit_blocks}
 pub record IsFramedWell (m : Module) (k : ℕ) (g : Function) : Type 0 where
   pub begin : ℕ
   pub kept : IsKept m k g begin
+  pub front : with_allocas_first g.blocks ≡ g.blocks
   pub ends : AreEndedFirst g
   pub nothing : IsNothingNeeded g
   pub frames : AreFramesUnneeded g
@@ -92,16 +100,20 @@ module _ (text : List ℕ) (m : Module) (stands : StandsFor text m) (accepted : 
       fit : PassesFit e k l f h.contents h.before
       fit = passes_fit e k l f h.contents h.before named.begin buildable
 
-      built : IsFramedWell e k R
+      kept : IsKept e k R named.begin
+      kept = form_kept e k l f h.contents h.before named.begin buildable
+
+      built : IsFramedWell e k (with_front_allocas R)
       built =
           record {
             begin = named.begin;
-            kept = form_kept e k l f h.contents h.before named.begin buildable;
-            ends = framed_end_first e k l f h.contents h.before named.begin rules coroutine shape.calls shape.switches paths.outside paths.window named.named h.contents_are.crossing_are fit;
-            nothing = framed_nothing e k l f h.contents h.before named.begin rules coroutine shape.calls shape.switches paths.outside paths.window named.named h.contents_are.crossing_are fit;
-            frames = framed_frames e k l f h.contents h.before named.begin rules coroutine shape.calls shape.switches paths.outside paths.window named.named h.contents_are.crossing_are fit (early_unused text m stands accepted k f there coroutine);
-            names = framed_free e k l f h.contents h.before named.begin rules coroutine shape.calls shape.switches paths.outside paths.window named.named h.contents_are.crossing_are fit (early_unnamed text m stands accepted k f there);
-            jumps = framed_jumped e k l f h.contents h.before named.begin rules coroutine shape.calls shape.switches paths.outside paths.window named.named h.contents_are.crossing_are fit;
+            kept = all_kept e k R named.begin kept;
+            front = blocks_twice R.blocks;
+            ends = ends_kept R (framed_end_first e k l f h.contents h.before named.begin rules coroutine shape.calls shape.switches paths.outside paths.window named.named h.contents_are.crossing_are fit);
+            nothing = nothing_kept k R kept.rules.edges kept.coroutine kept.shape.switches (framed_nothing e k l f h.contents h.before named.begin rules coroutine shape.calls shape.switches paths.outside paths.window named.named h.contents_are.crossing_are fit);
+            frames = frames_kept k R kept.rules.edges kept.coroutine kept.shape.switches (framed_frames e k l f h.contents h.before named.begin rules coroutine shape.calls shape.switches paths.outside paths.window named.named h.contents_are.crossing_are fit (early_unused text m stands accepted k f there coroutine));
+            names = unnamed_kept k R (framed_free e k l f h.contents h.before named.begin rules coroutine shape.calls shape.switches paths.outside paths.window named.named h.contents_are.crossing_are fit (early_unnamed text m stands accepted k f there));
+            jumps = jumps_kept R (framed_jumped e k l f h.contents h.before named.begin rules coroutine shape.calls shape.switches paths.outside paths.window named.named h.contents_are.crossing_are fit);
           }
 
       pub framed_well : IsFramedWell e k g
@@ -125,6 +137,7 @@ module _ (m n : Module) (same : HaveSameSignatures m n) (k : ℕ) (g : Function)
         calls = h.kept.shape.calls;
         switches = h.kept.shape.switches;
         named = h.kept.shape.named;
+        front = h.front;
         begun = h.kept.shape.begun;
         tokens = h.kept.shape.tokens;
         edges = h.kept.shape.edges;

@@ -1,6 +1,8 @@
 -- The row of passes, from the text of a source to the lowered module.
 use Rattle.std.proofs.Common.{◌≡◌, ℕ, zero, suc, Bool, true, false, List, [], ◌∷◌, ◌++◌, Ok, length, refl, sym, ap, ◌∙◌, subst}
-use Rattle.std.specs.Prelude.{None, Some, if◌then◌else◌, slice_get}
+use Rattle.std.specs.Prelude.{None, Some, filter, if◌then◌else◌, slice_get}
+use Rattle.ir_laws.proofs.facts.Members.{each_joined, each_filtered, each_by as each_at}
+use Rattle.pass_front.specs.Front.{is_alloca, is_no_alloca, with_allocas_first, with_front_allocas}
 use Rattle.text_canonical.specs.canonical.ItemSymbols.{IsPrintable, declaration_symbols, declarations_symbols, function_symbols, functions_symbols, global_item_symbols, global_items_symbols, type_items_symbols, types_symbols}
 use Rattle.text_canonical.specs.canonical.Items.{module_text}
 use Rattle.text_canonical.specs.canonical.Marks.{close_round, open_round, word}
@@ -58,7 +60,7 @@ use Rattle.ir_laws.proofs.rules.spelled.Text.{source_spelled}
 use Rattle.compiler_proof.specs.cleanup.accepted.Ready.{IsReady}
 use Rattle.ir_laws.specs.facts.spelled.Filled.{HasFilledPhis, HasNoEntryPhis, IsFilled}
 use Rattle.ir_laws.specs.facts.spelled.Named.{AreItemsNamed}
-use Rattle.ir_laws.specs.rules.spelled.Spelled.{IsSpelledFunction}
+use Rattle.ir_laws.specs.rules.spelled.Spelled.{IsSpelledBlock, IsSpelledFunction, IsSpelledInstr}
 use Rattle.text_canonical.proofs.order.Modules.{stands_in_order}
 use Rattle.text_canonical.proofs.order.Shaped.{text_is_shaped}
 use Rattle.text_canonical.specs.order.Order.{module_order}
@@ -72,7 +74,6 @@ use Rattle.pass_frames.specs.Tables.{class_flags, label_flags, sizes_by_name}
 use Rattle.run_laws.specs.changed.Changed.{Each}
 use Rattle.pass_cells.specs.Cells.{fetched_function}
 use Rattle.pass_exits.specs.ExitBlocks.{with_exit_blocks}
-use Rattle.ir_laws.proofs.facts.Members.{each_by as each_at}
 use Rattle.text_symbols.specs.declared.word.Word.TheVariants as words
 use Rattle.text_canonical.specs.order.Shape as shape
 
@@ -103,10 +104,30 @@ module _ (m : Module) (l : Layout) (f : Function) (c : Contents) where
   unfolding placed
   placed_entry g h = addresses_entry g (begin_of f) (offsets_of l f c (length g.names)) (class_flags f c.classes SlotClass.Ramp) h
 
+-- and its allocas are moved to the front
+allocas_spelled : (bs : List Block) → Each IsSpelledBlock bs → Each IsSpelledBlock (with_allocas_first bs)
+allocas_spelled [] h = tt
+allocas_spelled (b ∷ bs) h = (
+  record {
+    phis = h.0.phis;
+    instrs = each_joined IsSpelledInstr (filter is_alloca b.instrs) (filter is_no_alloca b.instrs) (each_filtered IsSpelledInstr is_alloca b.instrs h.0.instrs) (each_filtered IsSpelledInstr is_no_alloca b.instrs h.0.instrs);
+    term = h.0.term;
+  },
+  h.1,
+)
+
+front_spelled : (g : Function) → IsSpelledFunction g → IsSpelledFunction (with_front_allocas g)
+front_spelled g h = record { name = h.name; result = h.result; params = h.params; blocks = allocas_spelled g.blocks h.blocks; names = h.names }
+
+front_entry : (bs : List Block) → HasNoEntryPhis bs → HasNoEntryPhis (with_allocas_first bs)
+front_entry [] h = tt
+front_entry (b ∷ bs) h = h
+
 pub framed_spelled : (m : Module) (l : Layout) (f g : Function) → IsFramedCoroutine m l f g → IsSpelledFunction f → IsSpelledFunction g
 framed_spelled m l f g h s =
     let c : Contents = h.contents in
-    subst IsSpelledFunction (sym h.is) (placed_spelled m l f c (copied f c (celled m f c) h.before) (copied_spelled m l f c (celled m f c) h.before (celled_spelled m l f c s)))
+    subst IsSpelledFunction (sym h.is)
+    (front_spelled (placed l f c (copied f c (celled m f c) h.before)) (placed_spelled m l f c (copied f c (celled m f c) h.before) (copied_spelled m l f c (celled m f c) h.before (celled_spelled m l f c s))))
 
 -- it is a coroutine where it was one
 placed_coroutine : (l : Layout) (f : Function) (c : Contents) (g : Function) → (placed l f c g).coroutine ≡ g.coroutine
@@ -129,7 +150,8 @@ framed_coroutine m l f g h =
 framed_entry : (m : Module) (l : Layout) (f g : Function) → IsFramedCoroutine m l f g → HasNoEntryPhis f.blocks → HasNoEntryPhis g.blocks
 framed_entry m l f g h s =
     let c : Contents = h.contents in
-    subst (λ (x : Function). HasNoEntryPhis x.blocks) (sym h.is) (placed_entry m l f c (copied f c (celled m f c) h.before) (copied_entry m l f c (celled m f c) h.before (celled_entry m l f c s)))
+    subst (λ (x : Function). HasNoEntryPhis x.blocks) (sym h.is)
+    (front_entry (placed l f c (copied f c (celled m f c) h.before)).blocks (placed_entry m l f c (copied f c (celled m f c) h.before) (copied_entry m l f c (celled m f c) h.before (celled_entry m l f c s))))
 
 -- ---- a function that is no coroutine
 

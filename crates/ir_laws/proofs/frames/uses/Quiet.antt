@@ -1,7 +1,8 @@
--- Lemmas on quiet, that speak of no pass.
-use Rattle.std.proofs.Common.{◌≡◌, ℕ, ◌+◌, List, [], ◌∷◌}
+-- Where a value isn't used: what is said of a value along paths of a function, whichever way that is told.
+use Rattle.std.proofs.Common.{◌≡◌, ℕ, ◌+◌, Bool, true, false, List, [], ◌∷◌}
 use Rattle.std.specs.Prelude.{Some, slice_get}
 use Rattle.ir_laws.proofs.paths.crossing.Spots.{Spot}
+use Rattle.ir_laws.specs.facts.crossing.Crossed.{is_switch}
 use Rattle.rule_uses.specs.Uses.{locals_in, phi_values}
 use Rattle.flow_solver.specs.Paths.{IsListed}
 use Rattle.ir_parts.specs.Contents.{ending_operands, result_of}
@@ -13,11 +14,15 @@ use Rattle.ir_model.specs.Names.{position_of}
 use Rattle.ir_model.specs.declared.instr.Incoming.{Incoming}
 use Rattle.ir_model.specs.declared.instr.Instr.{Instr}
 use Rattle.ir_model.specs.declared.instr.Phi.{Phi}
+use Rattle.ir_model.specs.declared.instr.Terminator.{Terminator}
 use Rattle.ir_model.specs.declared.module.Block.{Block}
 use Rattle.ir_model.specs.declared.module.Function.{Function}
+use Rattle.ir_model.specs.declared.operand.Intrinsic.{Intrinsic}
 use Rattle.ir_model.specs.declared.operand.Operand.{Operand}
 use Rattle.ir_paths.specs.Paths.{targets}
-use Rattle.ir_laws.proofs.frames.uses.Lowering.{ComesBy}
+use Rattle.ir_paths.specs.Windows.{is_call_of}
+use Rattle.ir_laws.proofs.frames.uses.Lowering.{ComesBy, IsLowered}
+use Rattle.ir_laws.proofs.rules.uses.Plain.{IsPlain}
 
 -- A value isn't used on paths of a function: A says so of paths that come to the front of a block, and N of those that come to a place in
 -- a block, before some instructions. Paths end where the part returns.
@@ -28,3 +33,13 @@ pub record IsQuiet (f h : Function) (s : Shape) (part : Part) (v : ℕ) (A : ℕ
   pub term : (q at : ℕ) (b : Block) → Spot h q at b [] → N q at b [] → IsListed v (locals_in (ending_operands b.term)) → ⊥
   pub edge : (q at : ℕ) (b : Block) → Spot h q at b [] → N q at b [] → (label : ℕ) → IsListed label (targets b.term) → A (position_of h label)
   pub phi : (q at : ℕ) (b : Block) → Spot h q at b [] → N q at b [] → (to : ℕ) (c : Block) (x : Phi) (i : Incoming) → slice_get h.blocks to ≡ Some c → IsListed x c.phis → IsListed i x.incoming → i.value ≡ Operand.Local v → position_of h i.from ≡ q → ⊥
+
+-- ---- what the rules say of the instructions that are left of a block
+
+abbrev pub suspends : Instr → Bool
+suspends i = is_call_of Intrinsic.CoroSuspend i
+
+-- what is lowered in the place of each is as it should be; a suspend is the last, before a switch; and where there is none, the terminator uses no token
+abbrev pub AreTold : Function → Shape → List Instr → Terminator → Type 0
+AreTold f s [] t = (v : ℕ) → IsListed v (locals_in (ending_operands t)) → IsPlain f v
+AreTold f s (i ∷ is) t = IsLowered f s i × ((suspends i ≡ true → (is ≡ []) × (is_switch t ≡ true)) × (suspends i ≡ false → AreTold f s is t))

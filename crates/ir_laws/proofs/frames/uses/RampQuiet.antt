@@ -3,31 +3,22 @@ use Rattle.std.proofs.Common.{◌≡◌, inl, inr, ⊎_elim, ℕ, List, [], ◌�
 use Rattle.std.specs.Prelude.{None, Option, Some, option_to_list, slice_get}
 use Rattle.ir_laws.proofs.rules.counted.PartFacts.{AllMadeBefore}
 use Rattle.rule_uses.specs.Undefined.{Next, ReachesWithout, params_of}
-use Rattle.rule_uses.specs.Uses.{block_values, locals_in, made_by_instrs, phi_values, values_at, values_in}
+use Rattle.rule_uses.specs.Uses.{block_values, made_by_instrs, phi_values, values_in}
 use Rattle.ir_laws.proofs.rules.renamed.Uses.{block_edge}
 use Rattle.ir_laws.proofs.paths.source_rules.Locals.{listed_either}
 use Rattle.ir_laws.proofs.rules.source_rules.Locals.{made_by}
 use Rattle.flow_solver.specs.Paths.{IsListed}
-use Rattle.ir_parts.specs.Contents.{ending_operands, result_of}
+use Rattle.ir_parts.specs.Contents.{result_of}
 use Rattle.pass_intrinsics.specs.declared.shape.Part.{Part}
 use Rattle.pass_intrinsics.specs.declared.shape.Shape.{Shape}
 use Rattle.ir_model.specs.Names.{position_of}
-use Rattle.ir_model.specs.declared.instr.Incoming.{Incoming}
 use Rattle.ir_model.specs.declared.instr.Instr.{Instr}
-use Rattle.ir_model.specs.declared.instr.Phi.{Phi}
 use Rattle.ir_model.specs.declared.module.Block.{Block}
 use Rattle.ir_model.specs.declared.module.Function.{Function}
-use Rattle.ir_model.specs.declared.operand.Operand.{Operand}
 use Rattle.ir_laws.proofs.frames.uses.Lowering.{ComesBy, OfBegin, OfOperand}
 use Rattle.ir_laws.proofs.frames.uses.Quiet.{IsQuiet}
 use Rattle.ir_laws.specs.rules.replaced.Splittable.{AreBegun}
-
--- no use of a function is undefined (F2), and what asks for begin stands behind it
-pub record IsMade (h : Function) (begin : ℕ) : Type 0 where
-  pub instrs : (q : ℕ) (b : Block) → slice_get h.blocks q ≡ Some b → AllMadeBefore h q (phi_values b) b.instrs
-  pub begun : (q : ℕ) (b : Block) → slice_get h.blocks q ≡ Some b → AreBegun h begin q (phi_values b) b.instrs
-  pub term : (v q : ℕ) (b : Block) → (IsListed v (params_of h) → ⊥) → slice_get h.blocks q ≡ Some b → ReachesWithout h v q → (IsListed v (block_values b) → ⊥) → IsListed v (locals_in (ending_operands b.term)) → ⊥
-  pub phi : (v to : ℕ) (c : Block) (x : Phi) (i : Incoming) → (IsListed v (params_of h) → ⊥) → slice_get h.blocks to ≡ Some c → IsListed x c.phis → IsListed i x.incoming → i.value ≡ Operand.Local v → ReachesWithout h v (position_of h i.from) → (IsListed v (values_at h (position_of h i.from)) → ⊥) → ⊥
+use Rattle.ir_laws.proofs.rules.uses.RampQuiet.{IsMade}
 
 -- a path comes to a place without the value
 pub record IsWithout (h : Function) (begin v q : ℕ) (b : Block) (is : List Instr) : Type 0 where

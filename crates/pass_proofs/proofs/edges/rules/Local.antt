@@ -22,7 +22,7 @@ use Rattle.pass_edges.specs.Edges.{edges_at, ends_in_suspend, phi_flags}
 use Rattle.pass_edges.specs.declared.edge.Edge.{Edge}
 use Rattle.ir_parts.specs.Contents.{ending_labels, ending_operands, ending_types, part_labels, part_operands, part_types}
 use Rattle.ir_parts.specs.Parts.{Ending, Head, OfInstr, OfPhi, first_part, parts_of}
-use Rattle.pass_early_proof.proofs.function_rules.Depths.{plain_part, types_fit}
+use Rattle.ir_laws.proofs.rules.function_rules.Depths.{plain_part, types_fit}
 use Rattle.ir_model.specs.Ty.{Ty}
 use Rattle.ir_model.specs.declared.instr.Incoming.{Incoming}
 use Rattle.ir_model.specs.declared.instr.Instr.{Instr}

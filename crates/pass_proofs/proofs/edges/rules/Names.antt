@@ -15,7 +15,7 @@ use Rattle.pass_edges.specs.declared.edge.Edge.{Edge}
 use Rattle.pass_proofs.proofs.edges.states.Parts.{names_length}
 use Rattle.flow_solver.specs.Paths.{IsListed}
 use Rattle.ir_parts.specs.Locals.{locals_of}
-use Rattle.pass_early_proof.proofs.function_rules.Tabled.{numbers_below, tabled_by}
+use Rattle.ir_laws.proofs.rules.function_rules.Tabled.{numbers_below, tabled_by}
 use Rattle.ir_model.specs.declared.instr.Phi.{Phi}
 use Rattle.ir_model.specs.declared.module.Block.{Block}
 use Rattle.ir_model.specs.declared.module.Function.{Function}

@@ -14,7 +14,7 @@ use Rattle.flow_solver.proofs.Lists.{listed_at}
 use Rattle.flow_solver.specs.Paths.{IsListed}
 use Rattle.ir_parts.specs.Contents.{ending_labels, ending_operands, ending_types, part_labels, part_operands, part_types}
 use Rattle.ir_parts.specs.Parts.{Ending, Head, OfInstr, OfPhi, first_part, parts_of}
-use Rattle.pass_early_proof.proofs.function_rules.Depths.{plain_part, types_fit}
+use Rattle.ir_laws.proofs.rules.function_rules.Depths.{plain_part, types_fit}
 use Rattle.ir_laws.specs.rules.function_rules.Kept.{KeepsFunctionRules}
 use Rattle.ir_model.specs.Names.{position_of}
 use Rattle.ir_model.specs.declared.instr.Instr.{Instr}

@@ -9,7 +9,7 @@ use Rattle.ir_laws.proofs.facts.Lists.{row_of}
 use Rattle.ir_laws.specs.rules.source_rules.Named.{HasTabledLocals}
 use Rattle.flow_solver.specs.Paths.{IsListed}
 use Rattle.ir_parts.specs.Locals.{locals_of}
-use Rattle.pass_early_proof.proofs.function_rules.Tabled.{numbers_below, tabled_by}
+use Rattle.ir_laws.proofs.rules.function_rules.Tabled.{numbers_below, tabled_by}
 use Rattle.ir_model.specs.declared.module.Block.{Block}
 use Rattle.ir_model.specs.declared.module.Function.{Function}
 use Rattle.rule_names.specs.Definitions.{first_twice}

@@ -15,12 +15,13 @@ use Rattle.ir_model.specs.declared.operand.Callee.{Callee}
 use Rattle.ir_model.specs.declared.operand.Intrinsic.{Intrinsic}
 use Rattle.ir_model.specs.declared.operand.Operand.{Operand}
 use Rattle.ir_paths.specs.Paths.{entry_point}
-use Rattle.ir_paths.specs.Windows.{is_call_of, windows_of}
+use Rattle.ir_paths.specs.Windows.{windows_of}
 use Rattle.pass_exits.specs.ExitBlocks.{after_exit, blocks_by, exit_blocks, exit_cases, exit_label, exit_term, with_exit_blocks, with_exits}
 use Rattle.pass_exits.specs.Exits.{block_exits, end_of, mark_from, mark_in, mark_of}
 use Rattle.pass_exits.specs.declared.exit.Exit.{Exit}
 use Rattle.ir_laws.specs.rules.woven_shape.Calls.{call_at, calls_in, calls_of_block, default_on, first_named, is_shaping, joined, leads_block, second_named, shaping_call, shaping_calls, switched_to}
 use Rattle.pass_proofs.proofs.exits.rules.Operands.{ending_operands_same}
+use Rattle.pass_proofs.proofs.edges.exit_rules.Shape.{suspend_is}
 
 -- ---- the block of a suspend
 
@@ -50,12 +51,6 @@ suspend_term f k n b there ends = same_term f k n b.term (suspend_unmarked f k b
 
 pub suspend_block : (f : Function) (k n : ℕ) (b : Block) → slice_get f.blocks k ≡ Some b → ends_in_suspend b.instrs ≡ true → with_exits f k n b ≡ b
 suspend_block f k n b there ends = ap (λ (t : Terminator). record { label = b.label; phis = b.phis; instrs = b.instrs; term = t }) (suspend_term f k n b there ends)
-
--- ---- the calls
-
-pub suspend_is : (i : Instr) → is_call_of Intrinsic.CoroSuspend i ≡ true → is_suspend i ≡ true
-suspend_is (Instr.Call result must_tail ty (Callee.Intrinsic Intrinsic.CoroSuspend) args) e = refl
-suspend_is _ e = absurd (cc)
 
 module _ (f : Function) (k n : ℕ) (b : Block) where
   abbrev c : Block

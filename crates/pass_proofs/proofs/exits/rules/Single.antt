@@ -1,12 +1,11 @@
 -- An edge that is the only one of its block leaves no window, so no edge to a block with phis does where jumps alone lead there.
-use Rattle.std.proofs.Common.{◌≡◌, ℕ, ◌+◌, inl, inr, Bool, true, false, ◌&&◌, ◌||◌, List, [], ◌∷◌, length, map, refl, sym, ap, ◌∙◌, subst}
+use Rattle.std.proofs.Common.{◌≡◌, ℕ, ◌+◌, Bool, true, false, ◌&&◌, ◌||◌, List, [], ◌∷◌, length, map, refl, sym, ap, ◌∙◌, subst}
 use Rattle.std.proofs.lemmas.List.Elements.{All-head, All-tail}
-use Rattle.std.specs.Prelude.{All, Some, None, Option, not, slice_get, if◌then◌else◌, ◌==◌}
+use Rattle.std.specs.Prelude.{All, Some, None, Option, not, slice_get, if◌then◌else◌}
 use Rattle.ir_laws.proofs.paths.threads.Edges.{only_one}
 use Rattle.pass_proofs.specs.edges.rules.Phis.{ArePhisEnteredByJumps}
 use Rattle.pass_edges.specs.Edges.{ends_in_suspend, has_phis}
-use Rattle.rule_phis.specs.Edges.{has, leads}
-use Rattle.ir_laws.proofs.rules.known_labels.Rules.{labels_spelt}
+use Rattle.rule_phis.specs.Edges.{has}
 use Rattle.flow_solver.specs.Paths.{IsListed}
 use Rattle.ir_model.specs.declared.instr.Terminator.{Terminator}
 use Rattle.ir_model.specs.declared.module.Block.{Block}
@@ -20,6 +19,7 @@ use Rattle.ir_paths.specs.declared.point.Point.{Point}
 use Rattle.ir_paths.specs.declared.point.Window.{Window}
 use Rattle.pass_exits.specs.Exits.{end_of, mark_from, mark_in, mark_of, number_of, or_else}
 use Rattle.ir_laws.proofs.facts.Truth.{first_no as none_first, not_below, second_no as none_second}
+use Rattle.ir_laws.proofs.rules.threaded.Single.{listed_leads}
 
 no_mark_by : (x y z : Bool) → (x ≡ true → (y || z) ≡ true) → (x && not y && not z) ≡ false
 no_mark_by true true z h = refl
@@ -83,16 +83,6 @@ module _ (f : Function) (at : ℕ) (b : Block) (label : ℕ) (there : slice_get 
 
   pub no_mark : mark_of f at label ≡ None
   no_mark = ap (λ (o : Option Block). mark_from f at o (entry_point f label) (windows_of f)) there ∙ either_none (ends_in_suspend b.instrs)
-
--- ---- phis
-
-listed_has : (labels : List ℕ) (label : ℕ) → IsListed label labels → has labels label ≡ true
-listed_has [] label l = absurd l
-listed_has (t ∷ labels) label (inl e) = or_left (t == label) (has labels label) (ap (λ (n : ℕ). t == n) e ∙ eq_itself t)
-listed_has (t ∷ labels) label (inr l) = or_right (t == label) (has labels label) (listed_has labels label l)
-
-pub listed_leads : (b : Block) (label : ℕ) → IsListed label (targets b.term) → leads label b ≡ true
-listed_leads b label l = ap (λ (labels : List ℕ). has labels label) (labels_spelt b.term) ∙ listed_has (targets b.term) label l
 
 -- an edge to a block with phis has no mark
 pub phis_unmarked : (f : Function) → ArePhisEnteredByJumps f → (k at : ℕ) (b c : Block) → slice_get f.blocks k ≡ Some b → has_phis b.phis ≡ true → slice_get f.blocks at ≡ Some c → IsListed b.label (targets c.term) → mark_of f at b.label ≡ None

@@ -1,5 +1,5 @@
 -- The blocks from which edges lead to a label to which no edge with a mark leads, and so what F1 says of phis, stay.
-use Rattle.std.proofs.Common.{◌≡◌, ⊎_elim, inl, inr, ℕ, zero, suc, ◌+◌, ◌<◌, Bool, true, false, ◌&&◌, ◌||◌, List, [], ◌∷◌, ◌++◌, None, Option, Some, ap, filter, length, map, not, refl, subst, sym, ◌∙◌, arith, if◌then◌else◌}
+use Rattle.std.proofs.Common.{◌≡◌, ⊎_elim, inl, inr, ℕ, suc, ◌+◌, ◌<◌, Bool, true, false, ◌&&◌, ◌||◌, List, [], ◌∷◌, ◌++◌, None, Option, Some, ap, filter, length, map, not, refl, subst, sym, ◌∙◌, arith, if◌then◌else◌}
 use Rattle.std.specs.Prelude.{slice_get, ◌==◌}
 use Rattle.ir_laws.proofs.rules.renamed.Switches.{none_part}
 use Rattle.ir_laws.proofs.facts.Truth.{holds}
@@ -27,10 +27,12 @@ use Rattle.pass_exits.specs.declared.exit.Exit.{Exit}
 use Rattle.ir_laws.proofs.rules.threaded.Carried.{entry_same}
 use Rattle.pass_proofs.proofs.exits.rules.Cuts.{cut_labels, cut_targets, taken}
 use Rattle.pass_proofs.proofs.exits.rules.Places.{own_there, spot}
-use Rattle.pass_proofs.proofs.exits.rules.Single.{listed_leads, phis_unmarked}
+use Rattle.ir_laws.proofs.rules.threaded.Single.{listed_leads}
+use Rattle.pass_proofs.proofs.exits.rules.Single.{phis_unmarked}
 use Rattle.pass_proofs.proofs.exits.rules.Threaded.{moves, threaded}
 use Rattle.ir_laws.proofs.paths.threaded.Threads.{IsBlockOver, IsMovedBlock, between, ended}
 use Rattle.ir_laws.proofs.rules.threaded.Threads.{IsThreaded}
+use Rattle.ir_laws.proofs.rules.threaded.Sources.{none_filtered}
 
 -- no edge to the label has a mark
 abbrev pub IsUnmarked : Function → ℕ → Type 0
@@ -89,17 +91,6 @@ module _ (f : Function) (label : ℕ) where
 
   pub sources_same : label < length f.names → IsUnmarked f label → predecessors (with_exit_blocks f) label ≡ predecessors f label
   sources_same lt h = sources_in 0 (length f.names) f.blocks lt (λ k b e l. let z : 0 + k ≡ k = omega arith in ap (λ (j : ℕ). mark_of f j label) z ∙ h k b e l)
-
--- ---- the rule (F1)
-
-none_filtered : (t : Block → Bool) (bs : List Block) → is_empty (map (λ b. b.label) (filter t bs)) ≡ true → (k : ℕ) (b : Block) → slice_get bs k ≡ Some b → t b ≡ true → ⊥
-none_filtered t [] h k b e p = absurd (cc)
-none_filtered t (c ∷ bs) h k b e p = on (t c) refl h k e (none_filtered t bs)
-  where
-    on : (x : Bool) → t c ≡ x → is_empty (map (λ d. d.label) (if x then c ∷ filter t bs else filter t bs)) ≡ true → (k : ℕ) → slice_get (c ∷ bs) k ≡ Some b → (is_empty (map (λ d. d.label) (filter t bs)) ≡ true → (k : ℕ) (b : Block) → slice_get bs k ≡ Some b → t b ≡ true → ⊥) → ⊥
-    on true d s k e again = absurd (cc)
-    on false d s zero e again = let same : c ≡ b = cc in let no : true ≡ false = sym p ∙ ap t (sym same) ∙ d in absurd (cc)
-    on false d s (suc j) e again = again s j b e p
 
 module _ (m : Module) (func : ℕ) (f : Function) (rules : KeepsFunctionRules m func f) (jumps : ArePhisEnteredByJumps f) where
   abbrev g : Function

@@ -35,7 +35,7 @@ use Rattle.pass_exits.specs.declared.exit.Exit.{Exit}
 use Rattle.ir_laws.proofs.paths.woven_rules.Unbroken.{each_listed, of_listed}
 use Rattle.pass_proofs.proofs.exits.rules.Places.{IsExit, IsOwn, home}
 use Rattle.pass_proofs.proofs.exits.rules.Shape.{AreFrom, all_from, first_from, rest_from, suspend_block, suspend_unmarked}
-use Rattle.pass_proofs.proofs.exits.rules.Single.{listed_leads}
+use Rattle.ir_laws.proofs.rules.threaded.Single.{listed_leads}
 use Rattle.pass_proofs.proofs.exits.rules.Sources.{IsUnmarked, sources_same}
 
 -- ---- a suspend is the last of its block

@@ -24,7 +24,8 @@ use Rattle.ir_paths.specs.Paths.{entry_point}
 use Rattle.ir_paths.specs.Windows.{instr_in, label_at, label_of_term, suspend_of}
 use Rattle.ir_paths.specs.declared.point.Point.{Point}
 use Rattle.pass_proofs.proofs.exits.rules.Places.{none_there, own_number, own_there, spot, spots_apart}
-use Rattle.pass_proofs.proofs.exits.rules.Shape.{suspend_block, suspend_is}
+use Rattle.pass_proofs.proofs.exits.rules.Shape.{suspend_block}
+use Rattle.pass_proofs.proofs.edges.exit_rules.Shape.{suspend_is}
 use Rattle.pass_proofs.proofs.exits.rules.Suspends.{suspend_ends}
 use Rattle.pass_proofs.proofs.exits.rules.Threaded.{moves, threaded}
 use Rattle.ir_laws.proofs.rules.threaded.Threads.{IsThreaded}

@@ -4,6 +4,7 @@ use Rattle.std.specs.Prelude.{map}
 use Rattle.frame_contents.specs.declared.contents.Contents.{Contents}
 use Rattle.frame_layout.specs.declared.layout.Layout.{Layout}
 use Rattle.frame_layout.specs.declared.layout.Layouts.{Layouts}
+use Rattle.pass_front.specs.Front.{with_front_allocas}
 use Rattle.ir_laws.specs.facts.function_rules.Signatures.{HaveSameSignatures, heading}
 use Rattle.ir_model.specs.declared.module.Function.{Function}
 use Rattle.ir_model.specs.declared.module.Module.{Module}
@@ -21,8 +22,11 @@ placed_headed : (m : Module) (l : Layout) (f : Function) (c : Contents) (before 
 unfolding placed copied celled fetched_function
 placed_headed m l f c before = record { name = refl; result = refl; params = refl; coroutine = refl }
 
+front_headed : (f g : Function) → IsHeadedAs f g → IsHeadedAs f (with_front_allocas g)
+front_headed f g h = record { name = h.name; result = h.result; params = h.params; coroutine = h.coroutine }
+
 pub framed_headed : (m : Module) (l : Layout) (f g : Function) → IsFramedCoroutine m l f g → IsHeadedAs f g
-framed_headed m l f g h = subst (IsHeadedAs f) (sym h.is) (placed_headed m l f h.contents h.before)
+framed_headed m l f g h = subst (IsHeadedAs f) (sym h.is) (front_headed f (placed l f h.contents (copied f h.contents (celled m f h.contents) h.before)) (placed_headed m l f h.contents h.before))
 
 map_joined : {A B : Type 0} (what : A → B) (xs ys : List A) → map what (xs ++ ys) ≡ map what xs ++ map what ys
 map_joined what [] ys = refl

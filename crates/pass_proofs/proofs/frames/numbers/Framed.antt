@@ -7,7 +7,9 @@ use Rattle.pass_proofs.proofs.cells.numbers.Cells.{cells_total}
 use Rattle.pass_proofs.proofs.addresses.numbers.Copies.{copies_total, placed_total}
 use Rattle.ir_laws.proofs.frames.suspend_counts.Counted.{as_many, total}
 use Rattle.pass_proofs.proofs.edges.numbers.Edges.{edges_as_many}
+use Rattle.ir_laws.proofs.frames.front_rules.Shape.{same_suspends}
 use Rattle.pass_intrinsics.specs.Shapes.{suspends_of}
+use Rattle.pass_intrinsics.specs.declared.shape.SuspendPoint.{SuspendPoint}
 use Rattle.ir_model.specs.declared.module.Function.{Function}
 use Rattle.ir_model.specs.declared.module.Module.{Module}
 use Rattle.frame_classes.specs.declared.class.SlotClass.{SlotClass}
@@ -28,9 +30,11 @@ bytes_total l f c g = placed_total g (begin_of f) (offsets_of l f c (length g.na
 
 pub framed_as_many : (m : Module) (l : Layout) (f g : Function) → IsFramedCoroutine m l f g → length (suspends_of g) ≡ length (suspends_of f)
 framed_as_many m l f g x =
-    as_many (with_edge_blocks f) g (
-    ap (λ (h : Function). total h.blocks) x.is
-    ∙ bytes_total l f x.contents (copied f x.contents (celled m f x.contents) x.before)
+    let h : Function = placed l f x.contents (copied f x.contents (celled m f x.contents) x.before) in
+    ap (λ (y : Function). length (suspends_of y)) x.is
+    ∙ ap (λ (ps : List SuspendPoint). length ps) (same_suspends h)
+    ∙ as_many (with_edge_blocks f) h (
+    bytes_total l f x.contents (copied f x.contents (celled m f x.contents) x.before)
     ∙ copied_total f x.contents (celled m f x.contents) x.before
     ∙ celled_total m f x.contents)
     ∙ edges_as_many f

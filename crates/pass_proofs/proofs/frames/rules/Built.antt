@@ -18,7 +18,8 @@ use Rattle.pass_proofs.proofs.frames.shape.Cells.{cells_keep}
 use Rattle.pass_proofs.proofs.edges.calls.Edges.{edges_shaped}
 use Rattle.pass_proofs.proofs.frames.shape.Fits.{cells_fit}
 use Rattle.pass_proofs.proofs.frames.shape.Framed.{all_framed, returns_quiet}
-use Rattle.pass_proofs.specs.frames.shape.Passes.{IsKept, PassesFit}
+use Rattle.ir_laws.specs.frames.shape.Passes.{IsKept}
+use Rattle.pass_proofs.specs.frames.shape.Passes.{PassesFit}
 use Rattle.ir_laws.specs.rules.function_rules.Kept.{KeepsFunctionRules}
 use Rattle.ir_model.specs.declared.module.Function.{Function}
 use Rattle.ir_model.specs.declared.module.Module.{Module}

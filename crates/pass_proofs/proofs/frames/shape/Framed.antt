@@ -27,7 +27,8 @@ use Rattle.pass_proofs.proofs.edges.calls.Edges.{edges_shaped}
 use Rattle.pass_proofs.proofs.frames.shape.Fits.{cells_fit}
 use Rattle.pass_proofs.proofs.edges.calls.Jumps.{jumps_stay}
 use Rattle.pass_proofs.proofs.edges.calls.Steadily.{quiet_there}
-use Rattle.pass_proofs.specs.frames.shape.Passes.{IsKept, PassesFit}
+use Rattle.ir_laws.specs.frames.shape.Passes.{IsKept}
+use Rattle.pass_proofs.specs.frames.shape.Passes.{PassesFit}
 use Rattle.ir_laws.specs.frames.shape.Quiet.{AreReturnsQuiet}
 use Rattle.ir_laws.specs.rules.function_rules.Kept.{KeepsFunctionRules}
 use Rattle.pass_intrinsics.specs.declared.shape.SuspendPoint.{SuspendPoint}

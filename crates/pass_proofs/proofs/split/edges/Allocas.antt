@@ -1,7 +1,7 @@
 -- Allocas in the pieces of blocks: where those of a block stand first, none stands behind the first piece.
 use Rattle.std.proofs.Common.{◌≡◌, ℕ, ◌+◌, Bool, true, false, List, [], ◌∷◌, ◌++◌, refl, sym, ap, ◌∙◌, subst}
 use Rattle.std.specs.Prelude.{None, Option, Some, filter, ℤ, if◌then◌else◌}
-use Rattle.pass_split.specs.Parts.{is_alloca, is_no_alloca}
+use Rattle.pass_front.specs.Front.{is_alloca, is_no_alloca}
 use Rattle.pass_split.specs.Pieces.{begins_again}
 use Rattle.flow_solver.specs.Paths.{IsListed}
 use Rattle.pass_intrinsics.specs.Cuts.{cut_at, goes_on}

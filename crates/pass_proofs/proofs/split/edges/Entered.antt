@@ -14,7 +14,6 @@ use Rattle.pass_intrinsics.specs.declared.shape.Part.{Part}
 use Rattle.pass_intrinsics.specs.declared.shape.Shape.{Shape}
 use Rattle.pass_intrinsics.specs.declared.shape.SuspendPoint.{SuspendPoint}
 use Rattle.ir_model.specs.declared.instr.Phi.{Phi}
-use Rattle.ir_model.specs.declared.instr.Terminator.{Terminator}
 use Rattle.ir_model.specs.declared.module.Block.{Block}
 use Rattle.ir_model.specs.declared.module.Function.{Function}
 use Rattle.ir_model.specs.declared.module.Module.{Module}
@@ -27,7 +26,6 @@ use Rattle.pass_proofs.proofs.split.edges.Rules.{begins_with_end, end_is, labels
 use Rattle.ir_laws.proofs.paths.counted.PartFacts.{all_listed as all_there}
 use Rattle.ir_laws.proofs.frames.edges.Shaped.{has_point_of, point_home}
 use Rattle.ir_laws.proofs.rules.known_labels.Rules.{labels_spelt as targets_are}
-use Rattle.pass_proofs.proofs.split.edges.Sources.{cut_source, source_home, source_there}
 use Rattle.ir_laws.proofs.paths.replaced.Known.{listed_mapped, of_listed}
 use Rattle.ir_laws.specs.frames.replaced.Splittable.{HasOwnEdges}
 use Rattle.pass_proofs.specs.split.rules.Splittable.{IsSplittable}
@@ -109,12 +107,7 @@ module _ (m : Module) (k : ℕ) (f : Function) (begin : ℕ) (x : IsSplittable m
 
     module _ (part : Part) where
       abbrev h : Function
-      h = cut_source part f
-
-      like_predecessor : (label n : ℕ) → IsPredecessor f label n → IsPredecessor h label n
-      like_predecessor label n y =
-          let c = source_there part f y.block y.listed in
-          record { block = c.block; listed = c.listed; is = y.is ∙ sym c.alike.label; leads_there = subst (λ (t : Terminator). IsListed label (targets t)) (sym c.alike.term) y.leads_there }
+      h = f
 
       -- what is known of a phi and its block
       pub record IsEntered (b : Block) (y : Phi) : Type 0 where
@@ -125,28 +118,17 @@ module _ (m : Module) (k : ℕ) (f : Function) (begin : ℕ) (x : IsSplittable m
 
       pub entered : (b : Block) (y : Phi) → IsListed b h.blocks → IsListed y b.phis → IsEntered b y
       entered b y l n =
-          let c = source_home part f b l in
-          let own : IsListed y c.block.phis = subst (λ (ps : List Phi). IsListed y ps) c.alike.phis n in
-          let fit : PhiFits f b.label y = subst (λ (v : ℕ). PhiFits f v y) (sym c.alike.label) (own_fits c.block y c.listed own) in
+          let fit : PhiFits f b.label y = own_fits b y l n in
           record {
-            fits = record {
-              to = λ d w t.
-                  let e = source_home part f d w in
-                  subst (λ (v : ℕ). IsListed v (incoming_labels y.incoming)) (sym e.alike.label) (fit.to e.block e.listed (subst (λ (u : Terminator). IsListed b.label (targets u)) e.alike.term t));
-              from = λ v w. like_predecessor b.label v (fit.from v w);
-              once = fit.once;
-            };
-            no_end = λ e. not_the_end c.block y c.listed own (sym c.alike.label ∙ e);
-            no_return = λ p w e. not_returned p c.block y w c.listed own (subst (λ (v : ℕ). (v ≡ p.resume) ⊎ (v ≡ p.destroy)) c.alike.label e);
-            no_suspend = λ d w t i j e.
-                let z = source_home part f d w in
-                not_behind_suspend c.block y c.listed own z.block z.listed (subst (λ (v : ℕ). IsListed v (targets z.block.term)) c.alike.label (subst (λ (u : Terminator). IsListed b.label (targets u)) z.alike.term t)) i (z.alike.instrs i j) e;
+            fits = fit;
+            no_end = λ e. not_the_end b y l n e;
+            no_return = λ p w e. not_returned p b y w l n e;
+            no_suspend = λ d w t i j e. not_behind_suspend b y l n d w t i j e;
           }
 
       -- no suspend's number stands in a block without one
       pub no_point : (d : Block) → IsListed d h.blocks → HasNoSuspend d.instrs → (p : SuspendPoint) → IsListed p s.suspends → p.block ≡ d.label → ⊥
       no_point d l none p w e =
-          let z = source_home part f d l in
           let q = point_home p f w in
-          let same : q.0 ≡ z.block = one_numbered label_of f.blocks (labels_different m k f begin x) q.0 z.block q.1.0 z.listed (sym q.1.1.block ∙ e ∙ z.alike.label) in
-          none q.1.1.instr (z.alike.back q.1.1.instr (subst (λ (b : Block). IsListed q.1.1.instr b.instrs) same q.1.1.listed)) q.1.1.is_one
+          let same : q.0 ≡ d = one_numbered label_of f.blocks (labels_different m k f begin x) q.0 d q.1.0 l (sym q.1.1.block ∙ e) in
+          none q.1.1.instr (subst (λ (b : Block). IsListed q.1.1.instr b.instrs) same q.1.1.listed) q.1.1.is_one

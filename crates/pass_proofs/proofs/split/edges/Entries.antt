@@ -1,7 +1,7 @@
 -- The entry block of a part: no edge of a block that is reached leads to it.
 use Rattle.std.proofs.Common.{Bool, List, [], ap, arith, false, inl, inr, length, refl, subst, suc, sym, true, ℕ, ⊎_elim, ◌++◌, ◌<◌, ◌∙◌, ◌∷◌, ◌≡◌, ◌≤◌, ◌⊎◌}
 use Rattle.std.specs.Prelude.{None, Option, Some, filter, if◌then◌else◌, map, option_map, slice_get, unwrap_or, ◌==◌}
-use Rattle.pass_split.specs.Parts.{allocas_first, done_block, entry_block, is_entered, or_zero, origins_for, part_names, with_allocas_first}
+use Rattle.pass_split.specs.Parts.{done_block, entry_block, is_entered, or_zero, origins_for, part_names}
 use Rattle.pass_split.specs.Pieces.{going_on, pieced_phi, redirected, stop_label}
 use Rattle.pass_split.specs.Reached.{entry_of, is_flagged, kept_block, kept_blocks, reached, targets_at, targets_in}
 use Rattle.pass_split.specs.declared.origin.Origin.{Origin}
@@ -35,7 +35,7 @@ use Rattle.pass_proofs.proofs.split.edges.Pieces.{EndsAs, HasHead, Never, Return
 use Rattle.ir_laws.proofs.facts.Numbers.{label_of}
 use Rattle.pass_proofs.proofs.split.edges.Rules.{begins_with_end, end_is, labels_different, returned_target, stopped, the_end}
 use Rattle.ir_laws.proofs.frames.edges.Shaped.{point_home}
-use Rattle.pass_proofs.proofs.split.edges.Sources.{cut_source, cuttable, source_home}
+use Rattle.pass_proofs.proofs.split.edges.Sources.{cuttable}
 use Rattle.pass_proofs.proofs.split.edges.Targets.{goes_on_label, index_target, part_tabled, piece_ends, redirected_target}
 use Rattle.pass_proofs.proofs.split.rules.Reached.{led_is_flagged}
 use Rattle.pass_proofs.specs.split.rules.Pieced.{ArePiecesOf, NoBlock, OneBlock}
@@ -220,15 +220,6 @@ first_kept flags (b ∷ bs) h c e = on (is_flagged flags b.label) (h b refl) e
 
 -- ---- no edge leads to the entry of a part
 
-first_source : (part : Part) (f : Function) (b : Block) → slice_get (cut_source part f).blocks 0 ≡ Some b → (c : Block) × ((slice_get f.blocks 0 ≡ Some c) × (b.label ≡ c.label))
-first_source Part.Ramp f b e = on f.blocks refl e
-  where
-    on : (bs : List Block) → f.blocks ≡ bs → slice_get (with_allocas_first bs) 0 ≡ Some b → (c : Block) × ((slice_get f.blocks 0 ≡ Some c) × (b.label ≡ c.label))
-    on [] d e = absurd (cc)
-    on (c ∷ cs) d e = let same : allocas_first c ≡ b = cc in (c, (ap (λ (bs : List Block). slice_get bs 0) d, ap label_of (sym same)))
-first_source Part.Resume f b e = (b, (e, refl))
-first_source Part.Destroy f b e = (b, (e, refl))
-
 -- the end stands behind begin, so not in the entry block
 first_begun : (f : Function) (begin : ℕ) (bs : List Block) (b : Block) → slice_get bs 0 ≡ Some b → AreBlocksBegun f begin 0 bs → AreBegun f begin 0 (phi_values b) b.instrs
 first_begun f begin [] b e h = absurd (cc)
@@ -250,13 +241,13 @@ module _ (m : Module) (k : ℕ) (f : Function) (begin : ℕ) (x : IsSplittable m
   s = shape_of f layout
 
   abbrev h : Function
-  h = cut_source part f
+  h = f
 
   ok : IsCuttable s part h
   ok = cuttable m k f begin x layout part
 
   -- the function has a first block
-  pub first_block : (b : Block) × (slice_get (cut_source part f).blocks 0 ≡ Some b)
+  pub first_block : (b : Block) × (slice_get f.blocks 0 ≡ Some b)
   first_block = on h.blocks refl ok.end_there.block ok.end_there.listed
     where
       on : (bs : List Block) → h.blocks ≡ bs → (b : Block) → IsListed b h.blocks → (c : Block) × (slice_get h.blocks 0 ≡ Some c)
@@ -268,24 +259,21 @@ module _ (m : Module) (k : ℕ) (f : Function) (begin : ℕ) (x : IsSplittable m
 
   -- no edge of the function leads to its entry
   first_alone : (b : Block) → slice_get h.blocks 0 ≡ Some b → (d : Block) → IsListed d f.blocks → IsListed b.label (targets d.term) → ⊥
-  first_alone b e d l t =
-      let c = first_source part f b e in
-      entry_alone m k f begin x c.0 c.1.0 d l (subst (λ (v : ℕ). IsListed v (targets d.term)) c.1.1 t)
+  first_alone b e d l t = entry_alone m k f begin x b e d l t
 
   -- nor is its entry the end's block
   first_no_end : (b : Block) → slice_get h.blocks 0 ≡ Some b → b.label ≡ s.end → ⊥
   first_no_end b e d =
-      let c = first_source part f b e in
       let end = the_end m k f begin x in
-      let same : c.0 ≡ end.block = one_numbered label_of f.blocks (labels_different m k f begin x) c.0 end.block (listed_at f.blocks 0 c.0 c.1.0) end.listed (sym c.1.1 ∙ d ∙ end_is m k f begin x layout) in
-      entry_no_end m k f begin x c.0 c.1.0 (ap (λ (y : Block). has_end y.instrs) same ∙ end.has)
+      let same : b ≡ end.block = one_numbered label_of f.blocks (labels_different m k f begin x) b end.block (listed_at f.blocks 0 b e) end.listed (d ∙ end_is m k f begin x layout) in
+      entry_no_end m k f begin x b e (ap (λ (y : Block). has_end y.instrs) same ∙ end.has)
 
   -- no block of a part leads to the label of the function's entry
-  pub first_unled : (r : Block) → slice_get (cut_source part f).blocks 0 ≡ Some r → (c : Block) → IsListed c (whole s part h) → IsListed r.label (targets c.term) → ⊥
+  pub first_unled : (r : Block) → slice_get f.blocks 0 ≡ Some r → (c : Block) → IsListed c (whole s part h) → IsListed r.label (targets c.term) → ⊥
   first_unled r n c l t = old (leads_old s part h ok c r.label (entry_low r n) l t)
     where
       out : (z : IsPiece s part (origins_for s part h) h.blocks (whole s part h) c) → LeadsOut s part z.block r.label c.label → ⊥
-      out z (AsBefore u o) = let y = source_home part f z.block z.listed in first_alone r n y.block y.listed (subst (λ (v : Terminator). IsListed r.label (targets v)) y.alike.term u)
+      out z (AsBefore u o) = first_alone r n z.block z.listed u
       out z (AtTheEnd i q u a) = first_no_end r n a
 
       back : (p : SuspendPoint) → IsListed p s.suspends → (r.label ≡ p.resume) ⊎ (r.label ≡ p.destroy) → ⊥
@@ -304,7 +292,7 @@ module _ (m : Module) (k : ℕ) (f : Function) (begin : ℕ) (x : IsSplittable m
       old (FromDone a q) = first_no_end r n q
 
   -- no block leads to the entry of a part
-  pub entry_unled : (b e : Block) → slice_get (cut_source part f).blocks 0 ≡ Some b → slice_get (whole s part h) 0 ≡ Some e → (c : Block) → IsListed c (whole s part h) → IsListed e.label (targets c.term) → ⊥
+  pub entry_unled : (b e : Block) → slice_get f.blocks 0 ≡ Some b → slice_get (whole s part h) 0 ≡ Some e → (c : Block) → IsListed c (whole s part h) → IsListed e.label (targets c.term) → ⊥
   entry_unled b e d w c l t = on (entry_is s part h b e d w)
     where
       on : IsEntryLabel s part h e.label → ⊥

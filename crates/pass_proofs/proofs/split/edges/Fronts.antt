@@ -1,7 +1,8 @@
 -- Where allocas stand in the function that is cut, and so in its pieces.
-use Rattle.std.proofs.Common.{◌≡◌, ◌⊎◌, inl, inr, ⊎_elim, ℕ, suc, ◌+◌, true, false, List, [], ◌∷◌, ◌++◌, length, refl, sym, ap, ◌∙◌, arith}
+use Rattle.std.proofs.Common.{◌≡◌, ◌⊎◌, inl, inr, ⊎_elim, ℕ, suc, ◌+◌, true, false, List, [], ◌∷◌, ◌++◌, length, refl, sym, ap, ◌∙◌, subst, arith}
 use Rattle.std.specs.Prelude.{Some, filter, map, not, slice_get}
-use Rattle.pass_split.specs.Parts.{allocas_first, is_alloca, is_no_alloca, origins_for, with_allocas_first}
+use Rattle.pass_split.specs.Parts.{origins_for}
+use Rattle.pass_front.specs.Front.{allocas_first, is_alloca, is_no_alloca, with_allocas_first}
 use Rattle.pass_split.specs.Pieces.{pieced_phi}
 use Rattle.ir_laws.proofs.facts.Members.{each_there}
 use Rattle.ir_laws.proofs.rules.renamed.Switches.{none_part}
@@ -27,7 +28,7 @@ use Rattle.pass_proofs.proofs.split.edges.Labels.{whole}
 use Rattle.ir_laws.proofs.paths.uses.Paths.{place_of}
 use Rattle.pass_proofs.proofs.split.edges.Pieces.{HasHead, head_is}
 use Rattle.ir_laws.proofs.facts.Numbers.{label_of}
-use Rattle.pass_proofs.proofs.split.edges.Sources.{cut_source, cuttable}
+use Rattle.pass_proofs.proofs.split.edges.Sources.{cuttable}
 use Rattle.ir_laws.proofs.paths.replaced.Known.{of_listed}
 use Rattle.pass_proofs.specs.split.rules.Splittable.{IsSplittable}
 
@@ -50,31 +51,20 @@ module _ (m : Module) (k : ℕ) (f : Function) (begin : ℕ) (x : IsSplittable m
   kind_in (b ∷ bs) h c (inl e) = inl (ap (λ (d : Block). Some d) (sym e))
   kind_in (b ∷ bs) h c (inr l) = inr (let q = place_of bs c l in h q.0 c q.1)
 
-  ramp_allocas : (bs : List Block) → ((at : ℕ) (b : Block) → slice_get bs (suc at) ≡ Some b → HasNoAlloca b) → (at : ℕ) (b : Block) → slice_get (with_allocas_first bs) (suc at) ≡ Some b → HasNoAlloca b
-  ramp_allocas [] h at b e = h at b e
-  ramp_allocas (c ∷ cs) h at b e = h at b e
+  -- the allocas of the first block stand first
+  first_front : (bs : List Block) → with_allocas_first bs ≡ bs → (r : Block) → slice_get bs 0 ≡ Some r → allocas_first r ≡ r
+  first_front [] e r there = absurd (cc)
+  first_front (b ∷ bs) e r there = let same : b ≡ r = cc in let first : allocas_first b ≡ b = cc in subst (λ (c : Block). allocas_first c ≡ c) same first
 
-  source_kind : (part : Part) (c : Block) → IsListed c (cut_source part f).blocks → (slice_get (cut_source part f).blocks 0 ≡ Some c) ⊎ HasNoAlloca c
-  source_kind Part.Ramp c l = kind_in (with_allocas_first f.blocks) (ramp_allocas f.blocks own_allocas) c l
-  source_kind Part.Resume c l = kind_in f.blocks own_allocas c l
-  source_kind Part.Destroy c l = kind_in f.blocks own_allocas c l
-
-  -- in the ramp the allocas of the first block stand first
-  ramp_front : (bs : List Block) (r : Block) → slice_get (with_allocas_first bs) 0 ≡ Some r → (b : Block) × (r ≡ allocas_first b)
-  ramp_front [] r e = absurd (cc)
-  ramp_front (b ∷ bs) r e = let same : r ≡ allocas_first b = cc in (b, same)
-
-  source_front : (part : Part) → goes_on part ≡ false → (r : Block) → slice_get (cut_source part f).blocks 0 ≡ Some r → (b : Block) × (r ≡ allocas_first b)
-  source_front Part.Ramp g r e = ramp_front f.blocks r e
-  source_front Part.Resume g r e = absurd (cc)
-  source_front Part.Destroy g r e = absurd (cc)
+  pub own_front : (r : Block) → slice_get f.blocks 0 ≡ Some r → allocas_first r ≡ r
+  own_front r there = first_front f.blocks x.front r there
 
   module _ (layout : Layout) (part : Part) where
     abbrev s : Shape
     s = shape_of f layout
 
     abbrev h : Function
-    h = cut_source part f
+    h = f
 
     ok : IsCuttable s part h
     ok = cuttable m k f begin x layout part
@@ -91,16 +81,15 @@ module _ (m : Module) (k : ℕ) (f : Function) (begin : ℕ) (x : IsSplittable m
         (none_allocas s part z.block.term z.block.label (map (pieced_phi s part (origins_for s part h) z.block.label) z.block.phis) z.of.start z.of.last z.block.instrs z.of.pieces z.of.are none)
         z.piece)
         i l e))
-        (source_kind part z.block z.listed)
+        (kind_in f.blocks own_allocas z.block z.listed)
 
     -- and in the ramp the first one
     pub ramp_has : goes_on part ≡ false → (c : Block) (z : IsPiece s part (origins_for s part h) h.blocks (whole s part h) c) (i : Instr) → IsListed i c.instrs → is_alloca i ≡ true → c.label ≡ z.block.label
     ramp_has g c z i l e =
-        let y = source_front part g z.block (first_has c z i l e) in
-        let same : z.block.instrs ≡ filter is_alloca y.0.instrs ++ filter is_no_alloca y.0.instrs = ap (λ (b : Block). b.instrs) y.1 in
+        let same : z.block.instrs ≡ filter is_alloca z.block.instrs ++ filter is_no_alloca z.block.instrs = ap (λ (b : Block). b.instrs) (sym (own_front z.block (first_has c z i l e))) in
         let phis : List Phi = map (pieced_phi s part (origins_for s part h) z.block.label) z.block.phis in
-        on (filter is_alloca y.0.instrs) phis z.of.pieces
-        (front_pieces s part z.block.term z.block.label phis z.of.start z.of.last z.block.instrs z.of.pieces z.of.are (filter is_alloca y.0.instrs) (filter is_no_alloca y.0.instrs) same (all_allocas y.0.instrs) (no_allocas y.0.instrs))
+        on (filter is_alloca z.block.instrs) phis z.of.pieces
+        (front_pieces s part z.block.term z.block.label phis z.of.start z.of.last z.block.instrs z.of.pieces z.of.are (filter is_alloca z.block.instrs) (filter is_no_alloca z.block.instrs) same (all_allocas z.block.instrs) (no_allocas z.block.instrs))
         (head_is s part z.block.term z.block.label phis z.of.start z.of.last z.block.instrs z.of.pieces z.of.are) z.piece
       where
         on : (xs : List Instr) (ps : List Phi) (cs : List Block) → HasFront s part xs cs → HasHead s part z.block.label ps cs → IsListed c cs → c.label ≡ z.block.label

@@ -33,7 +33,7 @@ use Rattle.pass_proofs.proofs.split.edges.Led.{led_is_named, named_is_led}
 use Rattle.ir_laws.proofs.paths.edges.Lists.{all_of, from_chosen, from_filtered, from_mapped, listed_at, to_chosen, to_filtered}
 use Rattle.pass_proofs.proofs.split.edges.Pieces.{block_marks, phis_of}
 use Rattle.ir_laws.proofs.facts.Numbers.{label_of}
-use Rattle.pass_proofs.proofs.split.edges.Sources.{cut_source, cuttable, pruned_part}
+use Rattle.pass_proofs.proofs.split.edges.Sources.{cuttable, pruned_part}
 use Rattle.ir_laws.proofs.paths.replaced.Known.{listed_mapped}
 use Rattle.pass_proofs.specs.split.rules.Parted.{IsPartOf}
 use Rattle.pass_proofs.specs.split.rules.Splittable.{IsSplittable}
@@ -104,7 +104,7 @@ module _ (m : Module) (k : ℕ) (f : Function) (begin : ℕ) (x : IsSplittable m
   s = shape_of f layout
 
   abbrev h : Function
-  h = cut_source part f
+  h = f
 
   abbrev os : List Origin
   os = origins_for s part h

@@ -2,7 +2,8 @@
 use Rattle.std.proofs.Common.{◌≡◌, ◌⊎◌, inl, inr, ℕ, zero, suc, ◌+◌, ◌<◌, Bool, true, false, List, [], ◌∷◌, length, refl, sym, ap, ◌∙◌, subst}
 use Rattle.std.specs.Prelude.{None, Some, filter, map, slice_get, if◌then◌else◌}
 use Rattle.ir_base.specs.declared.outcome.Place.{Place}
-use Rattle.pass_split.specs.Parts.{is_alloca, origins_for, part_names}
+use Rattle.pass_split.specs.Parts.{origins_for, part_names}
+use Rattle.pass_front.specs.Front.{is_alloca}
 use Rattle.pass_split.specs.Reached.{is_flagged, kept_block, kept_blocks, pruned, reached}
 use Rattle.ir_laws.proofs.rules.path_rules.Holding.{part_none, to_parts}
 use Rattle.flow_solver.specs.Paths.{IsListed}
@@ -28,7 +29,7 @@ use Rattle.ir_laws.proofs.paths.edges.Lists.{from_filtered, from_mapped, listed_
 use Rattle.pass_proofs.proofs.split.edges.Pieces.{block_marks, labels}
 use Rattle.ir_laws.proofs.facts.Numbers.{label_of}
 use Rattle.pass_proofs.proofs.split.edges.Returns.{entry_label_is}
-use Rattle.pass_proofs.proofs.split.edges.Sources.{cut_source, cuttable, pruned_part}
+use Rattle.pass_proofs.proofs.split.edges.Sources.{cuttable, pruned_part}
 use Rattle.ir_laws.proofs.paths.replaced.Known.{listed_mapped}
 use Rattle.pass_proofs.proofs.split.rules.Reached.{flagged_is_led}
 use Rattle.pass_proofs.specs.split.rules.Parted.{IsPartOf}
@@ -62,7 +63,7 @@ module _ (m : Module) (k : ℕ) (f : Function) (begin : ℕ) (x : IsSplittable m
   s = shape_of f layout
 
   abbrev h : Function
-  h = cut_source part f
+  h = f
 
   ok : IsCuttable s part h
   ok = cuttable m k f begin x layout part

@@ -9,7 +9,7 @@ use Rattle.ir_model.specs.declared.module.Block.{Block}
 use Rattle.ir_model.specs.declared.module.Function.{Function}
 use Rattle.ir_model.specs.declared.module.Module.{Module}
 use Rattle.ir_paths.specs.Paths.{targets}
-use Rattle.pass_proofs.proofs.split.edges.Sources.{cut_source, cuttable, pruned_part}
+use Rattle.pass_proofs.proofs.split.edges.Sources.{cuttable, pruned_part}
 use Rattle.pass_proofs.proofs.split.edges.Targets.{part_own, part_tabled}
 use Rattle.pass_proofs.proofs.split.rules.Pruned.{kept_targets}
 use Rattle.pass_proofs.specs.split.rules.Parted.{IsPartOf}
@@ -24,4 +24,4 @@ parts_lead_within m k layout part begin f g x is =
     let s : Shape = shape_of f layout in
     let y = pruned_part s part f g is in
     let ok = cuttable m k f begin x layout part in
-    subst LeadWithin (sym y.is) (kept_targets y.before (part_tabled s part (cut_source part f) ok y.before y.blocks y.names) (part_own s part (cut_source part f) ok y.before y.blocks y.names))
+    subst LeadWithin (sym y.is) (kept_targets y.before (part_tabled s part f ok y.before y.blocks y.names) (part_own s part f ok y.before y.blocks y.names))

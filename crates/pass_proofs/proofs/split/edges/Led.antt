@@ -29,7 +29,7 @@ use Rattle.ir_laws.proofs.paths.edges.Lists.{listed_at}
 use Rattle.pass_proofs.proofs.split.edges.Origins.{comes_from_piece, going, origin_there}
 use Rattle.pass_proofs.proofs.split.edges.Pieces.{EndsAs, HasNoSuspend, Never, Return, Stop, ToMark, Whole, block_marks, labels, piece_label, whole_piece}
 use Rattle.ir_laws.proofs.facts.Numbers.{label_of}
-use Rattle.pass_proofs.proofs.split.edges.Sources.{cut_source, cuttable}
+use Rattle.pass_proofs.proofs.split.edges.Sources.{cuttable}
 use Rattle.pass_proofs.proofs.split.edges.Targets.{goes_on_label, index_target, not_redirected, piece_ends, redirected_target, to_redirected}
 use Rattle.ir_laws.proofs.paths.replaced.Known.{listed_mapped}
 use Rattle.pass_proofs.specs.split.rules.Splittable.{IsSplittable}
@@ -90,7 +90,7 @@ module _ (m : Module) (k : ℕ) (f : Function) (begin : ℕ) (x : IsSplittable m
   s = shape_of f layout
 
   abbrev h : Function
-  h = cut_source part f
+  h = f
 
   abbrev os : List Origin
   os = origins_for s part h

@@ -2,7 +2,8 @@
 use Rattle.std.proofs.Common.{◌≡◌, ℕ, suc, Bool, true, false, List, [], ◌∷◌, ◌++◌, refl, sym, ap, ◌∙◌, subst, arith}
 use Rattle.std.specs.Prelude.{None, Option, Some, filter, map, not, slice_get, ◌&&◌, ◌==◌, if◌then◌else◌}
 use Rattle.ir_base.specs.declared.outcome.Place.{Place}
-use Rattle.pass_split.specs.Parts.{allocas_first, allocas_of, done_block, entry_block, is_alloca, is_no_alloca, origins_for, part_names, ramp_source, with_allocas_first}
+use Rattle.pass_split.specs.Parts.{done_block, entry_block, origins_for, part_names}
+use Rattle.pass_front.specs.Front.{allocas_first, allocas_of, is_alloca, is_no_alloca}
 use Rattle.pass_split.specs.Pieces.{pieced_phi}
 use Rattle.pass_split.specs.declared.origin.Origin.{Origin}
 use Rattle.pass_split.specs.Reached.{is_flagged, kept_block, kept_blocks, pruned, reached}
@@ -27,9 +28,9 @@ use Rattle.rule_locals.specs.Markers.{block_size, first_other_mark, is_marker, m
 use Rattle.ir_locals.specs.Tables.{first_in, or_first}
 use Rattle.pass_proofs.proofs.split.edges.Allocas.{HasFront, HasNoAlloca, IsAnAlloca, IsNoAlloca, all_allocas, front_pieces, no_allocas}
 use Rattle.pass_proofs.proofs.split.edges.Entries.{entry_flagged}
-use Rattle.pass_proofs.proofs.split.edges.Fronts.{own_allocas}
+use Rattle.pass_proofs.proofs.split.edges.Fronts.{own_allocas, own_front}
 use Rattle.pass_proofs.proofs.split.edges.Labels.{are_cut, done_there, whole}
-use Rattle.pass_proofs.proofs.split.edges.Sources.{cut_source, pruned_part}
+use Rattle.pass_proofs.proofs.split.edges.Sources.{pruned_part}
 use Rattle.ir_laws.specs.frames.same_names.Parts.{HasPartsOf}
 use Rattle.pass_proofs.proofs.split.rules.Carried.{index_instrs, part_carried}
 use Rattle.pass_proofs.proofs.split.rules.Local.{instr_carried}
@@ -110,17 +111,13 @@ first_front s part os _ _ _ _ rest (OneBlock n next last q bs cs ds k more) c d 
     on [] f w = absurd f
     on (z ∷ zs) f w = let is : z ≡ e = cc in subst (λ (y : Block). BeginsWith xs y.instrs) is f.0
 
-ramp_first : (bs : List Block) (b : Block) → slice_get bs 0 ≡ Some b → slice_get (with_allocas_first bs) 0 ≡ Some (allocas_first b)
-ramp_first [] b e = absurd (cc)
-ramp_first (c ∷ cs) b e = let same : c ≡ b = cc in ap (λ (d : Block). Some (allocas_first d)) same
-
-entry_begins : (s : Shape) (part : Part) (f : Function) (b e : Block) → slice_get f.blocks 0 ≡ Some b → slice_get (whole s part (cut_source part f)) 0 ≡ Some e → BeginsWith (filter is_alloca b.instrs) e.instrs
-entry_begins s Part.Ramp f b e d w =
-    first_front s Part.Ramp _ _ _ (with_allocas_first f.blocks) _ (done_block s ∷ []) (are_cut s Part.Ramp (ramp_source f)) (allocas_first b) (ramp_first f.blocks b d) (filter is_alloca b.instrs) (filter is_no_alloca b.instrs) refl (all_allocas b.instrs) (no_allocas b.instrs) e w
-entry_begins s Part.Resume f b e d w =
+entry_begins : (s : Shape) (part : Part) (f : Function) (b e : Block) → allocas_first b ≡ b → slice_get f.blocks 0 ≡ Some b → slice_get (whole s part f) 0 ≡ Some e → BeginsWith (filter is_alloca b.instrs) e.instrs
+entry_begins s Part.Ramp f b e a d w =
+    first_front s Part.Ramp _ _ _ f.blocks _ (done_block s ∷ []) (are_cut s Part.Ramp f) b d (filter is_alloca b.instrs) (filter is_no_alloca b.instrs) (ap (λ (c : Block). c.instrs) (sym a)) (all_allocas b.instrs) (no_allocas b.instrs) e w
+entry_begins s Part.Resume f b e a d w =
     let same : entry_block s (reached f) Part.Resume f.blocks ≡ e = cc in
     (index_instrs s, ap (λ (c : Block). c.instrs) (sym same) ∙ ap (λ (is : List Instr). is ++ index_instrs s) (allocas_are f.blocks b d))
-entry_begins s Part.Destroy f b e d w =
+entry_begins s Part.Destroy f b e a d w =
     let same : entry_block s (reached f) Part.Destroy f.blocks ≡ e = cc in
     (index_instrs s, ap (λ (c : Block). c.instrs) (sym same) ∙ ap (λ (is : List Instr). is ++ index_instrs s) (allocas_are f.blocks b d))
 
@@ -137,17 +134,17 @@ module _ (m n : Module) (k : ℕ) (f : Function) (begin : ℕ) (parts : HasParts
   abbrev s : Shape
   s = shape_of f layout
 
-  slots_stay : (p : Function) → p.blocks ≡ whole s part (cut_source part f) → p.names ≡ part_names s part (cut_source part f) (origins_for s part (cut_source part f)) → (v z : ℕ) → slot_size m f v ≡ Some z → slot_size n (pruned p) v ≡ Some z
+  slots_stay : (p : Function) → p.blocks ≡ whole s part f → p.names ≡ part_names s part f (origins_for s part f) → (v z : ℕ) → slot_size m f v ≡ Some z → slot_size n (pruned p) v ≡ Some z
   slots_stay p blocks names v z size = on f.blocks refl size p.blocks refl
     where
       there : (b e : Block) → slice_get f.blocks 0 ≡ Some b → slice_get p.blocks 0 ≡ Some e → block_size m b v ≡ Some z → block_size n e v ≡ Some z
       there b e d w size =
-          let y = entry_begins s part f b e d (ap (λ (bs : List Block). slice_get bs 0) (sym blocks) ∙ w) in
+          let y = entry_begins s part f b e (own_front m k f begin x b d) d (ap (λ (bs : List Block). slice_get bs 0) (sym blocks) ∙ w) in
           ap (λ (is : List Instr). first_in (made_size n) is v) y.1
           ∙ front_size n (filter is_alloca b.instrs) y.0 v z (filtered_size n b.instrs v ∙ sizes_there m n parts b.instrs v ∙ size)
 
       nowhere : p.blocks ≡ [] → ⊥
-      nowhere e = subst (λ (bs : List Block). IsListed (done_block s) bs) (sym blocks ∙ e) (done_there s part (cut_source part f))
+      nowhere e = subst (λ (bs : List Block). IsListed (done_block s) bs) (sym blocks ∙ e) (done_there s part f)
 
       on : (bs : List Block) → f.blocks ≡ bs → first_in (block_size m) bs v ≡ Some z → (cs : List Block) → p.blocks ≡ cs → first_in (block_size n) (kept_blocks (reached p) cs) v ≡ Some z
       on [] d g cs w = absurd (cc)

@@ -39,7 +39,7 @@ use Rattle.pass_proofs.proofs.split.edges.Pieces.{EndsAs, Never, Return, Stop, T
 use Rattle.ir_laws.proofs.facts.Numbers.{label_of}
 use Rattle.pass_proofs.proofs.split.edges.Rules.{begins_with_end, end_is, the_end}
 use Rattle.ir_laws.proofs.frames.edges.Shaped.{ends_here, has_end_any, same_end}
-use Rattle.pass_proofs.proofs.split.edges.Sources.{cut_source, cuttable, pruned_part}
+use Rattle.pass_proofs.proofs.split.edges.Sources.{cuttable, pruned_part}
 use Rattle.pass_proofs.proofs.split.edges.Targets.{goes_on_label, index_target, not_redirected, piece_ends, redirected_target}
 use Rattle.pass_proofs.proofs.split.rules.Reached.{flagged_is_led}
 use Rattle.pass_proofs.specs.split.rules.Parted.{IsPartOf}
@@ -110,7 +110,7 @@ is_reached flags part p e = on (is_flagged flags p.block) refl e
     on true d e = d
     on false d e = absurd (cc)
 
-later_source : (part : Part) (f : Function) → goes_on part ≡ true → cut_source part f ≡ f
+later_source : (part : Part) (f : Function) → goes_on part ≡ true → f ≡ f
 later_source Part.Ramp f e = absurd (cc)
 later_source Part.Resume f e = refl
 later_source Part.Destroy f e = refl
@@ -122,7 +122,7 @@ module _ (m : Module) (k : ℕ) (f : Function) (begin : ℕ) (x : IsSplittable m
   s = shape_of f layout
 
   abbrev h : Function
-  h = cut_source part f
+  h = f
 
   ok : IsCuttable s part h
   ok = cuttable m k f begin x layout part

@@ -15,6 +15,7 @@ splittable_exited m k f begin s =
       calls = s.calls;
       switches = s.switches;
       named = s.named;
+      front = s.front;
       begun = s.begun;
       tokens = s.tokens;
       edges = s.edges;

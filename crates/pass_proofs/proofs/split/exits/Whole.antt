@@ -1,5 +1,5 @@
 -- A coroutine stays as splitting asks when blocks are put on edges that leave windows.
-use Rattle.std.proofs.Common.{◌≡◌, inl, inr, ⊎_elim, ℕ, true, ◌||◌, List, [], ◌∷◌, None, Option, Some, ap, length, refl, subst, sym, ◌∙◌}
+use Rattle.std.proofs.Common.{◌≡◌, inl, inr, ⊎_elim, ℕ, true, ◌||◌, List, [], ◌∷◌, ◌++◌, ◌+◌, None, Option, Some, ap, length, refl, subst, sym, ◌∙◌}
 use Rattle.std.specs.Prelude.{flat_map, is_some, slice_get}
 use Rattle.rule_shape.specs.Places.{is_the}
 use Rattle.rule_shape.specs.Switches.{wrong_switch}
@@ -25,8 +25,7 @@ use Rattle.ir_model.specs.declared.module.Block.{Block}
 use Rattle.ir_model.specs.declared.module.Function.{Function}
 use Rattle.ir_model.specs.declared.module.Module.{Module}
 use Rattle.ir_model.specs.declared.operand.Intrinsic.{Intrinsic}
-use Rattle.ir_paths.proofs.Search.{either, or_left, or_right, same_point-itself, same_point-same}
-use Rattle.ir_paths.specs.Paths.{has_point, same_point, targets}
+use Rattle.ir_paths.specs.Paths.{targets}
 use Rattle.ir_paths.specs.Windows.{instr_at, instr_in, is_call_of, label_at, label_of_term}
 use Rattle.ir_paths.specs.declared.point.Point.{Point}
 use Rattle.frame_slots.proofs.Points.{where_complete}
@@ -36,7 +35,9 @@ use Rattle.pass_proofs.specs.split.rules.Splittable.{IsSplittable}
 use Rattle.frame_crossing.specs.Crossing.{suspends_of as suspend_points}
 use Rattle.frame_crossing.specs.Paths.{IsDefinedBefore, IsNeededBehind, IsNeededFrom, IsOutside}
 use Rattle.rule_values.specs.Fits.{fits_kind}
-use Rattle.pass_exits.specs.ExitBlocks.{blocks_by, exit_term, with_exit_blocks}
+use Rattle.pass_exits.specs.ExitBlocks.{blocks_by, exit_blocks, exit_term, with_exit_blocks, with_exits}
+use Rattle.pass_exits.specs.Exits.{block_exits}
+use Rattle.pass_front.specs.Front.{allocas_first, with_allocas_first}
 use Rattle.ir_laws.specs.paths.woven_rules.Pairs.{AreDifferent}
 use Rattle.ir_laws.proofs.frames.threaded.Crossing.{defined_home, needed_from_home}
 use Rattle.pass_proofs.proofs.exits.rules.Ends.{end_moved}
@@ -44,26 +45,14 @@ use Rattle.pass_proofs.proofs.exits.rules.Kept.{all_begun, incoming_once, phis_m
 use Rattle.pass_proofs.proofs.exits.rules.Noted.{kinds_same, sizes_same}
 use Rattle.pass_proofs.proofs.exits.rules.Places.{own_number, spot}
 use Rattle.pass_proofs.proofs.split.exits.Returns.{led_home, return_home}
-use Rattle.pass_proofs.proofs.exits.rules.Shape.{suspend_is, suspend_term}
+use Rattle.pass_proofs.proofs.edges.exit_rules.Shape.{suspend_is}
+use Rattle.pass_proofs.proofs.exits.rules.Shape.{suspend_term}
 use Rattle.pass_proofs.proofs.exits.rules.Suspends.{HasOrigin, edges_stay, label_listed, origin, same_suspends, suspend_ends}
 use Rattle.pass_proofs.proofs.exits.rules.Threaded.{moves, own_position, threaded}
 use Rattle.ir_laws.proofs.paths.threaded.Threads.{IsBlockOver, IsMovedBlock, ended}
 use Rattle.ir_laws.proofs.rules.threaded.Threads.{IsThreaded}
+use Rattle.ir_laws.proofs.paths.threaded.Whole.{has_listed, listed_has}
 use Rattle.pass_proofs.proofs.exits.rules.Whole.{calls_kept, same_begin, switches_kept}
-
--- ---- lists of points
-
-listed_has : (p : Point) (ps : List Point) → IsListed p ps → has_point ps p ≡ true
-listed_has p [] l = absurd l
-listed_has p (q ∷ ps) (inl e) = or_left (same_point p q) (has_point ps p) (ap (same_point p) (sym e) ∙ same_point-itself p)
-listed_has p (q ∷ ps) (inr l) = or_right (same_point p q) (has_point ps p) (listed_has p ps l)
-
-has_listed : (p : Point) (ps : List Point) → has_point ps p ≡ true → IsListed p ps
-has_listed p [] h = absurd (cc)
-has_listed p (q ∷ ps) h = ⊎_elim
-    (λ (e : same_point p q ≡ true). inl (same_point-same p q e))
-    (λ (l : has_point ps p ≡ true). inr (has_listed p ps l))
-    (either (same_point p q) (has_point ps p) h)
 
 -- ---- the coroutine
 
@@ -195,6 +184,16 @@ module _ (m : Module) (func : ℕ) (f : Function) (rules : KeepsFunctionRules m 
       (defined_home f g (moves f) t v x.index s.at (subst (λ (k : ℕ). IsDefinedBefore g v k s.at) x.stands defined))
       (behind_home v s x needed)
 
+-- the allocas stay in front
+exits_front : (f : Function) → with_allocas_first f.blocks ≡ f.blocks → with_allocas_first (with_exit_blocks f).blocks ≡ (with_exit_blocks f).blocks
+exits_front f = on f.blocks (length f.names)
+  where
+    on : (bs : List Block) (n : ℕ) → with_allocas_first bs ≡ bs → with_allocas_first (blocks_by f 0 n bs) ≡ blocks_by f 0 n bs
+    on [] n e = refl
+    on (b ∷ bs) n e =
+        let first : allocas_first b ≡ b = cc in
+        ap (λ (c : Block). with_exits f 0 n c ∷ exit_blocks n (block_exits f 0 b) ++ blocks_by f 1 (n + length (block_exits f 0 b)) bs) first
+
 pub splittable_kept : (m : Module) (k : ℕ) (f : Function) (begin : ℕ) → IsSplittable m k f begin → ArePhisEnteredByJumps f → IsSplittable m k (with_exit_blocks f) begin
 splittable_kept m k f begin h jumps = record {
   coroutine = h.coroutine;
@@ -203,6 +202,7 @@ splittable_kept m k f begin h jumps = record {
   calls = calls_kept k f h.coroutine h.calls;
   switches = switches_kept k f h.coroutine h.switches;
   named = same_begin f ∙ h.named;
+  front = exits_front f h.front;
   begun = all_begun m k f h.rules jumps begin h.begun;
   tokens = subst (λ (ps : List SuspendPoint). AreDifferent (flat_map token_taken ps)) (sym (same_suspends k f h.coroutine h.switches)) h.tokens;
   edges = edges_stay m k f h.rules h.coroutine h.switches h.edges;

@@ -1,7 +1,7 @@
 -- The names of each function into which one is split are different.
 use Rattle.std.proofs.Common.{◌≡◌, ℕ, ◌-◌, Bool, true, false, List, [], ◌∷◌, length, refl, arith}
 use Rattle.std.specs.Prelude.{Some, slice_get, if◌then◌else◌}
-use Rattle.pass_split.specs.Parts.{first_layout, layouts_after, marked_parts, names_of, origins_for, plain_of, plain_shape, ramp_source, split_function, split_functions}
+use Rattle.pass_split.specs.Parts.{first_layout, layouts_after, marked_parts, names_of, origins_for, plain_of, plain_shape, split_function, split_functions}
 use Rattle.pass_split.specs.Pieces.{next_after}
 use Rattle.frame_layout.specs.declared.layout.Layout.{Layout}
 use Rattle.pass_intrinsics.specs.Shapes.{first_name, shape_of}
@@ -28,9 +28,8 @@ part_of s g count h few =
 parts_apart : (l : Layout) (g : Function) → (AreFew g.names → IsTableOf framed_words g.names) → Each IsApart (marked_parts l (with_exit_blocks g))
 parts_apart l g h =
     let f : Function = with_exit_blocks g in
-    let s : Shape = shape_of f l in
-    let r : Function = ramp_source f in (
-      part_of s g (next_after s Part.Ramp (origins_for s Part.Ramp r) (first_name s) r.blocks - first_name s) h,
+    let s : Shape = shape_of f l in (
+      part_of s g (next_after s Part.Ramp (origins_for s Part.Ramp f) (first_name s) f.blocks - first_name s) h,
       (
         part_of s g (next_after s Part.Resume (origins_for s Part.Resume f) (first_name s) f.blocks - first_name s) h,
         (

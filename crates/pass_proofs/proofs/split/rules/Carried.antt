@@ -3,7 +3,8 @@ use Rattle.std.proofs.Common.{◌≡◌, ℕ, ◌≤◌, Bool, true, false, List
 use Rattle.std.specs.List.{cons_option, list_all}
 use Rattle.std.specs.Prelude.{Option, None, Some, filter, filter_map, pos, slice_get, if◌then◌else◌}
 use Rattle.ir_base.specs.declared.outcome.Place.{Place}
-use Rattle.pass_split.specs.Parts.{allocas_of, done_block, entry_instrs, entry_term, is_alloca, later_head, later_part, origins_for, plain_of, ramp_of, ramp_source, with_allocas_first}
+use Rattle.pass_split.specs.Parts.{done_block, entry_instrs, entry_term, later_head, later_part, origins_for, plain_of, ramp_of}
+use Rattle.pass_front.specs.Front.{allocas_of, is_alloca}
 use Rattle.pass_split.specs.Pieces.{begins_again, comes_from, incoming_from, pieced_incoming, pieced_phi, pieces_of, next_after, redirected_term}
 use Rattle.pass_split.specs.Reached.{is_flagged, kept_phi, pruned, reached}
 use Rattle.pass_split.specs.declared.origin.Origin.{Origin}
@@ -26,7 +27,7 @@ use Rattle.ir_model.specs.declared.module.Block.{Block}
 use Rattle.ir_model.specs.declared.module.Function.{Function}
 use Rattle.ir_model.specs.declared.operand.Operand.{Operand}
 use Rattle.pass_proofs.proofs.split.rules.Cutting.{cut_blocks}
-use Rattle.pass_proofs.proofs.split.rules.Parted.{AreEnds, allocas_all, blocks_all as pieces_of_all, done_all, head_all, kept_all}
+use Rattle.pass_proofs.proofs.split.rules.Parted.{AreEnds, blocks_all as pieces_of_all, done_all, head_all, kept_all}
 use Rattle.ir_laws.proofs.rules.replaced.Passed.{AllPassingBlock, IsAll, Passes, PassesAll, PassingBlock, blocks_all, blocks_pass}
 use Rattle.pass_proofs.specs.split.rules.Parted.{IsDestroy, IsPartOf, IsRamp, IsResume}
 use Rattle.run_laws.specs.changed.Changed.{Each}
@@ -141,9 +142,9 @@ module _ (s : Shape) (part : Part) (low : ℕ) (Q0 Q : Phi → Type 0) (P0 P : I
   pub kept_so : (g : Function) → Each New g.blocks → Each (IsAll Q P T) (pruned g).blocks
   kept_so g h = now_so (pruned g).blocks (kept_all FromPhi P T (reached g) (λ y u. (u.0, (u.1.0, kept_phi_of (reached g) u.0 y u.1.1))) g.blocks h)
 
-  pub ramp_so : (f : Function) → low ≤ first_name s → goes_on part ≡ false → Each Old f.blocks → (origins : List Origin) → Each New (pieces_of s part origins (first_name s) (with_allocas_first f.blocks) ++ done_block s ∷ [])
+  pub ramp_so : (f : Function) → low ≤ first_name s → goes_on part ≡ false → Each Old f.blocks → (origins : List Origin) → Each New (pieces_of s part origins (first_name s) f.blocks ++ done_block s ∷ [])
   ramp_so f a e h origins =
-      each_joined New (pieces_of s part origins (first_name s) (with_allocas_first f.blocks)) (done_block s ∷ []) (pieces_so origins (first_name s) (with_allocas_first f.blocks) a (allocas_all Q0 P0 T0 f.blocks h))
+      each_joined New (pieces_of s part origins (first_name s) f.blocks) (done_block s ∷ []) (pieces_so origins (first_name s) f.blocks a h)
       (done_all s part FromPhi P T over.ends, tt)
 
   pub later_so : (f : Function) → low ≤ first_name s → goes_on part ≡ true → Each Old f.blocks → (origins : List Origin) → Each New ((later_head s (reached f) part f.blocks ++ pieces_of s part origins (first_name s) f.blocks) ++ done_block s ∷ [])
@@ -156,7 +157,7 @@ module _ (s : Shape) (part : Part) (low : ℕ) (Q0 Q : Phi → Type 0) (P0 P : I
 -- what is said of all blocks of a function is said of all blocks of its parts, and of what becomes of one that is no coroutine
 pub part_all : (s : Shape) (part : Part) (low : ℕ) (Q0 Q : Phi → Type 0) (P0 P : Instr → Type 0) (T0 T : Terminator → Type 0) → Becomes s part low Q0 Q P0 P T0 T → low ≤ first_name s → (f g : Function) → IsPartOf s f part g → Each (IsAll Q0 P0 T0) f.blocks → Each (IsAll Q P T) g.blocks
 part_all s _ low Q0 Q P0 P T0 T over a f _ IsRamp h =
-    kept_so s Part.Ramp low Q0 Q P0 P T0 T over (ramp_of s (ramp_source f)) (ramp_so s Part.Ramp low Q0 Q P0 P T0 T over f a refl h (origins_for s Part.Ramp (ramp_source f)))
+    kept_so s Part.Ramp low Q0 Q P0 P T0 T over (ramp_of s f) (ramp_so s Part.Ramp low Q0 Q P0 P T0 T over f a refl h (origins_for s Part.Ramp f))
 part_all s _ low Q0 Q P0 P T0 T over a f _ IsResume h =
     kept_so s Part.Resume low Q0 Q P0 P T0 T over (later_part s Part.Resume s.resume_name f) (later_so s Part.Resume low Q0 Q P0 P T0 T over f a refl h (origins_for s Part.Resume f))
 part_all s _ low Q0 Q P0 P T0 T over a f _ IsDestroy h =

@@ -1,7 +1,7 @@
 -- What is said of all that stands in the blocks of a coroutine, and so of all that stands in the blocks of its parts.
 use Rattle.std.proofs.Common.{◌≡◌, ℕ, ◌+◌, ◌≤◌, Bool, true, false, List, [], ◌∷◌, ◌++◌, refl, ◌∙◌, arith}
 use Rattle.std.specs.Prelude.{Option, None, Some, filter, map, if◌then◌else◌}
-use Rattle.pass_split.specs.Parts.{back_blocks, done_block, entry_instrs, entry_term, is_alloca, is_no_alloca, later_head, with_allocas_first}
+use Rattle.pass_split.specs.Parts.{back_blocks, done_block, entry_instrs, entry_term, later_head}
 use Rattle.pass_split.specs.Pieces.{begins_again, pieced_phi, redirected_term}
 use Rattle.pass_split.specs.Reached.{is_flagged, kept_block, kept_blocks, kept_phi, reached}
 use Rattle.pass_split.specs.declared.origin.Origin.{Origin}
@@ -128,18 +128,6 @@ module _ (Q : Phi → Type 0) (P : Instr → Type 0) (T : Terminator → Type 0)
       each_mapped (IsAll Q P T) (IsAll Q P T) (kept_block flags)
       (λ b k. record { phis = each_mapped Q Q (kept_phi flags) phi b.phis k.phis; instrs = k.instrs; term = k.term })
       (filter (λ b. is_flagged flags b.label) bs) (each_filtered (IsAll Q P T) (λ b. is_flagged flags b.label) bs h)
-
-  -- the entry block with its allocas in front has what it had
-  pub allocas_all : (bs : List Block) → Each (IsAll Q P T) bs → Each (IsAll Q P T) (with_allocas_first bs)
-  allocas_all [] h = tt
-  allocas_all (b ∷ bs) h = (
-    record {
-      phis = h.0.phis;
-      instrs = each_joined P (filter is_alloca b.instrs) (filter is_no_alloca b.instrs) (each_filtered P is_alloca b.instrs h.0.instrs) (each_filtered P is_no_alloca b.instrs h.0.instrs);
-      term = h.0.term;
-    },
-    h.1,
-  )
 
 -- ---- the blocks that a part begins with
 

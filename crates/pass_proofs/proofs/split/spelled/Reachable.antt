@@ -2,7 +2,7 @@
 use Rattle.std.proofs.Common.{◌≡◌, ℕ, ◌+◌, Bool, true, List, [], ◌∷◌, ◌++◌, refl, sym, ap, ◌∙◌, subst}
 use Rattle.std.specs.List.{list_all}
 use Rattle.std.specs.Prelude.{Some, map, slice_get}
-use Rattle.pass_split.specs.Parts.{done_block, origins_for, part_blocks, part_names, with_allocas_first}
+use Rattle.pass_split.specs.Parts.{done_block, origins_for, part_blocks, part_names}
 use Rattle.pass_split.specs.Pieces.{next_after, pieced_phi, pieces_of}
 use Rattle.pass_split.specs.Reached.{is_flagged, kept_block, kept_phi, pruned, reached}
 use Rattle.pass_split.specs.declared.origin.Origin.{Origin}
@@ -31,7 +31,7 @@ use Rattle.pass_proofs.proofs.split.edges.Kept.{IsKept, kept_home, kept_phi_fits
 use Rattle.pass_proofs.proofs.split.edges.Labels.{done_there, whole}
 use Rattle.ir_laws.proofs.paths.edges.Lists.{listed_at}
 use Rattle.ir_laws.proofs.paths.uses.Paths.{place_of}
-use Rattle.pass_proofs.proofs.split.edges.Sources.{cut_source, cuttable, pruned_part}
+use Rattle.pass_proofs.proofs.split.edges.Sources.{cuttable, pruned_part}
 use Rattle.pass_proofs.proofs.split.edges.Targets.{part_own, part_tabled}
 use Rattle.pass_proofs.proofs.split.rules.Cutting.{cut_blocks}
 use Rattle.pass_proofs.proofs.split.rules.Reached.{flagged_is_led, led_is_flagged}
@@ -67,10 +67,6 @@ pieces_entry s part origins _ _ _ _ (NoBlock n) h ds k = k
 pieces_entry s part origins _ _ _ _ (OneBlock n next last b bs cs es p rest) h ds k =
     bare_front cs es ds (first_phis s part b.term b.label n next (map (pieced_phi s part origins b.label) b.phis) b.instrs cs p (ap (map (pieced_phi s part origins b.label)) h))
 
-allocas_entry : (bs : List Block) → HasNoEntryPhis bs → HasNoEntryPhis (with_allocas_first bs)
-allocas_entry [] h = tt
-allocas_entry (b ∷ bs) h = h
-
 at_first : (bs : List Block) (c : Block) → HasNoEntryPhis bs → slice_get bs 0 ≡ Some c → c.phis ≡ []
 at_first [] c h e = absurd (cc)
 at_first (b ∷ bs) c h e = let same : b ≡ c = cc in subst (λ (x : Block). x.phis ≡ []) same h
@@ -83,17 +79,17 @@ module _ (m : Module) (k : ℕ) (f : Function) (begin : ℕ) (x : IsSplittable m
   abbrev s : Shape
   s = shape_of f layout
 
-  whole_bare : (part : Part) → HasNoEntryPhis (part_blocks s part (cut_source part f) (origins_for s part (cut_source part f)))
+  whole_bare : (part : Part) → HasNoEntryPhis (part_blocks s part f (origins_for s part f))
   whole_bare Part.Ramp =
-      let h : Function = cut_source Part.Ramp f in
+      let h : Function = f in
       let os : List Origin = origins_for s Part.Ramp h in
-      pieces_entry s Part.Ramp os (first_name s) (next_after s Part.Ramp os (first_name s) h.blocks) h.blocks (pieces_of s Part.Ramp os (first_name s) h.blocks) (cut_blocks s Part.Ramp os (first_name s) h.blocks) (allocas_entry f.blocks bare) (done_block s ∷ []) refl
+      pieces_entry s Part.Ramp os (first_name s) (next_after s Part.Ramp os (first_name s) h.blocks) h.blocks (pieces_of s Part.Ramp os (first_name s) h.blocks) (cut_blocks s Part.Ramp os (first_name s) h.blocks) bare (done_block s ∷ []) refl
   whole_bare Part.Resume = refl
   whole_bare Part.Destroy = refl
 
-  module _ (part : Part) (p : Function) (blocks : p.blocks ≡ whole (shape_of f layout) part (cut_source part f)) (names : p.names ≡ part_names (shape_of f layout) part (cut_source part f) (origins_for (shape_of f layout) part (cut_source part f))) where
+  module _ (part : Part) (p : Function) (blocks : p.blocks ≡ whole (shape_of f layout) part f) (names : p.names ≡ part_names (shape_of f layout) part f (origins_for (shape_of f layout) part f)) where
     abbrev h : Function
-    h = cut_source part f
+    h = f
 
     abbrev g : Function
     g = pruned p

@@ -3,7 +3,7 @@ use Rattle.std.proofs.Common.{ℕ, zero, suc, ℤ, pos, ◌+◌, ◌-◌, Bool, 
 use Rattle.std.specs.Prelude.{None, Option, Some, codes, if◌then◌else◌, map, slice_get, slice_set}
 use Rattle.ir_base.specs.declared.name.Name.{Name}
 use Rattle.text_names.specs.Spelling.{IsName}
-use Rattle.pass_split.specs.Parts.{back_name, begun_mark, case_of, cases_from, done_mark, entry_mark, frame_mark, index_mark, instr_names, is_entered, later_part, mark_names, names_of, names_of_suspend, none_mark, origins_for, part_names, pass_name, plain_of, plain_shape, ramp_of, ramp_source, saved_name, slot_mark, suspend_names}
+use Rattle.pass_split.specs.Parts.{back_name, begun_mark, case_of, cases_from, done_mark, entry_mark, frame_mark, index_mark, instr_names, is_entered, later_part, mark_names, names_of, names_of_suspend, none_mark, origins_for, part_names, pass_name, plain_of, plain_shape, ramp_of, saved_name, slot_mark, suspend_names}
 use Rattle.pass_split.specs.Pieces.{next_after}
 use Rattle.pass_split.specs.Reached.{pruned}
 use Rattle.frame_layout.specs.declared.layout.Layout.{Layout}
@@ -206,8 +206,8 @@ parts_spelled layout _ f _ IsRamp h =
       name = h.name;
       result = h.result;
       params = h.params;
-      blocks = part_blocks_spelled s Part.Ramp f (pruned (ramp_of s (ramp_source f))) IsRamp h.blocks;
-      names = names_spelled s Part.Ramp (ramp_source f) h.names;
+      blocks = part_blocks_spelled s Part.Ramp f (pruned (ramp_of s f)) IsRamp h.blocks;
+      names = names_spelled s Part.Ramp f h.names;
     }
 parts_spelled layout _ f _ IsResume h =
     let s : Shape = shape_of f layout in

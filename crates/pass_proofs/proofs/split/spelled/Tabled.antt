@@ -2,7 +2,8 @@
 use Rattle.std.proofs.Common.{◌≡◌, ⊎_elim, inl, inr, ℕ, ◌+◌, ◌-◌, ◌<◌, ◌≤◌, Bool, true, false, List, [], ◌∷◌, ◌++◌, length, length-append, refl, sym, ap, subst, arith}
 use Rattle.std.specs.Prelude.{None, Option, Some, filter, if◌then◌else◌, map}
 use Rattle.ir_base.specs.declared.name.Name.{Name}
-use Rattle.pass_split.specs.Parts.{allocas_of, back_blocks, done_block, head_blocks, instr_names, is_alloca, is_no_alloca, later_head, later_part, origins_for, part_blocks, part_names, plain_of, plain_shape, ramp_of, ramp_source, with_allocas_first}
+use Rattle.pass_split.specs.Parts.{back_blocks, done_block, head_blocks, instr_names, later_head, later_part, origins_for, part_blocks, part_names, plain_of, plain_shape, ramp_of}
+use Rattle.pass_front.specs.Front.{allocas_of, is_alloca}
 use Rattle.pass_split.specs.Pieces.{is_begin, next_after, pieced_phi, pieces_of}
 use Rattle.pass_split.specs.Reached.{is_flagged, kept_block, kept_blocks, kept_phi, pruned, reached}
 use Rattle.pass_split.specs.declared.origin.Origin.{Origin}
@@ -15,7 +16,7 @@ use Rattle.ir_laws.proofs.facts.Lists.{phi_names, row_of}
 use Rattle.ir_laws.specs.rules.source_rules.Named.{HasTabledLocals}
 use Rattle.flow_solver.specs.Paths.{IsListed}
 use Rattle.frame_layout.specs.declared.layout.Layout.{Layout}
-use Rattle.pass_early_proof.proofs.function_rules.Tabled.{tabled_by}
+use Rattle.ir_laws.proofs.rules.function_rules.Tabled.{tabled_by}
 use Rattle.ir_laws.proofs.rules.woven_rules.Once.{names_below}
 use Rattle.pass_intrinsics.specs.Cuts.{goes_on}
 use Rattle.pass_intrinsics.specs.Lowered.{lowered, names_for, names_taken, number_of_save, save_or_none}
@@ -34,7 +35,6 @@ use Rattle.ir_model.specs.declared.operand.Arg.{Arg}
 use Rattle.ir_model.specs.declared.operand.Callee.{Callee}
 use Rattle.ir_model.specs.declared.operand.Intrinsic.{Intrinsic}
 use Rattle.ir_laws.proofs.paths.edges.Lists.{listed_at}
-use Rattle.pass_proofs.proofs.split.edges.Sources.{cut_source}
 use Rattle.pass_proofs.proofs.split.edges.Targets.{instr_names_long, names_are_long, tabled_label}
 use Rattle.pass_proofs.proofs.split.uses.Assembled.{ok}
 use Rattle.pass_proofs.proofs.split.uses.Rules.{begin_named, begin_there}
@@ -170,11 +170,6 @@ module _ (limit : ℕ) where
   allocas_below [] h = tt
   allocas_below (b ∷ bs) h = each_filtered Below is_alloca b.instrs h.0.instrs
 
-  first_below : (bs : List Block) → Each IsBelow bs → Each IsBelow (with_allocas_first bs)
-  first_below [] h = tt
-  first_below (b ∷ bs) h =
-      (record { phis = h.0.phis; instrs = each_joined Below (filter is_alloca b.instrs) (filter is_no_alloca b.instrs) (each_filtered Below is_alloca b.instrs h.0.instrs) (each_filtered Below is_no_alloca b.instrs h.0.instrs) }, h.1)
-
   backs_below : (s : Shape) (part : Part) (j : ℕ) (ps : List SuspendPoint) → Each IsBelow (back_blocks s part j ps)
   backs_below s part j [] = tt
   backs_below s part j (p ∷ ps) = (record { phis = tt; instrs = tt }, backs_below s part (j + 1) ps)
@@ -261,7 +256,7 @@ module _ (m : Module) (k : ℕ) (f : Function) (begin : ℕ) (split : IsSplittab
 
   module _ (part : Part) where
     abbrev h : Function
-    h = cut_source part f
+    h = f
 
     abbrev origins : List Origin
     origins = origins_for s part h
@@ -290,25 +285,17 @@ module _ (m : Module) (k : ℕ) (f : Function) (begin : ℕ) (split : IsSplittab
     own_blocks : Each (IsBelow limit) f.blocks
     own_blocks = blocks_of limit f.blocks (λ v l. old v (names_below k f split.rules.tabled v (listed_right v (params_of f) (row_of block_names f.blocks) l)))
 
-    cut_below : Each (IsBelow limit) (cut_source part f).blocks
-    cut_below = on part
-      where
-        on : (p : Part) → Each (IsBelow limit) (cut_source p f).blocks
-        on Part.Ramp = first_below limit f.blocks own_blocks
-        on Part.Resume = own_blocks
-        on Part.Destroy = own_blocks
-
     pieces_low : Each (IsBelow limit) pieces
     pieces_low =
         let x : limit ≡ first_name s + (last - first_name s) = long in
         let up : first_name s ≤ last = rising in
-        blocks_below limit s part origins (first_name s) last h.blocks pieces cut (omega (arith, x, up)) (fine_blocks limit s h.blocks (λ b i a l e. old s.begin begin_in) cut_below)
+        blocks_below limit s part origins (first_name s) last h.blocks pieces cut (omega (arith, x, up)) (fine_blocks limit s h.blocks (λ b i a l e. old s.begin begin_in) own_blocks)
 
     head_low : Each (IsBelow limit) (head_blocks s part h)
     head_low = on (goes_on part)
       where
         on : (b : Bool) → Each (IsBelow limit) (if b then later_head s (reached h) part h.blocks else [])
-        on true = let x : limit ≡ first_name s + (last - first_name s) = long in head_below limit s (reached h) part h.blocks (omega (arith, x)) cut_below
+        on true = let x : limit ≡ first_name s + (last - first_name s) = long in head_below limit s (reached h) part h.blocks (omega (arith, x)) own_blocks
         on false = tt
 
     whole_low : Each (IsBelow limit) (part_blocks s part h origins)
@@ -333,8 +320,8 @@ module _ (m : Module) (k : ℕ) (f : Function) (begin : ℕ) (split : IsSplittab
   frame_param v (inl e) = subst (λ (n : ℕ). n < length f.names) (sym e) begin_in
   frame_param v (inr l) = absurd l
 
-  ramp_tabled : (l : ℕ) → HasTabledLocals l (pruned (ramp_of s (ramp_source f)))
-  ramp_tabled l = part_low Part.Ramp (ramp_of s (ramp_source f)) refl refl (λ v x. names_below k f split.rules.tabled v (listed_left v (params_of f) (row_of block_names f.blocks) x)) l
+  ramp_tabled : (l : ℕ) → HasTabledLocals l (pruned (ramp_of s f))
+  ramp_tabled l = part_low Part.Ramp (ramp_of s f) refl refl (λ v x. names_below k f split.rules.tabled v (listed_left v (params_of f) (row_of block_names f.blocks) x)) l
 
   later_tabled : (part : Part) (name : Name) → goes_on part ≡ true → (l : ℕ) → HasTabledLocals l (pruned (later_part s part name f))
   later_tabled Part.Ramp name e l = absurd (cc)

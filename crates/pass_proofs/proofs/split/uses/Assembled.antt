@@ -1,11 +1,11 @@
 -- The parts of a coroutine are cut up as the paths ask.
-use Rattle.std.proofs.Common.{◌≡◌, inl, inr, ⊎_elim, ℕ, ◌+◌, ◌<◌, Bool, true, false, List, [], ◌∷◌, ◌++◌, length, refl, sym, ap, ◌∙◌, subst, arith}
+use Rattle.std.proofs.Common.{◌≡◌, inl, inr, ℕ, ◌+◌, ◌<◌, Bool, true, false, List, [], ◌∷◌, ◌++◌, length, sym, ap, ◌∙◌, subst}
 use Rattle.std.specs.Prelude.{Some, filter, map, slice_get, if◌then◌else◌}
-use Rattle.pass_split.specs.Parts.{back_blocks, done_block, head_blocks, is_alloca, is_no_alloca, later_head, origins_for, part_blocks}
+use Rattle.pass_split.specs.Parts.{back_blocks, done_block, head_blocks, later_head, origins_for, part_blocks}
 use Rattle.pass_split.specs.Pieces.{comes_from, going_on, origin_in}
 use Rattle.pass_split.specs.Reached.{is_flagged, kept_block, kept_blocks, reached}
 use Rattle.pass_split.specs.declared.origin.Origin.{Origin}
-use Rattle.ir_laws.proofs.paths.source_rules.Locals.{Apart, in_row, listed_either, listed_right}
+use Rattle.ir_laws.proofs.paths.source_rules.Locals.{Apart, in_row, listed_right}
 use Rattle.ir_laws.proofs.rules.source_rules.Locals.{block_names, own_label}
 use Rattle.ir_laws.proofs.facts.Lists.{row_of, label_found}
 use Rattle.rule_uses.specs.Undefined.{params_of}
@@ -18,23 +18,19 @@ use Rattle.pass_intrinsics.specs.declared.shape.Shape.{Shape}
 use Rattle.pass_intrinsics.specs.declared.shape.SuspendPoint.{SuspendPoint}
 use Rattle.ir_model.specs.Names.{position_of}
 use Rattle.ir_model.specs.declared.instr.Incoming.{Incoming}
-use Rattle.ir_model.specs.declared.instr.Instr.{Instr}
 use Rattle.ir_model.specs.declared.instr.Phi.{Phi}
 use Rattle.ir_model.specs.declared.module.Block.{Block}
 use Rattle.ir_model.specs.declared.module.Function.{Function}
 use Rattle.ir_model.specs.declared.module.Module.{Module}
 use Rattle.pass_proofs.proofs.split.edges.Cuttable.{HasBlock, IsCuttable}
 use Rattle.pass_proofs.proofs.split.edges.Labels.{part_different}
-use Rattle.pass_proofs.proofs.split.edges.Sources.{cut_source, cuttable}
+use Rattle.pass_proofs.proofs.split.edges.Sources.{cuttable}
 use Rattle.pass_proofs.proofs.split.uses.Groups.{block_at_group, groups, has_pieces, pieces_joined}
 use Rattle.ir_laws.proofs.paths.uses.Groups.{joined, one_source, pieces_apart, source_of as group_of, source_there}
-use Rattle.pass_proofs.proofs.split.uses.Moved.{First, IsSource, Same, same_position, source_of}
 use Rattle.pass_proofs.proofs.split.uses.Origins.{from_piece, no_suspends, suspend_there}
 use Rattle.pass_proofs.proofs.split.uses.Paths.{IsPieced, listed_found}
-use Rattle.ir_laws.proofs.paths.edges.Lists.{from_filtered}
 use Rattle.ir_laws.proofs.paths.uses.Paths.{place_of, there_listed}
 use Rattle.ir_laws.proofs.frames.uses.PhiEdges.{phi_source}
-use Rattle.pass_proofs.proofs.split.uses.Quiet.{AreTold, told_first}
 use Rattle.pass_proofs.proofs.split.uses.Rules.{phi_plain, told}
 use Rattle.pass_proofs.proofs.split.uses.Sources.{NoSuspends}
 use Rattle.ir_laws.proofs.facts.uses.Sources.{label_of}
@@ -48,49 +44,20 @@ module _ (m : Module) (k : ℕ) (f : Function) (begin : ℕ) (split : IsSplittab
   abbrev pub s : Shape
   s = shape_of f layout
 
-  -- ---- the function that is cut
-
-  pub source_at : (part : Part) (q : ℕ) (c : Block) → slice_get (cut_source part f).blocks q ≡ Some c → (b : Block) × ((slice_get f.blocks q ≡ Some b) × IsSource b c)
-  source_at Part.Ramp q c e = source_of f.blocks q c e
-  source_at Part.Resume q c e = (c, (e, Same))
-  source_at Part.Destroy q c e = (c, (e, Same))
-
-  position_same : (part : Part) (label : ℕ) → position_of (cut_source part f) label ≡ position_of f label
-  position_same Part.Ramp label = same_position f label
-  position_same Part.Resume label = refl
-  position_same Part.Destroy label = refl
-
-  names_same : (part : Part) → length (cut_source part f).names ≡ length f.names
-  names_same Part.Ramp = refl
-  names_same Part.Resume = refl
-  names_same Part.Destroy = refl
-
-  same_parts : (b c : Block) → IsSource b c → (c.term ≡ b.term) × ((c.phis ≡ b.phis) × (c.label ≡ b.label))
-  same_parts b _ Same = (refl, (refl, refl))
-  same_parts b _ First = (refl, (refl, refl))
-
-  pub same_instrs : (b c : Block) → IsSource b c → (i : Instr) → IsListed i c.instrs → IsListed i b.instrs
-  same_instrs b _ Same i l = l
-  same_instrs b _ First i l = ⊎_elim (λ a. (from_filtered is_alloca b.instrs i a).0) (λ a. (from_filtered is_no_alloca b.instrs i a).0) (listed_either i (filter is_alloca b.instrs) (filter is_no_alloca b.instrs) l)
-
-  source_told : (b c : Block) → IsSource b c → AreTold f s b.instrs b.term → AreTold f s c.instrs c.term
-  source_told b _ Same h = h
-  source_told b _ First h = told_first f s b.term b.instrs h
-
   module _ (part : Part) where
     abbrev pub h : Function
-    h = cut_source part f
+    h = f
 
     abbrev pub origins : List Origin
-    origins = origins_for s part (cut_source part f)
+    origins = origins_for s part f
 
     abbrev pub head : List Block
-    head = head_blocks s part (cut_source part f)
+    head = head_blocks s part f
 
     abbrev pub css : List (List Block)
-    css = groups s part (origins_for s part (cut_source part f)) (first_name s) (cut_source part f).blocks
+    css = groups s part (origins_for s part f) (first_name s) f.blocks
 
-    pub ok : IsCuttable (shape_of f layout) part (cut_source part f)
+    pub ok : IsCuttable (shape_of f layout) part f
     ok = cuttable m k f begin split layout part
 
     pub blocks_grouped : part_blocks s part h origins ≡ (head ++ joined css) ++ done_block s ∷ []
@@ -100,9 +67,7 @@ module _ (m : Module) (k : ℕ) (f : Function) (begin : ℕ) (split : IsSplittab
     labels_apart = subst (λ (bs : List Block). Apart (map label_of bs)) blocks_grouped (part_different s part h ok)
 
     pub own : (q : ℕ) (b : Block) → slice_get h.blocks q ≡ Some b → position_of h b.label ≡ q
-    own q c e =
-        let x = source_at part q c e in
-        position_same part c.label ∙ ap (position_of f) (same_parts x.0 c x.1.1).1.1 ∙ own_label k f split.rules.definitions q x.0 x.1.0
+    own q c e = own_label k f split.rules.definitions q c e
 
     pub has_block : (label : ℕ) → HasBlock h label → (c : Block) × ((slice_get h.blocks (position_of h label) ≡ Some c) × (c.label ≡ label))
     has_block label x =
@@ -110,11 +75,11 @@ module _ (m : Module) (k : ℕ) (f : Function) (begin : ℕ) (split : IsSplittab
         let got : slice_get h.blocks (position_of h label) ≡ Some y.0 = ap (λ (n : ℕ). slice_get h.blocks (position_of h n)) (sym x.has_label) ∙ y.1 in
         (y.0, (got, label_found h label y.0 got))
 
-    pub cut : IsCutUp f (cut_source part f) s part (origins_for s part (cut_source part f)) (head_blocks s part (cut_source part f)) (groups s part (origins_for s part (cut_source part f)) (first_name s) (cut_source part f).blocks)
+    pub cut : IsCutUp f f s part (origins_for s part f) (head_blocks s part f) (groups s part (origins_for s part f) (first_name s) f.blocks)
     cut =
         record {
           pieces = has_pieces s part origins (first_name s) h.blocks (pieces_apart head css (done_block s) labels_apart);
-          told = λ q c got. let x = source_at part q c got in source_told x.0 c x.1.1 (told m k f begin split layout q x.0 x.1.0);
+          told = λ q c got. told m k f begin split layout q c got;
           there = λ q c label got l. has_block label (ok.known c label (there_listed h.blocks q c got) l);
           own = own;
           blocks = λ q cs e. block_at_group s part origins (first_name s) h.blocks q cs e;
@@ -154,18 +119,11 @@ module _ (m : Module) (k : ℕ) (f : Function) (begin : ℕ) (split : IsSplittab
 
     origin_is : (q : ℕ) (c : Block) (y : Phi) (i : Incoming) (l : ℕ) → slice_get h.blocks q ≡ Some c → IsListed y c.phis → IsListed i y.incoming → comes_from s part c.label i.from (slice_get origins i.from) ≡ Some l → (q0 : ℕ) × ((b0 : Block) × ((slice_get h.blocks q0 ≡ Some b0) × ((b0.label ≡ i.from) × (NoSuspends b0.instrs × (origin_in s part (Origin.Piece b0.label) b0.instrs ≡ Origin.Piece l)))))
     origin_is q c y i l got phi incoming e =
-        let x = source_at part q c got in
-        let b : Block = x.0 in
-        let same = same_parts b c x.1.1 in
-        let in_b : IsListed y b.phis = subst (IsListed y) same.1.0 phi in
-        let d = phi_source k f split.rules.edges split.rules.definitions q b y i x.1.0 in_b incoming in
+        let d = phi_source k f split.rules.edges split.rules.definitions q c y i got phi incoming in
         let known : IsListed i.from (params_of f ++ row_of block_names f.blocks) = listed_right i.from (params_of f) (row_of block_names f.blocks) (in_row block_names f.blocks (position_of f i.from) i.from d.0 d.1.0 (inl (sym d.1.1.0))) in
         let low : i.from < length f.names = names_below k f split.rules.tabled i.from known in
-        let names : length h.names ≡ length f.names = names_same part in
-        let z = from_piece s part (length h.names) h.blocks c.label i.from l (omega (arith, low, names)) (λ p j stands to going is. bare_behind p to q b y (there_listed s.suspends j p stands) going x.1.0 (is ∙ same.1.1) in_b) e in
-        let at = place_of h.blocks z.0 z.1.0 in
-        let w = source_at part at.0 z.0 at.1 in
-        let like = same_parts w.0 z.0 w.1.1 in (
+        let z = from_piece s part (length h.names) h.blocks c.label i.from l low (λ p j stands to going is. bare_behind p to q c y (there_listed s.suspends j p stands) going got is phi) e in
+        let at = place_of h.blocks z.0 z.1.0 in (
           at.0,
           (
             z.0,
@@ -176,8 +134,8 @@ module _ (m : Module) (k : ℕ) (f : Function) (begin : ℕ) (split : IsSplittab
                 (
                   no_suspends z.0.instrs
                       (λ j m is.
-                      let p = suspend_there f w.0 j (there_listed f.blocks at.0 w.0 w.1.0) (same_instrs w.0 z.0 w.1.1 j m) is in
-                      z.1.1.1.1 p.0 p.1.0 (p.1.1 ∙ sym like.1.1 ∙ z.1.1.0)),
+                      let p = suspend_there f z.0 j z.1.0 m is in
+                      z.1.1.1.1 p.0 p.1.0 (p.1.1 ∙ z.1.1.0)),
                   z.1.1.1.0,
                 ),
               ),
@@ -185,7 +143,7 @@ module _ (m : Module) (k : ℕ) (f : Function) (begin : ℕ) (split : IsSplittab
           ),
         )
 
-    pub pieced : (whole : Function) → whole.blocks ≡ part_blocks s part h origins → IsPieced f (cut_source part f) s part (origins_for s part (cut_source part f)) (head_blocks s part (cut_source part f)) (groups s part (origins_for s part (cut_source part f)) (first_name s) (cut_source part f).blocks) whole
+    pub pieced : (whole : Function) → whole.blocks ≡ part_blocks s part h origins → IsPieced f f s part (origins_for s part f) (head_blocks s part f) (groups s part (origins_for s part f) (first_name s) f.blocks) whole
     pieced whole same =
         let grouped : whole.blocks ≡ (head ++ joined css) ++ done_block s ∷ [] = same ∙ blocks_grouped in
         record {
@@ -194,7 +152,7 @@ module _ (m : Module) (k : ℕ) (f : Function) (begin : ℕ) (split : IsSplittab
           there = λ x c l. subst (IsListed c) (sym grouped) (source_there head css (done_block s) labels_apart x c l);
           bare = head_bare;
           origin = origin_is;
-          plain = λ q c y i v got phi incoming local. let x = source_at part q c got in phi_plain m k f begin split layout q x.0 y i v x.1.0 (subst (IsListed y) (same_parts x.0 c x.1.1).1.0 phi) incoming local;
+          plain = λ q c y i v got phi incoming local. phi_plain m k f begin split layout q c y i v got phi incoming local;
         }
 
 -- ---- the entry stays

@@ -2,7 +2,8 @@
 use Rattle.std.proofs.Common.{◌≡◌, inl, inr, ⊎_elim, ℕ, zero, suc, ◌+◌, Bool, true, false, List, [], ◌∷◌, ◌++◌, refl, sym, ap, ◌∙◌, subst, arith}
 use Rattle.std.specs.Prelude.{Some, filter, if◌then◌else◌, map, pos, slice_get}
 use Rattle.ir_base.specs.declared.name.Name.{Name}
-use Rattle.pass_split.specs.Parts.{allocas_of, back_block, back_blocks, case_of, cases_from, done_block, entry_block, entry_instrs, is_alloca, is_entered, later_head, later_part, none_block, or_zero, origins_for}
+use Rattle.pass_split.specs.Parts.{back_block, back_blocks, case_of, cases_from, done_block, entry_block, entry_instrs, is_entered, later_head, later_part, none_block, or_zero, origins_for}
+use Rattle.pass_front.specs.Front.{allocas_of, is_alloca}
 use Rattle.pass_split.specs.Pieces.{going_on}
 use Rattle.pass_split.specs.Reached.{is_flagged, kept_block, kept_blocks, pruned, reached}
 use Rattle.pass_split.specs.declared.origin.Origin.{Origin}
@@ -33,7 +34,7 @@ use Rattle.pass_proofs.proofs.split.uses.Assembled.{first_kept}
 use Rattle.ir_laws.proofs.rules.uses.Fine.{IsUnusedIn}
 use Rattle.pass_proofs.proofs.split.uses.Groups.{groups}
 use Rattle.ir_laws.proofs.frames.uses.LaterQuiet.{IsQuietAt, IsQuietFrom, later_quiet}
-use Rattle.pass_proofs.proofs.split.uses.Moved.{no_operands}
+use Rattle.ir_laws.proofs.rules.uses.RampMade.{no_operands}
 use Rattle.pass_proofs.proofs.split.uses.Paths.{Comes, IsPieced, end_unused, listed_found, phi_unused, unused}
 use Rattle.ir_laws.proofs.paths.uses.Paths.{there_listed}
 use Rattle.ir_laws.proofs.rules.uses.Plain.{IsPlain}

@@ -2,7 +2,7 @@
 use Rattle.std.proofs.Common.{◌≡◌, inl, ℕ, true, List, [], ◌∷◌, ◌++◌, refl, ap}
 use Rattle.std.specs.Prelude.{None, Some, slice_get}
 use Rattle.ir_base.specs.declared.name.Name.{Name}
-use Rattle.pass_split.specs.Parts.{done_block, entry_block, later_head, later_part, origins_for, ramp_of, ramp_source}
+use Rattle.pass_split.specs.Parts.{done_block, entry_block, later_head, later_part, origins_for, ramp_of}
 use Rattle.pass_split.specs.Pieces.{pieces_of}
 use Rattle.pass_split.specs.Reached.{is_flagged, pruned, reached}
 use Rattle.rule_uses.specs.Undefined.{IsFirstUndefined}
@@ -62,8 +62,8 @@ uses_made m k l layout part begin f g split is = none_undefined_in g l (part_unu
 
 pub locals_known : (m : Module) (k l : ℕ) (layout : Layout) (part : Part) (begin : ℕ) (f g : Function) → IsSplittable m k f begin → IsPartOf (shape_of f layout) f part g → KnowsItsLocals l g
 locals_known m k l layout _ begin f _ split IsRamp =
-    let whole : Function = ramp_of (shape_of f layout) (ramp_source f) in
-    knows_locals whole (part_tabled (shape_of f layout) Part.Ramp (ramp_source f) (ok m k f begin split layout Part.Ramp) whole refl refl) (part_own (shape_of f layout) Part.Ramp (ramp_source f) (ok m k f begin split layout Part.Ramp) whole refl refl) l (ramp_unused m k f begin split layout)
+    let whole : Function = ramp_of (shape_of f layout) f in
+    knows_locals whole (part_tabled (shape_of f layout) Part.Ramp f (ok m k f begin split layout Part.Ramp) whole refl refl) (part_own (shape_of f layout) Part.Ramp f (ok m k f begin split layout Part.Ramp) whole refl refl) l (ramp_unused m k f begin split layout)
 locals_known m k l layout _ begin f _ split IsResume =
     let whole : Function = later_part (shape_of f layout) Part.Resume (shape_of f layout).resume_name f in
     knows_locals whole (part_tabled (shape_of f layout) Part.Resume f (ok m k f begin split layout Part.Resume) whole refl refl) (part_own (shape_of f layout) Part.Resume f (ok m k f begin split layout Part.Resume) whole refl refl) l (resume_unused m k f begin split layout (shape_of f layout).resume_name)

@@ -1,12 +1,11 @@
 -- How often the blocks of a part define a name.
-use Rattle.std.proofs.Common.{◌≡◌, ◌⊎◌, inl, inr, ℕ, ◌+◌, ◌<◌, ◌≤◌, Bool, true, false, List, [], ◌∷◌, ◌++◌, length, refl, sym, ap, subst, arith}
-use Rattle.std.specs.Prelude.{None, filter, map, if◌then◌else◌}
-use Rattle.pass_split.specs.Parts.{is_alloca, is_no_alloca, with_allocas_first}
+use Rattle.std.proofs.Common.{◌≡◌, ◌⊎◌, inl, inr, ℕ, ◌+◌, ◌<◌, ◌≤◌, Bool, true, false, List, [], ◌∷◌, ◌++◌, length, refl, ap, subst, arith}
+use Rattle.std.specs.Prelude.{filter, map, if◌then◌else◌}
 use Rattle.pass_split.specs.Pieces.{begins_again}
 use Rattle.pass_split.specs.Reached.{is_flagged, kept_block, kept_blocks, kept_phi}
 use Rattle.rule_uses.specs.Undefined.{params_of}
 use Rattle.ir_laws.proofs.rules.local_rules.Names.{numbers}
-use Rattle.ir_laws.proofs.rules.local_rules.Woven.{apart_names, none_twice}
+use Rattle.ir_laws.proofs.rules.local_rules.Woven.{apart_names}
 use Rattle.ir_laws.proofs.paths.source_rules.Locals.{Apart}
 use Rattle.ir_laws.proofs.rules.source_rules.Locals.{block_names, made_by, names_are}
 use Rattle.ir_laws.proofs.facts.Lists.{phi_names, row_of, times_joined}
@@ -21,26 +20,20 @@ use Rattle.ir_model.specs.declared.instr.Phi.{Phi}
 use Rattle.ir_model.specs.declared.module.Block.{Block}
 use Rattle.ir_model.specs.declared.module.Function.{Function}
 use Rattle.ir_model.specs.declared.module.Module.{Module}
-use Rattle.rule_names.specs.Definitions.{first_twice}
 use Rattle.pass_proofs.proofs.split.edges.Cuttable.{Begun, IsMark, Passed, Saved}
 use Rattle.pass_proofs.proofs.split.edges.Labels.{mark_low}
 use Rattle.pass_proofs.proofs.split.edges.Pieces.{block_marks}
-use Rattle.pass_proofs.proofs.split.edges.Sources.{cut_source}
-use Rattle.pass_proofs.proofs.split.uses.Assembled.{ok, same_instrs, source_at}
-use Rattle.pass_proofs.proofs.split.uses.Names.{NamesFrame, kept_made, kept_values, one_more, rows_joined, values, values_of}
+use Rattle.pass_proofs.proofs.split.uses.Assembled.{ok}
+use Rattle.pass_proofs.proofs.split.uses.Names.{NamesFrame, kept_made, kept_values, one_more, values, values_of}
 use Rattle.ir_laws.proofs.paths.uses.Paths.{place_of}
 use Rattle.pass_proofs.proofs.split.uses.Rules.{begin_result}
 use Rattle.ir_laws.proofs.facts.uses.Sources.{label_of}
 use Rattle.pass_proofs.specs.split.rules.Splittable.{IsSplittable}
 use Rattle.run_laws.specs.changed.Changed.{Each}
-use Rattle.ir_laws.proofs.rules.woven_rules.Once.{apart_once, names_below, once_apart}
+use Rattle.ir_laws.proofs.rules.woven_rules.Once.{apart_once, names_below}
 use Rattle.ir_laws.proofs.paths.woven_rules.Once.{times_none}
 use Rattle.ir_laws.specs.facts.woven_rules.Pairs.{times}
 use Rattle.ir_laws.proofs.paths.woven_rules.Unbroken.{each_listed as each_of}
-
--- a function whose names stand once defines none twice
-pub none_twice_by : (l : ℕ) (g : Function) → ((v : ℕ) → times v (numbers g) ≤ 1) → first_twice [] (locals_of l g) ≡ None
-none_twice_by l g h = none_twice [] (locals_of l g) (subst Apart (sym (names_are l g)) (once_apart (numbers g) h)) (λ n m. refl)
 
 module _ (v : ℕ) where
   abbrev pub labelled : List Block → ℕ
@@ -102,29 +95,6 @@ module _ (v : ℕ) where
       on true e k = absurd (h b (inl refl) e)
       on false e k = k
 
-  -- ---- allocas in front
-
-  parted : (is : List Instr) → times v (row_of made_by (filter is_alloca is)) + times v (row_of made_by (filter is_no_alloca is)) ≡ times v (row_of made_by is)
-  parted [] = omega arith
-  parted (i ∷ is) = on (is_alloca i) (parted is)
-    where
-      on : (t : Bool) → times v (row_of made_by (filter is_alloca is)) + times v (row_of made_by (filter is_no_alloca is)) ≡ times v (row_of made_by is) → times v (row_of made_by (if t then i ∷ filter is_alloca is else filter is_alloca is)) + times v (row_of made_by (if (if t then false else true) then i ∷ filter is_no_alloca is else filter is_no_alloca is)) ≡ times v (row_of made_by (i ∷ is))
-      on true e = let a = times_joined v (made_by i) (row_of made_by (filter is_alloca is)) in let c = times_joined v (made_by i) (row_of made_by is) in omega (arith, e, a, c)
-      on false e = let a = times_joined v (made_by i) (row_of made_by (filter is_no_alloca is)) in let c = times_joined v (made_by i) (row_of made_by is) in omega (arith, e, a, c)
-
-  first_values : (bs : List Block) → values v (with_allocas_first bs) ≡ values v bs
-  first_values [] = refl
-  first_values (b ∷ bs) =
-      let now = one_more v (record { label = b.label; phis = b.phis; instrs = filter is_alloca b.instrs ++ filter is_no_alloca b.instrs; term = b.term }) bs in
-      let was = one_more v b bs in
-      let rows = rows_joined v (filter is_alloca b.instrs) (filter is_no_alloca b.instrs) in
-      let same = parted b.instrs in
-      omega (arith, now, was, rows, same)
-
-  first_labels : (bs : List Block) → labelled (with_allocas_first bs) ≡ labelled bs
-  first_labels [] = refl
-  first_labels (b ∷ bs) = refl
-
   -- ---- what stays of begin
 
   abbrev pub dropped_made : Part → Instr → List ℕ
@@ -174,35 +144,18 @@ module _ (m : Module) (k : ℕ) (f : Function) (begin : ℕ) (split : IsSplittab
 
   module _ (part : Part) where
     abbrev h : Function
-    h = cut_source part f
+    h = f
 
-    pub same_values : (v : ℕ) → values v (cut_source part f).blocks ≡ values v f.blocks
-    same_values v = on part
-      where
-        on : (p : Part) → values v (cut_source p f).blocks ≡ values v f.blocks
-        on Part.Ramp = first_values v f.blocks
-        on Part.Resume = refl
-        on Part.Destroy = refl
-
-    pub same_labels : (v : ℕ) → labelled v (cut_source part f).blocks ≡ labelled v f.blocks
-    same_labels v = on part
-      where
-        on : (p : Part) → labelled v (cut_source p f).blocks ≡ labelled v f.blocks
-        on Part.Ramp = first_labels v f.blocks
-        on Part.Resume = refl
-        on Part.Destroy = refl
-
-    pub frames : Each (λ (b : Block). Each (NamesFrame s part) b.instrs) (cut_source part f).blocks
+    pub frames : Each (λ (b : Block). Each (NamesFrame s part) b.instrs) f.blocks
     frames =
         each_of (λ (b : Block). Each (NamesFrame s part) b.instrs) h.blocks
         (λ c l. each_of (NamesFrame s part) c.instrs
         (λ i n again is.
         let p = place_of h.blocks c l in
-        let x = source_at m k f begin split layout part p.0 c p.1 in
-        let at = place_of x.0.instrs i (same_instrs m k f begin split layout x.0 c x.1.1 i n) in
-        begin_result m k f begin split layout p.0 at.0 x.0 i x.1.0 at.1 is))
+        let at = place_of c.instrs i n in
+        begin_result m k f begin split layout p.0 at.0 c i p.1 at.1 is))
 
-    pub no_marks : (v : ℕ) → (v < s.base) ⊎ (first_name s ≤ v) → times v (row_of (block_marks s part) (cut_source part f).blocks) ≡ 0
+    pub no_marks : (v : ℕ) → (v < s.base) ⊎ (first_name s ≤ v) → times v (row_of (block_marks s part) f.blocks) ≡ 0
     no_marks v side = times_none v (row_of (block_marks s part) h.blocks) (λ l. on side ((ok m k f begin split layout part).are_marks v l))
       where
         old : v < s.base → IsMark s v → ⊥

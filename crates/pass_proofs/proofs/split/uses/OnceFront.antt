@@ -1,7 +1,8 @@
 -- How often the blocks with which a part goes on define a name.
 use Rattle.std.proofs.Common.{◌≡◌, inl, inr, ℕ, suc, ◌+◌, ◌<◌, ◌≤◌, Bool, true, false, List, [], ◌∷◌, length, refl, sym, ap, ◌∙◌, subst, arith}
 use Rattle.std.specs.Prelude.{Option, Some, filter, map, option_to_list, slice_get, ◌==◌, if◌then◌else◌}
-use Rattle.pass_split.specs.Parts.{back_block, back_blocks, is_alloca}
+use Rattle.pass_split.specs.Parts.{back_block, back_blocks}
+use Rattle.pass_front.specs.Front.{is_alloca}
 use Rattle.pass_split.specs.Pieces.{begins_again}
 use Rattle.ir_laws.proofs.facts.local_rules.Woven.{other_number}
 use Rattle.ir_laws.proofs.paths.source_rules.Locals.{in_row}

@@ -3,7 +3,8 @@ use Rattle.std.proofs.Common.{◌≡◌, ◌⊎◌, inl, inr, ℕ, ◌+◌, ◌<
 use Rattle.std.proofs.lemmas.Bool.{cases_lt}
 use Rattle.std.specs.Prelude.{None, Some, filter, map, slice_get, ◌==◌}
 use Rattle.ir_base.specs.declared.name.Name.{Name}
-use Rattle.pass_split.specs.Parts.{allocas_of, back_blocks, done_block, entry_block, is_alloca, later_head, later_part, none_block, origins_for, part_blocks}
+use Rattle.pass_split.specs.Parts.{back_blocks, done_block, entry_block, later_head, later_part, none_block, origins_for, part_blocks}
+use Rattle.pass_front.specs.Front.{allocas_of, is_alloca}
 use Rattle.pass_split.specs.Pieces.{all_pieces, next_after, pieced_phi, pieces_of, piecing_of}
 use Rattle.pass_split.specs.Reached.{is_flagged, pruned, reached}
 use Rattle.pass_split.specs.declared.origin.Origin.{Origin}
@@ -30,7 +31,8 @@ use Rattle.pass_proofs.proofs.split.edges.Entries.{ComesFrom, IsMarkFrom, edge_f
 use Rattle.pass_proofs.proofs.split.edges.Labels.{is_mark, label_of_piece, one_home, part_different}
 use Rattle.pass_proofs.proofs.split.edges.Pieces.{block_marks, blocks_times, piece_label}
 use Rattle.pass_proofs.proofs.split.uses.Names.{NamesFrame, blocks_within, fresh, fresh_low, fresh_once, kept_made, kept_values, one_more, rows_joined, values}
-use Rattle.pass_proofs.proofs.split.uses.Once.{blocks_kept, dropped, kept, kept_joined, kept_most, kept_none, labelled, labels_both, names_split, none_new, none_twice_by, own_once}
+use Rattle.pass_proofs.proofs.split.uses.Once.{blocks_kept, dropped, kept, kept_joined, kept_most, kept_none, labelled, labels_both, names_split, none_new, own_once}
+use Rattle.ir_laws.proofs.rules.uses.Once.{none_twice_by}
 use Rattle.pass_proofs.proofs.split.uses.OnceFront.{allocas_kept, backs_empty, begin_again, dropped_there, no_back, not_it, one_most}
 use Rattle.pass_proofs.proofs.split.uses.Rules.{begin_named, begin_there}
 use Rattle.ir_laws.proofs.facts.uses.Sources.{label_of}

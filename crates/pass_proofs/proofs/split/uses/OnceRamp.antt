@@ -2,7 +2,7 @@
 use Rattle.std.proofs.Common.{◌≡◌, ◌⊎◌, inl, inr, ℕ, ◌+◌, ◌<◌, ◌≤◌, List, [], ◌∷◌, ap, arith}
 use Rattle.std.proofs.lemmas.Bool.{cases_lt}
 use Rattle.std.specs.Prelude.{None, map, ◌==◌}
-use Rattle.pass_split.specs.Parts.{done_block, origins_for, ramp_of, ramp_source}
+use Rattle.pass_split.specs.Parts.{done_block, origins_for, ramp_of}
 use Rattle.pass_split.specs.Pieces.{next_after, pieces_of}
 use Rattle.pass_split.specs.Reached.{pruned, reached}
 use Rattle.pass_split.specs.declared.origin.Origin.{Origin}
@@ -24,7 +24,8 @@ use Rattle.pass_proofs.proofs.split.edges.Labels.{part_different}
 use Rattle.pass_proofs.proofs.split.edges.Pieces.{block_marks, blocks_times}
 use Rattle.pass_proofs.proofs.split.uses.Assembled.{ok}
 use Rattle.pass_proofs.proofs.split.uses.Names.{blocks_within, fresh, fresh_low, fresh_once, one_more, values, values_joined}
-use Rattle.pass_proofs.proofs.split.uses.Once.{blocks_kept, frames, kept_most, labelled, labels_both, names_split, no_marks, none_new, none_twice_by, own_once, same_labels, same_values}
+use Rattle.pass_proofs.proofs.split.uses.Once.{blocks_kept, frames, kept_most, labelled, labels_both, names_split, no_marks, none_new, own_once}
+use Rattle.ir_laws.proofs.rules.uses.Once.{none_twice_by}
 use Rattle.ir_laws.proofs.facts.uses.Sources.{label_of}
 use Rattle.pass_proofs.proofs.split.rules.Cutting.{cut_blocks}
 use Rattle.pass_proofs.specs.split.rules.Pieced.{ArePiecesOf}
@@ -37,13 +38,13 @@ module _ (m : Module) (k : ℕ) (f : Function) (begin : ℕ) (split : IsSplittab
   s = shape_of f layout
 
   abbrev h : Function
-  h = ramp_source f
+  h = f
 
   abbrev whole : Function
-  whole = ramp_of (shape_of f layout) (ramp_source f)
+  whole = ramp_of (shape_of f layout) f
 
   abbrev origins : List Origin
-  origins = origins_for (shape_of f layout) Part.Ramp (ramp_source f)
+  origins = origins_for (shape_of f layout) Part.Ramp f
 
   abbrev pieces : List Block
   pieces = pieces_of s Part.Ramp origins (first_name s) h.blocks
@@ -59,7 +60,7 @@ module _ (m : Module) (k : ℕ) (f : Function) (begin : ℕ) (split : IsSplittab
     no_done other = let e : one_if (done_label s == v) ≡ 0 = ap one_if (other_number (done_label s) v other) in omega (arith, e)
 
     abbrev Names : ℕ
-    Names = times v (row_of block_names (pruned (ramp_of (shape_of f layout) (ramp_source f))).blocks)
+    Names = times v (row_of block_names (pruned (ramp_of (shape_of f layout) f)).blocks)
 
     -- the names of the ramp by their kinds
     counted : (x : ℕ) × ((Names ≤ (labelled v pieces + labelled v (done_block s ∷ [])) + values v pieces) × ((values v pieces ≤ values v f.blocks + times v (fresh (first_name s) x)) × (labelled v pieces ≤ labelled v f.blocks + times v (row_of (block_marks s Part.Ramp) h.blocks))))
@@ -73,20 +74,18 @@ module _ (m : Module) (k : ℕ) (f : Function) (begin : ℕ) (split : IsSplittab
         let bound = x.1.1 in
         let stays = blocks_kept v Part.Ramp h.blocks in
         let few = blocks_times s Part.Ramp origins (first_name s) last h.blocks pieces cut v in
-        let old = same_values m k f begin split layout Part.Ramp v in
-        let names = same_labels m k f begin split layout Part.Ramp v in
-        (x.0, (omega (arith, most, all, labels, both, none), (omega (arith, bound, stays, old), omega (arith, few, names))))
+        (x.0, (omega (arith, most, all, labels, both, none), (omega (arith, bound, stays), omega (arith, few))))
 
-    once : times v (numbers (pruned (ramp_of (shape_of f layout) (ramp_source f)))) ≤ 1
+    once : times v (numbers (pruned (ramp_of (shape_of f layout) f))) ≤ 1
     once = on (cases_lt v s.base) (cases_lt v (first_name s))
       where
         own : times v (params_of f) + (labelled v f.blocks + values v f.blocks) ≤ 1
         own = own_once m k f begin split layout v
 
-        joined : times v (numbers (pruned (ramp_of (shape_of f layout) (ramp_source f)))) ≡ times v (params_of f) + Names
-        joined = times_joined v (params_of f) (row_of block_names (pruned (ramp_of (shape_of f layout) (ramp_source f))).blocks)
+        joined : times v (numbers (pruned (ramp_of (shape_of f layout) f))) ≡ times v (params_of f) + Names
+        joined = times_joined v (params_of f) (row_of block_names (pruned (ramp_of (shape_of f layout) f)).blocks)
 
-        on : (v < s.base) ⊎ (s.base ≤ v) → (v < first_name s) ⊎ (first_name s ≤ v) → times v (numbers (pruned (ramp_of (shape_of f layout) (ramp_source f)))) ≤ 1
+        on : (v < s.base) ⊎ (s.base ≤ v) → (v < first_name s) ⊎ (first_name s ≤ v) → times v (numbers (pruned (ramp_of (shape_of f layout) f))) ≤ 1
         on (inl low) side =
             let c = counted in
             let most = c.1.0 in
@@ -116,5 +115,5 @@ module _ (m : Module) (k : ℕ) (f : Function) (begin : ℕ) (split : IsSplittab
             let done = no_done (λ e. let same : done_label s ≡ v = e in absurd (omega (arith, same, far))) in
             omega (arith, joined, most, bound, few, none, marks, new, done)
 
-  pub ramp_once : (l : ℕ) → first_twice [] (locals_of l (pruned (ramp_of (shape_of f layout) (ramp_source f)))) ≡ None
-  ramp_once l = none_twice_by l (pruned (ramp_of (shape_of f layout) (ramp_source f))) once
+  pub ramp_once : (l : ℕ) → first_twice [] (locals_of l (pruned (ramp_of (shape_of f layout) f))) ≡ None
+  ramp_once l = none_twice_by l (pruned (ramp_of (shape_of f layout) f)) once

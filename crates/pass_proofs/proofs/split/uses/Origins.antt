@@ -16,7 +16,7 @@ use Rattle.ir_model.specs.declared.module.Block.{Block}
 use Rattle.ir_model.specs.declared.module.Function.{Function}
 use Rattle.ir_model.specs.declared.operand.Callee.{Callee}
 use Rattle.ir_model.specs.declared.operand.Intrinsic.{Intrinsic}
-use Rattle.pass_proofs.proofs.split.uses.Quiet.{suspends}
+use Rattle.ir_laws.proofs.frames.uses.Quiet.{suspends}
 use Rattle.pass_proofs.proofs.split.uses.Sources.{NoSuspends}
 use Rattle.ir_laws.proofs.frames.replaced.Saves.{all_one}
 

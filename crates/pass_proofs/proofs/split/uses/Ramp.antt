@@ -1,7 +1,7 @@
 -- The ramp makes what it uses.
 use Rattle.std.proofs.Common.{◌≡◌, inl, ℕ, true, List, [], ◌∷◌, ◌++◌, refl, sym, ap, ◌∙◌, subst}
 use Rattle.std.specs.Prelude.{Some, slice_get}
-use Rattle.pass_split.specs.Parts.{done_block, origins_for, ramp_of, ramp_source}
+use Rattle.pass_split.specs.Parts.{done_block, origins_for, ramp_of}
 use Rattle.pass_split.specs.Reached.{entry_of, is_flagged, kept_block, kept_blocks, pruned, reached}
 use Rattle.rule_uses.specs.Undefined.{Entry as EntryBlock, ReachesWithout, params_of}
 use Rattle.flow_solver.specs.Paths.{IsListed}
@@ -17,11 +17,12 @@ use Rattle.pass_proofs.proofs.split.uses.Assembled.{blocks_grouped, first_kept, 
 use Rattle.ir_laws.proofs.rules.uses.Fine.{IsUnusedIn}
 use Rattle.pass_proofs.proofs.split.uses.Groups.{groups}
 use Rattle.ir_laws.proofs.paths.uses.Groups.{joined}
-use Rattle.pass_proofs.proofs.split.uses.Moved.{moved}
+use Rattle.ir_laws.proofs.rules.uses.RampMade.{ramp_made}
 use Rattle.pass_proofs.proofs.split.uses.Paths.{Comes, end_unused, phi_unused, unused}
 use Rattle.ir_laws.proofs.rules.uses.Plain.{IsPlain}
 use Rattle.ir_laws.proofs.frames.uses.Quiet.{IsQuiet}
-use Rattle.ir_laws.proofs.frames.uses.RampQuiet.{IsMade, Without, ramp_quiet}
+use Rattle.ir_laws.proofs.rules.uses.RampQuiet.{IsMade}
+use Rattle.ir_laws.proofs.frames.uses.RampQuiet.{Without, ramp_quiet}
 use Rattle.pass_proofs.proofs.split.uses.Rules.{begin_named, begin_plain}
 use Rattle.ir_laws.proofs.facts.Numbers.{Source}
 use Rattle.pass_proofs.proofs.split.uses.Walk.{AtFront, enter}
@@ -42,25 +43,25 @@ module _ (m : Module) (k : ℕ) (f : Function) (begin : ℕ) (split : IsSplittab
   s = shape_of f layout
 
   abbrev h : Function
-  h = ramp_source f
+  h = f
 
   abbrev whole : Function
-  whole = ramp_of (shape_of f layout) (ramp_source f)
+  whole = ramp_of (shape_of f layout) f
 
-  made : IsMade (ramp_source f) begin
-  made = moved f k split.rules.uses begin split.begun
+  made : IsMade f begin
+  made = ramp_made f k split.rules.uses begin split.begun
 
-  module _ (v : ℕ) (no_param : IsListed v (params_of (pruned (ramp_of (shape_of f layout) (ramp_source f)))) → ⊥) where
+  module _ (v : ℕ) (no_param : IsListed v (params_of (pruned (ramp_of (shape_of f layout) f))) → ⊥) where
     begin_is : v ≡ s.begin → IsPlain f v
     begin_is e = subst (IsPlain f) (sym (e ∙ begin_named m k f begin split layout)) (begin_plain m k f begin split layout)
 
-    quiet : IsQuiet f (ramp_source f) (shape_of f layout) Part.Ramp v (ReachesWithout (ramp_source f) v) (Without f (ramp_source f) (shape_of f layout) Part.Ramp begin (begin_named m k f begin split layout) made v no_param)
+    quiet : IsQuiet f f (shape_of f layout) Part.Ramp v (ReachesWithout f v) (Without f f (shape_of f layout) Part.Ramp begin (begin_named m k f begin split layout) made v no_param)
     quiet = ramp_quiet f h s Part.Ramp begin (begin_named m k f begin split layout) made v no_param
 
-    entry : (d : Block) → slice_get (pruned (ramp_of (shape_of f layout) (ramp_source f))).blocks 0 ≡ Some d → Comes f (ramp_source f) (shape_of f layout) Part.Ramp (origins_for (shape_of f layout) Part.Ramp (ramp_source f)) [] (groups (shape_of f layout) Part.Ramp (origins_for (shape_of f layout) Part.Ramp (ramp_source f)) (first_name (shape_of f layout)) (ramp_source f).blocks) (ramp_of (shape_of f layout) (ramp_source f)) (pieced m k f begin split layout Part.Ramp (ramp_of (shape_of f layout) (ramp_source f)) refl) v begin_is (ReachesWithout (ramp_source f) v) (Without f (ramp_source f) (shape_of f layout) Part.Ramp begin (begin_named m k f begin split layout) made v no_param) quiet d
+    entry : (d : Block) → slice_get (pruned (ramp_of (shape_of f layout) f)).blocks 0 ≡ Some d → Comes f f (shape_of f layout) Part.Ramp (origins_for (shape_of f layout) Part.Ramp f) [] (groups (shape_of f layout) Part.Ramp (origins_for (shape_of f layout) Part.Ramp f) (first_name (shape_of f layout)) f.blocks) (ramp_of (shape_of f layout) f) (pieced m k f begin split layout Part.Ramp (ramp_of (shape_of f layout) f) refl) v begin_is (ReachesWithout f v) (Without f f (shape_of f layout) Part.Ramp begin (begin_named m k f begin split layout) made v no_param) quiet d
     entry d there =
         let b0 = some_first h.blocks (ok m k f begin split layout Part.Ramp).end_there.block (ok m k f begin split layout Part.Ramp).end_there.listed in
-        let x = (pieced m k f begin split layout Part.Ramp (ramp_of (shape_of f layout) (ramp_source f)) refl).cut.pieces 0 b0.0 b0.1 in
+        let x = (pieced m k f begin split layout Part.Ramp (ramp_of (shape_of f layout) f) refl).cut.pieces 0 b0.0 b0.1 in
         let all = joined_first (groups s Part.Ramp (origins_for s Part.Ramp h) (first_name s) h.blocks) x.first x.rest (done_block s ∷ []) x.there in
         let blocks : whole.blocks ≡ x.first ∷ all.0 = blocks_grouped m k f begin split layout Part.Ramp ∙ all.1 in
         let flagged : is_flagged (reached whole) x.first.label ≡ true =
@@ -74,12 +75,12 @@ module _ (m : Module) (k : ℕ) (f : Function) (begin : ℕ) (split : IsSplittab
           block = x.first;
           in_part = (x.first ∷ x.rest, (x.there, inl refl));
           is = sym same;
-          walked = enter f h s Part.Ramp (origins_for s Part.Ramp h) [] (groups s Part.Ramp (origins_for s Part.Ramp h) (first_name s) h.blocks) (pieced m k f begin split layout Part.Ramp (ramp_of (shape_of f layout) (ramp_source f)) refl).cut v begin_is (ReachesWithout h v) (Without f h s Part.Ramp begin (begin_named m k f begin split layout) made v no_param) quiet (Source.Of 0) x.first
+          walked = enter f h s Part.Ramp (origins_for s Part.Ramp h) [] (groups s Part.Ramp (origins_for s Part.Ramp h) (first_name s) h.blocks) (pieced m k f begin split layout Part.Ramp (ramp_of (shape_of f layout) f) refl).cut v begin_is (ReachesWithout h v) (Without f h s Part.Ramp begin (begin_named m k f begin split layout) made v no_param) quiet (Source.Of 0) x.first
               (AtFront 0 b0.0 x.first x.rest x.new x.last b0.1 (λ c l. (x.first ∷ x.rest, (x.there, l))) x.pieces x.apart (λ p. EntryBlock));
         }
 
   -- nothing is used without its value
-  pub ramp_unused : IsUnusedIn (pruned (ramp_of (shape_of f layout) (ramp_source f)))
+  pub ramp_unused : IsUnusedIn (pruned (ramp_of (shape_of f layout) f))
   ramp_unused =
       record {
         instrs = λ v no_param. unused f h s Part.Ramp (origins_for s Part.Ramp h) [] (groups s Part.Ramp (origins_for s Part.Ramp h) (first_name s) h.blocks) whole (pieced m k f begin split layout Part.Ramp whole refl) v (begin_is v no_param) (ReachesWithout h v) (Without f h s Part.Ramp begin (begin_named m k f begin split layout) made v no_param) (quiet v no_param) (entry v no_param);

@@ -39,7 +39,7 @@ use Rattle.ir_paths.specs.declared.point.Point.{Point}
 use Rattle.ir_laws.proofs.frames.uses.Lowering.{IsRuled, ruled_lowered}
 use Rattle.ir_laws.proofs.paths.uses.Paths.{place_of, there_listed}
 use Rattle.ir_laws.proofs.rules.uses.Plain.{FitsScalar, IsPlain, ending_scalar, is_plain_kind, scalar_local}
-use Rattle.pass_proofs.proofs.split.uses.Quiet.{AreTold, suspends}
+use Rattle.ir_laws.proofs.frames.uses.Quiet.{AreTold, suspends}
 use Rattle.pass_proofs.proofs.split.uses.Sources.{NoSuspends}
 use Rattle.ir_laws.proofs.rules.uses.Switched.{IsSwitched, is_switch_then, not_in_instr, not_in_phi, not_switched_on, suspend_result, switched}
 use Rattle.ir_laws.proofs.paths.replaced.Known.{of_listed}

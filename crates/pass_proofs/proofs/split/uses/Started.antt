@@ -7,7 +7,7 @@ use Rattle.ir_laws.proofs.frames.crossing.Paths.{point_there}
 use Rattle.ir_laws.proofs.rules.counted.PartFacts.{InstrPasses, block_passes}
 use Rattle.ir_base.specs.declared.outcome.Place.{Place}
 use Rattle.rule_shape.specs.Places.{is_the}
-use Rattle.pass_split.specs.Parts.{allocas_of, is_alloca}
+use Rattle.pass_front.specs.Front.{allocas_of, is_alloca}
 use Rattle.pass_split.specs.Reached.{entry_of}
 use Rattle.ir_laws.proofs.facts.Truth.{equal_numbers}
 use Rattle.ir_laws.proofs.rules.renamed.Uses.{block_edge}

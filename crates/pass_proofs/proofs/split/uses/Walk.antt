@@ -34,8 +34,7 @@ use Rattle.ir_model.specs.declared.operand.Operand.{Operand}
 use Rattle.ir_paths.specs.Paths.{targets}
 use Rattle.ir_laws.proofs.frames.uses.Lowering.{ComesBy, IsLowered, OfBegin, OfOperand}
 use Rattle.ir_laws.proofs.rules.uses.Plain.{IsPlain}
-use Rattle.pass_proofs.proofs.split.uses.Quiet.{AreTold, suspends}
-use Rattle.ir_laws.proofs.frames.uses.Quiet.{IsQuiet}
+use Rattle.ir_laws.proofs.frames.uses.Quiet.{AreTold, IsQuiet, suspends}
 use Rattle.pass_proofs.proofs.split.uses.Sources.{HasPieces, IsFirst, NoSuspends, ends_suspended, first_piece, origin_begins, origin_marks, origin_returns, origin_stays, passes_on, piece_there}
 use Rattle.ir_laws.proofs.paths.uses.Sources.{IsIn}
 use Rattle.ir_laws.proofs.facts.Numbers.{Source}

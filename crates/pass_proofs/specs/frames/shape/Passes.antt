@@ -1,18 +1,15 @@
--- What the passes that build a coroutine's frame ask, and what they leave.
-use Rattle.std.specs.Prelude.{◌≡◌, ℕ, List, None, true, length, ◌∷◌}
+-- Lemmas on passes.
+use Rattle.std.specs.Prelude.{◌≡◌, ℕ, List, None, length, ◌∷◌}
 use Rattle.pass_proofs.specs.addresses.rules.Addresses.{AddressesFit}
 use Rattle.ir_laws.specs.rules.counted.Widths.{first_other_width}
 use Rattle.pass_proofs.specs.copies.rules.Copies.{CopiesFit, copied_slots}
 use Rattle.frame_contents.specs.declared.contents.Contents.{Contents}
 use Rattle.frame_layout.specs.declared.layout.Layout.{Layout}
-use Rattle.ir_laws.specs.rules.function_rules.Kept.{KeepsFunctionRules}
 use Rattle.ir_model.specs.declared.module.Function.{Function}
 use Rattle.ir_model.specs.declared.module.Module.{Module}
 use Rattle.frame_classes.specs.declared.class.SlotClass.{SlotClass}
 use Rattle.pass_frames.specs.Framed.{begin_block, begin_of, celled, copied, offsets_of}
 use Rattle.pass_frames.specs.Tables.{class_flags, label_flags, sizes_by_name}
-use Rattle.ir_laws.specs.rules.woven_rules.Pairs.{AreIncomingOnce}
-use Rattle.ir_laws.specs.frames.woven_shape.Shaped.{IsShaped}
 
 -- what the passes ask: integer types have the widths that types are written with, slots are copied at begin, and slots become bytes of
 -- the frame
@@ -20,11 +17,3 @@ pub record PassesFit (m : Module) (k : ℕ) (l : Layout) (f : Function) (c : Con
   pub widths : first_other_width k f ≡ None
   pub copies : CopiesFit (celled m f c) (copied_slots (celled m f c) (class_flags f c.classes SlotClass.Frame) (label_flags (celled m f c) (begin_block (celled m f c) ∷ before)) (sizes_by_name f c.held))
   pub addresses : AddressesFit k (copied f c (celled m f c) before) (begin_of f) (offsets_of l f c (length (copied f c (celled m f c) before).names)) (class_flags f c.classes SlotClass.Ramp)
-
--- g is a coroutine with begin's value that breaks none of the rules of functions, whose phis name each label once, and whose calls are
--- what splitting asks
-pub record IsKept (m : Module) (k : ℕ) (g : Function) (begin : ℕ) : Type 0 where
-  pub coroutine : g.coroutine ≡ true
-  pub rules : KeepsFunctionRules m k g
-  pub once : AreIncomingOnce g
-  pub shape : IsShaped k g begin

@@ -1,5 +1,5 @@
 -- Lemmas on parted.
-use Rattle.pass_split.specs.Parts.{later_part, ramp_of, ramp_source}
+use Rattle.pass_split.specs.Parts.{later_part, ramp_of}
 use Rattle.pass_split.specs.Reached.{pruned}
 use Rattle.pass_intrinsics.specs.declared.shape.Part.{Part}
 use Rattle.pass_intrinsics.specs.declared.shape.Shape.{Shape}
@@ -7,6 +7,6 @@ use Rattle.ir_model.specs.declared.module.Function.{Function}
 
 -- the parts of a coroutine of a shape
 pub data IsPartOf (s : Shape) (f : Function) : Part → Function → Type 0 where
-  IsRamp : IsPartOf s f Part.Ramp (pruned (ramp_of s (ramp_source f)))
+  IsRamp : IsPartOf s f Part.Ramp (pruned (ramp_of s f))
   IsResume : IsPartOf s f Part.Resume (pruned (later_part s Part.Resume s.resume_name f))
   IsDestroy : IsPartOf s f Part.Destroy (pruned (later_part s Part.Destroy s.destroy_name f))

@@ -4,6 +4,7 @@ use Rattle.rule_shape.specs.OneOfEach.{wrong_call}
 use Rattle.rule_shape.specs.Switches.{wrong_switch}
 use Rattle.flow_solver.specs.Paths.{IsListed}
 use Rattle.ir_laws.specs.rules.function_rules.Kept.{KeepsFunctionRules}
+use Rattle.pass_front.specs.Front.{with_allocas_first}
 use Rattle.pass_intrinsics.specs.Shapes.{suspends_of}
 use Rattle.pass_intrinsics.specs.declared.shape.SuspendPoint.{SuspendPoint}
 use Rattle.ir_model.specs.Calls.{first_result}
@@ -23,9 +24,9 @@ use Rattle.ir_laws.specs.rules.replaced.Splittable.{AreBlocksBegun}
 
 -- ---- the coroutine
 
--- A coroutine of a module, whose begin's value is named: it breaks no rule of functions, neither K2 nor K3, nothing that asks for begin
--- stands where begin may be missing, each suspend has a save and edges of its own, and behind those to which paths lead the end comes
--- before a return, and no further values cross them.
+-- A coroutine of a module, whose begin's value is named and whose allocas stand in front. It breaks no rule of functions, neither K2
+-- nor K3, and nothing that asks for begin stands where begin may be missing. Each suspend has a save and edges of its own. Behind those
+-- to which paths lead the end comes before a return, and no further values cross them.
 pub record IsSplittable (m : Module) (k : ℕ) (f : Function) (begin : ℕ) : Type 0 where
   pub coroutine : f.coroutine ≡ true
   pub rules : KeepsFunctionRules m k f
@@ -33,6 +34,7 @@ pub record IsSplittable (m : Module) (k : ℕ) (f : Function) (begin : ℕ) : Ty
   pub calls : wrong_call k f ≡ None
   pub switches : wrong_switch k f ≡ None
   pub named : first_result Intrinsic.CoroBegin f ≡ Some begin
+  pub front : with_allocas_first f.blocks ≡ f.blocks
   pub begun : AreBlocksBegun f begin 0 f.blocks
   pub tokens : AreDifferent (tokens_taken f)
   pub edges : Each (HasOwnEdges f) (suspends_of f)

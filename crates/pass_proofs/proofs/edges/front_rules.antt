@@ -1,0 +1,3 @@
+pub mod Paths
+pub mod Shape
+pub mod Whole
