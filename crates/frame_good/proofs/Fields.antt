@@ -1,14 +1,10 @@
 -- What alignments and positions give.
-use Rattle.std.proofs.Common.{◌≡◌, ◌≢◌, ◌⊎◌, inl, inr, ⊎_elim, ℕ, zero, suc, ◌+◌, ◌%◌, ◌<◌, ◌≤◌, Bool, true, false, List, [], ◌∷◌, length, max, Option, None, Some, refl, sym, ap, ◌∙◌, subst, arith, get_or, cond}
-use Rattle.std.specs.Prelude.{◌||◌, ◌==◌, IsTrue, nat_le, nat_lt, map, slice_get, position, unwrap_or}
-use Rattle.std.specs.List.{list_any, position_or_len}
-use Rattle.std.proofs.lemmas.Bool.{cases_Bool, cases_lt, eqb-true, lt-ltb, both_ways}
-use Rattle.std.proofs.lemmas.Bool.Decides.{nat_tests}
+use Rattle.std.proofs.Common.{◌≡◌, ◌⊎◌, inl, inr, ⊎_elim, ℕ, ◌%◌, ◌<◌, ◌≤◌, Bool, true, false, List, length, max, None, Some, refl, sym, ap, ◌∙◌, subst, arith, get_or, cond}
+use Rattle.std.specs.Prelude.{◌||◌, ◌==◌, nat_lt, slice_get, position}
+use Rattle.std.specs.List.{position_or_len}
+use Rattle.std.proofs.lemmas.Bool.{cases_Bool, eqb-true, lt-ltb}
 use Rattle.std.proofs.lemmas.List.Sums.{position_or_len_is}
 use Rattle.std.proofs.lemmas.Option.{get_or_from_slice_get, slice_get-get_or, slice_get_within}
-use Rattle.frame_placing.specs.declared.room.Room.{Room}
-use Rattle.frame_layout.specs.Layouts.{room_of, rooms_of}
-use Rattle.frame_layout.specs.declared.layout.Field.{Field}
 use Rattle.frame_good.specs.Good.{is_alignment}
 
 -- ---- alignments
@@ -42,16 +38,20 @@ fine a e = ⊎_elim (at_number a 0 (record { divides = refl; low = λ l. omega a
 -- ---- positions
 
 -- where one element alone passes, it is found
-pub found_at : {A : Type 0} (test : A → Bool) (xs : List A) (k : ℕ) (x : A) → slice_get xs k ≡ Some x → test x ≡ true → ((j : ℕ) (y : A) → slice_get xs j ≡ Some y → test y ≡ true → j ≡ k) → position test xs ≡ Some k
+pub found_at : {A : Type 0} (test : A → Bool) (xs : List A) (k : ℕ) (x : A) → slice_get xs k ≡ Some x → test x ≡ true
+    → ((j : ℕ) (y : A) → slice_get xs j ≡ Some y → test y ≡ true → j ≡ k) → position test xs ≡ Some k
 found_at test xs k x there passes only =
     let low : k < length xs = slice_get_within xs k x there in
-    let at : position_or_len test xs ≡ k = position_or_len_is test xs k x (omega (arith, low)) fails (λ l. ap test (get_or_from_slice_get xs k x x there) ∙ passes) in
-    ap (λ (n : ℕ). cond (nat_lt n (length xs)) (Some n) None) at ∙ ap (λ (b : Bool). cond b (Some k) None) (lt-ltb k (length xs) low)
+    let at : position_or_len test xs ≡ k = position_or_len_is test xs k x (omega (arith, low)) fails
+    (λ l. ap test (get_or_from_slice_get xs k x x there) ∙ passes) in
+    ap (λ (n : ℕ). cond (nat_lt n (length xs)) (Some n) None) at
+    ∙ ap (λ (b : Bool). cond b (Some k) None) (lt-ltb k (length xs) low)
   where
     fails : (j : ℕ) → j < k → test (get_or xs j x) ≡ false
     fails j l =
         let low : k < length xs = slice_get_within xs k x there in
         ⊎_elim
-        (λ (e : test (get_or xs j x) ≡ true). let same : j ≡ k = only j (get_or xs j x) (slice_get-get_or xs j x (omega (arith, l, low))) e in absurd (omega (arith, same, l)))
+        (λ (e : test (get_or xs j x) ≡ true). let same : j ≡ k = only j (get_or xs j x)
+        (slice_get-get_or xs j x (omega (arith, l, low))) e in absurd (omega (arith, same, l)))
         (λ (e : test (get_or xs j x) ≡ false). e)
         (cases_Bool (test (get_or xs j x)))

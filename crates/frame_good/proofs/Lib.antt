@@ -1,3 +1,4 @@
 pub mod Fields
 pub mod Laid
+pub mod Frames
 pub mod Worked

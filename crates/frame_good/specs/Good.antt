@@ -14,7 +14,8 @@ offset_of l k = slice_index_or l.offsets k 0
 abbrev pub AreApart : ℕ → ℕ → ℕ → ℕ → Type 0
 AreApart x m y n = (byte : ℕ) → IsByteOf byte x m → IsByteOf byte y n → ⊥
 
--- a field lies behind the header and ends in the frame, it is aligned, and the frame is aligned as it; the promise is at 16, and the index where the layout says
+-- A field lies behind the header and ends in the frame. It is aligned, and the frame is aligned as it.
+-- The promise is at 16, and the index where the layout says.
 pub record IsGoodField (l : Layout) (x : Field) (offset : ℕ) : Type 0 where
   pub behind_header : 16 ≤ offset
   pub inside : offset + x.size ≤ l.size
@@ -26,13 +27,17 @@ pub record IsGoodField (l : Layout) (x : Field) (offset : ℕ) : Type 0 where
 -- the layout shows the fields with their offsets, and nothing else
 pub record AreShown (fields : List Field) (l : Layout) : Type 0 where
   pub each : (k : ℕ) → k < length fields → (a : ℕ) × (slice_get l.fields a ≡ Some (placed fields l.offsets k))
-  pub only : (a : ℕ) (x : PlacedField) → slice_get l.fields a ≡ Some x → (k : ℕ) × (k < length fields) × (x ≡ placed fields l.offsets k)
+  pub only : (a : ℕ) (x : PlacedField) → slice_get l.fields a ≡ Some x
+      → (k : ℕ) × (k < length fields) × (x ≡ placed fields l.offsets k)
 
--- Each field lies well, and no two that conflict share a byte. The alignment is 8 or 16, and the size a multiple of it from 24 to 2^24.
-pub record IsGoodLayout (fields : List Field) (Conflict : ℕ → ℕ → Type 0) (l : Layout) : Type 0 where
+-- The layout is of the coroutine. Each field lies well, and no two that conflict share a byte.
+-- The alignment is 8 or 16, and the size a multiple of it from 24 to 2^24.
+pub record IsGoodLayout (coroutine : ℕ) (fields : List Field) (Conflict : ℕ → ℕ → Type 0) (l : Layout) : Type 0 where
+  pub is_of : l.coroutine ≡ coroutine
   pub one_each : length l.offsets ≡ length fields
   pub each : (k : ℕ) (x : Field) → slice_get fields k ≡ Some x → IsGoodField l x (offset_of l k)
-  pub apart : (j k : ℕ) (x y : Field) → slice_get fields j ≡ Some x → slice_get fields k ≡ Some y → j ≢ k → Conflict j k → AreApart (offset_of l j) x.size (offset_of l k) y.size
+  pub apart : (j k : ℕ) (x y : Field) → slice_get fields j ≡ Some x → slice_get fields k ≡ Some y → j ≢ k
+      → Conflict j k → AreApart (offset_of l j) x.size (offset_of l k) y.size
   pub shown : AreShown fields l
   pub alignment : (l.align ≡ 8) ⊎ (l.align ≡ 16)
   pub rounded : l.size % l.align ≡ 0
@@ -48,8 +53,10 @@ is_alignment a = (a == 0) || ((a == 1) || ((a == 2) || ((a == 4) || ((a == 8) ||
 -- alignments are at most 16, one field at most is the promise, and just one the index, which takes a byte at least
 pub record AreFit (fields : List Field) : Type 0 where
   pub aligned : (k : ℕ) (x : Field) → slice_get fields k ≡ Some x → IsTrue (is_alignment x.align)
-  pub one_promise : (j k : ℕ) (x y : Field) → slice_get fields j ≡ Some x → slice_get fields k ≡ Some y → IsTrue (is_promise x.kind) → IsTrue (is_promise y.kind) → j ≡ k
-  pub one_index : (j k : ℕ) (x y : Field) → slice_get fields j ≡ Some x → slice_get fields k ≡ Some y → IsTrue (is_index x.kind) → IsTrue (is_index y.kind) → j ≡ k
+  pub one_promise : (j k : ℕ) (x y : Field) → slice_get fields j ≡ Some x → slice_get fields k ≡ Some y
+      → IsTrue (is_promise x.kind) → IsTrue (is_promise y.kind) → j ≡ k
+  pub one_index : (j k : ℕ) (x y : Field) → slice_get fields j ≡ Some x → slice_get fields k ≡ Some y
+      → IsTrue (is_index x.kind) → IsTrue (is_index y.kind) → j ≡ k
   pub last : ℕ
   pub index : Field
   pub is_there : slice_get fields last ≡ Some index

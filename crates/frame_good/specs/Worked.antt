@@ -15,6 +15,9 @@ the_index = record { kind = FieldKind.Index; name = None; size = 1; align = 1 }
 abbrev pub worked_fields : List Field
 worked_fields = a_value ∷ a_value ∷ the_index ∷ []
 
+abbrev pub index_at : ℕ → PlacedField
+index_at offset = record { kind = FieldKind.Index; name = None; offset = offset; size = 1 }
+
 abbrev pub value_at : ℕ → PlacedField
 value_at offset = record { kind = FieldKind.Value; name = None; offset = offset; size = 4 }
 
@@ -27,5 +30,5 @@ worked_layout second =
       align = 8;
       index = 24;
       offsets = 16 ∷ second ∷ 24 ∷ [];
-      fields = value_at 16 ∷ value_at second ∷ record { kind = FieldKind.Index; name = None; offset = 24; size = 1 } ∷ [];
+      fields = value_at 16 ∷ value_at second ∷ index_at 24 ∷ [];
     }
