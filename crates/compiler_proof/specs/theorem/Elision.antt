@@ -79,7 +79,7 @@ pub record ElidedSteps (X Y : Lowered → Module → Run → State → State →
       (uncounted (framed_run l n r)) (λ t. 1)
   -- waits for: the same; the source's call allocates once
   pub losing : (r : Run) → IsCallable l.source r.entry → LosesCalls (framed_run l l.framed r) (framed_run l n r)
-  -- waits for: frames built with the allocas of entries first
+  -- waits for: the same; in its coroutines the allocas of entries stay first
   pub allocas : AreAllocasFirst n
   -- waits for: the simulation of parts, those without allocation among them
   pub parting : (r : Run) (other : ℕ) → AreAllocasFirst n → IsEntry l.source (split_from l n) r.entry other
