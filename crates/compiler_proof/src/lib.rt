@@ -2,6 +2,7 @@
 #![tactic(auto)]
 
 pub mod cleanup;
+pub mod fit;
 pub mod order;
 pub mod theorem;
 pub mod whole;

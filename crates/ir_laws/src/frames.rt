@@ -1,4 +1,4 @@
-//! What stays of the analyses of frames in functions that are alike, what is needed behind suspends, and good layouts.
+//! What stays of the analyses of frames in functions that are alike, and what is needed behind a suspend.
 
 pub mod alike_crossing;
 pub mod alike_frames;
@@ -7,7 +7,6 @@ pub mod begin_order;
 pub mod counted;
 pub mod crossing;
 pub mod edges;
-pub mod fit;
 pub mod front_rules;
 pub mod needed;
 pub mod replaced;

@@ -37,7 +37,7 @@ use Rattle.rule_names.specs.Definitions.{first_twice}
 use Rattle.rule_names.specs.declared.stage.Stage.{Stage}
 use Rattle.rule_uses.specs.Undefined.{params_of}
 use Rattle.run_laws.specs.changed.Changed.{Each}
-use Rattle.ir_laws.proofs.frames.fit.Held.{AreTaken, IsFitBlock, IsFitInstr, IsSlotAligned, IsWell, held_taken, one_at, well_at}
+use Rattle.compiler_proof.proofs.fit.Held.{AreTaken, IsFitBlock, IsFitInstr, IsSlotAligned, IsWell, held_taken, one_at, well_at}
 
 -- ---- one further element behind mapped ones
 

@@ -13,7 +13,7 @@ use Rattle.ir_model.specs.declared.module.Module.{Module}
 use Rattle.rule_all.specs.Refused.{IsRefused}
 use Rattle.rule_names.specs.declared.stage.Stage.{Stage}
 use Rattle.text_grammar.specs.Text.{StandsFor}
-use Rattle.ir_laws.proofs.frames.fit.Fields.{fields_fit}
+use Rattle.compiler_proof.proofs.fit.Fields.{fields_fit}
 
 pub accepted_fit : (text : List ℕ) (m : Module) → StandsFor text m → IsRefused Stage.Source m None
     → (k : ℕ) (f : Function) → slice_get m.functions k ≡ Some f → HasFitFields m f
