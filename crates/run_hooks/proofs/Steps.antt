@@ -1,5 +1,5 @@
 -- The steps of the four meanings are steps by hooks.
-use Rattle.std.proofs.Common.{◌≡◌, ℕ, zero, suc, Bool, true, false, List, Option, Some, None, Result, Ok, Err, refl}
+use Rattle.std.proofs.Common.{◌≡◌, ℕ, zero, suc, List, Option, Result, Ok, refl}
 use Rattle.std.proofs.Common.{ap, ◌∙◌}
 use Rattle.std.specs.Prelude.{if◌then◌else◌, unwrap_or}
 use Rattle.ir_base.specs.declared.cause.Cause.{Cause}
@@ -10,7 +10,7 @@ use Rattle.pass_renewed_proof.specs.Renewed.{RenewedGiven, continue_renewed, is_
 use Rattle.pass_renewed_proof.specs.Renewed.{renewed_next, renewed_step}
 use Rattle.run_framed.specs.Framed.{FramedGiven, framed_act, framed_advance, framed_context, framed_coro}
 use Rattle.run_framed.specs.Framed.{framed_next, framed_step, given_call}
-use Rattle.run_hooks.specs.Hooks.{Hooks, hooked_act, hooked_advance, hooked_context, hooked_coro, hooked_next, step_of}
+use Rattle.run_hooks.specs.Hooks.{hooked_act, hooked_advance, hooked_coro, hooked_next, step_of}
 use Rattle.run_hooks.specs.Meanings.{framed_hooks, hooks_by, renewed_hooks}
 use Rattle.run_memory.specs.declared.pointer.Value.{Value}
 use Rattle.run_source.specs.Source.{Continues, act, advance_by, context_of, coro, step_by}

@@ -1,2 +1,3 @@
 pub mod Hooks
 pub mod Meanings
+pub mod Reached

@@ -13,11 +13,13 @@ ghost use Rattle.ir_model.specs.declared.module.Frame.{Frame};
 ghost use Rattle.ir_model.specs.declared.module.Module.{Module};
 ghost use Rattle.run_framed.specs.Framed.{FramedAt, FramedGiven, framed_given, framed_step};
 ghost use Rattle.pass_kept_proof.specs.Kept.{Keep, KeptAt, continue_keeping};
+ghost use Rattle.pass_kept_proof.specs.SuspendRules.{AllKeepSuspendRules};
 ghost use Rattle.pass_renewed_proof.specs.Renewed.{Flags, RenewedAt, RenewedGiven, Roots, renewed_given, renewed_step};
 ghost use Rattle.run_source.specs.Source.{SourceAt, given, step, step_by};
 ghost use Rattle.run_source.specs.declared.state.State.{State};
+ghost use Rattle.run_hooks.specs.Reached.{AllHaveSwitches, IsReachedState, KeepsReached};
 ghost use Rattle.run_source_tables.specs.Given.{Given};
-ghost use Rattle.run_hooks.specs.Hooks.{SeenBy, step_of};
+ghost use Rattle.run_hooks.specs.Hooks.{Hooks, SeenBy, hooked_state_at, step_of};
 ghost use Rattle.run_hooks.specs.Meanings.{framed_hooks, kept_hooks, renewed_hooks, source_hooks};
 
 /// A source's step is that of its hooks.
@@ -51,4 +53,23 @@ pub fn frames_step_by_hooks()
     ensures seen { (m : Module) (layouts : TheLayouts) (entry : ℕ) (args : List Word) (answers : List ℤ) (n : ℕ)
         → FramedAt m layouts entry args answers n
         ≡ SeenBy (framed_hooks (framed_given m layouts.coroutines answers)) entry args n }
+{}
+
+/// Steps by hooks that come from reached states to reached states: all activations are at reached places, and instances
+/// are suspended at reached suspends.
+pub fn reached_states_stay()
+    ensures step { (h : Hooks) (s : State) → AllHaveSwitches h.given.code → KeepsReached h
+        → IsReachedState h.given s → IsReachedState h.given (step_of h s) }
+    ensures runs { (h : Hooks) (entry : ℕ) (args : List Word) (n : ℕ) → AllHaveSwitches h.given.code → KeepsReached h
+        → IsReachedState h.given (hooked_state_at h entry args n) }
+{}
+
+/// The hooks of each meaning come from reached states to reached states. Accepted functions have what that asks of
+/// suspends.
+pub fn meanings_keep_what_is_reached()
+    ensures source { (g : Given) → KeepsReached (source_hooks g) }
+    ensures kept { (g : Given) (keep : Keep) → KeepsReached (kept_hooks g keep) }
+    ensures renewed { (g : RenewedGiven) → KeepsReached (renewed_hooks g) }
+    ensures framed { (g : FramedGiven) → KeepsReached (framed_hooks g) }
+    ensures switches { (m : Module) → AllKeepSuspendRules m → AllHaveSwitches m }
 {}
