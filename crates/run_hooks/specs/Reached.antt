@@ -26,7 +26,7 @@ use Rattle.run_step.specs.declared.world.Slot.{Slot}
 
 -- ---- states
 
--- an activation is in the function of its instance, at a reached place; if it executes allocas first, its label is reached
+-- an activation is in the function of its instance, at a reached place; so is a label that it enters behind allocas
 pub record IsReachedActivation (g : Given) (cs : List ℕ) (a : Activation) : Type 0 where
   pub own : (i : ℕ) → a.instance ≡ Some i → slice_get cs i ≡ Some a.func
   pub reached : IsReached (function_at g.code a.func) a.block a.at
@@ -81,8 +81,10 @@ pub record KeepsReached (h : Hooks) : Type 0 where
   pub start : (s : State) (result : Option ℕ) (memory : Value)
       → IsReachedState h.given s → IsBehind h.given s → Stays h.given (h.start s result memory)
   pub close : (s : State) → IsReachedState h.given s → IsReachedState h.given (h.close s)
+  -- the topmost activation stays as it is
   pub closed : (s : State) → (h.close s).top ≡ s.top
   pub call : (s : State) (x : Fetched) (r : Result State Cause)
       → IsReachedState h.given s → IsBehind h.given s → h.given_call s x ≡ Some r → Stays h.given r
+  -- a call and a marker are instructions
   pub called : (s : State) (x : Fetched) (r : Result State Cause) → h.given_call s x ≡ Some r → IsAnInstr x
   pub idle : (s : State) (x : Fetched) → h.is_idle s x ≡ true → IsAnInstr x
