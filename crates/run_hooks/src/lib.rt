@@ -1,0 +1,91 @@
+//! One step with hooks: the steps of sources, of framed modules and of the two meanings between are instances of it.
+//!
+//! The meanings differ in their rights, in how they go on behind a suspend, and in what some of their instructions do.
+//! A record `Hooks` holds these, and `step_of` is the step by them. The law of each meaning says that its step is that
+//! of its hooks (clause `step`), and that what is seen after n steps is so too (clause `seen`). A law about `step_of`
+//! is thus one about each meaning.
+//!
+//! The first such law says what is reached: activations are at reached places, and instances are suspended at reached
+//! suspends (`reached_states_stay`, `states_of_runs_are_reached`).
+#![tactic(auto)]
+
+ghost use Rattle.std.specs.Prelude.{ℕ, ℤ, List, ◌≡◌};
+ghost use Rattle.frame_layout.specs.declared.layout.Layouts.{Layouts as TheLayouts};
+ghost use Rattle.ir_base.specs.declared.outcome.Word.{Word};
+ghost use Rattle.ir_model.specs.declared.module.Frame.{Frame};
+ghost use Rattle.ir_model.specs.declared.module.Module.{Module};
+ghost use Rattle.run_framed.specs.Framed.{FramedAt, FramedGiven, framed_given, framed_state_at, framed_step};
+ghost use Rattle.pass_kept_proof.specs.Kept.{Keep, KeptAt, continue_keeping};
+ghost use Rattle.pass_kept_proof.specs.SuspendRules.{AllKeepSuspendRules};
+ghost use Rattle.pass_renewed_proof.specs.Renewed.{Flags, RenewedAt, RenewedGiven, Roots, renewed_given, renewed_step};
+ghost use Rattle.run_source.specs.Source.{SourceAt, first_state, given, state_at, step, step_by};
+ghost use Rattle.run_source.specs.declared.state.State.{State};
+ghost use Rattle.run_hooks.specs.Reached.{AllHaveSwitches, IsReachedState, KeepsReached};
+ghost use Rattle.run_step.specs.Runs.{iterate};
+ghost use Rattle.run_source_tables.specs.Given.{Given};
+ghost use Rattle.run_hooks.specs.Hooks.{Hooks, SeenBy, hooked_state_at, step_of};
+ghost use Rattle.run_hooks.specs.Meanings.{framed_hooks, kept_hooks, renewed_hooks, source_hooks};
+
+/// A source's step is that of its hooks.
+pub fn sources_step_by_hooks()
+    ensures step { (g : Given) (s : State) → step g s ≡ step_of (source_hooks g) s }
+    ensures seen { (m : Module) (sizes : List Frame) (entry : ℕ) (args : List Word) (answers : List ℤ) (n : ℕ)
+        → SourceAt m sizes entry args answers n ≡ SeenBy (source_hooks (given m sizes answers)) entry args n }
+{}
+
+/// The step in which a resume hands on some values is that of its hooks.
+pub fn kept_values_step_by_hooks()
+    ensures step { (g : Given) (keep : Keep) (s : State)
+        → step_by g (continue_keeping g keep) s ≡ step_of (kept_hooks g keep) s }
+    ensures seen { (m : Module) (keep : Keep) (sizes : List Frame) (entry : ℕ) (args : List Word)
+        (answers : List ℤ) (n : ℕ)
+        → KeptAt m keep sizes entry args answers n ≡ SeenBy (kept_hooks (given m sizes answers) keep) entry args n }
+{}
+
+/// The step in which a resumed activation makes slots anew is that of its hooks.
+pub fn renewed_slots_step_by_hooks()
+    ensures step { (g : RenewedGiven) (s : State) → renewed_step g s ≡ step_of (renewed_hooks g) s }
+    ensures seen { (m : Module) (keep : Keep) (flags : Flags) (roots : Roots) (sizes : List Frame)
+        (entry : ℕ) (args : List Word) (answers : List ℤ) (n : ℕ)
+        → RenewedAt m keep flags roots sizes entry args answers n
+        ≡ SeenBy (renewed_hooks (renewed_given m keep flags roots sizes answers)) entry args n }
+{}
+
+/// A framed step is that of its hooks.
+pub fn frames_step_by_hooks()
+    ensures step { (g : FramedGiven) (s : State) → framed_step g s ≡ step_of (framed_hooks g) s }
+    ensures seen { (m : Module) (layouts : TheLayouts) (entry : ℕ) (args : List Word) (answers : List ℤ) (n : ℕ)
+        → FramedAt m layouts entry args answers n
+        ≡ SeenBy (framed_hooks (framed_given m layouts.coroutines answers)) entry args n }
+{}
+
+/// Hooks that come from reached states to reached ones do so by each step, and so by a run. All activations are at
+/// reached places there, and instances are suspended at reached suspends.
+pub fn reached_states_stay()
+    ensures step { (h : Hooks) (s : State) → AllHaveSwitches h.given.code → KeepsReached h
+        → IsReachedState h.given s → IsReachedState h.given (step_of h s) }
+    ensures runs { (h : Hooks) (entry : ℕ) (args : List Word) (n : ℕ) → AllHaveSwitches h.given.code → KeepsReached h
+        → IsReachedState h.given (hooked_state_at h entry args n) }
+{}
+
+/// The hooks of each meaning come from reached states to reached states. Accepted functions have what that asks of
+/// suspends.
+pub fn meanings_keep_what_is_reached()
+    ensures source { (g : Given) → KeepsReached (source_hooks g) }
+    ensures kept { (g : Given) (keep : Keep) → KeepsReached (kept_hooks g keep) }
+    ensures renewed { (g : RenewedGiven) → KeepsReached (renewed_hooks g) }
+    ensures framed { (g : FramedGiven) → KeepsReached (framed_hooks g) }
+    ensures switches { (m : Module) → AllKeepSuspendRules m → AllHaveSwitches m }
+{}
+
+/// So each state of a run is reached, in each of the meanings.
+pub fn states_of_runs_are_reached()
+    ensures source { (g : Given) (entry : ℕ) (args : List Word) (n : ℕ) → AllHaveSwitches g.code
+        → IsReachedState g (state_at g entry args n) }
+    ensures kept { (g : Given) (keep : Keep) (entry : ℕ) (args : List Word) (n : ℕ) → AllHaveSwitches g.code
+        → IsReachedState g (iterate (step_by g (continue_keeping g keep)) n (first_state g.code entry args)) }
+    ensures renewed { (g : RenewedGiven) (entry : ℕ) (args : List Word) (n : ℕ) → AllHaveSwitches g.given.code
+        → IsReachedState g.given (iterate (renewed_step g) n (first_state g.given.code entry args)) }
+    ensures framed { (g : FramedGiven) (entry : ℕ) (args : List Word) (n : ℕ) → AllHaveSwitches g.given.code
+        → IsReachedState g.given (framed_state_at g entry args n) }
+{}
