@@ -1,3 +1,4 @@
 pub mod Hooks
 pub mod Meanings
 pub mod Reached
+pub mod Left

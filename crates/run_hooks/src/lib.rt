@@ -7,9 +7,12 @@
 //!
 //! The first such law says what is reached: activations are at reached places, and instances are suspended at reached
 //! suspends (`reached_states_stay`, `states_of_runs_are_reached`).
+//!
+//! The second says that an activation that hasn't left is the last one of its instance, which isn't Suspended
+//! (`last_activations_stay`, `activations_of_runs_are_last`).
 #![tactic(auto)]
 
-ghost use Rattle.std.specs.Prelude.{ℕ, ℤ, List, ◌≡◌};
+ghost use Rattle.std.specs.Prelude.{ℕ, ℤ, List, true, ◌≡◌, ◌∷◌};
 ghost use Rattle.frame_layout.specs.declared.layout.Layouts.{Layouts as TheLayouts};
 ghost use Rattle.ir_base.specs.declared.outcome.Word.{Word};
 ghost use Rattle.ir_model.specs.declared.module.Frame.{Frame};
@@ -20,6 +23,7 @@ ghost use Rattle.pass_kept_proof.specs.SuspendRules.{AllKeepSuspendRules};
 ghost use Rattle.pass_renewed_proof.specs.Renewed.{Flags, RenewedAt, RenewedGiven, Roots, renewed_given, renewed_step};
 ghost use Rattle.run_source.specs.Source.{SourceAt, first_state, given, state_at, step, step_by};
 ghost use Rattle.run_source.specs.declared.state.State.{State};
+ghost use Rattle.run_hooks.specs.Left.{HaveLeft, IsLastState, KeepsLast, sleeps};
 ghost use Rattle.run_hooks.specs.Reached.{AllHaveSwitches, IsReachedState, KeepsReached};
 ghost use Rattle.run_step.specs.Runs.{iterate};
 ghost use Rattle.run_source_tables.specs.Given.{Given};
@@ -88,4 +92,34 @@ pub fn states_of_runs_are_reached()
         → IsReachedState g.given (iterate (renewed_step g) n (first_state g.given.code entry args)) }
     ensures framed { (g : FramedGiven) (entry : ℕ) (args : List Word) (n : ℕ) → AllHaveSwitches g.given.code
         → IsReachedState g.given (framed_state_at g entry args n) }
+{}
+
+/// An activation that hasn't left is the last one of its instance, which isn't Suspended. Hooks that change
+/// activations and instances as their names say keep that by each step, and so by a run. All activations of a
+/// Suspended instance have left.
+pub fn last_activations_stay()
+    ensures step { (h : Hooks) (s : State) → KeepsLast h → IsLastState s → IsLastState (step_of h s) }
+    ensures runs { (h : Hooks) (entry : ℕ) (args : List Word) (n : ℕ) → KeepsLast h
+        → IsLastState (hooked_state_at h entry args n) }
+    ensures suspended { (s : State) (i : ℕ) → IsLastState s → sleeps s.instances i ≡ true
+        → HaveLeft i (s.top ∷ s.below) }
+{}
+
+/// The hooks of each meaning change activations and instances as this asks.
+pub fn meanings_keep_last_activations()
+    ensures source { (g : Given) → KeepsLast (source_hooks g) }
+    ensures kept { (g : Given) (keep : Keep) → KeepsLast (kept_hooks g keep) }
+    ensures renewed { (g : RenewedGiven) → KeepsLast (renewed_hooks g) }
+    ensures framed { (g : FramedGiven) → KeepsLast (framed_hooks g) }
+{}
+
+/// So in each state of a run an activation that hasn't left is the last one of its instance, which isn't Suspended.
+pub fn activations_of_runs_are_last()
+    ensures source { (g : Given) (entry : ℕ) (args : List Word) (n : ℕ) → IsLastState (state_at g entry args n) }
+    ensures kept { (g : Given) (keep : Keep) (entry : ℕ) (args : List Word) (n : ℕ)
+        → IsLastState (iterate (step_by g (continue_keeping g keep)) n (first_state g.code entry args)) }
+    ensures renewed { (g : RenewedGiven) (entry : ℕ) (args : List Word) (n : ℕ)
+        → IsLastState (iterate (renewed_step g) n (first_state g.given.code entry args)) }
+    ensures framed { (g : FramedGiven) (entry : ℕ) (args : List Word) (n : ℕ)
+        → IsLastState (framed_state_at g entry args n) }
 {}
