@@ -1,0 +1,22 @@
+-- Where the functions of a module stand once its coroutines are split.
+use Rattle.std.specs.Prelude.{◌≡◌, ℕ, zero, suc, List, [], length, slice_get, Some, None, ◌+◌, ◌∷◌}
+use Rattle.frame_layout.specs.declared.layout.Layout.{Layout}
+use Rattle.ir_model.specs.declared.module.Function.{Function}
+use Rattle.pass_proofs.specs.split.first_exits.Parted.{parted_function}
+use Rattle.pass_split.specs.Parts.{first_layout, layouts_after}
+
+-- the layouts that are left for the k-th function and those behind it
+abbrev pub layouts_from : List Layout → List Function → ℕ → List Layout
+layouts_from ls [] k = ls
+layouts_from ls (f ∷ fs) zero = ls
+layouts_from ls (f ∷ fs) (suc k) = layouts_from (layouts_after f ls) fs k
+
+-- the layout of the k-th function, where it is a coroutine
+abbrev pub layout_at : List Layout → List Function → ℕ → Layout
+layout_at ls fs k = first_layout (layouts_from ls fs k)
+
+-- the position of what the k-th function becomes, of its first part where it is a coroutine
+abbrev pub moved : List Layout → List Function → ℕ → ℕ
+moved ls [] k = k
+moved ls (f ∷ fs) zero = 0
+moved ls (f ∷ fs) (suc k) = length (parted_function (first_layout ls) f) + moved (layouts_after f ls) fs k
