@@ -1,7 +1,8 @@
 -- Where the functions of a module stand once its coroutines are split.
-use Rattle.std.specs.Prelude.{◌≡◌, ℕ, zero, suc, List, [], length, slice_get, Some, None, ◌+◌, ◌∷◌}
+use Rattle.std.specs.Prelude.{ℕ, zero, suc, List, [], length, ◌+◌, ◌∷◌}
 use Rattle.frame_layout.specs.declared.layout.Layout.{Layout}
 use Rattle.ir_model.specs.declared.module.Function.{Function}
+use Rattle.pass_intrinsics.specs.declared.shape.Part.{Part}
 use Rattle.pass_proofs.specs.split.first_exits.Parted.{parted_function}
 use Rattle.pass_split.specs.Parts.{first_layout, layouts_after}
 
@@ -20,3 +21,9 @@ abbrev pub moved : List Layout → List Function → ℕ → ℕ
 moved ls [] k = k
 moved ls (f ∷ fs) zero = 0
 moved ls (f ∷ fs) (suc k) = length (parted_function (first_layout ls) f) + moved (layouts_after f ls) fs k
+
+-- the parts of a coroutine by their order
+abbrev pub number_of : Part → ℕ
+number_of Part.Ramp = 0
+number_of Part.Resume = 1
+number_of Part.Destroy = 2
