@@ -31,7 +31,7 @@ last_below test i k (y ∷ xs) e = on (last_from test (suc i) xs) refl (test y) 
     on None f true e later = let is : i ≡ k = same_some i k e in omega arith
     on (Some a) f t e later = let is : a ≡ k = same_some a k e in let lt = later a f in omega arith
 
-get_more : (xs : List Instance) (x : Instance) (i : ℕ) → i < length xs → slice_get (xs ++ x ∷ []) i ≡ slice_get xs i
+pub get_more : (xs : List Instance) (x : Instance) (i : ℕ) → i < length xs → slice_get (xs ++ x ∷ []) i ≡ slice_get xs i
 get_more [] x i lt = absurd (omega arith)
 get_more (y ∷ xs) x zero lt = refl
 get_more (y ∷ xs) x (suc i) lt = get_more xs x i (omega arith)
@@ -40,7 +40,7 @@ module _ (g : FramedGiven) (xs : List Instance) (x : Instance) where
   abbrev more : List Instance
   more = xs ++ x ∷ []
 
-  judge_more : (b k : ℕ) → covers g b k x ≡ false → judge_of g more b k ≡ judge_of g xs b k
+  pub judge_more : (b k : ℕ) → covers g b k x ≡ false → judge_of g more b k ≡ judge_of g xs b k
   judge_more b k fails = ap (option_and_then (numbered more)) (last_more (covers g b k) x fails 0 xs) ∙ on (last_from (covers g b k) 0 xs) refl
     where
       on : (o : Option ℕ) → last_from (covers g b k) 0 xs ≡ o → option_and_then (numbered more) o ≡ option_and_then (numbered xs) o
