@@ -4,3 +4,4 @@ pub mod first_exits
 pub mod names
 pub mod places
 pub mod rules
+pub mod states

@@ -14,4 +14,5 @@ pub mod places;
 pub mod plain_functions;
 pub mod rules;
 pub mod spelled;
+pub mod states;
 pub mod uses;

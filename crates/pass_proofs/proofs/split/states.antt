@@ -1,0 +1,17 @@
+pub mod Advanced
+pub mod Begun
+pub mod Closed
+pub mod Controls
+pub mod Fresh
+pub mod Headed
+pub mod Judged
+pub mod Killed
+pub mod OwnHomes
+pub mod Refilled
+pub mod Saved
+pub mod Standing
+pub mod Started
+pub mod Statuses
+pub mod Twins
+pub mod Values
+pub mod Written
