@@ -5,3 +5,4 @@ pub mod names
 pub mod places
 pub mod rules
 pub mod states
+pub mod steps

@@ -15,4 +15,5 @@ pub mod plain_functions;
 pub mod rules;
 pub mod spelled;
 pub mod states;
+pub mod steps;
 pub mod uses;

@@ -1,0 +1,12 @@
+pub mod BegunStates
+pub mod Branches
+pub mod Calls
+pub mod Done
+pub mod Entered
+pub mod Marked
+pub mod Operands
+pub mod SavedStates
+pub mod Saves
+pub mod Settled
+pub mod Slots
+pub mod Small
