@@ -4,5 +4,6 @@ pub mod first_exits
 pub mod names
 pub mod places
 pub mod rules
+pub mod simulation
 pub mod states
 pub mod steps

@@ -13,6 +13,7 @@ pub mod numbers;
 pub mod places;
 pub mod plain_functions;
 pub mod rules;
+pub mod simulation;
 pub mod spelled;
 pub mod states;
 pub mod steps;
