@@ -15,3 +15,4 @@ pub mod Statuses
 pub mod Twins
 pub mod Values
 pub mod Written
+pub mod Worked

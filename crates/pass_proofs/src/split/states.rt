@@ -4,7 +4,7 @@
 //! frames
 //! (`AreBeside`). The control bytes of frames are closed to the framed run, so a step leaves them (`frames_stay`).
 
-ghost use Rattle.std.specs.Prelude.{ℕ, Bool, List, Option, Some, [], true, false, length, slice_get, slice_set, ◌≡◌, ◌≤◌, ◌<◌, ◌^◌};
+ghost use Rattle.std.specs.Prelude.{◌∷◌, ℕ, Bool, List, Option, Some, [], true, false, length, slice_get, slice_set, ◌≡◌, ◌≤◌, ◌<◌, ◌^◌};
 ghost use Rattle.ir_model.specs.declared.module.Function.{Function};
 ghost use Rattle.ir_model.specs.Names.{function_at};
 ghost use Rattle.ir_paths.specs.declared.point.Point.{Point as ThePoint};
@@ -21,6 +21,9 @@ ghost use Rattle.run_laws.specs.access.Changed.{KeepsFree};
 ghost use Rattle.run_laws.specs.embedded.Refilled.{AreRefilled};
 ghost use Rattle.run_laws.specs.embedded.Related.{AreValues};
 ghost use Rattle.run_laws.specs.memory.Pointers.{Home};
+ghost use Rattle.run_laws.specs.memory.Standing.{blank_block};
+ghost use Rattle.run_laws_worked.specs.Worked.{an_instance, frame_given, owned_block};
+ghost use Rattle.run_source_tables.specs.Given.{Given as TheGiven};
 ghost use Rattle.run_laws.specs.transfer.Transfer.{AreOver};
 ghost use Rattle.ir_model.specs.declared.module.Module.{Module};
 ghost use Rattle.run_memory.specs.Memory.{fresh, owned_to, owner_rights, with_block};
@@ -121,4 +124,15 @@ pub fn coroutines_are_saved_beside()
         (numbered : IsNumbered (function_at g.given.code x.coroutine) suspend number)
         → IsLedTo (function_at g.given.code x.coroutine) numbered.suspend.block
         → SavesIn g instances i x m n number (resumer_of g x.coroutine numbered.suspend) suspend values saved released }
+{}
+
+/// A block of 48 bytes of an allocator stands beside itself. It does so with the frame of a coroutine that begins in it
+/// once its header is stored.
+pub fn a_begin_is_worked_beside()
+    ensures before { (given : TheGiven)
+        → AreBeside (frame_given given) [] (blank_block 48 16 Kind.Allocator ∷ [])
+        (blank_block 48 16 Kind.Allocator ∷ []) }
+    ensures after { (given : TheGiven) (resumes : Value)
+        → BeginsIn (frame_given given) [] an_instance (owned_block 48 16 32 ∷ [])
+        (blank_block 48 16 Kind.Allocator ∷ []) resumes Part.Destroy }
 {}

@@ -61,7 +61,7 @@ grown_length (y ∷ m) x = ap suc (grown_length m x)
 
 -- ---- twins
 
-blank_twin : (size align : ℕ) (kind : Kind) → size < 2 ^ 64 → (kind ≡ Kind.Allocator → align ≡ 16) → IsTwin (blank_block size align kind) (blank_block size align (plain_kind kind))
+pub blank_twin : (size align : ℕ) (kind : Kind) → size < 2 ^ 64 → (kind ≡ Kind.Allocator → align ≡ 16) → IsTwin (blank_block size align kind) (blank_block size align (plain_kind kind))
 blank_twin size align kind small sixteen = record {
   is = refl;
   long = refl;
