@@ -56,7 +56,9 @@ ghost use Rattle.pass_proofs.specs.split.states.Values.{AreValuesOf};
 ghost use Rattle.pass_proofs.specs.split.steps.Operands.{IsReadable};
 ghost use Rattle.run_laws.specs.changed.Changed.{Each};
 ghost use Rattle.run_laws.specs.memory.Standing.{own_homes};
-ghost use Rattle.run_step.specs.Step.{Done, Fetched, Work, action_of, fetch, incoming_from, label_of, phi_values, phis_of, value_at, with_all};
+ghost use Rattle.ir_model.specs.declared.instr.Instr.{Instr as TheInstr};
+ghost use Rattle.pass_proofs.specs.split.steps.Ready.{IsReadyInPart};
+ghost use Rattle.run_step.specs.Step.{AtInstr, Done, Fetched, Work, action_of, fetch, incoming_from, label_of, phi_values, phis_of, value_at, with_all};
 ghost use Rattle.run_step.specs.Values.{Env, operand_value, value_in, with_value};
 
 /// A step that is done in the framed run and makes, marks and allocates no block is done in the part. The memories stand
@@ -84,6 +86,18 @@ pub fn operands_stand_in_parts()
         → Each (λ (p : ThePhi). IsReadable m n f (incoming_from p.incoming label)) phis
         → AreValuesOf f (own_homes 0 k) (with_all env (phi_values m env label phis))
         (with_all other (phi_values n other label phis)) }
+{}
+
+/// An instruction that stands in a part too, and whose operands may be read there, is done in it where it is done in the
+/// framed run.
+pub fn readable_instructions_are_done_in_parts()
+    ensures { (g : FramedGiven) (instances : List Instance) (m n : Module) (answers : List ℤ) (f q : Function)
+        (functions : ℕ → ℕ) (w x : Work) (i : TheInstr) (v : Work) → length m.globals ≤ length w.world.memory
+        → AreValuesOf f (homes_of w.world.memory) w.values x.values
+        → IsReadyInPart functions f (ours g instances m answers f) (theirs n answers q) w.values x.values i
+        → AreWorldsBeside g instances w.world x.world
+        → action_of (ours g instances m answers f) w (AtInstr i) ≡ Done v
+        → IsDoneToo g instances (theirs n answers q) w x (AtInstr i) (AtInstr i) v }
 {}
 
 /// Where an instruction is done in both runs the states are related behind it, and the parts' run takes a step.
