@@ -5,6 +5,7 @@ pub mod Done
 pub mod Entered
 pub mod Marked
 pub mod Operands
+pub mod Ordinary
 pub mod Ready
 pub mod SavedStates
 pub mod Saves

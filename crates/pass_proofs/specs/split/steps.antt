@@ -3,6 +3,7 @@ pub mod Branches
 pub mod Calls
 pub mod Done
 pub mod Operands
+pub mod Ordinary
 pub mod Ready
 pub mod Saves
 pub mod Slots

@@ -43,7 +43,7 @@ ghost use Rattle.run_source.specs.declared.state.Saved.{Saved as TheSaved};
 ghost use Rattle.run_source.specs.declared.state.Status.{Status as TheStatus};
 ghost use Rattle.run_step.specs.Runs.{iterate};
 ghost use Rattle.pass_proofs.specs.split.steps.Done.{IsDoneToo, ours, part_maps, theirs};
-ghost use Rattle.run_framed.specs.Framed.{FramedGiven, layout_of};
+ghost use Rattle.run_framed.specs.Framed.{FramedGiven, framed_context, layout_of};
 ghost use Rattle.run_laws.specs.access.Touched.{AreTouches, touch_of};
 ghost use Rattle.run_laws.specs.embedded.Related.{HasNoSlot};
 ghost use Rattle.run_laws.specs.memory.Pointers.{IsValue};
@@ -57,6 +57,7 @@ ghost use Rattle.pass_proofs.specs.split.steps.Operands.{IsReadable};
 ghost use Rattle.run_laws.specs.changed.Changed.{Each};
 ghost use Rattle.run_laws.specs.memory.Standing.{own_homes};
 ghost use Rattle.ir_model.specs.declared.instr.Instr.{Instr as TheInstr};
+ghost use Rattle.pass_proofs.specs.split.steps.Ordinary.{IsAtOrdinary, StepsBeside};
 ghost use Rattle.pass_proofs.specs.split.steps.Ready.{IsReadyInPart};
 ghost use Rattle.run_step.specs.Step.{AtInstr, Done, Fetched, Work, action_of, fetch, incoming_from, label_of, phi_values, phis_of, value_at, with_all};
 ghost use Rattle.run_step.specs.Values.{Env, operand_value, value_in, with_value};
@@ -116,6 +117,14 @@ pub fn instructions_leave_states_related()
         → (given_at here ≡ Some r.top.shape.begin → ⊥) → is_entering s.top.mode ≡ false
         → t.outcome ≡ Outcome.Running → fetch (plain_function h t) t.top.block t.top.at ≡ there
         → plain_step h t ≡ plain_settled t d.work }
+{}
+
+/// Where a part has an ordinary instruction of the framed function, both runs do it in a step. The states are related
+/// behind it.
+pub fn ordinary_steps_leave_states_related()
+    ensures { (functions : ℕ → ℕ) (g : FramedGiven) (h : PlainGiven) (s : TheState) (t : ThePlainState)
+        (r : AreRelated g h s t) (i : TheInstr) → IsAtOrdinary functions g h s t r i → (v : Work)
+        → action_of (framed_context g s) (work_of s) (AtInstr i) ≡ Done v → StepsBeside g h s t v }
 {}
 
 /// Behind an edge that both runs take the states are related, whatever windows it leaves. The framed run has done nothing
