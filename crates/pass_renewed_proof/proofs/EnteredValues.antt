@@ -11,12 +11,12 @@ use Rattle.pass_renewed_proof.proofs.Sets.{set_elsewhere}
 use Rattle.pass_renewed_proof.specs.Entering.{Anew, is_named, made_all, made_anew}
 use Rattle.pass_renewed_proof.specs.Renewed.{RenewedGiven}
 
-set_here : (env : Env) (name : ℕ) (v : Value) → name < length env → value_in (with_value env name v) name ≡ v
+pub set_here : (env : Env) (name : ℕ) (v : Value) → name < length env → value_in (with_value env name v) name ≡ v
 set_here [] name v lt = absurd (omega arith)
 set_here (x ∷ env) zero v lt = refl
 set_here (x ∷ env) (suc name) v lt = set_here env name v (omega arith)
 
-set_length : (env : Env) (name : ℕ) (v : Value) → length (with_value env name v) ≡ length env
+pub set_length : (env : Env) (name : ℕ) (v : Value) → length (with_value env name v) ≡ length env
 set_length [] name v = refl
 set_length (x ∷ env) zero v = refl
 set_length (x ∷ env) (suc name) v = ap suc (set_length env name v)

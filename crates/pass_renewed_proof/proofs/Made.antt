@@ -14,31 +14,41 @@ use Rattle.pass_renewed_proof.proofs.Places.{grown, seated}
 use Rattle.pass_renewed_proof.specs.Places.{AreStanding, IsBlank, IsReady}
 use Rattle.run_laws.specs.embedded.Making.{whole_home}
 
-get_last : {A : Type 0} (xs : List A) (x : A) → slice_get (xs ++ x ∷ []) (length xs) ≡ Some x
+pub get_last : {A : Type 0} (xs : List A) (x : A) → slice_get (xs ++ x ∷ []) (length xs) ≡ Some x
 get_last [] x = refl
 get_last (y ∷ xs) x = get_last xs x
 
-get_past : {A : Type 0} (xs : List A) (k : ℕ) → length xs ≤ k → slice_get xs k ≡ None
+pub get_past : {A : Type 0} (xs : List A) (k : ℕ) → length xs ≤ k → slice_get xs k ≡ None
 get_past [] k le = refl
 get_past (x ∷ xs) zero le = absurd (omega arith)
 get_past (x ∷ xs) (suc k) le = get_past xs k (omega arith)
 
-get_other : {A : Type 0} (xs : List A) (x : A) (k : ℕ) → k ≢ length xs → slice_get (xs ++ x ∷ []) k ≡ slice_get xs k
+pub get_other : {A : Type 0} (xs : List A) (x : A) (k : ℕ) → k ≢ length xs → slice_get (xs ++ x ∷ []) k ≡ slice_get xs k
 get_other [] x zero ne = absurd (ne refl)
 get_other [] x (suc k) ne = refl
 get_other (y ∷ xs) x zero ne = refl
 get_other (y ∷ xs) x (suc k) ne = get_other xs x k (λ e. ne (ap suc e))
 
-get_within : {A : Type 0} (xs : List A) (k : ℕ) (x : A) → slice_get xs k ≡ Some x → k < length xs
+pub get_within : {A : Type 0} (xs : List A) (k : ℕ) (x : A) → slice_get xs k ≡ Some x → k < length xs
 get_within [] k x e = absurd (cc)
 get_within (y ∷ xs) zero x e = omega arith
 get_within (y ∷ xs) (suc k) x e = let h = get_within xs k x e in omega arith
 
-home_last : (homes : List Home) (h : Home) → home_of (homes ++ h ∷ []) (length homes) ≡ h
+pub get_none : {A : Type 0} (xs : List A) (k : ℕ) → slice_get xs k ≡ None → k < length xs → ⊥
+get_none [] k e lt = absurd (omega arith)
+get_none (x ∷ xs) zero e lt = absurd (cc)
+get_none (x ∷ xs) (suc k) e lt = get_none xs k e (omega arith)
+
+pub get_there : {A : Type 0} (xs : List A) (k : ℕ) → k < length xs → (x : A) × (slice_get xs k ≡ Some x)
+get_there [] k lt = absurd (omega arith)
+get_there (x ∷ xs) zero lt = (x, refl)
+get_there (x ∷ xs) (suc k) lt = get_there xs k (omega arith)
+
+pub home_last : (homes : List Home) (h : Home) → home_of (homes ++ h ∷ []) (length homes) ≡ h
 home_last [] h = refl
 home_last (g ∷ homes) h = home_last homes h
 
-home_other : (homes : List Home) (h : Home) (d : ℕ) → d ≢ length homes → home_of (homes ++ h ∷ []) d ≡ home_of homes d
+pub home_other : (homes : List Home) (h : Home) (d : ℕ) → d ≢ length homes → home_of (homes ++ h ∷ []) d ≡ home_of homes d
 home_other [] h zero ne = absurd (ne refl)
 home_other [] h (suc d) ne = refl
 home_other (g ∷ homes) h zero ne = refl

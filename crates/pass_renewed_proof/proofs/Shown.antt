@@ -22,7 +22,7 @@ use Rattle.run_laws.specs.changed.Changed.{Each}
 
 -- ---- lists
 
-each_append : {A : Type 0} (P : A → Type 0) (xs ys : List A) → Each P xs → Each P ys → Each P (xs ++ ys)
+pub each_append : {A : Type 0} (P : A → Type 0) (xs ys : List A) → Each P xs → Each P ys → Each P (xs ++ ys)
 each_append P [] ys h k = k
 each_append P (x ∷ xs) ys h k = (h.0, each_append P xs ys h.1 k)
 
@@ -39,7 +39,7 @@ each_drop P (suc n) (x ∷ xs) h = each_drop P n xs h.1
 module _ (hides : ℕ → Bool) where
   -- ---- bytes
 
-  undefined_shown : (n : ℕ) → AreShownBytes hides (replicate n Byte.Undefined)
+  pub undefined_shown : (n : ℕ) → AreShownBytes hides (replicate n Byte.Undefined)
   undefined_shown zero = tt
   undefined_shown (suc n) = (tt, undefined_shown n)
 
@@ -51,7 +51,7 @@ module _ (hides : ℕ → Bool) where
   parts_shown p k zero h = tt
   parts_shown p k (suc n) h = (h, parts_shown p (suc k) n h)
 
-  encode_shown : (n : ℕ) (v : Value) → IsShown hides v → AreShownBytes hides (encode n v)
+  pub encode_shown : (n : ℕ) (v : Value) → IsShown hides v → AreShownBytes hides (encode n v)
   encode_shown n Value.Poison h = undefined_shown n
   encode_shown n (Value.Int x) h = digits_shown n x.bits
   encode_shown n (Value.Ptr p) h = parts_shown p 0 n h

@@ -12,3 +12,10 @@ pub mod SlotRules
 pub mod Left
 pub mod SlotEnvs
 pub mod Entering
+pub mod Way
+pub mod Prices
+pub mod Ledger
+pub mod Beside
+pub mod Between
+pub mod Chosen
+pub mod Ordinary

@@ -1,5 +1,5 @@
 -- What is asked of slots that resumed activations make anew; each part is a consequence of rules by which modules are refused, or of the classes of slots.
-use Rattle.std.specs.Prelude.{◌≡◌, ◌⊎◌, ℕ, max, ◌+◌, Bool, true, List, [], ◌∷◌, Some, Option, IsTrue, IsFalse, slice_get, filter, length}
+use Rattle.std.specs.Prelude.{◌≡◌, ◌⊎◌, ℕ, ◌+◌, Bool, true, List, [], ◌∷◌, Some, Option, IsTrue, IsFalse, slice_get}
 use Rattle.ir_model.specs.Names.{function_at, position_of}
 use Rattle.ir_model.specs.Ty.{Ty, structure}
 use Rattle.ir_model.specs.Layout.{unnamed}
@@ -11,7 +11,8 @@ use Rattle.ir_model.specs.declared.module.Module.{Module}
 use Rattle.ir_model.specs.declared.operand.Arg.{Arg}
 use Rattle.ir_model.specs.declared.operand.Intrinsic.{Intrinsic}
 use Rattle.ir_model.specs.declared.operand.Operand.{Operand}
-use Rattle.ir_paths.specs.Slots.{addresses_of, allocas_of, has_name, local_of}
+use Rattle.ir_paths.specs.Paths.{has_point}
+use Rattle.ir_paths.specs.Slots.{addresses_of, has_name, local_of}
 use Rattle.ir_paths.specs.Windows.{call_operand, end_block, is_call_of}
 use Rattle.ir_paths.specs.declared.point.Point.{Point}
 use Rattle.pass_kept_proof.specs.Crossing.{is_param}
@@ -21,9 +22,10 @@ use Rattle.pass_kept_proof.specs.Needed.{BranchesTo, phis_give}
 use Rattle.pass_kept_proof.specs.SuspendRules.{IsCallAt, KeepsSuspendRules}
 use Rattle.run_step.specs.Step.{AtInstr, AtTerm, fetch, phis_of}
 use Rattle.run_step.specs.Values.{arg_value, index_of, number_at, part_at}
+use Rattle.pass_renewed_proof.specs.Entering.{AreAligned}
 use Rattle.pass_renewed_proof.specs.Renewed.{Flags, Roots}
 use Rattle.pass_renewed_proof.specs.Steps.{given_at}
-use Rattle.frame_classes.specs.Classes.{IsOf}
+use Rattle.frame_classes.specs.Classes.{IsOf, suspends}
 use Rattle.frame_classes.specs.declared.class.SlotClass.{SlotClass}
 use Rattle.rule_slots.specs.Closed.{IsClosed}
 use Rattle.rule_windows.specs.Sets.{IsAfterEnd, RunsOut}
@@ -75,6 +77,8 @@ AreSteady m ty (a ∷ args) = AreSteadyInside m ty args
 
 pub record KeepsSlots (m : Module) (f : Function) (flags : ℕ → Bool) (roots : ℕ → Option ℕ) : Type 0 where
   pub made : (a : ℕ) → IsTrue (flags a) → IsMadeOnce f a
+  -- Y4: the alignment of an alloca is one
+  pub aligned : AreAligned flags f
   -- the classes: what is flagged is local
   pub is_local : (a : ℕ) → IsTrue (flags a) → IsOf f a SlotClass.Local
   -- the table has the addresses of flagged slots
@@ -109,10 +113,5 @@ pub record KeepsAllSlots (m : Module) (keep : Keep) (flags : Flags) (roots : Roo
   pub each : (func : ℕ) → KeepsSlots m (function_at m func) (flags func) (roots func)
   -- slots of coroutines alone are made anew
   pub coroutines : (func a : ℕ) → IsTrue (flags func a) → (function_at m func).coroutine ≡ true
-  -- where an address in a slot is handed on, so is that of the slot
-  pub handed : (func a : ℕ) (s : Point) → IsTrue (flags func a) → IsTrue (keep func s a)
-
--- how many steps a resume takes at most: one, and one for each slot that it makes anew
-abbrev pub renewing_steps : Flags → List Function → ℕ
-renewing_steps flags [] = 1
-renewing_steps flags (f ∷ fs) = max (1 + length (filter (flags 0) (allocas_of f))) (renewing_steps (λ func. flags (func + 1)) fs)
+  -- a resume hands on the addresses of the slots
+  pub handed : (func a : ℕ) (s : Point) → IsTrue (flags func a) → IsTrue (has_point (suspends (function_at m func)) s) → IsTrue (keep func s a)

@@ -7,13 +7,19 @@
 //! reads stands there (`read_steps_are_carried`). That is so too where it uses slots that come to stand in blocks of
 //! their own with it (`slot_steps_are_carried`, `places_change`).
 //!
+//! The two runs are related by `IsBeside`, and at all their states by `IsBetween`. The relation holds at the start
+//! (`states_begin_beside`), and ordinary instructions keep it (`ordinary_steps_stay_beside`). Slots that are made
+//! anew leave all as it was (`slots_made_anew_keep_all`), and are paid by the resume (`slots_made_anew_are_paid`).
+//! What a resumed activation may not use it is barred from by the path that it came
+//! (`resumed_activations_are_barred`, `left_activations_use_no_live_slot`).
+//!
 //! What a resume hands on is right once the slots are made anew (`slots_are_made_anew`, `slot_values_stand`,
 //! `steady_distances_are_kept`). A local slot that was used before a suspend isn't used behind it without a start
 //! between (`local_slots_are_parted`), also by activations that have left (`windows_keep_slots`,
 //! `left_points_go_on`).
 #![tactic(auto)]
 
-ghost use Rattle.std.specs.Prelude.{ℕ, Bool, true, false, List, length, slice_get, Some, None, ◌≡◌, ◌≢◌, ◌≤◌, ◌<◌, ◌^◌, ◌++◌, ◌∷◌, [], ◌==◌, IsTrue, if◌then◌else◌, ◌+◌, ◌⊎◌, Option};
+ghost use Rattle.std.specs.Prelude.{ℕ, ℤ, Bool, true, false, List, length, slice_get, Some, None, ◌≡◌, ◌≢◌, ◌≤◌, ◌<◌, ◌^◌, ◌++◌, ◌∷◌, [], ◌==◌, IsTrue, if◌then◌else◌, ◌+◌, ◌⊎◌, Option};
 ghost use Rattle.run_memory.specs.Memory.{end, fresh, is_live, killed_block, same_kind, start, with_block};
 ghost use Rattle.run_memory.specs.declared.block.Kind.{Kind as TheKind};
 ghost use Rattle.run_laws.specs.memory.Standing.{blank_block};
@@ -25,7 +31,7 @@ ghost use Rattle.run_laws.specs.embedded.Making.{whole_home};
 ghost use Rattle.run_memory.specs.Memory.{owner_rights};
 ghost use Rattle.run_laws.specs.memory.Pointers.{Home, home_of};
 ghost use Rattle.pass_renewed_proof.specs.Steps.{AreOver, AreSet, GoesOver, IsRead, given_at};
-ghost use Rattle.run_step.specs.Step.{AtInstr, Context, Fetched, Work, action_of, fetch, is_alignment};
+ghost use Rattle.run_step.specs.Step.{AtInstr, Context, Done, Fetched, Work, action_of, fetch, is_alignment};
 ghost use Rattle.pass_renewed_proof.specs.Muted.{IsShownOperand, muted_action, muted_work};
 ghost use Rattle.pass_renewed_proof.specs.Shown.{AreShownBlocks, IsShownAction, spread_at};
 ghost use Rattle.run_laws.specs.changed.Changed.{Each, operands_at};
@@ -39,7 +45,8 @@ ghost use Rattle.run_step.specs.Values.{Env, arg_value, distance, element, indic
 ghost use Rattle.run_memory.specs.declared.pointer.Value.{Value as TheValue};
 ghost use Rattle.pass_kept_proof.specs.Kept.{kept};
 ghost use Rattle.ir_base.specs.declared.outcome.Outcome.{Outcome as TheOutcome};
-ghost use Rattle.run_source.specs.State.{function_of};
+ghost use Rattle.run_source.specs.State.{function_of, settled, work_of};
+ghost use Rattle.ir_model.specs.Names.{function_at};
 ghost use Rattle.run_source.specs.declared.state.Mode.{Mode as TheMode};
 ghost use Rattle.run_source.specs.declared.state.State.{State as TheState};
 ghost use Rattle.pass_renewed_proof.specs.Entering.{Anew, AreNext, is_named, made_all, made_anew};
@@ -47,13 +54,13 @@ ghost use Rattle.run_agreement.specs.Machines.{iterate};
 ghost use Rattle.pass_renewed_proof.specs.Renewed.{RenewedGiven, renew_after, renewed_from, renewed_step, renewed_values};
 ghost use Rattle.pass_renewed_proof.specs.SlotEnvs.{AreMadeAnew, AreRoots, AreSlotEnvs};
 ghost use Rattle.pass_renewed_proof.specs.SlotRules.{AreSteady, IsMarkerAt};
-ghost use Rattle.run_laws.specs.embedded.Related.{IsSameDistance};
+ghost use Rattle.run_laws.specs.embedded.Related.{HasNoSlot, IsSameDistance};
 ghost use Rattle.ir_model.specs.declared.instr.Instr.{Instr as TheInstr};
 ghost use Rattle.ir_model.specs.declared.operand.Intrinsic.{Intrinsic as TheIntrinsic};
 ghost use Rattle.ir_paths.specs.Facts.{IsWindow};
 ghost use Rattle.ir_paths.specs.declared.point.Window.{Window as TheWindow};
 ghost use Rattle.pass_kept_proof.specs.SuspendRules.{IsCallAt};
-ghost use Rattle.pass_renewed_proof.specs.Left.{IsLeftAt};
+ghost use Rattle.pass_renewed_proof.specs.Left.{IsLeftBy, behind};
 ghost use Rattle.rule_slots.specs.Closed.{IsClosed};
 ghost use Rattle.ir_paths.specs.Paths.{Leads, entry_point, has_point};
 ghost use Rattle.ir_paths.specs.Slots.{is_escaped};
@@ -66,14 +73,34 @@ ghost use Rattle.frame_classes.specs.Classes.{NeedsFrame, parting, suspends};
 ghost use Rattle.frame_slots.specs.Spots.{IsBehind, IsStart, Spot};
 ghost use Rattle.rule_windows.specs.Sets.{IsAfterEnd};
 ghost use Rattle.rule_windows.specs.Windows.{own_edges};
+ghost use Rattle.frame_slots.specs.Spots.{At, IsUse, point_at};
+ghost use Rattle.frame_slots.specs.Uses.{ends_of};
+ghost use Rattle.ir_base.specs.declared.outcome.Word.{Word};
+ghost use Rattle.ir_model.specs.declared.module.Block.{Block as TheBlock};
+ghost use Rattle.ir_paths.specs.Paths.{nexts};
+ghost use Rattle.pass_kept_proof.specs.Kept.{Keep};
+ghost use Rattle.pass_kept_proof.specs.SuspendRules.{IsSwitched};
+ghost use Rattle.pass_renewed_proof.specs.Ahead.{HasAwayUse, IsNoStart};
+ghost use Rattle.pass_renewed_proof.specs.Beside.{AreOutdone, HasLeftSuspended, IsBeside};
+ghost use Rattle.pass_renewed_proof.specs.Ordinary.{IsOrdinaryInstr};
+ghost use Rattle.pass_renewed_proof.specs.Entering.{AreAligned, anew_in, price_of_all};
+ghost use Rattle.pass_renewed_proof.specs.Ledger.{AreEntered, AreSmallGlobals, Ledger};
+ghost use Rattle.pass_renewed_proof.specs.Prices.{Prices, renewed_price, slots_from};
+ghost use Rattle.pass_renewed_proof.specs.Renewed.{Flags, Roots};
+ghost use Rattle.pass_renewed_proof.specs.SlotRules.{KeepsAllSlots, KeepsSlots};
+ghost use Rattle.pass_renewed_proof.specs.Way.{IsBarred, IsResumedAt, WasAlive};
+ghost use Rattle.run_agreement.specs.Costs.{cost_from};
+ghost use Rattle.run_source.specs.Source.{first_state};
 ghost use Rattle.pass_renewed_proof.specs.LocalSlot as local_slot;
 ghost use Rattle.pass_renewed_proof.specs.RestartedSlots as restarted_slots;
 ghost use Rattle.pass_renewed_proof.specs.EscapedRestart as escaped_restart;
 
-/// Each worked run comes to the events, the outcome and the count of allocator calls of the source.
+/// Each worked run comes to the events, the outcome and the count of allocator calls of the source. One costs as much
+/// as the run before it in which the resume pays for the slots.
 #[tactic(none)]
 pub fn renewed_runs()
     ensures local_slot { local_slot.Computes }
+    ensures paid { local_slot.IsPaid }
     ensures restarted_slots { restarted_slots.Computes }
     ensures escaped_restart { escaped_restart.Computes }
 {}
@@ -83,9 +110,9 @@ pub fn ended_blocks_are_not_seen()
     ensures { (hides : ℕ → Bool) (c : Context) (w : Work) (here : Fetched) → hides (length w.world.memory) ≡ false → Each (IsShownOperand hides c w) (operands_at here) → action_of c (muted_work hides w) here ≡ muted_action hides (action_of c w here) }
 {}
 
-/// An ordinary step spreads no pointer into some blocks, where none of the operands that it may spread is one.
+/// An ordinary step spreads no pointer into some blocks, where none of the operands that it may spread is one, and where the block that it makes, if any, isn't among them.
 pub fn pointers_are_not_spread()
-    ensures { (hides : ℕ → Bool) (c : Context) (w : Work) (here : Fetched) → hides (length w.world.memory) ≡ false → AreShownBlocks hides w.world.memory → Each (IsShownOperand hides c w) (spread_at here) → IsShownAction hides w.values (action_of c w here) }
+    ensures { (hides : ℕ → Bool) (c : Context) (w : Work) (here : Fetched) → ((HasNoSlot here → ⊥) → hides (length w.world.memory) ≡ false) → AreShownBlocks hides w.world.memory → Each (IsShownOperand hides c w) (spread_at here) → IsShownAction hides w.values (action_of c w here) }
 {}
 
 /// An ordinary step of the source that isn't undefined is made by the target in the same way, where no pointer is about into blocks that are hidden, and
@@ -132,11 +159,11 @@ pub fn steady_distances_are_kept()
 
 /// An activation that has left is between the save and its suspend until it comes to the suspend, to the end and behind it; what it uses there stands in a window or after the end.
 pub fn left_points_go_on()
-    ensures saved { (f : Function) (k s : Point) → IsCallAt TheIntrinsic.CoroSave f k → suspend_of f k ≡ Some s → Leads f [] k s → IsLeftAt f (record { block = k.block; at = k.at + 1 }) }
-    ensures goes_on { (f : Function) (k s : Point) → IsCallAt TheIntrinsic.CoroSave f k → suspend_of f k ≡ Some s → (p : Point) (i : TheInstr) → fetch f p.block p.at ≡ AtInstr i → IsInWindow f k s p → IsLeftAt f (record { block = p.block; at = p.at + 1 }) }
-    ensures branches { (f : Function) (k s : Point) → IsCallAt TheIntrinsic.CoroSave f k → suspend_of f k ≡ Some s → (w : TheWindow) → w.save ≡ k → w.suspend ≡ s → IsWindow f w → (p q : Point) → IsInWindow f k s p → leaves p q w ≡ false → IsLeftAt f q }
+    ensures saved { (f : Function) (k s : Point) → IsCallAt TheIntrinsic.CoroSave f k → suspend_of f k ≡ Some s → Leads f [] k s → IsLeftBy f s (behind k) }
+    ensures goes_on { (f : Function) (k s : Point) → IsCallAt TheIntrinsic.CoroSave f k → suspend_of f k ≡ Some s → (p : Point) (i : TheInstr) → fetch f p.block p.at ≡ AtInstr i → IsInWindow f k s p → IsLeftBy f s (behind p) }
+    ensures branches { (f : Function) (k s : Point) → IsCallAt TheIntrinsic.CoroSave f k → suspend_of f k ≡ Some s → (w : TheWindow) → w.save ≡ k → w.suspend ≡ s → IsWindow f w → (p q : Point) → IsInWindow f k s p → leaves p q w ≡ false → IsLeftBy f s q }
     ensures ended { (f : Function) (p : Point) → IsCallAt TheIntrinsic.CoroEnd f p → IsAfterEnd f (record { block = p.block; at = p.at + 1 }) }
-    ensures closed { (f : Function) (p : Point) → (IsCallAt TheIntrinsic.CoroSuspend f p → ⊥) → (IsBehindSuspendCall f p.block p.at → ⊥) → (p.block ≡ end_block f → p.at ≡ 0 → ⊥) → IsLeftAt f p → IsClosed f p }
+    ensures closed { (f : Function) (s p : Point) → IsCallAt TheIntrinsic.CoroSuspend f s → (IsCallAt TheIntrinsic.CoroSuspend f p → ⊥) → (IsBehindSuspendCall f p.block p.at → ⊥) → (p.block ≡ end_block f → p.at ≡ 0 → ⊥) → IsLeftBy f s p → IsClosed f p }
 {}
 
 /// Where no marker of a slot stands in the window of a save, what was used before the save or in the window was used before the suspend, and what may be alive there may be alive at the suspend.
@@ -159,4 +186,91 @@ pub fn slots_are_made_anew()
     ensures anew { (g : RenewedGiven) (from label : ℕ) (xs : List Anew) (s : TheState) (v : ℕ) → is_named xs v ≡ true → v < length s.top.values → (c : ℕ) × (value_in (made_all g from label s xs).top.values v ≡ pointer_to c) }
     ensures others { (g : RenewedGiven) (from label : ℕ) (xs : List Anew) (s : TheState) (v : ℕ) → is_named xs v ≡ false → value_in (made_all g from label s xs).top.values v ≡ value_in s.top.values v }
     ensures room { (g : RenewedGiven) (from label : ℕ) (xs : List Anew) (s : TheState) → length (made_all g from label s xs).top.values ≡ length s.top.values }
+{}
+
+/// A resumed activation stands behind its suspend until it comes to the end block. Where a slot was used before that
+/// suspend, it is barred from uses of it, and of an escaped slot from starts too, up to a start of one that isn't
+/// escaped. So it is where the slot has a use in a window or after the end.
+pub fn resumed_activations_are_barred()
+    ensures first { (f : Function) (slot : ℕ) (s r : Point) → IsTrue (has_point (suspends f) s)
+        → IsTrue (has_point (own_edges f s) r) → WasUsed f slot s → IsBarred f slot r }
+    ensures resumed { (f : Function) (s r : Point) → IsTrue (has_point (suspends f) s)
+        → IsTrue (has_point (own_edges f s) r) → IsResumedAt f r }
+    ensures more { (f : Function) (slot : ℕ) (p q : Point) → IsBarred f slot p → IsNoStart f slot p
+        → (p.block ≡ end_block f → ⊥) → has_point (nexts f p) q ≡ true → IsBarred f slot q }
+    ensures goes_on { (f : Function) (p q : Point) → IsResumedAt f p → (p.block ≡ end_block f → ⊥)
+        → has_point (nexts f p) q ≡ true → IsResumedAt f q }
+    ensures unused { (f : Function) (slot : ℕ) → (¬ NeedsFrame f slot) → (p : Point) (spot : Spot)
+        → IsBarred f slot p → point_at f spot ≡ p → (p.block ≡ end_block f → ⊥) → IsUse f slot spot → ⊥ }
+    ensures unstarted { (f : Function) (slot : ℕ) → (¬ NeedsFrame f slot) → IsTrue (is_escaped f slot) → (p : Point)
+        → IsBarred f slot p → (p.block ≡ end_block f → ⊥) → IsStart f slot (At p) → ⊥ }
+    ensures away { (f : Function) (slot : ℕ) → (¬ NeedsFrame f slot) → HasAwayUse f slot → (p : Point) (spot : Spot)
+        → IsResumedAt f p → point_at f spot ≡ p → (p.block ≡ end_block f → ⊥) → IsUse f slot spot → ⊥ }
+    ensures away_unstarted { (f : Function) (slot : ℕ) → (¬ NeedsFrame f slot) → IsTrue (is_escaped f slot)
+        → HasAwayUse f slot → (p : Point) → IsResumedAt f p → (p.block ≡ end_block f → ⊥)
+        → IsStart f slot (At p) → ⊥ }
+    ensures used { (f : Function) (slot : ℕ)
+        → ((s : Point) → IsCallAt TheIntrinsic.CoroSuspend f s → IsSwitched f s) → (p : Point) → IsBarred f slot p
+        → WasUsed f slot p }
+{}
+
+/// A slot that may be alive stays so along an edge with no end. An escaped one that may have been alive where an
+/// activation left isn't used where that activation may be.
+pub fn left_activations_use_no_live_slot()
+    ensures more { (f : Function) (slot : ℕ) (p q : Point) → has_point (nexts f p) q ≡ true
+        → has_point (ends_of f slot) p ≡ false → MayBeAlive f slot p → MayBeAlive f slot q }
+    ensures unused { (f : Function) (slot : ℕ) → (¬ NeedsFrame f slot) → IsTrue (is_escaped f slot) → (p : Point)
+        → WasAlive f slot p → (IsCallAt TheIntrinsic.CoroSuspend f p → ⊥)
+        → ((s : Point) → IsCallAt TheIntrinsic.CoroSuspend f s → p ≡ behind s → ⊥) → (p.block ≡ end_block f → p.at ≡ 0 → ⊥)
+        → IsUse f slot (At p) → ⊥ }
+{}
+
+/// The flagged allocas of an entry block are those that a resumed activation executes, and together they cost what
+/// their places do. So a resume pays for them in the meaning before.
+pub fn slots_made_anew_are_paid()
+    ensures slots { (flags : ℕ → Bool) (f : Function) (b : TheBlock) → slice_get f.blocks 0 ≡ Some b
+        → AreAligned flags f → AreNext flags f 0 (anew_in flags 0 b.instrs) }
+    ensures cost { (p : Prices) (g : RenewedGiven) (from label : ℕ) (xs : List Anew) (at : ℕ) (s : TheState)
+        → s.outcome ≡ TheOutcome.Running → AreNext (g.flags s.top.func) (function_of g.given s) at xs
+        → cost_from (renewed_step g) (renewed_price p g.given) (length xs)
+        (renew_after g s from label (renewed_from (g.flags s.top.func) (function_of g.given s) at))
+        ≡ price_of_all (p.slot s.top.func) xs }
+    ensures paid { (price : ℕ → ℕ) (flags : ℕ → Bool) (at : ℕ) (instrs : List TheInstr)
+        → slots_from price flags at instrs ≡ price_of_all price (anew_in flags at instrs) }
+{}
+
+/// The relation of the two meanings holds at the start, where globals are small.
+pub fn states_begin_beside()
+    ensures { (m : Module) (keep : Keep) (flags : Flags) (roots : Roots) → KeepsAllSlots m keep flags roots
+        → (entry : ℕ) (args : List Word) → AreSmallGlobals m
+        → IsBeside m flags roots (first_state m entry args) (first_state m entry args) }
+{}
+
+/// An ordinary instruction that is done in the first run is done in the second, and leads from states beside each
+/// other to such states. No activation below may go on in the topmost one's instance where that one hasn't left.
+pub fn ordinary_steps_stay_beside()
+    ensures { (m : Module) (flags : Flags) (roots : Roots)
+        → ((func : ℕ) → KeepsSlots m (function_at m func) (flags func) (roots func)) → (answers : List ℤ)
+        (s t : TheState) → IsBeside m flags roots s t → (i : TheInstr) → IsOrdinaryInstr m roots s.top i
+        → AreOutdone s.instances s.top s.below → HasLeftSuspended s.instances s.top → (v : Work)
+        → action_of (record { code = m; answers = answers; rights = owner_rights; function = function_at m s.top.func })
+        (work_of s) (AtInstr i) ≡ Done v
+        → (y : Work) × (action_of (record {
+          code = m;
+          answers = answers;
+          rights = owner_rights;
+          function = function_at m s.top.func;
+        }) (work_of t) (AtInstr i) ≡ Done y)
+        × IsBeside m flags roots (settled s v) (settled t y) }
+{}
+
+/// Where a resumed activation makes its slots anew, all blocks stand where they stood, and the same ones are hidden: the
+/// second run has the activation's own blocks more.
+pub fn slots_made_anew_keep_all()
+    ensures { (m : Module) (memory : List Block) (depth : ℕ) (tenant : ℕ → Option ℕ) (g : RenewedGiven)
+        (from label : ℕ) (l : Ledger) (s : TheState) (xs : List Anew)
+        → AreStanding l.homes (muted l.hides memory) s.world.memory → AreEntered m l memory s.world.memory
+        → (k : Ledger) × (k.homes ≡ l.homes) × (k.hides ≡ l.hides) × (k.seats ≡ l.seats)
+        × AreEntered m k memory (made_all g from label s xs).world.memory
+        × AreStanding k.homes (muted k.hides memory) (made_all g from label s xs).world.memory }
 {}

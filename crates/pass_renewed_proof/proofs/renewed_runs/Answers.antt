@@ -11,3 +11,6 @@ returns-clause-restarted_slots c = restarted_slots.computes
 
 pub returns-clause-escaped_restart : goal.returns-clause-escaped_restart
 returns-clause-escaped_restart c = escaped_restart.computes
+
+pub returns-clause-paid : goal.returns-clause-paid
+returns-clause-paid c = local_slot.paid

@@ -1,0 +1,231 @@
+-- What a step doesn't touch stays beside what it was beside.
+use Rattle.std.proofs.Common.{◌≡◌, ℕ, suc, ◌+◌, ◌⊎◌, inl, inr, Bool, true, List, [], ◌∷◌, length, Option, Some, None}
+use Rattle.std.proofs.Common.{refl, sym, ap, ◌∙◌, subst, ⊎_elim, arith}
+use Rattle.std.specs.Prelude.{slice_get, IsTrue}
+use Rattle.std.specs.List.{Contains}
+use Rattle.ir_model.specs.declared.module.Function.{Function}
+use Rattle.ir_model.specs.declared.module.Module.{Module}
+use Rattle.ir_paths.specs.declared.point.Point.{Point}
+use Rattle.run_laws.proofs.memory.Homes.{value_on}
+use Rattle.run_laws.specs.memory.Pointers.{Extends, Home, home_of}
+use Rattle.run_memory.specs.declared.block.MemoryBlock.{MemoryBlock}
+use Rattle.run_source.specs.declared.state.Activation.{Activation}
+use Rattle.run_source.specs.declared.state.Instance.{Instance}
+use Rattle.run_source.specs.declared.state.Status.{Status}
+use Rattle.run_source.specs.State.{is_suspended}
+use Rattle.run_step.specs.Values.{Env}
+use Rattle.run_step.specs.declared.world.Slot.{Slot}
+use Rattle.pass_renewed_proof.specs.Beside.{AreBelow, AreInstancesBeside, AreSlots, Both, First, GoesOn}
+use Rattle.pass_renewed_proof.specs.Beside.{IsActivationBeside, IsInstanceBeside, IsKeptSlot, IsOverOf, IsOwn}
+use Rattle.pass_renewed_proof.specs.Beside.{IsSeated, IsSlotBeside, IsSlotOf, IsStatusBeside, IsTold, MayStand}
+use Rattle.pass_renewed_proof.specs.Beside.{NoSlots, Second}
+use Rattle.pass_renewed_proof.specs.Ledger.{IsFresh, IsHomeOf, Ledger, LivesIn, Seat}
+use Rattle.pass_renewed_proof.specs.Places.{IsReady}
+use Rattle.pass_renewed_proof.specs.Renewed.{Flags, Roots}
+use Rattle.pass_renewed_proof.specs.SlotEnvs.{AreSlotEnvs}
+
+-- ---- values where more homes are known
+
+pub envs_on : (homes more : List Home) (roots : ℕ → Option ℕ) (env other : Env) → Extends homes more
+    → AreSlotEnvs homes roots env other → AreSlotEnvs more roots env other
+envs_on homes more roots env other ext e = record {
+  plain = λ v h. value_on homes more ext _ _ (e.plain v h);
+  rooted = e.rooted;
+  room = e.room;
+}
+
+-- ---- one slot
+
+-- of a slot of the first memory: what is said of it still is
+pub record IsSlotKept (l k : Ledger) (m n : List MemoryBlock) (b : ℕ) : Type 0 where
+  pub home : home_of k.homes b ≡ home_of l.homes b
+  pub hides : k.hides b ≡ l.hides b
+  pub fresh : IsFresh l m b → IsFresh k n b
+  pub lives : LivesIn n b → LivesIn m b
+
+module _ (l k : Ledger) (m n : List MemoryBlock) (b : ℕ) (kept : IsSlotKept l k m n b) where
+  home_kept : (c : ℕ) → IsHomeOf l b c → IsHomeOf k b c
+  home_kept c h = record { is_seen = h.is_seen; home = kept.home ∙ h.home; shown = kept.hides ∙ h.shown }
+
+  pub stand_kept : (c : ℕ) → MayStand l m b c → MayStand k n b c
+  stand_kept c (inl f) = inl (kept.fresh f)
+  stand_kept c (inr h) = inr (home_kept c h)
+
+  pub told_kept : (f : Function) (slot : ℕ) (p : Point) → IsTold l m f slot b p → IsTold k n f slot b p
+  told_kept f slot p (inl h) = inl (kept.fresh h)
+  told_kept f slot p (inr h) = inr h
+
+-- ---- activations and instances that the step doesn't touch
+
+-- the ledger and the memories before a step and behind it
+pub record IsCarried (l k : Ledger) (m n target after : List MemoryBlock) : Type 0 where
+  pub extends : Extends l.homes k.homes
+  pub seats : (b : ℕ) (seat : Seat) → l.seats b ≡ Some seat → k.seats b ≡ Some seat
+  pub unseated : (b : ℕ) → (home_of l.homes b).is_seen ≡ true → l.seats b ≡ None → k.seats b ≡ None
+  pub owners : (c depth : ℕ) → l.owners c ≡ Some depth → k.owners c ≡ Some depth
+  pub tenants : (c depth : ℕ) → l.owners c ≡ Some depth → k.tenants c ≡ l.tenants c
+  pub ready : (b c depth : ℕ) → l.owners c ≡ Some depth → ((x : MemoryBlock) → slice_get m b ≡ Some x
+      → IsReady target c x) → (x : MemoryBlock) → slice_get n b ≡ Some x → IsReady after c x
+
+-- the instances behind a step: an activation that may go on might before, and slots are still those of it
+pub record AreInstancesOn (xs ys : List Instance) (depth : ℕ) (a : Activation) : Type 0 where
+  pub goes_on : GoesOn ys depth a → GoesOn xs depth a
+  pub slots : (slot : Slot) → IsSlotOf xs a slot → IsSlotOf ys a slot
+
+module _ (m : Module) (flags : Flags) (roots : Roots) (l k : Ledger) (xs ys : List Instance) (memory memory' target
+    target' : List MemoryBlock) (c : IsCarried l k memory memory' target target') where
+  pub slot_kept : (depth : ℕ) (a : Activation) (alloca b d : ℕ) → AreInstancesOn xs ys depth a
+      → IsSlotKept l k memory memory' b → IsSlotBeside m l xs memory target depth a alloca b d
+      → IsSlotBeside m k ys memory' target' depth a alloca b d
+  slot_kept depth a alloca b d on kept s = record {
+    slot = on.slots _ s.slot;
+    ramp = s.ramp;
+    seat = c.seats b _ s.seat;
+    depth_is = s.depth_is;
+    owner = c.owners d depth s.owner;
+    tenant = c.tenants d depth s.owner ∙ s.tenant;
+    ready = c.ready b d depth s.owner s.ready;
+    first = λ is goes. stand_kept l k memory memory' b kept d (s.first is (⊎_elim (λ g. inl (on.goes_on g)) (λ h. inr
+        h) goes));
+    resumed = λ is goes. ⊎_elim (λ h. inl (stand_kept l k memory memory' b kept d h)) (λ h. inr h) (s.resumed is
+        (on.goes_on goes));
+    told = λ goes. told_kept l k memory memory' b kept _ _ _ (s.told (on.goes_on goes));
+    alive = λ goes lives. s.alive (on.goes_on goes) (kept.lives lives);
+    gone = λ left lives seen at. s.gone left (kept.lives lives) (ap (λ (q : Home). q.is_seen) (sym kept.home)
+        ∙ seen) (ap (λ (q : Home). q.block) (sym kept.home) ∙ at);
+    away = λ first left escaped away lives. s.away first left escaped away (kept.lives lives);
+  }
+
+  -- ---- lists of slots
+
+  seated_on : (flags : ℕ → Bool) (func : ℕ) (i : Option ℕ) (slot : Slot) → IsSeated l flags func i slot
+      → IsSeated k flags func i slot
+  seated_on flags func i slot s = record { flagged = s.flagged; depth = s.depth; seat = c.seats slot.block _ s.seat }
+
+  own_on : (flags : ℕ → Bool) (depth : ℕ) (env other : Env) (slot : Slot) → IsOwn l flags depth env other slot
+      → IsOwn k flags depth env other slot
+  own_on flags depth env other slot o = record {
+    flagged = o.flagged;
+    owner = c.owners slot.block depth o.owner;
+    address = o.address;
+    tenant = λ b e. o.tenant b (sym (c.tenants slot.block depth o.owner) ∙ e);
+  }
+
+  pub slots_on : (S Z O P : Slot → Type 0) (flags : ℕ → Bool) → ((slot : Slot) → S slot → Z slot) → ((slot : Slot)
+      → O slot → P slot) → (ss ts : List Slot) → AreSlots l S O flags ss ts → AreSlots k Z P flags ss ts
+  slots_on S Z O P flags first second _ _ NoSlots = NoSlots
+  slots_on S Z O P flags first second _ _ (Both alloca b d ss ts off home none rest) =
+      let seen : (home_of l.homes b).is_seen ≡ true = ap (λ (q : Home). q.is_seen) home in
+      Both alloca b d ss ts off (c.extends.each b seen
+      ∙ home) (c.unseated b seen none) (slots_on S Z O P flags first second ss ts rest)
+  slots_on S Z O P flags first second _ _ (First s ss ts is rest) = First s ss ts (first s is) (slots_on S Z O P flags
+      first second ss ts rest)
+  slots_on S Z O P flags first second _ _ (Second t ss ts is rest) = Second t ss ts (second t is) (slots_on S Z O P
+      flags first second ss ts rest)
+
+  -- ---- activations
+
+  -- what is said of each slot of an activation is said behind the step
+  pub record IsActivationCarried (depth : ℕ) (a : Activation) : Type 0 where
+    pub over : IsOverOf xs a → IsOverOf ys a
+    pub slots : (alloca b d : ℕ) → IsTrue (flags a.func alloca)
+        → IsSlotBeside m l xs memory target depth a alloca b d → IsSlotBeside m k ys memory' target' depth a alloca b d
+
+  pub activation_kept : (depth : ℕ) (a b : Activation) → IsActivationCarried depth a
+      → IsActivationBeside m flags roots l xs memory target depth a b
+      → IsActivationBeside m flags roots k ys memory' target' depth a b
+  activation_kept depth a b on h = record {
+    values = h.values;
+    slots = h.slots;
+    is = h.is;
+    envs = envs_on l.homes k.homes (roots a.func) a.values h.values c.extends h.envs;
+    listed = slots_on _ _ _ _ (flags a.func) (seated_on (flags a.func) a.func None) (own_on (flags a.func) depth
+        a.values h.values) a.slots h.slots h.listed;
+    each = λ alloca b d flagged at there. on.slots alloca b d flagged (h.each alloca b d flagged at there);
+    modes = h.modes;
+    came = h.came;
+    begun = λ some left. ⊎_elim (λ r. inl r) (λ o. inr (on.over o)) (h.begun some left);
+    begins = h.begins;
+    left = h.left;
+  }
+
+  abbrev pub AreBelowCarried : List Activation → Type 0
+  AreBelowCarried [] = Unit {0}
+  AreBelowCarried (a ∷ below) = IsActivationCarried (length below) a × AreBelowCarried below
+
+  pub below_kept : (name : Option ℕ) (as' bs : List Activation) → AreBelowCarried as'
+      → AreBelow m flags roots l xs memory target name as' bs → AreBelow m flags roots k ys memory' target' name as' bs
+  below_kept name [] [] kept h = tt
+  below_kept name [] (b ∷ bs) kept h = absurd h
+  below_kept name (a ∷ as') [] kept h = absurd h
+  below_kept name (a ∷ as') (b ∷ bs) kept h = (
+    activation_kept (length as') a b kept.0 h.0,
+    h.1,
+    below_kept a.result as' bs kept.1 h.2,
+  )
+
+  -- ---- instances
+
+  pub kept_slot_on : (x : Instance) (s : Point) (alloca b : ℕ) → IsSlotKept l k memory memory' b
+      → IsKeptSlot m l memory x s alloca b → IsKeptSlot m k memory' x s alloca b
+  kept_slot_on x s alloca b kept h = record {
+    slot = h.slot;
+    told = told_kept l k memory memory' b kept _ _ _ h.told;
+    alive = λ lives. h.alive (kept.lives lives);
+    gone = λ lives. ap (λ (q : Home). q.is_seen) kept.home ∙ h.gone (kept.lives lives);
+  }
+
+  -- what is said of each slot of an instance is said behind the step
+  pub record IsInstanceCarried (x : Instance) : Type 0 where
+    pub slots : (s : Point) (alloca b : ℕ) → is_suspended x.status ≡ true → IsTrue (flags x.coroutine alloca)
+        → IsKeptSlot m l memory x s alloca b → IsKeptSlot m k memory' x s alloca b
+    pub lives : (slot : Slot) → Contains x.slots slot → IsTrue (flags x.coroutine slot.alloca)
+        → LivesIn memory' slot.block → LivesIn memory slot.block
+
+  status_kept : (x : Instance) (s t : Status) → x.status ≡ s → IsInstanceCarried x
+      → IsStatusBeside m flags roots l memory x s t → IsStatusBeside m flags roots k memory' x s t
+  status_kept x Status.Running t is on h = h
+  status_kept x (Status.Suspended s env) t is on h = (
+    h.0,
+    h.1,
+    record {
+      is_call = h.2.is_call;
+      runs_out = h.2.runs_out;
+      envs = envs_on l.homes k.homes (roots x.coroutine) env h.0 c.extends h.2.envs;
+      each = λ alloca b flagged at. on.slots s alloca b (ap is_suspended is) flagged (h.2.each alloca b flagged at);
+    },
+  )
+  status_kept x Status.Finished t is on h = h
+
+  pub instance_kept : (i : ℕ) (x y : Instance) → IsInstanceCarried x → IsInstanceBeside m flags roots l memory i x y
+      → IsInstanceBeside m flags roots k memory' i x y
+  instance_kept i x y on h =
+      let seen : (home_of l.homes x.block).is_seen ≡ true = ap (λ (q : Home). q.is_seen) h.home in
+      record {
+        block = h.block;
+        slots = h.slots;
+        status = h.status;
+        is = h.is;
+        home = c.extends.each x.block seen ∙ h.home;
+        unseated = c.unseated x.block seen h.unseated;
+        start = h.start;
+        listed = slots_on _ _ _ _ (flags x.coroutine) (seated_on (flags x.coroutine) x.coroutine (Some i)) (λ slot o.
+            o) x.slots h.slots h.listed;
+        statuses = status_kept x x.status h.status refl on h.statuses;
+        over = λ e slot is flagged lives. h.over e slot is flagged (on.lives slot is flagged lives);
+      }
+
+  -- of the instances from a number on, by what is said of their slots
+  pub instances_kept : (i : ℕ) (zs ws : List Instance) → ((j : ℕ) (x y : Instance) → slice_get zs j ≡ Some x
+      → IsInstanceBeside m flags roots l memory (i + j) x y → IsInstanceCarried x)
+      → AreInstancesBeside m flags roots l memory i zs ws → AreInstancesBeside m flags roots k memory' i zs ws
+  instances_kept i [] [] on h = tt
+  instances_kept i [] (w ∷ ws) on h = absurd h
+  instances_kept i (z ∷ zs) [] on h = absurd h
+  instances_kept i (z ∷ zs) (w ∷ ws) on h =
+      let e : i + 0 ≡ i = omega arith in (
+        instance_kept i z w (on 0 z w refl (subst (λ n. IsInstanceBeside m flags roots l memory n z w) (sym e) h.0))
+            h.0,
+        instances_kept (i + 1) zs ws (λ j x y at is. let k : (i + 1) + j ≡ i + suc j = omega arith in on (suc j) x y
+            at (subst (λ n. IsInstanceBeside m flags roots l memory n x y) k is)) h.1,
+      )

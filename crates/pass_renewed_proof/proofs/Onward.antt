@@ -1,0 +1,262 @@
+-- What is said of an activation's slots goes on along an edge on which no marker stands.
+use Rattle.std.proofs.Common.{◌≡◌, ℕ, ◌⊎◌, inl, inr, Bool, true, false, List, refl, sym, ap, ◌∙◌, subst, ⊎_elim}
+use Rattle.std.specs.Prelude.{IsTrue}
+use Rattle.ir_model.specs.Names.{function_at}
+use Rattle.ir_model.specs.declared.instr.Instr.{Instr}
+use Rattle.ir_model.specs.declared.module.Function.{Function}
+use Rattle.ir_model.specs.declared.module.Module.{Module}
+use Rattle.ir_model.specs.declared.operand.Callee.{Callee}
+use Rattle.ir_model.specs.declared.operand.Intrinsic.{Intrinsic}
+use Rattle.ir_paths.specs.Paths.{has_point, nexts}
+use Rattle.ir_paths.specs.Windows.{end_block, is_call_of}
+use Rattle.ir_paths.specs.declared.point.Point.{Point}
+use Rattle.frame_classes.specs.Classes.{suspends}
+use Rattle.frame_slots.proofs.Points.{where_sound}
+use Rattle.frame_slots.specs.Spots.{At, IsUse}
+use Rattle.frame_slots.specs.Uses.{ends_of}
+use Rattle.pass_kept_proof.specs.SuspendRules.{IsCallAt}
+use Rattle.run_laws.specs.embedded.Related.{HasNoSlot}
+use Rattle.run_laws.specs.memory.Pointers.{Home, home_of}
+use Rattle.run_memory.specs.declared.block.MemoryBlock.{MemoryBlock}
+use Rattle.run_source.specs.declared.state.Activation.{Activation}
+use Rattle.run_source.specs.declared.state.Instance.{Instance}
+use Rattle.run_source.specs.declared.state.Mode.{Mode}
+use Rattle.run_step.specs.Step.{AtInstr, fetch}
+use Rattle.run_step.specs.Values.{Env, pointer_to, value_in}
+use Rattle.run_step.specs.declared.world.Slot.{Slot}
+use Rattle.pass_renewed_proof.proofs.Ahead.{leads_more, next_edge, used_at, used_on}
+use Rattle.pass_renewed_proof.proofs.Carried.{IsCarried, IsSlotKept, slots_on, stand_kept}
+use Rattle.pass_renewed_proof.proofs.History.{fetch_is, no_marker, no_start}
+use Rattle.pass_renewed_proof.proofs.Left.{after_edge, window_next}
+use Rattle.pass_renewed_proof.proofs.Way.{alive_more, barred_more, resumed_more, same_instr, suspend_called}
+use Rattle.pass_renewed_proof.specs.Ahead.{IsBehindSuspendCall, IsNoStart, WasUsed}
+use Rattle.pass_renewed_proof.specs.Beside.{Begun, Early, GoesOn, IsActivationBeside, IsAliveAt, IsOwn, IsSlotBeside}
+use Rattle.pass_renewed_proof.specs.Beside.{IsSlotOf, Leaves, NotLeft, place_in}
+use Rattle.pass_renewed_proof.specs.Ordinary.{IsOrdinary}
+use Rattle.pass_renewed_proof.specs.Ledger.{IsHomeOf, Ledger, LivesIn}
+use Rattle.pass_renewed_proof.specs.Left.{AtEnd, AtSuspend, AtSwitch, Behind, Between, IsLeftBy, behind}
+use Rattle.pass_renewed_proof.specs.Renewed.{Flags, Roots}
+use Rattle.pass_renewed_proof.specs.SlotEnvs.{AreSlotEnvs}
+use Rattle.rule_windows.specs.Points.{ends}
+use Rattle.rule_windows.specs.Sets.{RunsOut}
+use Rattle.pass_renewed_proof.specs.Way.{WasAlive}
+
+-- ---- an instruction that isn't a marker
+
+not_started : (i : Instr) → HasNoSlot (AtInstr i) → is_call_of Intrinsic.LifetimeStart i ≡ true → ⊥
+not_started (Instr.Call r must_tail ty (Callee.Intrinsic Intrinsic.LifetimeStart) args) n h = n
+not_started _ n h = absurd (cc)
+
+not_ended : (i : Instr) → HasNoSlot (AtInstr i) → is_call_of Intrinsic.LifetimeEnd i ≡ true → ⊥
+not_ended (Instr.Call r must_tail ty (Callee.Intrinsic Intrinsic.LifetimeEnd) args) n h = n
+not_ended _ n h = absurd (cc)
+
+pub no_start_here : (f : Function) (slot : ℕ) (p : Point) (i : Instr) → fetch f p.block p.at ≡ AtInstr i
+    → HasNoSlot (AtInstr i) → IsNoStart f slot p
+no_start_here f slot p i e n = no_start f slot p (λ x. not_started i n (subst (λ j. is_call_of Intrinsic.LifetimeStart
+    j ≡ true) (same_instr x.instr i (sym x.stands ∙ e)) x.is))
+
+pub no_end_here : (f : Function) (slot : ℕ) (p : Point) (i : Instr) → fetch f p.block p.at ≡ AtInstr i
+    → HasNoSlot (AtInstr i) → has_point (ends_of f slot) p ≡ false
+no_end_here f slot p i e n = no_marker f Intrinsic.LifetimeEnd slot p (λ x. not_ended i n (subst (λ j. is_call_of
+    Intrinsic.LifetimeEnd j ≡ true) (same_instr x.instr i (sym x.stands ∙ e)) x.is))
+
+-- an activation that has left goes on over it
+pub left_next : (f : Function) (s p : Point) (i : Instr) → fetch f p.block p.at ≡ AtInstr i → IsOrdinary f p
+    → IsCallAt Intrinsic.CoroSuspend f s → IsLeftBy f s p → IsLeftBy f s (behind p)
+left_next f s p i e o call (Between k c es w) = window_next f k s c es p i e w
+left_next f s p i e o call (AtSuspend is) = absurd (o.no_suspend (subst (IsCallAt Intrinsic.CoroSuspend f) (sym is)
+    call))
+left_next f s p i e o call (AtSwitch is) = absurd (o.no_switch (subst (λ q. IsBehindSuspendCall f q.block q.at) (sym
+    is) (record { before = s.at; next = refl; is_suspend = call })))
+left_next f s p i e o call (AtEnd is z) = absurd (o.no_end is z)
+left_next f s p i e o call (Behind a) = Behind (after_edge f p (behind p) a (next_edge f p.block p.at i e))
+
+-- ---- along an edge
+
+-- from the place of an activation to another one
+pub record IsQuietEdge (f : Function) (a : Activation) (q : Point) : Type 0 where
+  pub edge : has_point (nexts f (place_in a)) q ≡ true
+  pub no_start : (slot : ℕ) → IsNoStart f slot (place_in a)
+  pub no_end : (slot : ℕ) → has_point (ends_of f slot) (place_in a) ≡ false
+  pub not_last : a.mode ≡ Mode.Resumed → a.block ≡ end_block f → ⊥
+  pub left : a.has_left ≡ true → (s : Point) → IsCallAt Intrinsic.CoroSuspend f s → IsLeftBy f s (place_in a)
+      → IsLeftBy f s q
+
+module _ (m : Module) (l k : Ledger) (xs : List Instance) (memory memory' target target' : List MemoryBlock) (c :
+    IsCarried l k memory memory' target target') (depth : ℕ) (a : Activation) (q : Point) (vs : Env) (on : IsQuietEdge
+    (function_at m a.func) a q) where
+  abbrev f : Function
+  f = function_at m a.func
+
+  -- the activation there
+  abbrev pub there : Activation
+  there = record a { block = q.block; at = q.at; values = vs }
+
+  goes_before : GoesOn xs depth (record a { block = q.block; at = q.at; values = vs }) → GoesOn xs depth a
+  goes_before (NotLeft e) = NotLeft e
+  goes_before (Leaves h) = Leaves (record {
+    number = h.number;
+    own = h.own;
+    instance = h.instance;
+    there = h.there;
+    suspended = h.suspended;
+    saved = h.saved;
+    last = h.last;
+    is_its = h.is_its;
+  })
+
+  slot_there : (slot : Slot) → IsSlotOf xs a slot
+      → IsSlotOf xs (record a { block = q.block; at = q.at; values = vs }) slot
+  slot_there slot (Early none is) = Early none is
+  slot_there slot (Begun i x own at is) = Begun i x own at is
+
+  alive_on : (alloca : ℕ) → IsAliveAt a (function_at m a.func) alloca (place_in a)
+      → IsAliveAt (record a { block = q.block; at = q.at; values = vs }) (function_at m a.func) alloca q
+  alive_on alloca (inl h) = inl h
+  alive_on alloca (inr h) = inr (alive_more (function_at m a.func) alloca (place_in a) q on.edge (on.no_end alloca) h)
+
+  was_alive_on : (alloca : ℕ) → a.has_left ≡ true → ((s : Point)
+      → IsTrue (has_point (suspends (function_at m a.func)) s)
+      → IsCallAt Intrinsic.CoroSuspend (function_at m a.func) s)
+      → WasAlive (function_at m a.func) alloca (place_in a) → WasAlive (function_at m a.func) alloca q
+  was_alive_on alloca left called w = record {
+    suspend = w.suspend;
+    is_suspend = w.is_suspend;
+    is_alive = w.is_alive;
+    by = on.left left w.suspend (called w.suspend w.is_suspend) w.by;
+  }
+
+  used_before : (alloca : ℕ) → WasUsed (function_at m a.func) alloca (place_in a)
+      → WasUsed (function_at m a.func) alloca q
+  used_before alloca (inl u) = inl (used_on (function_at m a.func) alloca (place_in a) q on.edge (on.no_start alloca)
+      u)
+  used_before alloca (inr away) = inr away
+
+  -- a slot that isn't used on the way
+  pub slot_passed : (alloca b d : ℕ) → IsSlotKept l k memory memory' b
+      → IsSlotBeside m l xs memory target depth a alloca b d
+      → IsSlotBeside m k xs memory' target' depth (record a { block = q.block; at = q.at; values = vs }) alloca b d
+  slot_passed alloca b d kept s = record {
+    slot = slot_there _ s.slot;
+    ramp = s.ramp;
+    seat = c.seats b _ s.seat;
+    depth_is = s.depth_is;
+    owner = c.owners d depth s.owner;
+    tenant = c.tenants d depth s.owner ∙ s.tenant;
+    ready = c.ready b d depth s.owner s.ready;
+    first = λ is goes. stand_kept l k memory memory' b kept d (s.first is (⊎_elim (λ g. inl (goes_before g)) (λ w. inr
+        w) goes));
+    resumed = λ is goes. ⊎_elim
+        (λ h. inl (stand_kept l k memory memory' b kept d h))
+        (λ h. inr (⊎_elim (λ barred. inl (barred_more (function_at m a.func) alloca (place_in a) q barred (on.no_start
+        alloca) (on.not_last is) on.edge)) (λ away. inr away) h))
+        (s.resumed is (goes_before goes));
+    told = λ goes. ⊎_elim (λ fresh. inl (kept.fresh fresh)) (λ u. inr (used_before alloca u)) (s.told (goes_before
+        goes));
+    alive = λ goes lives. alive_on alloca (s.alive (goes_before goes) (kept.lives lives));
+    gone = λ left lives seen at. s.gone left (kept.lives lives) (ap (λ (z : Home). z.is_seen) (sym kept.home)
+        ∙ seen) (ap (λ (z : Home). z.block) (sym kept.home) ∙ at);
+    away = λ is left escaped away lives. was_alive_on alloca left (suspend_called (function_at m a.func)) (s.away is
+        left escaped away (kept.lives lives));
+  }
+
+  -- one that is used at the place, and stands in the activation's own block behind it
+  pub slot_used : (alloca b d : ℕ) → IsHomeOf k b d → (LivesIn memory' b → LivesIn memory b)
+      → IsUse (function_at m a.func) alloca (At (place_in a)) → (a.has_left ≡ true → LivesIn memory b
+      → (home_of k.homes b).is_seen ≡ true → ⊥)
+      → IsSlotBeside m l xs memory target depth a alloca b d
+      → IsSlotBeside m k xs memory' target' depth (record a { block = q.block; at = q.at; values = vs }) alloca b d
+  slot_used alloca b d home lives u gone s = record {
+    slot = slot_there _ s.slot;
+    ramp = s.ramp;
+    seat = c.seats b _ s.seat;
+    depth_is = s.depth_is;
+    owner = c.owners d depth s.owner;
+    tenant = c.tenants d depth s.owner ∙ s.tenant;
+    ready = c.ready b d depth s.owner s.ready;
+    first = λ is goes. inr home;
+    resumed = λ is goes. inl (inr home);
+    told = λ goes. inr (inl (used_at (function_at m a.func) alloca (place_in a) q on.edge u));
+    alive = λ goes live. alive_on alloca (s.alive (goes_before goes) (lives live));
+    gone = λ left live seen at. gone left (lives live) seen;
+    away = λ is left escaped away live. was_alive_on alloca left (suspend_called (function_at m a.func)) (s.away is
+        left escaped away (lives live));
+  }
+
+  -- ---- the activation
+
+  module _ (flags : Flags) (roots : Roots) (b : Activation) (h : IsActivationBeside m flags roots l xs memory target
+      depth a b) (ws : Env) (envs : AreSlotEnvs k.homes (roots a.func) vs ws)
+      (same : (slot : ℕ) → IsTrue (flags a.func slot)
+      → (value_in vs slot ≡ value_in a.values slot) × (value_in ws slot ≡ value_in h.values slot)) where
+    own_there : (slot : Slot) → IsOwn l (flags a.func) depth a.values h.values slot
+        → IsOwn k (flags a.func) depth vs ws slot
+    own_there slot o = record {
+      flagged = o.flagged;
+      owner = c.owners slot.block depth o.owner;
+      address = (same slot.alloca o.flagged).1 ∙ o.address;
+      tenant = λ d at. (same slot.alloca o.flagged).0 ∙ o.tenant d (sym (c.tenants slot.block depth o.owner) ∙ at);
+    }
+
+    runs_on : (IsCallAt Intrinsic.CoroEnd (function_at m a.func) (place_in a) → ⊥)
+        → RunsOut (function_at m a.func) (place_in a) → RunsOut (function_at m a.func) q
+    runs_on no_close r = record {
+      start = r.start;
+      is_start = r.is_start;
+      path = leads_more (function_at m a.func) (ends (function_at m a.func)) r.start (place_in a) q r.path (by
+          (has_point (ends (function_at m a.func)) (place_in a)) refl) on.edge;
+    }
+      where
+        by : (u : Bool) → has_point (ends (function_at m a.func)) (place_in a) ≡ u
+            → has_point (ends (function_at m a.func)) (place_in a) ≡ false
+        by true e = absurd (no_close (let r = where_sound (is_call_of Intrinsic.CoroEnd) (function_at m a.func)
+            (place_in a) e in record {
+              instr = r.instr;
+              stands = fetch_is (function_at m a.func) (place_in a) r.instr r.is;
+              is = r.passes;
+            }))
+        by false e = e
+
+    pub activation_there : (IsCallAt Intrinsic.CoroEnd (function_at m a.func) (place_in a) → ⊥)
+        → ((slot d e : ℕ) → IsTrue (flags a.func slot) → value_in a.values slot ≡ pointer_to d
+        → value_in h.values slot ≡ pointer_to e
+        → IsSlotBeside m k xs memory' target' depth (record a {
+          block = q.block;
+          at = q.at;
+          values = vs;
+        }) slot d e)
+        → IsActivationBeside m flags roots k xs memory' target' depth (record a {
+          block = q.block;
+          at = q.at;
+          values = vs;
+        }) (record b { block = q.block; at = q.at; values = ws })
+    activation_there no_close slots = record {
+      values = ws;
+      slots = h.slots;
+      is = ap (λ (z : Activation). record z { block = q.block; at = q.at; values = ws }) h.is;
+      envs = envs;
+      listed = slots_on m flags roots l k xs xs memory memory' target target' c _ _ _ _ (flags a.func) (λ slot z.
+          record {
+            flagged = z.flagged;
+            depth = z.depth;
+            seat = c.seats slot.block _ z.seat;
+          }) own_there a.slots h.slots h.listed;
+      each = λ slot d e flagged at there. slots slot d e flagged (sym (same slot flagged).0
+          ∙ at) (sym (same slot flagged).1 ∙ there);
+      modes = h.modes;
+      came = λ is. resumed_more (function_at m a.func) (place_in a) q (h.came is) (on.not_last is) on.edge;
+      begun = λ some left. ⊎_elim (λ r. inl (runs_on no_close r)) (λ o. inr (record {
+        number = o.number;
+        own = o.own;
+        instance = o.instance;
+        there = o.there;
+        over = o.over;
+      })) (h.begun some left);
+      begins = h.begins;
+      left = λ left. let at = h.left left in record {
+        suspend = at.suspend;
+        is_call = at.is_call;
+        by = on.left left at.suspend at.is_call at.by;
+      };
+    }

@@ -1,0 +1,157 @@
+-- What is known of the blocks of two memories, of which the second has blocks made anew: where those of the first
+-- stand, which of them are slots that are made anew, and for whom blocks of the second were made.
+use Rattle.std.specs.Prelude.{ℕ, Bool, true, false, not, nat_le, if◌then◌else◌, ◌==◌, ◌++◌, ◌∷◌, [], List, length}
+use Rattle.std.specs.Prelude.{slice_get, Some, None, Option, ◌≡◌, ◌<◌, ◌^◌}
+use Rattle.run_memory.specs.Memory.{access_bytes, is_live}
+use Rattle.run_memory.specs.declared.block.Byte.{Byte}
+use Rattle.run_memory.specs.declared.block.MemoryBlock.{MemoryBlock}
+use Rattle.ir_model.specs.Names.{function_at}
+use Rattle.ir_model.specs.declared.module.GlobalItem.{GlobalItem}
+use Rattle.ir_model.specs.declared.module.Module.{Module}
+use Rattle.ir_paths.specs.Slots.{is_escaped}
+use Rattle.run_laws.specs.access.Changed.{IsFull}
+use Rattle.run_laws.specs.changed.Changed.{Each}
+use Rattle.run_laws.specs.embedded.Making.{whole_home}
+use Rattle.run_laws.specs.memory.Pointers.{Home, home_of}
+use Rattle.run_laws.specs.memory.Standing.{own_homes}
+use Rattle.run_step.specs.Step.{first_world}
+use Rattle.run_step.specs.Values.{access_of}
+use Rattle.pass_renewed_proof.specs.Muted.{muted}
+use Rattle.pass_renewed_proof.specs.Places.{IsBlank, unseen}
+use Rattle.pass_renewed_proof.specs.Ready.{Place, faded, shown_of, stood}
+use Rattle.pass_renewed_proof.specs.Shown.{AreShownBlocks}
+
+-- whose slot a block is: the alloca in its function, the ramp that executed it, which is the activation with so many
+-- below it, and the instance, once it has begun
+pub record Seat : Type 0 where
+  pub func : ℕ
+  pub alloca : ℕ
+  pub depth : ℕ
+  pub instance : Option ℕ
+
+pub record Ledger : Type 0 where
+  -- where blocks of the first memory stand, and which of them count as dead
+  pub homes : List Home
+  pub hides : ℕ → Bool
+  -- which of them are slots that may be made anew
+  pub seats : ℕ → Option Seat
+  -- the one block of the first memory that may stand in a block of the second
+  pub tenants : ℕ → Option ℕ
+  -- the activation, by how many are below it, whose slot a block of the second is that was made anew
+  pub owners : ℕ → Option ℕ
+
+-- ---- one block
+
+-- a slot that may be made anew and isn't escaped
+abbrev pub is_quiet : Module → Option Seat → Bool
+is_quiet m None = false
+is_quiet m (Some seat) = not (is_escaped (function_at m seat.func) seat.alloca)
+
+-- the block lives
+pub record LivesIn (m : List MemoryBlock) (b : ℕ) : Type 0 where
+  pub block : MemoryBlock
+  pub there : slice_get m b ≡ Some block
+  pub is_live : is_live block.life ≡ true
+
+-- pointers into the block may be about, or it lives and isn't hidden
+pub data IsAbout (l : Ledger) (m : List MemoryBlock) (b : ℕ) : Type 0 where
+  Seen : (home_of l.homes b).is_seen ≡ true → IsAbout l m b
+  Lives : LivesIn (muted l.hides m) b → IsAbout l m b
+
+-- no pointer into the block is about, and it holds nothing that would be lost
+pub record IsFresh (l : Ledger) (m : List MemoryBlock) (b : ℕ) : Type 0 where
+  pub unseen : (home_of l.homes b).is_seen ≡ false
+  pub blank : (x : MemoryBlock) → slice_get m b ≡ Some x → is_live x.life ≡ true → IsBlank x
+
+-- the block stands in the second memory's block c from its start on
+pub record IsHomeOf (l : Ledger) (b c : ℕ) : Type 0 where
+  pub is_seen : Bool
+  pub home : home_of l.homes b ≡ record { block = c; offset = 0; is_seen = is_seen }
+  pub shown : l.hides b ≡ false
+
+-- any other block stands in one that differs from it at most in its bytes
+pub record IsMate (l : Ledger) (n : List MemoryBlock) (b : ℕ) (x : MemoryBlock) : Type 0 where
+  pub block : ℕ
+  pub home : home_of l.homes b ≡ whole_home block
+  pub shown : l.hides b ≡ false
+  pub bytes : List Byte
+  pub there : slice_get n block ≡ Some (record x { bytes = bytes })
+  pub owner : l.owners block ≡ None
+
+-- ---- all blocks
+
+pub record AreEntered (m : Module) (l : Ledger) (memory target : List MemoryBlock) : Type 0 where
+  pub known : length l.homes ≡ length memory
+  pub hidden : (b : ℕ) → l.hides b ≡ true → (home_of l.homes b).is_seen ≡ false
+  pub present : (b : ℕ) → l.hides b ≡ true → b < length memory
+  pub globals : (b : ℕ) → b < length m.globals → home_of l.homes b ≡ whole_home b
+  -- no two stand in one block
+  pub alone : (b : ℕ) → IsAbout l memory b → l.tenants (home_of l.homes b).block ≡ Some b
+  pub owned : (c depth : ℕ) → l.owners c ≡ Some depth → c < length target
+  pub seated : (b : ℕ) (seat : Seat) → l.seats b ≡ Some seat → b < length memory
+  pub mates : (b : ℕ) (x : MemoryBlock) → l.seats b ≡ None → slice_get memory b ≡ Some x → IsMate l target b x
+  pub full : (c : ℕ) → IsFull target c
+  -- between steps no pointer is about into a slot that isn't escaped
+  pub quiet : (b : ℕ) → is_quiet m (l.seats b) ≡ true → (home_of l.homes b).is_seen ≡ false
+  pub shown : AreShownBlocks (λ b. is_quiet m (l.seats b)) memory
+  -- nor into a block that isn't there yet
+  pub future : AreShownBlocks (λ b. nat_le (length memory) b) memory
+
+-- ---- new blocks
+
+-- the same but for one number
+abbrev pub updated : {A : Type 0} → (ℕ → A) → ℕ → A → ℕ → A
+updated f n v k = if k == n then v else f k
+
+-- the second memory has one block more, which an activation with so many below it has made anew
+abbrev pub anew_ledger : Ledger → (count depth : ℕ) → (tenant : Option ℕ) → Ledger
+anew_ledger l count depth tenant =
+    record l { tenants = updated l.tenants count tenant; owners = updated l.owners count (Some depth) }
+
+-- both have one more, which is a slot that may be made anew; no pointer to it is about
+abbrev pub slot_ledger : Ledger → (first count depth : ℕ) → Seat → Ledger
+slot_ledger l first count depth seat =
+    record (anew_ledger l count depth (Some first)) {
+      homes = l.homes ++ unseen (whole_home count) ∷ [];
+      seats = updated l.seats first (Some seat);
+    }
+
+-- both have one more
+abbrev pub block_ledger : Ledger → (first count : ℕ) → Ledger
+block_ledger l first count = record l {
+  homes = l.homes ++ whole_home count ∷ [];
+  tenants = updated l.tenants count (Some first);
+}
+
+-- ---- slots that are used
+
+-- they come to stand in the activation's own blocks; pointers into those that aren't escaped are no longer about
+-- afterwards
+abbrev pub used_ledger : Module → Ledger → List Place → Ledger
+used_ledger m l ps =
+    record l {
+      homes = faded (λ b. is_quiet m (l.seats b)) (stood l.homes ps) ps;
+      hides = shown_of l.hides ps;
+    }
+
+-- each is a slot, and the only one that may stand in its place
+abbrev pub AreTheirs : Ledger → List Place → Type 0
+AreTheirs l ps = Each (λ (p : Place). ((seat : Seat) × (l.seats p.block ≡ Some seat)) × (l.tenants p.target ≡ Some
+    p.block)) ps
+
+-- ---- the start
+
+-- globals have sizes of 64 bits
+abbrev pub AreSmallGlobals : Module → Type 0
+AreSmallGlobals m = Each (λ (g : GlobalItem). access_bytes (access_of g.ty) < 2 ^ 64) m.globals
+
+-- each global stands at its own number, and there are no slots
+abbrev pub first_ledger : Module → Ledger
+first_ledger m =
+    record {
+      homes = own_homes 0 (length (first_world m).memory);
+      hides = λ b. false;
+      seats = λ b. None;
+      tenants = λ b. Some b;
+      owners = λ b. None;
+    }

@@ -1,0 +1,40 @@
+-- Ordinary instructions: at their places stands no suspend, nor its switch, nor an end; they make and mark no block,
+-- and give no address in a slot that is made anew.
+use Rattle.std.specs.Prelude.{◌≡◌, ℕ, Bool, true, List, Some}
+use Rattle.ir_model.specs.Names.{function_at, is_local}
+use Rattle.ir_model.specs.declared.instr.Instr.{Instr}
+use Rattle.ir_model.specs.declared.module.Function.{Function}
+use Rattle.ir_model.specs.declared.module.Module.{Module}
+use Rattle.ir_model.specs.declared.operand.Intrinsic.{Intrinsic}
+use Rattle.ir_paths.specs.Windows.{end_block}
+use Rattle.ir_paths.specs.declared.point.Point.{Point}
+use Rattle.pass_kept_proof.specs.SuspendRules.{IsCallAt}
+use Rattle.run_laws.specs.embedded.Related.{HasBytes, HasNoSlot}
+use Rattle.run_source.specs.declared.state.Activation.{Activation}
+use Rattle.run_step.specs.Step.{AtInstr, fetch}
+use Rattle.pass_renewed_proof.specs.Ahead.{IsBehindSuspendCall}
+use Rattle.pass_renewed_proof.specs.Beside.{place_in}
+use Rattle.pass_renewed_proof.specs.Renewed.{Roots}
+use Rattle.pass_renewed_proof.specs.Steps.{given_at}
+
+-- at a point stands no suspend, nor the switch of one, nor the end
+pub record IsOrdinary (f : Function) (p : Point) : Type 0 where
+  pub no_suspend : IsCallAt Intrinsic.CoroSuspend f p → ⊥
+  pub no_switch : IsBehindSuspendCall f p.block p.at → ⊥
+  pub no_end : p.block ≡ end_block f → p.at ≡ 0 → ⊥
+  pub no_close : IsCallAt Intrinsic.CoroEnd f p → ⊥
+
+-- the name is the base of a getelementptr
+abbrev pub IsBase : ℕ → Instr → Type 0
+IsBase v (Instr.Gep name inbounds ty base indices) = is_local v base ≡ true
+IsBase v _ = ⊥
+
+-- such an instruction stands at the activation's place
+pub record IsOrdinaryInstr (m : Module) (roots : Roots) (a : Activation) (i : Instr) : Type 0 where
+  pub place : IsOrdinary (function_at m a.func) (place_in a)
+  pub here : fetch (function_at m a.func) a.block a.at ≡ AtInstr i
+  pub no_slot : HasNoSlot (AtInstr i)
+  pub bytes : HasBytes (AtInstr i)
+  -- neither does it give an address in a slot nor is it a part of one
+  pub no_part : (v slot : ℕ) → roots a.func v ≡ Some slot → given_at (AtInstr i) ≡ Some v → ⊥
+  pub no_base : (v slot : ℕ) → roots a.func v ≡ Some slot → IsBase v i → ⊥
