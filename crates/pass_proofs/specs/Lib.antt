@@ -1,4 +1,5 @@
 pub mod addresses
+pub mod built
 pub mod cells
 pub mod copies
 pub mod edges

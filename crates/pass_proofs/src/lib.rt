@@ -3,6 +3,7 @@
 #![tactic(auto)]
 
 pub mod addresses;
+pub mod built;
 pub mod cells;
 pub mod copies;
 pub mod edges;

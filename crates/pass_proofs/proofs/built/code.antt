@@ -1,0 +1,4 @@
+pub mod Framed
+pub mod Idle
+pub mod Instrs
+pub mod Passes

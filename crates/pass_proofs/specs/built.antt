@@ -1,0 +1,9 @@
+pub mod Code
+pub mod Costs
+pub mod Distances
+pub mod Layers
+pub mod Offsets
+pub mod Passes
+pub mod Places
+pub mod Related
+pub mod Tests

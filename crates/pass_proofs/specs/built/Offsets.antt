@@ -1,0 +1,8 @@
+-- Where the layout of a frame has its fields and slots.
+use Rattle.std.specs.Prelude.{◌≡◌, ℕ, List, Some, slice_get}
+use Rattle.frame_contents.specs.declared.held.Holding.{Holding}
+
+-- no value or slot is held twice
+pub record AreHeldOnce (held : List Holding) : Type 0 where
+  pub each : (j k : ℕ) (x y : Holding) → slice_get held j ≡ Some x → slice_get held k ≡ Some y → x.value ≡ y.value
+      → j ≡ k

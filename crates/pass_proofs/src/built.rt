@@ -1,0 +1,9 @@
+//! Frames are built in one step, from the meaning in which a resumed activation makes its slots anew to that of framed
+//! forms: where the places of a coroutine are in its framed form, and what stands there.
+
+pub mod code;
+pub mod distances;
+pub mod layers;
+pub mod offsets;
+pub mod start;
+pub mod tests;
