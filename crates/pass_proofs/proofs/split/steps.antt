@@ -4,6 +4,7 @@ pub mod Calls
 pub mod Done
 pub mod Entered
 pub mod Marked
+pub mod Given
 pub mod Operands
 pub mod Ordinary
 pub mod Ready

@@ -2,6 +2,7 @@ pub mod Begins
 pub mod Branches
 pub mod Calls
 pub mod Done
+pub mod Given
 pub mod Operands
 pub mod Ordinary
 pub mod Ready

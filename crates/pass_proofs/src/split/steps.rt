@@ -14,7 +14,7 @@ ghost use Rattle.run_laws.specs.transfer.Transfer.{given_at};
 ghost use Rattle.run_plain.specs.Plain.{PlainGiven, plain_call, plain_context, plain_function, plain_go_to, plain_settled, plain_slot, plain_step, plain_work};
 ghost use Rattle.run_plain.specs.declared.state.PlainState.{PlainState as ThePlainState};
 ghost use Rattle.run_source.specs.Source.{enter, go_to, is_among};
-ghost use Rattle.run_source.specs.State.{settled, with_slots, work_of};
+ghost use Rattle.run_source.specs.State.{frame_address_of, gives, settled, with_slots, work_of};
 ghost use Rattle.run_memory.specs.declared.pointer.Value.{Value as TheValue};
 ghost use Rattle.run_plain.specs.declared.state.PlainActivation.{PlainActivation as ThePlainActivation};
 ghost use Rattle.run_source.specs.declared.state.Activation.{Activation as TheActivation};
@@ -57,9 +57,10 @@ ghost use Rattle.pass_proofs.specs.split.steps.Operands.{IsReadable};
 ghost use Rattle.run_laws.specs.changed.Changed.{Each};
 ghost use Rattle.run_laws.specs.memory.Standing.{own_homes};
 ghost use Rattle.ir_model.specs.declared.instr.Instr.{Instr as TheInstr};
+ghost use Rattle.pass_proofs.specs.split.steps.Given.{IsAtFrame};
 ghost use Rattle.pass_proofs.specs.split.steps.Ordinary.{IsAtOrdinary, StepsBeside};
 ghost use Rattle.pass_proofs.specs.split.steps.Ready.{IsReadyInPart};
-ghost use Rattle.run_step.specs.Step.{AtInstr, Done, Fetched, Work, action_of, fetch, incoming_from, label_of, phi_values, phis_of, value_at, with_all};
+ghost use Rattle.run_step.specs.Step.{AtInstr, Done, Fetched, Work, action_of, fetch, incoming_from, label_of, phi_values, phis_of, set_value, value_at, with_all};
 ghost use Rattle.run_step.specs.Values.{Env, operand_value, value_in, with_value};
 
 /// A step that is done in the framed run and makes, marks and allocates no block is done in the part. The memories stand
@@ -125,6 +126,21 @@ pub fn ordinary_steps_leave_states_related()
     ensures { (functions : ℕ → ℕ) (g : FramedGiven) (h : PlainGiven) (s : TheState) (t : ThePlainState)
         (r : AreRelated g h s t) (i : TheInstr) → IsAtOrdinary functions g h s t r i → (v : Work)
         → action_of (framed_context g s) (work_of s) (AtInstr i) ≡ Done v → StepsBeside g h s t v }
+{}
+
+/// Where a coro intrinsic gives values that stand for each other the states are related behind it. So they are behind a
+/// coro.frame, for which the part has one instruction.
+pub fn given_values_leave_states_related()
+    ensures values { (g : FramedGiven) (h : PlainGiven) (s : TheState) (t : ThePlainState) (r : AreRelated g h s t)
+        (name : ℕ) (v u : TheValue) → IsValue (homes_of s.world.memory) v u → (name ≡ r.top.shape.begin → ⊥)
+        → is_entering s.top.mode ≡ false
+        → IsPlaced r.top.shape r.top.part (function_at g.given.code s.top.func) (function_at h.code t.top.func)
+        (moved_to s.top s.top.block (s.top.at + 1) (with_value s.top.values name v) s.top.has_left)
+        (placed_at t.top t.top.block (t.top.at + 1) (with_value t.top.values name u)) s.top.mode
+        → AreRelated g h (gives s (Some name) v) (plain_settled t (set_value (plain_work t) name u)) }
+    ensures frame { (g : FramedGiven) (h : PlainGiven) (s : TheState) (t : ThePlainState) (r : AreRelated g h s t)
+        (name : ℕ) (k : IsAtFrame g h s t r name)
+        → AreRelated g h (gives s (Some name) (frame_address_of k.instance)) (plain_step h t) }
 {}
 
 /// Behind an edge that both runs take the states are related, whatever windows it leaves. The framed run has done nothing

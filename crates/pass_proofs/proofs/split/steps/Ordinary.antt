@@ -83,38 +83,42 @@ ordinary_goes_on part i e = on (goes_on part)
     on true = ordinary_begins_not i e
     on false = refl
 
--- what the code of an ordinary instruction is: itself, and a place behind it
-abbrev IsCopied : Shape → Part → Function → Function → ℕ → ℕ → ℕ → ℕ → Instr → Type 0
-IsCopied s part f q block at piece offset i = (fetch q piece offset ≡ AtInstr i) × IsPlace s part f q block (at + 1) piece (offset + 1)
+-- ---- instructions for which one stands in the part
 
-module _ (s : Shape) (part : Part) (f q : Function) (block at piece offset : ℕ) (i : Instr) (ordinary : is_ordinary i ≡ true) where
-  code_copied : (after : List Instr) (t : Terminator) → IsCode s part f q block at piece offset i after t → IsCopied s part f q block at piece offset i
-  code_copied after t (Stays n begins cut new stand place) =
-      let is = ordinary_lowered s n i ordinary in
-      (stand_at (lowered s n i) is stand, subst (λ (k : ℕ). IsPlace s part f q block (at + 1) piece (offset + k)) (ap length is) place)
-    where
-      stand_at : (is : List Instr) → is ≡ i ∷ [] → StandAt q piece offset is → fetch q piece offset ≡ AtInstr i
-      stand_at is e h = (subst (λ (xs : List Instr). StandAt q piece offset xs) e h).0
-  code_copied after t (Marks n mark begins cut new remain bare place) = absurd (stays_not (sym cut ∙ ordinary_stays s part i after ordinary))
+pub record IsAlone (s : Shape) (part : Part) (i j : Instr) : Type 0 where
+  pub begins : begins_again part i ≡ false
+  pub cut : (after : List Instr) → cut_at s part i after ≡ Cut.Stays
+  pub lowered : (n : ℕ) → lowered s n i ≡ j ∷ []
+
+-- it stands there, and behind both is a place again
+abbrev pub IsCopied : Shape → Part → Function → Function → ℕ → ℕ → ℕ → ℕ → Instr → Type 0
+IsCopied s part f q block at piece offset j = (fetch q piece offset ≡ AtInstr j) × IsPlace s part f q block (at + 1) piece (offset + 1)
+
+module _ (s : Shape) (part : Part) (f q : Function) (block at piece offset : ℕ) (i j : Instr) (k : IsAlone s part i j) where
+  code_alone : (after : List Instr) (t : Terminator) → IsCode s part f q block at piece offset i after t → IsCopied s part f q block at piece offset j
+  code_alone after t (Stays n begins cut new stand place) =
+      let is = k.lowered n in
+      ((subst (λ (xs : List Instr). StandAt q piece offset xs) is stand).0, subst (λ (l : ℕ). IsPlace s part f q block (at + 1) piece (offset + l)) (ap length is) place)
+  code_alone after t (Marks n mark begins cut new remain bare place) = absurd (stays_not (sym cut ∙ k.cut after))
     where
       stays_not : Cut.Marks mark ≡ Cut.Stays → ⊥
       stays_not e = absurd (cc)
-  code_copied after t (Suspends begins cut jump) = absurd (stays_not (sym cut ∙ ordinary_stays s part i after ordinary))
+  code_alone after t (Suspends begins cut jump) = absurd (stays_not (sym cut ∙ k.cut after))
     where
       stays_not : Cut.Suspends ≡ Cut.Stays → ⊥
       stays_not e = absurd (cc)
-  code_copied after t (Returns begins cut ret) = absurd (stays_not (sym cut ∙ ordinary_stays s part i after ordinary))
+  code_alone after t (Returns begins cut ret) = absurd (stays_not (sym cut ∙ k.cut after))
     where
       stays_not : Cut.Returns ≡ Cut.Stays → ⊥
       stays_not e = absurd (cc)
-  code_copied after t (Transfers n j begins cut new jump bare remain) = absurd (stays_not (sym cut ∙ ordinary_stays s part i after ordinary))
+  code_alone after t (Transfers n j begins cut new jump bare remain) = absurd (stays_not (sym cut ∙ k.cut after))
     where
       stays_not : Cut.Transfers j ≡ Cut.Stays → ⊥
       stays_not e = absurd (cc)
-  code_copied after t (BeginsAgain begins jump) = absurd (false≢true (sym (ordinary_goes_on part i ordinary) ∙ begins))
+  code_alone after t (BeginsAgain begins jump) = absurd (false≢true (sym k.begins ∙ begins))
 
-  pub copied : IsPlace s part f q block at piece offset → fetch f block at ≡ AtInstr i → IsCopied s part f q block at piece offset i
-  copied place there = let h : HasCode s part f q block at piece offset i = has_code s part f q block at piece offset i place there in code_copied h.after h.end h.code
+  pub alone : IsPlace s part f q block at piece offset → fetch f block at ≡ AtInstr i → IsCopied s part f q block at piece offset j
+  alone place there = let h : HasCode s part f q block at piece offset i = has_code s part f q block at piece offset i place there in code_alone h.after h.end h.code
 
 -- ---- the step
 
@@ -123,7 +127,9 @@ module _ (functions : ℕ → ℕ) (g : FramedGiven) (h : PlainGiven) (s : State
   q = plain_function h t
 
   code : IsCopied r.top.shape r.top.part (function_of g.given s) q s.top.block s.top.at t.top.block t.top.at i
-  code = copied r.top.shape r.top.part (function_of g.given s) q s.top.block s.top.at t.top.block t.top.at i k.ordinary k.place k.there
+  code = alone r.top.shape r.top.part (function_of g.given s) q s.top.block s.top.at t.top.block t.top.at i i
+      (record { begins = ordinary_goes_on r.top.part i k.ordinary; cut = λ after. ordinary_stays r.top.shape r.top.part i after k.ordinary; lowered = λ n. ordinary_lowered r.top.shape n i k.ordinary })
+      k.place k.there
 
   module _ (v : Work) (does : action_of (framed_context g s) (work_of s) (AtInstr i) ≡ Done v) where
     -- with the answers of the framed run
