@@ -3,6 +3,5 @@ pub mod Elision
 pub mod Entries
 pub mod GoodLayouts
 pub mod Lowered
-pub mod Prices
 pub mod SharedBytes
 pub mod Theorem

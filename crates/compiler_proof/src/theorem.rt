@@ -9,7 +9,7 @@ ghost use Rattle.ir_model.specs.declared.module.Module.{Module};
 ghost use Rattle.frame_layout.specs.declared.layout.Layouts.{Layouts};
 ghost use Rattle.pass_frames.specs.Framed.{IsFramedForm};
 ghost use Rattle.std.specs.Prelude.{ℕ};
-ghost use Rattle.compiler_proof.specs.theorem.Prices.{Prices};
+ghost use Rattle.pass_renewed_proof.specs.Prices.{Prices};
 ghost use Rattle.compiler_proof.specs.theorem.Theorem.{KeepsMeaning, Steps};
 ghost use Rattle.compiler_proof.specs.theorem.Elision.{ElidedSteps, ElidesCalls};
 

@@ -32,3 +32,4 @@ pub mod Accessing
 pub mod Exposing
 pub mod Settled
 pub mod AnewAll
+pub mod Parts

@@ -2,16 +2,20 @@
 -- and give no address in a slot that is made anew.
 use Rattle.std.specs.Prelude.{◌≡◌, ℕ, Bool, true, List, Some}
 use Rattle.ir_model.specs.Names.{function_at, is_local}
+use Rattle.ir_model.specs.Ty.{Ty}
 use Rattle.ir_model.specs.declared.instr.Instr.{Instr}
 use Rattle.ir_model.specs.declared.module.Function.{Function}
 use Rattle.ir_model.specs.declared.module.Module.{Module}
+use Rattle.ir_model.specs.declared.operand.Arg.{Arg}
 use Rattle.ir_model.specs.declared.operand.Intrinsic.{Intrinsic}
+use Rattle.ir_model.specs.declared.operand.Operand.{Operand}
 use Rattle.ir_paths.specs.Windows.{end_block}
 use Rattle.ir_paths.specs.declared.point.Point.{Point}
 use Rattle.pass_kept_proof.specs.SuspendRules.{IsCallAt}
 use Rattle.run_laws.specs.embedded.Related.{HasBytes, HasNoSlot}
 use Rattle.run_source.specs.declared.state.Activation.{Activation}
-use Rattle.run_step.specs.Step.{AtInstr, fetch}
+use Rattle.run_step.specs.Step.{AtInstr, Work, fetch, set_value}
+use Rattle.run_step.specs.Values.{distance, element, indices_of, value_in}
 use Rattle.pass_renewed_proof.specs.Ahead.{IsBehindSuspendCall}
 use Rattle.pass_renewed_proof.specs.Beside.{place_in}
 use Rattle.pass_renewed_proof.specs.Renewed.{Roots}
@@ -38,3 +42,21 @@ pub record IsOrdinaryInstr (m : Module) (roots : Roots) (a : Activation) (i : In
   -- neither does it give an address in a slot nor is it a part of one
   pub no_part : (v slot : ℕ) → roots a.func v ≡ Some slot → given_at (AtInstr i) ≡ Some v → ⊥
   pub no_base : (v slot : ℕ) → roots a.func v ≡ Some slot → IsBase v i → ⊥
+
+-- ---- addresses in slots
+
+-- a getelementptr of an address in a slot, which gives another one, stands at the activation's place
+pub record IsPart (m : Module) (roots : Roots) (a : Activation) (name : ℕ) (inbounds : Bool) (ty : Ty) (base : ℕ)
+    (indices : List Arg) : Type 0 where
+  pub place : IsOrdinary (function_at m a.func) (place_in a)
+  pub here : fetch (function_at m a.func) a.block a.at ≡ AtInstr (Instr.Gep name inbounds ty (Operand.Local base)
+      indices)
+  pub slot : ℕ
+  pub root : roots a.func name ≡ Some slot
+  pub of_slot : roots a.func base ≡ Some slot
+
+-- what it leaves
+abbrev pub with_part : Module → Work → ℕ → Bool → Ty → ℕ → List Arg → Work
+with_part m w name inbounds ty base indices =
+    set_value w name (element w.world.memory inbounds (value_in w.values base) (distance m ty (indices_of m w.values
+    indices)))

@@ -8,8 +8,9 @@
 //! their own with it (`slot_steps_are_carried`, `places_change`).
 //!
 //! The two runs are related by `IsBeside`, and at all their states by `IsBetween`. The relation holds at the start
-//! (`states_begin_beside`), and ordinary instructions keep it (`ordinary_steps_stay_beside`). Slots that are made
-//! anew leave all as it was (`slots_made_anew_keep_all`), and are paid by the resume (`slots_made_anew_are_paid`).
+//! (`states_begin_beside`), and ordinary instructions keep it (`ordinary_steps_stay_beside`,
+//! `address_parts_stay_beside`). Slots that are made anew leave all as it was (`slots_made_anew_keep_all`), and are
+//! paid by the resume (`slots_made_anew_are_paid`).
 //! What a resumed activation may not use it is barred from by the path that it came
 //! (`resumed_activations_are_barred`, `left_activations_use_no_live_slot`).
 //!
@@ -82,7 +83,7 @@ ghost use Rattle.pass_kept_proof.specs.Kept.{Keep};
 ghost use Rattle.pass_kept_proof.specs.SuspendRules.{IsSwitched};
 ghost use Rattle.pass_renewed_proof.specs.Ahead.{HasAwayUse, IsNoStart};
 ghost use Rattle.pass_renewed_proof.specs.Beside.{AreOutdone, HasLeftSuspended, IsBeside};
-ghost use Rattle.pass_renewed_proof.specs.Ordinary.{IsOrdinaryInstr};
+ghost use Rattle.pass_renewed_proof.specs.Ordinary.{IsOrdinaryInstr, IsPart, with_part};
 ghost use Rattle.pass_renewed_proof.specs.Entering.{AreAligned, anew_in, price_of_all};
 ghost use Rattle.pass_renewed_proof.specs.Ledger.{AreEntered, AreSmallGlobals, Ledger};
 ghost use Rattle.pass_renewed_proof.specs.Prices.{Prices, renewed_price, slots_from};
@@ -262,6 +263,16 @@ pub fn ordinary_steps_stay_beside()
           function = function_at m s.top.func;
         }) (work_of t) (AtInstr i) ≡ Done y)
         × IsBeside m flags roots (settled s v) (settled t y) }
+{}
+
+/// So does a getelementptr of an address in a slot, which gives such an address in both runs.
+pub fn address_parts_stay_beside()
+    ensures { (m : Module) (flags : Flags) (roots : Roots)
+        → ((func : ℕ) → KeepsSlots m (function_at m func) (flags func) (roots func)) → (answers : List ℤ)
+        (s t : TheState) → IsBeside m flags roots s t → (name : ℕ) (inbounds : Bool) (ty : Ty) (base : ℕ)
+        (indices : List TheArg) → IsPart m roots s.top name inbounds ty base indices
+        → IsBeside m flags roots (settled s (with_part m (work_of s) name inbounds ty base indices))
+        (settled t (with_part m (work_of t) name inbounds ty base indices)) }
 {}
 
 /// Where a resumed activation makes its slots anew, all blocks stand where they stood, and the same ones are hidden: the

@@ -17,7 +17,7 @@ use Rattle.compiler_proof.specs.theorem.Anew.{Anew}
 use Rattle.compiler_proof.specs.theorem.Elision.{CountsElided, ElidedSteps, ElidesCalls, NamesNoPart, given_frames, uncounted}
 use Rattle.compiler_proof.specs.theorem.Entries.{IsEntry, Run}
 use Rattle.compiler_proof.specs.theorem.Lowered.{IsLowered, Lowered, framed_run, lowered_from, plain_run, printed_from, source_run, split_from}
-use Rattle.compiler_proof.specs.theorem.Prices.{Prices}
+use Rattle.pass_renewed_proof.specs.Prices.{Prices}
 use Rattle.compiler_proof.specs.theorem.Theorem.{Steps}
 use Rattle.ir_model.specs.declared.module.Module.{Module}
 use Rattle.run_plain.specs.declared.state.PlainState.{PlainState}

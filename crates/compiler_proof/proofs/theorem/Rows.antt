@@ -10,7 +10,7 @@ use Rattle.run_source.specs.declared.state.State.{State}
 use Rattle.compiler_proof.specs.theorem.Anew.{Anew}
 use Rattle.compiler_proof.specs.theorem.Entries.{IsCallable, Run}
 use Rattle.compiler_proof.specs.theorem.Lowered.{IsLowered, Lowered, early, edged, framed_run, kept_run, price_kept, price_renewed, renewed_run, sizes_of, source_run}
-use Rattle.compiler_proof.specs.theorem.Prices.{Prices}
+use Rattle.pass_renewed_proof.specs.Prices.{Prices}
 use Rattle.compiler_proof.specs.theorem.Theorem.{IsSomewhereShown, Steps}
 use Rattle.ir_laws.specs.facts.sound_states.Named.{AreLocalsNamed}
 use Rattle.pass_proofs.proofs.edges.simulation.Names.{locals_named}

@@ -12,7 +12,7 @@ use Rattle.compiler_proof.proofs.theorem.Rows.{framed_within, somewhere_shown}
 use Rattle.compiler_proof.specs.theorem.Anew.{Anew}
 use Rattle.compiler_proof.specs.theorem.Entries.{IsEntry, Run}
 use Rattle.compiler_proof.specs.theorem.Lowered.{AreAllocasFirst, IsLowered, Lowered, early, framed_run, lowered_from, plain_run, printed_from, source_run, split_from}
-use Rattle.compiler_proof.specs.theorem.Prices.{Prices}
+use Rattle.pass_renewed_proof.specs.Prices.{Prices}
 use Rattle.compiler_proof.specs.theorem.Theorem.{KeepsMeaning, Steps}
 use Rattle.ir_model.specs.declared.module.Module.{Module}
 use Rattle.compiler_proof.proofs.whole.lowered_sources.Row.{is_ready}

@@ -9,7 +9,7 @@ use Rattle.pass_split.specs.Parts.{split_module}
 use Rattle.frame_contents.specs.Frames.{AreLayouts}
 use Rattle.compiler_proof.specs.theorem.Anew.{Anew}
 use Rattle.compiler_proof.specs.theorem.Entries.{Run}
-use Rattle.compiler_proof.specs.theorem.Prices.{Prices, kept_price, renewed_machine, renewed_price}
+use Rattle.pass_renewed_proof.specs.Prices.{Prices, kept_price, renewed_machine, renewed_price}
 use Rattle.pass_early.specs.Early.{early_module}
 use Rattle.frame_layout.specs.declared.layout.Layouts.{Layouts}
 use Rattle.pass_proofs.specs.edges.states.MovedState.{edges_split}
@@ -85,7 +85,7 @@ abbrev pub kept_run : Lowered → Anew → Run → Machine State
 kept_run l a r = kept_machine (edged l) a.keep (sizes_of l) r.entry r.args r.answers
 
 abbrev pub renewed_run : Lowered → Anew → Run → Machine State
-renewed_run l a r = renewed_machine (edged l) a (sizes_of l) r.entry r.args r.answers
+renewed_run l a r = renewed_machine (edged l) a.keep a.flags a.roots (sizes_of l) r.entry r.args r.answers
 
 abbrev pub framed_run : Lowered → Module → Run → Machine State
 framed_run l n r = framed_machine n l.layouts r.entry r.args r.answers

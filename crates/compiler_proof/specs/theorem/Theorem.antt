@@ -11,7 +11,7 @@ use Rattle.compiler_proof.specs.theorem.Anew.{Anew, IsAnewOf}
 use Rattle.compiler_proof.specs.theorem.Entries.{IsCallable, IsEntry, Run}
 use Rattle.compiler_proof.specs.theorem.GoodLayouts.{AreGoodLayouts}
 use Rattle.compiler_proof.specs.theorem.Lowered.{AreAllocasFirst, IsAccepted, Lowered, early, edged, framed_run, kept_run, lowered_from, plain_run, price_kept, price_renewed, printed_from, renewed_run, sizes_of, source_run, split_from}
-use Rattle.compiler_proof.specs.theorem.Prices.{Prices}
+use Rattle.pass_renewed_proof.specs.Prices.{Prices}
 use Rattle.compiler_proof.specs.theorem.SharedBytes.{AreShown, LiveAreApart}
 use Rattle.ir_laws.specs.facts.sound_states.Named.{AreLocalsNamed}
 use Rattle.text_grammar.specs.Text.{StandsFor}
