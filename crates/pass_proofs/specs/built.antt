@@ -7,3 +7,4 @@ pub mod Passes
 pub mod Places
 pub mod Related
 pub mod Tests
+pub mod Worked

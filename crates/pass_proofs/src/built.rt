@@ -7,3 +7,4 @@ pub mod layers;
 pub mod offsets;
 pub mod start;
 pub mod tests;
+pub mod worked;

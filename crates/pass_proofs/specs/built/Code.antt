@@ -1,5 +1,5 @@
 -- What each instruction of a coroutine becomes in its framed form, over all passes.
-use Rattle.std.specs.Prelude.{ℕ, Bool, List, [], Option, None, Some, ◌∷◌, ◌++◌}
+use Rattle.std.specs.Prelude.{ℕ, Bool, List, [], ◌∷◌, ◌++◌}
 use Rattle.ir_model.specs.declared.instr.Instr.{Instr}
 use Rattle.ir_parts.specs.Contents.{instr_operands, result_of}
 use Rattle.pass_cells.specs.Cells.{fetches_of}

@@ -1,13 +1,9 @@
 -- How many steps of the framed form one step of the coroutine with blocks on edges costs, by the code of both.
-use Rattle.std.specs.Prelude.{ℕ, zero, suc, ◌+◌, ◌-◌, Bool, true, false, List, [], ◌∷◌, length, filter, slice_get, Some, None, Option, if◌then◌else◌, ◌==◌}
-use Rattle.ir_model.specs.declared.instr.Instr.{Instr}
-use Rattle.ir_model.specs.declared.module.Block.{Block}
-use Rattle.ir_model.specs.declared.module.Function.{Function}
+use Rattle.std.specs.Prelude.{ℕ, ◌+◌, ◌-◌, length, filter, Some, None, Option}
 use Rattle.ir_paths.specs.declared.point.Point.{Point}
 use Rattle.pass_front.specs.Front.{is_alloca}
-use Rattle.pass_proofs.specs.built.Layers.{before_of, behind_of, here_of}
 use Rattle.pass_proofs.specs.built.Passes.{block_at}
-use Rattle.pass_proofs.specs.built.Places.{Framing, alloca_place, edged, framed, instrs_at, is_return, own_place, place}
+use Rattle.pass_proofs.specs.built.Places.{Framing, alloca_place, framed, instrs_at, place}
 
 -- the instructions of a block of the framed form, and its terminator
 abbrev pub whole : Framing → ℕ → ℕ

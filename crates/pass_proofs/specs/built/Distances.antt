@@ -1,11 +1,11 @@
 -- What the instructions compute that sum a distance.
-use Rattle.std.specs.Prelude.{◌≡◌, ℕ, List, [], ◌∷◌, length, pos, Some, None, Option, ◌+◌, ◌<◌, ◌≤◌, ◌%◌, ◌^◌}
+use Rattle.std.specs.Prelude.{◌≡◌, ℕ, List, [], ◌∷◌, length, pos, Some, None, Option, ◌<◌, ◌^◌}
 use Rattle.ir_model.specs.Layout.{unnamed}
 use Rattle.ir_model.specs.Ty.{Ty, int, structure}
 use Rattle.ir_model.specs.declared.module.Module.{Module}
 use Rattle.ir_model.specs.declared.operand.Arg.{Arg}
 use Rattle.ir_model.specs.declared.operand.Operand.{Operand}
-use Rattle.pass_distances.specs.Sums.{sum_instrs, sum_next, sum_value}
+use Rattle.pass_distances.specs.Sums.{sum_instrs, sum_value}
 use Rattle.pass_distances.specs.Ways.{inner_type}
 use Rattle.pass_distances.specs.declared.way.Way.{Way}
 use Rattle.run_laws.specs.access.Lines.{Runs}

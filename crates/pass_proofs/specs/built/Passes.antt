@@ -1,12 +1,12 @@
 -- The passes that build frames, as layers: what each of them makes of a block, whose names it begins with.
-use Rattle.std.specs.Prelude.{◌≡◌, ℕ, Bool, true, false, List, [], length, replicate, take, filter, slice_get, Some, None, Option, codes, unwrap_or, ◌+◌, ◌∷◌, ◌++◌, if◌then◌else◌, ◌==◌}
+use Rattle.std.specs.Prelude.{◌≡◌, ℕ, Bool, List, [], length, replicate, take, filter, slice_get, Some, None, Option, unwrap_or, ◌++◌, if◌then◌else◌, ◌==◌}
 use Rattle.ir_model.specs.declared.instr.Instr.{Instr}
 use Rattle.ir_model.specs.declared.instr.Terminator.{Terminator}
 use Rattle.ir_model.specs.declared.module.Block.{Block}
 use Rattle.ir_model.specs.declared.module.Function.{Function}
 use Rattle.ir_model.specs.declared.module.Module.{Module}
 use Rattle.ir_parts.specs.Contents.{instr_operands, result_of}
-use Rattle.pass_addresses.specs.Placing.{lies_outside, slot_fetches, stays, without_markers, without_promise, without_promise_of}
+use Rattle.pass_addresses.specs.Placing.{lies_outside, slot_fetches, stays, without_promise_of}
 use Rattle.pass_cells.specs.Kept.{entry}
 use Rattle.pass_cells.specs.Moves.{after_again, after_saved, again_values, saved_values}
 use Rattle.pass_cells.specs.Written.{after_blocks as after_written, after_one, again_row, distance_behind, save_row, stored_phis, stored_result}

@@ -1,12 +1,11 @@
 -- The framed form of a coroutine, block by block: what each instruction of the coroutine with blocks on edges has
 -- become,
 -- and where its places are then.
-use Rattle.std.specs.Prelude.{ℕ, Bool, true, false, List, [], length, filter, take, slice_get, Some, None, Option, ◌+◌, ◌∷◌, ◌++◌, if◌then◌else◌, ◌==◌}
+use Rattle.std.specs.Prelude.{ℕ, Bool, true, false, List, length, filter, Option, ◌∷◌, ◌==◌}
 use Rattle.frame_classes.specs.declared.class.SlotClass.{SlotClass}
 use Rattle.frame_contents.specs.declared.contents.Contents.{Contents}
 use Rattle.frame_layout.specs.declared.layout.Layout.{Layout}
 use Rattle.ir_model.specs.declared.instr.Instr.{Instr}
-use Rattle.ir_model.specs.declared.module.Block.{Block}
 use Rattle.ir_model.specs.declared.module.Function.{Function}
 use Rattle.ir_model.specs.declared.module.Module.{Module}
 use Rattle.ir_paths.specs.declared.point.Point.{Point}
@@ -23,7 +22,7 @@ use Rattle.pass_edges.specs.EdgeBlocks.{with_edge_blocks}
 use Rattle.pass_frames.specs.Framed.{IsFramedCoroutine, begin_block, begin_of, celled, copied, offsets_of, placed}
 use Rattle.pass_frames.specs.Tables.{class_flags, label_flags, sizes_by_name}
 use Rattle.pass_front.specs.Front.{is_alloca, with_front_allocas}
-use Rattle.pass_proofs.specs.built.Layers.{Layer, both, grown, own_place_in, place_in, up_to}
+use Rattle.pass_proofs.specs.built.Layers.{Layer, both, own_place_in, place_in, up_to}
 use Rattle.pass_proofs.specs.built.Passes.{addressed_at, allocas_led, block_at, copying_at, fetching_at, unmarked_at, writing_at}
 
 -- ---- what the passes go by

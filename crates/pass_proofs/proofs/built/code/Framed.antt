@@ -1,8 +1,7 @@
 -- The framed form of a coroutine is made, block by block, of the coroutine with blocks on edges.
-use Rattle.std.proofs.Common.{◌≡◌, ℕ, zero, suc, Bool, List, [], ◌∷◌, ◌++◌, refl, sym, ap, ◌∙◌, append_assoc, subst}
-use Rattle.std.specs.Prelude.{None, Option, Some, codes, filter, slice_get, ◌≢◌}
+use Rattle.std.proofs.Common.{◌≡◌, ℕ, zero, suc, List, [], ◌∷◌, ◌++◌, refl, sym, ap, ◌∙◌, append_assoc, subst}
+use Rattle.std.specs.Prelude.{Some, codes, filter, slice_get, ◌≢◌}
 use Rattle.frame_layout.specs.declared.layout.Layout.{Layout}
-use Rattle.ir_model.specs.declared.instr.Instr.{Instr}
 use Rattle.ir_model.specs.declared.module.Block.{Block}
 use Rattle.ir_model.specs.declared.module.Function.{Function}
 use Rattle.ir_model.specs.declared.module.Module.{Module}
@@ -15,7 +14,7 @@ use Rattle.pass_front.specs.Front.{allocas_first, is_alloca, is_no_alloca, with_
 use Rattle.pass_proofs.proofs.built.code.Passes.{addressed, addressed_made, block_is, cells_made, copies_made, fetches_made, only_made, rows, unmarked_made}
 use Rattle.pass_proofs.proofs.built.layers.Grown.{both_made}
 use Rattle.pass_proofs.specs.built.Layers.{IsMadeBy, Layer, both, grown, only, passed, woven}
-use Rattle.pass_proofs.specs.built.Passes.{IsBlockMade, addressed_at, allocas_led, block_at, copying_at, fetching_at, unmarked_at, writing_at}
+use Rattle.pass_proofs.specs.built.Passes.{IsBlockMade, addressed_at, allocas_led, copying_at, fetching_at, unmarked_at, writing_at}
 use Rattle.pass_proofs.specs.built.Places.{Framing, celled_layer, copied_layer, copies, before_labels, edged, entry_layer, fetched, framed, framing_of, marked, named, offsets, placed_layer, plan, unmarked, unmarked_layer, with_copies, written}
 
 module _ (x : Framing) where

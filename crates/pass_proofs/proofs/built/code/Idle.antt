@@ -10,17 +10,17 @@ use Rattle.ir_model.specs.declared.operand.Operand.{Operand}
 use Rattle.ir_parts.specs.Contents.{arg_operands, instr_operands, result_of}
 use Rattle.pass_cells.specs.Kept.{entry}
 use Rattle.pass_cells.specs.Moves.{after_saved, saved_values}
-use Rattle.pass_cells.specs.Written.{after_distance, after_distance_into, distance_behind, distance_from, distance_into, save_row, stored, stored_at, stored_result}
+use Rattle.pass_cells.specs.Written.{after_distance, after_distance_into, distance_behind, distance_from, distance_into, stored_at, stored_result}
 use Rattle.pass_cells.specs.declared.plan.Plan.{Plan}
-use Rattle.pass_copies.specs.BeginCopies.{after_instr, behind as behind_begin, begin_copies, is_fetched}
-use Rattle.pass_copies.specs.Uses.{is_begin, still_before}
+use Rattle.pass_copies.specs.BeginCopies.{begin_copies, is_fetched}
+use Rattle.pass_copies.specs.Uses.{is_begin}
 use Rattle.pass_copies.specs.declared.copying.Copying.{Copying}
-use Rattle.pass_fetch.specs.Fetching.{callee_by, fetch_of, fetched_args, fetched_operand, fetches_by, fetches_of_all, next_after_all, next_by, operand_by}
+use Rattle.pass_fetch.specs.Fetching.{callee_by, fetch_of, fetched_args, fetched_operand, fetches_of_all, next_after_all, next_by, operand_by}
 use Rattle.pass_fetch.specs.Instrs.{next_after_instr, with_fetched}
 use Rattle.pass_fetch.specs.declared.fetch.Fetch.{Fetch}
 use Rattle.pass_proofs.proofs.fetch.shape.Fetching.{none_fetched}
 use Rattle.pass_proofs.specs.built.Layers.{IsIdle, Layer, each, only}
-use Rattle.pass_proofs.specs.built.Passes.{IsUnmeasured, IsUnwritten, copying, fetched_before, fetches_before, fetching, writing}
+use Rattle.pass_proofs.specs.built.Passes.{IsUnmeasured, IsUnwritten, copying, fetching, writing}
 use Rattle.pass_proofs.specs.fetch.rules.Fetches.{AreUnfetched}
 
 -- ---- operands that aren't fetched

@@ -1,10 +1,9 @@
 -- What each instruction becomes over all passes.
-use Rattle.std.proofs.Common.{◌≡◌, ℕ, List, [], ◌∷◌, ◌++◌, refl, sym, ap, ◌∙◌, subst, append_assoc, append-nil}
-use Rattle.ir_laws.proofs.facts.Members.{each_joined}
+use Rattle.std.proofs.Common.{◌≡◌, ℕ, List, [], ◌∷◌, ◌++◌, sym, ap, ◌∙◌, append_assoc, append-nil}
 use Rattle.ir_model.specs.declared.instr.Instr.{Instr}
-use Rattle.pass_proofs.proofs.built.layers.Grown.{both_becomes, grown_append, passed_append}
+use Rattle.pass_proofs.proofs.built.layers.Grown.{both_becomes, grown_append}
 use Rattle.pass_proofs.proofs.built.layers.Idle.{all_stay, state_stays}
-use Rattle.pass_proofs.specs.built.Code.{ArePartsLeft, address_state, addressed, code_of, copied_there, load_name, loaded, loads, located, past_addressed, saved, stores, unmarked_one, wheres}
+use Rattle.pass_proofs.specs.built.Code.{ArePartsLeft, code_of, copied_there, loaded, loads, located, past_addressed, saved, stores, unmarked_one, wheres}
 use Rattle.pass_proofs.specs.built.Layers.{IsIdle, Layer, becomes, grown, passed}
 use Rattle.pass_proofs.specs.built.Passes.{unmarked_at}
 use Rattle.pass_proofs.specs.built.Places.{Framing, Placed, addressing_layer, celled_layer, copied_layer, copying_layer, loading_layer, marked, placed_layer, unmarked_layer, writing_layer}

@@ -7,10 +7,10 @@ use Rattle.ir_model.specs.declared.module.Block.{Block}
 use Rattle.ir_model.specs.declared.module.Function.{Function}
 use Rattle.ir_model.specs.declared.module.Module.{Module}
 use Rattle.ir_parts.specs.Contents.{instr_operands, result_of}
-use Rattle.pass_addresses.specs.Placing.{lies_outside, slot_fetches, stays, turned_block, turned_function, with_frame_addresses, without_markers, without_promise, without_promise_of, without_slots}
+use Rattle.pass_addresses.specs.Placing.{lies_outside, slot_fetches, stays, turned_block, with_frame_addresses, without_markers, without_promise, without_promise_of, without_slots}
 use Rattle.pass_cells.specs.Cells.{written_function}
 use Rattle.pass_cells.specs.Moves.{after_again, after_saved, again_values, saved_values}
-use Rattle.pass_cells.specs.Written.{after_one, distance_behind, save_row, stored_result, after_block as after_written_block, after_blocks as after_written, after_instrs as after_written_instrs, again_row, entry_blocks, entry_front as cells_front, stored_phis, written_block, written_blocks, written_instrs}
+use Rattle.pass_cells.specs.Written.{after_one, distance_behind, save_row, stored_result, after_block as after_written_block, after_blocks as after_written, again_row, entry_blocks, entry_front as cells_front, stored_phis, written_block, written_blocks, written_instrs}
 use Rattle.pass_cells.specs.declared.plan.Plan.{Plan}
 use Rattle.pass_copies.specs.BeginCopies.{after_block as after_copied_block, after_blocks as after_copied, after_instr, behind as behind_begin, block_front, copied_block, copied_blocks, copied_function, copied_instr, copied_instrs, entry_front as copies_front, first_fetched, is_fetched}
 use Rattle.pass_copies.specs.Uses.{flag_at, still_before}

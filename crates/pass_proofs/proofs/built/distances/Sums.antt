@@ -1,9 +1,9 @@
 -- Instructions that sum a distance are done one after another, and what they give is the sum.
-use Rattle.std.proofs.Common.{◌≡◌, ℕ, zero, suc, ◌+◌, ◌*◌, ◌%◌, ◌^◌, ◌<◌, ◌≤◌, Bool, true, false, List, [], ◌∷◌, ◌++◌, length, refl, sym, ap, ◌∙◌, subst, arith, pos}
+use Rattle.std.proofs.Common.{◌≡◌, ℕ, ◌+◌, ◌*◌, ◌%◌, ◌^◌, ◌<◌, ◌≤◌, Bool, true, false, List, [], ◌∷◌, length, refl, sym, ap, ◌∙◌, subst, arith, pos}
 use Rattle.std.proofs.lemmas.Bool.{lt-ltb, ltb-true}
 use Rattle.std.proofs.lemmas.Nat.{pow_pos}
 use Rattle.std.proofs.Math.Nat.{mod-eq_of_lt, mod-lt}
-use Rattle.std.specs.Prelude.{None, Option, Some, nat_lt, slice_get, ◌&&◌, ◌==◌, if◌then◌else◌}
+use Rattle.std.specs.Prelude.{None, Option, Some, nat_lt, ◌&&◌, ◌==◌, if◌then◌else◌}
 use Rattle.ir_base.specs.declared.ops.BinOp.{BinOp}
 use Rattle.ir_base.specs.declared.ops.CastOp.{CastOp}
 use Rattle.ir_base.specs.declared.outcome.Word.{Word}
@@ -11,8 +11,6 @@ use Rattle.ir_laws.proofs.facts.Lists.{set_here}
 use Rattle.ir_laws.proofs.facts.Truth.{and_first, and_second, equal_numbers}
 use Rattle.ir_model.specs.Ty.{Ty, array, int, named, ptr, structure, token}
 use Rattle.ir_model.specs.declared.instr.Instr.{Instr}
-use Rattle.ir_model.specs.declared.module.Module.{Module}
-use Rattle.ir_model.specs.declared.operand.Arg.{Arg}
 use Rattle.ir_model.specs.declared.operand.Operand.{Operand}
 use Rattle.pass_distances.specs.Sums.{is_wide, on_number, sum_instrs, sum_next, sum_value, way_instrs, widened, widening}
 use Rattle.pass_distances.specs.declared.way.Way.{Way}
@@ -26,8 +24,8 @@ use Rattle.run_laws.proofs.access.Lines.{runs_append}
 use Rattle.run_laws.proofs.transfer.Sets.{set_elsewhere, set_length}
 use Rattle.run_laws.specs.access.Lines.{Runs}
 use Rattle.run_memory.specs.declared.pointer.Value.{Value}
-use Rattle.run_step.specs.Step.{Context, Done, Work, cast_to, instr_action, set_value, value_at}
-use Rattle.run_step.specs.Values.{Env, arg_value, index_of, number_at, number_of_width, operand_value, plus, times, value_in, value_of, value_or_poison}
+use Rattle.run_step.specs.Step.{Context, Work, cast_to, set_value, value_at}
+use Rattle.run_step.specs.Values.{arg_value, index_of, number_at, number_of_width, plus, times, value_in, value_of, value_or_poison}
 
 -- ---- numbers of 64 bits
 

@@ -1,5 +1,5 @@
 -- What the indices of a getelementptr add is its distance.
-use Rattle.std.proofs.Common.{◌≡◌, ◌⊎◌, inl, inr, ℕ, ◌-◌, ◌+◌, ◌*◌, ◌%◌, ◌^◌, ◌<◌, Bool, true, false, List, [], ◌∷◌, refl, sym, ap, ◌∙◌, arith, pos, negsuc}
+use Rattle.std.proofs.Common.{◌≡◌, ◌⊎◌, inl, inr, ℕ, ◌-◌, ◌+◌, ◌*◌, ◌%◌, ◌^◌, ◌<◌, Bool, List, [], ◌∷◌, refl, sym, ap, ◌∙◌, arith, pos, negsuc}
 use Rattle.std.proofs.lemmas.Bool.{lt-ltb}
 use Rattle.std.proofs.Math.Nat.{add-mod-mod, mod-add-mod, mod-eq_of_lt}
 use Rattle.std.specs.Prelude.{None, Option, Some, unwrap_or, if◌then◌else◌}
@@ -10,7 +10,7 @@ use Rattle.ir_model.specs.declared.operand.Arg.{Arg}
 use Rattle.ir_model.specs.declared.operand.Operand.{Operand}
 use Rattle.pass_distances.specs.Ways.{field_number, inner_type, inner_ways, way_at, ways_of}
 use Rattle.pass_proofs.specs.built.Distances.{AreFields, AreFieldsInside, IsField, added, summed}
-use Rattle.run_ints.specs.Numbers.{bits_of, signed_of}
+use Rattle.run_ints.specs.Numbers.{bits_of}
 use Rattle.run_ints.specs.declared.num.Num.{Num}
 use Rattle.run_memory.specs.declared.pointer.Value.{Value}
 use Rattle.run_step.specs.Values.{Env, arg_value, capped, distance, index_of, indices_of, inner_distance, number_at, number_of_width, operand_value, part_at, plus, times}

@@ -1,8 +1,8 @@
 -- Instructions that passes leave as they are.
-use Rattle.std.proofs.Common.{◌≡◌, List, [], ◌∷◌, ◌++◌, refl, ap, ◌∙◌, subst}
+use Rattle.std.proofs.Common.{◌≡◌, List, [], ◌∷◌, ◌++◌, refl, ap, ◌∙◌}
 use Rattle.ir_model.specs.declared.instr.Instr.{Instr}
 use Rattle.pass_proofs.proofs.built.layers.Grown.{both_becomes, grown_one}
-use Rattle.pass_proofs.specs.built.Layers.{IsIdle, Layer, becomes, both, grown, passed}
+use Rattle.pass_proofs.specs.built.Layers.{IsIdle, Layer, both, grown, passed}
 use Rattle.run_laws.specs.changed.Changed.{Each}
 
 module _ {S : Type 0} (L : Layer S) where

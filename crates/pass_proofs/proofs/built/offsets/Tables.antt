@@ -1,5 +1,5 @@
 -- What the table of offsets tells of slots and of the fields of kept values.
-use Rattle.std.proofs.Common.{◌≡◌, ℕ, zero, suc, ◌+◌, ◌<◌, ◌≤◌, Bool, true, false, List, [], ◌∷◌, length, refl, sym, ap, ◌∙◌, subst, arith}
+use Rattle.std.proofs.Common.{◌≡◌, ℕ, zero, suc, ◌+◌, ◌<◌, Bool, true, false, List, [], ◌∷◌, length, refl, sym, ap, ◌∙◌, arith}
 use Rattle.std.specs.Prelude.{None, Option, Some, get_or, replicate, slice_get, slice_set, if◌then◌else◌}
 use Rattle.frame_contents.specs.declared.contents.Contents.{Contents}
 use Rattle.frame_contents.specs.declared.held.Holding.{Holding}

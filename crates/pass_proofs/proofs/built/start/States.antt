@@ -19,9 +19,7 @@ use Rattle.run_memory.specs.declared.block.MemoryBlock.{MemoryBlock}
 use Rattle.run_memory.specs.Pointers.{moved}
 use Rattle.run_memory.specs.declared.pointer.Offset.{Offset}
 use Rattle.run_memory.specs.declared.pointer.Value.{Value}
-use Rattle.run_source.specs.Source.{called, first_state}
-use Rattle.run_source.specs.declared.state.Activation.{Activation}
-use Rattle.run_source.specs.declared.state.Mode.{Mode}
+use Rattle.run_source.specs.Source.{first_state}
 use Rattle.run_source.specs.declared.state.State.{State}
 use Rattle.run_step.specs.Step.{entry_values, first_world, with_params}
 use Rattle.run_step.specs.Values.{Env, value_in, with_value}

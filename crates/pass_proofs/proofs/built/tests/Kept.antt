@@ -1,5 +1,5 @@
 -- Where instructions that pass a test stand behind passes that keep it.
-use Rattle.std.proofs.Common.{◌≡◌, ℕ, zero, suc, ◌+◌, Bool, true, false, List, [], ◌∷◌, ◌++◌, length, refl, sym, ap, ◌∙◌, subst, arith, append-nil}
+use Rattle.std.proofs.Common.{◌≡◌, ℕ, suc, ◌+◌, Bool, true, false, List, [], ◌∷◌, ◌++◌, length, refl, sym, ap, ◌∙◌, arith, append-nil}
 use Rattle.std.proofs.lemmas.List.{length-append}
 use Rattle.std.specs.Prelude.{None, Option, Some, filter, map, option_to_list, slice_get, take, if◌then◌else◌}
 use Rattle.ir_laws.proofs.facts.Lists.{map_map, map_same, places}
@@ -9,7 +9,6 @@ use Rattle.pass_front.specs.Front.{is_alloca, is_no_alloca}
 use Rattle.pass_proofs.specs.built.Layers.{Layer, after_of, becomes, before_of, behind_of, both, grown, here_of, met, only, own_place_in, passed, woven}
 use Rattle.pass_proofs.specs.built.Passes.{allocas_led}
 use Rattle.pass_proofs.specs.built.Tests.{AllFail, KeepsTest, PassesLike}
-use Rattle.run_laws.specs.changed.Changed.{Each}
 
 module _ (test : Instr → Bool) where
   abbrev Fails : Instr → Type 0

@@ -1,7 +1,7 @@
 -- The calls of a coro intrinsic stand in the framed form where the coroutine has them.
-use Rattle.std.proofs.Common.{◌≡◌, ℕ, zero, suc, ◌+◌, Bool, true, false, List, [], ◌∷◌, ◌++◌, length, refl, sym, ap, ◌∙◌, subst, arith}
+use Rattle.std.proofs.Common.{◌≡◌, ℕ, zero, suc, ◌+◌, Bool, true, List, [], ◌∷◌, ◌++◌, length, refl, sym, ap, ◌∙◌, subst, arith}
 use Rattle.std.proofs.lemmas.List.{map-append}
-use Rattle.std.specs.Prelude.{None, Option, Some, codes, filter, map, slice_get, ◌≢◌}
+use Rattle.std.specs.Prelude.{Option, Some, codes, filter, map, slice_get, ◌≢◌}
 use Rattle.ir_laws.proofs.facts.Lists.{map_map, map_same, places}
 use Rattle.ir_laws.proofs.facts.local_rules.Woven.{other_number}
 use Rattle.ir_laws.proofs.paths.expanded.Points.{points_are}
