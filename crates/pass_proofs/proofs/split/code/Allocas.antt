@@ -1,5 +1,5 @@
 -- The allocas in front of a coroutine, and those of its parts that go on.
-use Rattle.std.proofs.Common.{◌≡◌, ℕ, zero, suc, ◌+◌, ◌<◌, Bool, true, false, List, [], ◌∷◌, ◌++◌, length, refl, sym, ap, ◌∙◌, arith}
+use Rattle.std.proofs.Common.{◌≡◌, ℕ, zero, suc, ◌<◌, Bool, true, false, List, [], ◌∷◌, ◌++◌, length, refl, sym, ap, ◌∙◌, arith}
 use Rattle.std.specs.Prelude.{None, Option, Some, drop, filter, option_map, slice_get, if◌then◌else◌, ◌==◌}
 use Rattle.ir_laws.proofs.facts.Lists.{get_front}
 use Rattle.ir_model.specs.declared.instr.Instr.{Instr}

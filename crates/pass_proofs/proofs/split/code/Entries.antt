@@ -1,5 +1,5 @@
 -- The entry of a part that goes on behind a suspend, and where its index leads.
-use Rattle.std.proofs.Common.{◌≡◌, ◌⊎◌, ◌<◌, inl, inr, ⊎_elim, ℕ, zero, suc, ◌+◌, ◌-◌, Bool, true, false, List, [], ◌∷◌, ◌++◌, length, refl, sym, ap, ◌∙◌, subst, arith}
+use Rattle.std.proofs.Common.{◌≡◌, ◌<◌, inl, inr, ⊎_elim, ℕ, zero, suc, ◌+◌, ◌-◌, Bool, true, false, List, [], ◌∷◌, ◌++◌, length, refl, sym, ap, ◌∙◌, subst, arith}
 use Rattle.std.specs.Prelude.{None, Some, filter, map, slice_get, if◌then◌else◌}
 use Rattle.flow_solver.specs.Paths.{IsListed}
 use Rattle.frame_layout.specs.declared.layout.Layout.{Layout}

@@ -38,7 +38,7 @@ use Rattle.pass_proofs.specs.split.code.Numbers.{IsNumbered}
 use Rattle.pass_proofs.specs.split.rules.Splittable.{IsSplittable}
 use Rattle.rule_shape.specs.Suspends.{is_suspend}
 use Rattle.rule_uses.specs.Undefined.{params_of}
-use Rattle.run_source_tables.specs.Given.{is_final, is_final_call, is_true}
+use Rattle.run_source_tables.specs.Given.{is_final_call, is_true}
 use Rattle.run_step.specs.Step.{AtInstr, fetch, label_of}
 
 -- ---- suspends in the text
