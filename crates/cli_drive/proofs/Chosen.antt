@@ -12,7 +12,7 @@ use Rattle.cli_words.specs.declared.words.Words.{Words}
 use Rattle.rule_all.specs.Refused.{IsRefused}
 use Rattle.ir_model.specs.declared.module.Module.{Module}
 use Rattle.compiler.specs.Lowering.{IsLowering}
-use Rattle.compiler.specs.declared.whole.Lowering.{Lowering}
+use Rattle.compiler.specs.declared.lowered.Lowering.{Lowering}
 use Rattle.frame_acceptance.specs.Acceptance.{IsAcceptance, IsRefusedFor}
 use Rattle.frame_acceptance.specs.declared.accepting.Acceptance.{Acceptance}
 use Rattle.rule_modules.specs.declared.order.Refusal.{Refusal}

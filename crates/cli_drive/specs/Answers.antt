@@ -31,8 +31,8 @@ use Rattle.text_parser.specs.Parse.{read_module}
 use Rattle.text_parser.specs.declared.text.Parsed.{Parsed}
 use Rattle.text_printer.specs.Items.{module_text}
 use Rattle.compiler.specs.Lowering.{IsLowering}
-use Rattle.compiler.specs.declared.whole.Lowered.{Lowered}
-use Rattle.compiler.specs.declared.whole.Lowering.{Lowering}
+use Rattle.compiler.specs.declared.lowered.Lowered.{Lowered}
+use Rattle.compiler.specs.declared.lowered.Lowering.{Lowering}
 use Rattle.rule_all.specs.Refused.{IsRefused}
 use Rattle.frame_acceptance.specs.Acceptance.{IsAcceptance, IsRefusedFor}
 use Rattle.frame_acceptance.specs.declared.accepting.Acceptance.{Acceptance}

@@ -11,8 +11,8 @@ use Rattle.text_parser.proofs.TextRead.{reading_of}
 use Rattle.text_parser.specs.Parse.{read_module}
 use Rattle.text_parser.specs.declared.text.Parsed.{Parsed}
 use Rattle.compiler.specs.Lowering.{IsDone, IsLowering, IsLoweringBy, IsLoweringOf, IsModuleLowering, OfLowered}
-use Rattle.compiler.specs.declared.whole.Lowered.{Lowered}
-use Rattle.compiler.specs.declared.whole.Lowering.{Lowering}
+use Rattle.compiler.specs.declared.lowered.Lowered.{Lowered}
+use Rattle.compiler.specs.declared.lowered.Lowering.{Lowering}
 use Rattle.frame_acceptance.specs.Acceptance.{ComesOf, IsAcceptance}
 use Rattle.frame_acceptance.specs.declared.accepting.Acceptance.{Acceptance}
 use Rattle.rule_modules.specs.declared.order.Refusal.{Refusal}

@@ -37,8 +37,8 @@ use Rattle.text_parser.specs.Parse.{read_module}
 use Rattle.text_parser.specs.declared.text.Parsed.{Parsed}
 use Rattle.compiler.specs.Lowering.{IsDone, IsLowering, IsLoweringBy, IsLoweringOf, lowered_module}
 use Rattle.compiler.specs.NoCoroutine.{LeavesNoCoroutine, has_no_coroutine}
-use Rattle.compiler.specs.declared.whole.Lowered.{Lowered}
-use Rattle.compiler.specs.declared.whole.Lowering.{Lowering}
+use Rattle.compiler.specs.declared.lowered.Lowered.{Lowered}
+use Rattle.compiler.specs.declared.lowered.Lowering.{Lowering}
 use Rattle.frame_acceptance.specs.declared.accepting.Acceptance.{Acceptance}
 use Rattle.pass_exits.specs.ExitBlocks.{with_exit_blocks}
 

@@ -10,10 +10,10 @@ use Rattle.compiler.proofs.Done.{IsAccepted, lowering_holds}
 use Rattle.compiler.proofs.NoCoroutine.{split_all_plain, split_calls_id}
 use Rattle.compiler.specs.Lowering.{IsDone, IsLowering}
 use Rattle.compiler.specs.NoRule.{BreaksNoRule, IsFramed}
-use Rattle.compiler.specs.declared.whole.Lowered.{Lowered}
-use Rattle.compiler.specs.declared.whole.Lowering.{Lowering}
-use Rattle.compiler_proof.proofs.whole.lowered_sources.Row.{all_accepted, is_ready}
-use Rattle.compiler_proof.specs.cleanup.accepted.Ready.{IsReady}
+use Rattle.compiler.specs.declared.lowered.Lowered.{Lowered}
+use Rattle.compiler.specs.declared.lowered.Lowering.{Lowering}
+use Rattle.compiler.proofs.whole.lowered_sources.Row.{all_accepted, is_ready}
+use Rattle.compiler.specs.cleanup.accepted.Ready.{IsReady}
 use Rattle.rule_names.specs.declared.stage.Stage.{Stage}
 
 done_breaks_none : (text : List ℕ) (m : Module) → StandsFor text m → (share : Bool) (layouts : Layouts) (l : Lowered) → IsAccepted m share layouts → IsDone m layouts l → IsRefused Stage.Plain l.«module» None

@@ -17,15 +17,14 @@ use Rattle.compiler.proofs.Done.{IsAccepted, lowering_holds}
 use Rattle.compiler.proofs.NoCoroutine.{split_all_plain, split_calls_id}
 use Rattle.compiler.specs.Lowering.{IsDone, IsLowering, OfLowered, frame_line, lowered_module, name_of}
 use Rattle.compiler.specs.Printed.{AllFew, HasFewNames, IsReadPlain, StandsForPlain}
-use Rattle.compiler.specs.declared.whole.Lowered.{Lowered}
-use Rattle.compiler.specs.declared.whole.Lowering.{Lowering}
-use Rattle.compiler_proof.proofs.whole.Passed.{IsBounded, given_bounded}
-use Rattle.compiler_proof.proofs.whole.lowered_sources.Row.{all_accepted}
-use Rattle.compiler_proof.proofs.whole.names_apart.Lowered.{lowered_apart}
-use Rattle.compiler_proof.proofs.order.rules.Modules.{order_breaks_none}
-use Rattle.compiler_proof.proofs.whole.printed_forms.Lowered.{lowered_printable, lowered_shaped}
-use Rattle.compiler_proof.proofs.whole.Passed.{source_spelled}
-use Rattle.compiler_proof.specs.whole.Passed.{AreFew}
+use Rattle.compiler.specs.declared.lowered.Lowered.{Lowered}
+use Rattle.compiler.specs.declared.lowered.Lowering.{Lowering}
+use Rattle.compiler.proofs.whole.Passed.{IsBounded, given_bounded, source_spelled}
+use Rattle.compiler.proofs.whole.lowered_sources.Row.{all_accepted}
+use Rattle.compiler.proofs.whole.names_apart.Lowered.{lowered_apart}
+use Rattle.compiler.proofs.order.rules.Modules.{order_breaks_none}
+use Rattle.compiler.proofs.whole.printed_forms.Lowered.{lowered_printable, lowered_shaped}
+use Rattle.compiler.specs.whole.Passed.{AreFew}
 use Rattle.text_canonical.proofs.order.Modules.{stands_in_order}
 use Rattle.text_canonical.specs.order.Order.{module_order}
 use Rattle.rule_names.specs.declared.stage.Stage.{Stage}

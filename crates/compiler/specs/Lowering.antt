@@ -14,8 +14,8 @@ use Rattle.ir_model.specs.declared.module.Module.{Module}
 use Rattle.text_parser.specs.Parse.{read_module}
 use Rattle.text_parser.specs.declared.text.Parsed.{Parsed}
 use Rattle.text_printer.specs.Items.{module_text}
-use Rattle.compiler.specs.declared.whole.Lowered.{Lowered}
-use Rattle.compiler.specs.declared.whole.Lowering.{Lowering}
+use Rattle.compiler.specs.declared.lowered.Lowered.{Lowered}
+use Rattle.compiler.specs.declared.lowered.Lowering.{Lowering}
 use Rattle.frame_acceptance.specs.Acceptance.{IsAcceptance}
 use Rattle.frame_acceptance.specs.declared.accepting.Acceptance.{Acceptance}
 use Rattle.pass_frames.specs.Framed.{IsFramedForm}

@@ -4,7 +4,7 @@ use Rattle.std.specs.List.{list_all}
 use Rattle.pass_cleanup.specs.Free.{is_free_module}
 use Rattle.ir_model.specs.declared.module.Module.{Module}
 use Rattle.compiler.specs.Lowering.{OfLowered}
-use Rattle.compiler.specs.declared.whole.Lowering.{Lowering}
+use Rattle.compiler.specs.declared.lowered.Lowering.{Lowering}
 
 -- no function is a coroutine, and no coro intrinsic is called or declared
 abbrev pub has_no_coroutine : Module → Bool

@@ -2,8 +2,8 @@
 use Rattle.std.specs.Prelude.{None}
 use Rattle.rule_all.specs.Refused.{IsRefused}
 use Rattle.compiler.specs.Lowering.{OfLowered}
-use Rattle.compiler.specs.declared.whole.Lowering.{Lowering}
-use Rattle.compiler_proof.specs.cleanup.accepted.Ready.{IsReady}
+use Rattle.compiler.specs.declared.lowered.Lowering.{Lowering}
+use Rattle.compiler.specs.cleanup.accepted.Ready.{IsReady}
 use Rattle.rule_names.specs.declared.stage.Stage.{Stage}
 
 -- the lowered module, where there is one, breaks none of the rules of modules without coroutines

@@ -5,8 +5,8 @@ use Rattle.text_grammar.specs.Text.{StandsFor}
 use Rattle.ir_model.specs.declared.module.Function.{Function}
 use Rattle.ir_model.specs.declared.module.Module.{Module}
 use Rattle.compiler.specs.Lowering.{OfLowered}
-use Rattle.compiler.specs.declared.whole.Lowering.{Lowering}
-use Rattle.compiler_proof.specs.whole.Passed.{AreFew}
+use Rattle.compiler.specs.declared.lowered.Lowering.{Lowering}
+use Rattle.compiler.specs.whole.Passed.{AreFew}
 use Rattle.text_canonical.specs.order.Order.{module_order}
 use Rattle.rule_names.specs.declared.stage.Stage.{Stage}
 

@@ -10,10 +10,18 @@
 //! module with the names of each function in the order of their first occurrence. That breaks none of these rules
 //! either (clause `printed`). `lower_module` does the same for a module, each function of which has fewer than 2^64
 //! names once it is lowered (clause `few`).
+//!
+//! `theorem` puts all passes in a row; `cleanup`, `order`, `fit` and `whole` have what it takes of the last passes, of
+//! good layouts and of what is lowered.
 #![tactic(auto)]
 
+pub mod cleanup;
+pub mod fit;
+mod lowered;
+pub mod order;
 mod passes;
-mod whole;
+pub mod theorem;
+pub mod whole;
 
+pub use lowered::{Lowered, Lowering, lower, lower_module};
 pub use passes::{framed_module, lowered_module};
-pub use whole::{Lowered, Lowering, lower, lower_module};

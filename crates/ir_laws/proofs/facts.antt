@@ -2,4 +2,5 @@ pub mod Lists
 pub mod Members
 pub mod Numbers
 pub mod Options
+pub mod Renumbering
 pub mod Truth

@@ -1,9 +1,5 @@
-//! Laws of modules as data, of no pass and no run: of lists, paths and texts, of what rewriting a function leaves
-//! of the rules, and of the analyses of frames.
+//! Laws of modules as data, of no rule, no pass and no run: of lists and truth, and of points, edges and paths.
 #![tactic(auto)]
 
 pub mod facts;
-pub mod frames;
 pub mod paths;
-pub mod rules;
-pub mod texts;

@@ -2,6 +2,7 @@ pub mod addresses
 pub mod built
 pub mod cells
 pub mod copies
+pub mod early
 pub mod edges
 pub mod exits
 pub mod fetch

@@ -1,4 +1,4 @@
-//! The proofs of the passes behind the first, one module a pass: what each keeps of meaning and rules, and what
+//! The proofs of the passes, one module a pass: what each keeps of meaning and rules, and what
 //! it asks.
 #![tactic(auto)]
 
@@ -6,6 +6,7 @@ pub mod addresses;
 pub mod built;
 pub mod cells;
 pub mod copies;
+pub mod early;
 pub mod edges;
 pub mod exits;
 pub mod fetch;

@@ -91,13 +91,15 @@ branch_edge f block at label h = record { edge = on (slice_get f.blocks block) h
 pub not_in_either : (a b : Bool) → a ≡ false → b ≡ false → (a || (b || false)) ≡ false
 not_in_either a b h k = (λ i. h i || (k i || false))
 
-pub found_append : (xs ys : List Point) (p : Point) → has_point xs p ≡ false → has_point ys p ≡ false → has_point (xs ++ ys) p ≡ false
+pub found_append : (xs ys : List Point) (p : Point) → has_point xs p ≡ false → has_point ys p ≡ false
+    → has_point (xs ++ ys) p ≡ false
 found_append [] ys p h k = k
 found_append (x ∷ xs) ys p h k = let n = neither (same_point p x) (has_point xs p) h in ap (λ t. t || has_point (xs ++ ys) p) n.0 ∙ found_append xs ys p n.1 k
 
 pub not_found_first : (xs ys : List Point) (p : Point) → has_point (xs ++ ys) p ≡ false → has_point xs p ≡ false
 not_found_first [] ys p h = refl
-not_found_first (x ∷ xs) ys p h = let n = neither (same_point p x) (has_point (xs ++ ys) p) h in ap (λ t. t || has_point xs p) n.0 ∙ not_found_first xs ys p n.1
+not_found_first (x ∷ xs) ys p h = let n = neither (same_point p x) (has_point (xs ++ ys) p) h
+    in ap (λ t. t || has_point xs p) n.0 ∙ not_found_first xs ys p n.1
 
 found_behind : (xs ys : List Point) (p : Point) → has_point (xs ++ ys) p ≡ false → has_point ys p ≡ false
 found_behind [] ys p h = h

@@ -49,7 +49,8 @@ fetch_is f p i e = on (slice_get f.blocks p.block) e
     on None h = absurd (cc)
     on (Some b) h = ap (λ o. fetch_or o (p.at == length b.instrs) b.term) h
 
-pub no_marker : (f : Function) (marker : Intrinsic) (slot : ℕ) (p : Point) → (IsMarkerAt f marker slot p → ⊥) → has_point (points_where (is_marker_of marker slot) f) p ≡ false
+pub no_marker : (f : Function) (marker : Intrinsic) (slot : ℕ) (p : Point) → (IsMarkerAt f marker slot p → ⊥)
+    → has_point (points_where (is_marker_of marker slot) f) p ≡ false
 no_marker f marker slot p none = on (has_point (points_where (is_marker_of marker slot) f) p) refl
   where
     on : (t : Bool) → has_point (points_where (is_marker_of marker slot) f) p ≡ t → has_point (points_where (is_marker_of marker slot) f) p ≡ false
@@ -59,7 +60,8 @@ no_marker f marker slot p none = on (has_point (points_where (is_marker_of marke
         absurd (none (record { instr = r.instr; stands = fetch_is f p r.instr r.is; is = h.0; takes = local_is slot (call_operand r.instr 1) h.1 }))
     on false e = e
 
-pub no_start : (f : Function) (slot : ℕ) (p : Point) → (IsMarkerAt f Intrinsic.LifetimeStart slot p → ⊥) → IsNoStart f slot p
+pub no_start : (f : Function) (slot : ℕ) (p : Point) → (IsMarkerAt f Intrinsic.LifetimeStart slot p → ⊥)
+    → IsNoStart f slot p
 no_start f slot p none = on (is_escaped f slot)
   where
     on : (t : Bool) → has_point (parting t f slot) p ≡ false

@@ -58,11 +58,13 @@ module _ (f : Function) (k s : Point) (c : IsCallAt Intrinsic.CoroSave f k) (es 
       record { is_not_save = n.0; is_not_suspend = (neither (same_point q s) _ n.1).0; from_save = from; to_suspend = to }
 
   -- from a point on a path leads to the suspend: the next point is on it
-  step_on : (p : Point) (i : Instr) → fetch f p.block p.at ≡ AtInstr i → ((q : Point) → has_point (nexts f p) q ≡ true → Leads f both k q) → (between : List Point) → IsPath f both p between s → IsLeftBy f s (behind p)
+  step_on : (p : Point) (i : Instr) → fetch f p.block p.at ≡ AtInstr i → ((q : Point) → has_point (nexts f p) q ≡ true
+      → Leads f both k q) → (between : List Point) → IsPath f both p between s → IsLeftBy f s (behind p)
   step_on p i e from [] path = AtSuspend (sym (next_is f p s i e path))
   step_on p i e from (v ∷ between) path =
       let is : v ≡ record { block = p.block; at = p.at + 1 } = next_is f p v i e path.0 in
-      subst (IsLeftBy f s) is (Between k c es (inside v path.1 (from v path.0) (record { between = between; is_path = path.2 })))
+      subst (IsLeftBy f s) is
+      (Between k c es (inside v path.1 (from v path.0) (record { between = between; is_path = path.2 })))
 
   pub save_next : Leads f [] k s → IsLeftBy f s (behind k)
   save_next l = let m = leads_between f k s l in step_on k c.instr c.stands (λ q h. record { between = []; is_path = h }) m.between m.is_path
@@ -70,18 +72,22 @@ module _ (f : Function) (k s : Point) (c : IsCallAt Intrinsic.CoroSave f k) (es 
   out_of_both : (p : Point) → IsInWindow f k s p → has_point both p ≡ false
   out_of_both p w = not_in_either (same_point p k) (same_point p s) w.is_not_save w.is_not_suspend
 
-  pub window_next : (p : Point) (i : Instr) → fetch f p.block p.at ≡ AtInstr i → IsInWindow f k s p → IsLeftBy f s (behind p)
+  pub window_next : (p : Point) (i : Instr) → fetch f p.block p.at ≡ AtInstr i → IsInWindow f k s p
+      → IsLeftBy f s (behind p)
   window_next p i e w = step_on p i e (λ q h. leads_more f both k p q w.from_save (out_of_both p w) h) w.to_suspend.between w.to_suspend.is_path
 
   -- a branch that doesn't leave the window stays in it, or comes to the suspend
-  pub window_branch : (w : Window) → w.save ≡ k → w.suspend ≡ s → IsWindow f w → (p q : Point) → IsInWindow f k s p → leaves p q w ≡ false → IsLeftBy f s q
+  pub window_branch : (w : Window) → w.save ≡ k → w.suspend ≡ s → IsWindow f w → (p q : Point) → IsInWindow f k s p
+      → leaves p q w ≡ false → IsLeftBy f s q
   window_branch w ek et facts p q is stays = on (has_point w.inside q) refl (same_point q w.suspend) refl
     where
       in_it : IsInWindow f w.save w.suspend p
       in_it = subst (λ z. IsInWindow f z w.suspend p) (sym ek) (subst (λ z. IsInWindow f k z p) (sym et) is)
 
       on : (a : Bool) → has_point w.inside q ≡ a → (b : Bool) → same_point q w.suspend ≡ b → IsLeftBy f s q
-      on true ea b eb = Between k c es (subst (λ z. IsInWindow f k z q) et (subst (λ z. IsInWindow f z w.suspend q) ek ((facts.inside q).0 ea)))
+      on true ea b eb
+          = Between k c es (subst (λ z. IsInWindow f k z q) et (subst (λ z. IsInWindow f z w.suspend q) ek
+          ((facts.inside q).0 ea)))
       on false ea true eb = AtSuspend (same_point_same q w.suspend eb ∙ et)
       on false ea false eb =
           let h : leaves p q w ≡ true = (λ i. ((facts.inside p).1 in_it i && not (ea i)) && not (eb i)) in
@@ -89,7 +95,8 @@ module _ (f : Function) (k s : Point) (c : IsCallAt Intrinsic.CoroSave f k) (es 
 
 -- ---- the suspend, its switch, the end
 
-pub switch_next : (f : Function) (s : Point) (label : ℕ) → position_of f label ≡ end_block f → IsLeftBy f s (entry_point f label)
+pub switch_next : (f : Function) (s : Point) (label : ℕ) → position_of f label ≡ end_block f
+    → IsLeftBy f s (entry_point f label)
 switch_next f s label e = AtEnd e refl
 
 pub after_edge : (f : Function) (p q : Point) → IsAfterEnd f p → has_point (nexts f p) q ≡ true → IsAfterEnd f q
@@ -130,10 +137,20 @@ call_listed f intrinsic p c = where_complete (is_call_of intrinsic) f p c.instr 
     on None h = absurd (cc)
     on (Some b) h = at_block b (slice_get b.instrs p.at) (p.at == length b.instrs) h
 
-pub left_closed : (f : Function) (s p : Point) → IsCallAt Intrinsic.CoroSuspend f s → (IsCallAt Intrinsic.CoroSuspend f p → ⊥) → (IsBehindSuspendCall f p.block p.at → ⊥) → (p.block ≡ end_block f → p.at ≡ 0 → ⊥) → IsLeftBy f s p → IsClosed f p
-left_closed f s p call no_suspend no_switch no_end (Between k c es w) = inr (to_pairs f p k s (points_where (is_call_of Intrinsic.CoroSave) f) es w (call_listed f Intrinsic.CoroSave k c))
-left_closed f s p call no_suspend no_switch no_end (AtSuspend e) = absurd (no_suspend (subst (IsCallAt Intrinsic.CoroSuspend f) (sym e) call))
-left_closed f s p call no_suspend no_switch no_end (AtSwitch e) = absurd (no_switch (subst (λ q. IsBehindSuspendCall f q.block q.at) (sym e) (record { before = s.at; next = refl; is_suspend = call })))
+pub left_closed : (f : Function) (s p : Point) → IsCallAt Intrinsic.CoroSuspend f s
+    → (IsCallAt Intrinsic.CoroSuspend f p → ⊥) → (IsBehindSuspendCall f p.block p.at → ⊥)
+    → (p.block ≡ end_block f → p.at ≡ 0 → ⊥) → IsLeftBy f s p → IsClosed f p
+left_closed f s p call no_suspend no_switch no_end (Between k c es w)
+    = inr (to_pairs f p k s (points_where (is_call_of Intrinsic.CoroSave) f) es w
+    (call_listed f Intrinsic.CoroSave k c))
+left_closed f s p call no_suspend no_switch no_end (AtSuspend e)
+    = absurd (no_suspend (subst (IsCallAt Intrinsic.CoroSuspend f) (sym e) call))
+left_closed f s p call no_suspend no_switch no_end (AtSwitch e)
+    = absurd (no_switch (subst (λ q. IsBehindSuspendCall f q.block q.at) (sym e) (record {
+      before = s.at;
+      next = refl;
+      is_suspend = call;
+    })))
 left_closed f s p call no_suspend no_switch no_end (AtEnd e z) = absurd (no_end e z)
 left_closed f s p call no_suspend no_switch no_end (Behind a) = inl a
 

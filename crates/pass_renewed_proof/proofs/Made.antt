@@ -48,7 +48,8 @@ pub home_last : (homes : List Home) (h : Home) → home_of (homes ++ h ∷ []) (
 home_last [] h = refl
 home_last (g ∷ homes) h = home_last homes h
 
-pub home_other : (homes : List Home) (h : Home) (d : ℕ) → d ≢ length homes → home_of (homes ++ h ∷ []) d ≡ home_of homes d
+pub home_other : (homes : List Home) (h : Home) (d : ℕ) → d ≢ length homes
+    → home_of (homes ++ h ∷ []) d ≡ home_of homes d
 home_other [] h zero ne = absurd (ne refl)
 home_other [] h (suc d) ne = refl
 home_other (g ∷ homes) h zero ne = refl

@@ -196,7 +196,8 @@ stood_length homes [] = refl
 stood_length homes (p ∷ ps) = stood_length (set homes p.block (whole_home p.target)) ps ∙ length-set homes p.block (whole_home p.target)
 
 -- another block stands where it stood
-pub stood_others : (homes : List Home) (ps : List Place) (d : ℕ) → Each (λ (q : Place). q.block ≢ d) ps → home_of (stood homes ps) d ≡ home_of homes d
+pub stood_others : (homes : List Home) (ps : List Place) (d : ℕ) → Each (λ (q : Place). q.block ≢ d) ps
+    → home_of (stood homes ps) d ≡ home_of homes d
 stood_others homes [] d h = refl
 stood_others homes (p ∷ ps) d h = stood_others (set homes p.block (whole_home p.target)) ps d h.1 ∙ get_or-set_other homes p.block d (whole_home p.target) nowhere (λ e. h.0 (sym e))
 
@@ -204,7 +205,8 @@ pub each_map : {A : Type 0} (P Q : A → Type 0) (xs : List A) → ((x : A) → 
 each_map P Q [] f h = tt
 each_map P Q (x ∷ xs) f h = (f x h.0, each_map P Q xs f h.1)
 
-pub stood_at : (homes : List Home) (ps : List Place) (p : Place) → Each (λ (q : Place). q.block < length homes) ps → ArePlacesApart ps → IsListed p ps → home_of (stood homes ps) p.block ≡ whole_home p.target
+pub stood_at : (homes : List Home) (ps : List Place) (p : Place) → Each (λ (q : Place). q.block < length homes) ps
+    → ArePlacesApart ps → IsListed p ps → home_of (stood homes ps) p.block ≡ whole_home p.target
 stood_at homes [] p within apart h = absurd h
 stood_at homes (q ∷ ps) p within apart (inl e) =
     subst (λ (z : Place). home_of (stood (set homes q.block (whole_home q.target)) ps) z.block ≡ whole_home z.target) (sym e)
@@ -217,7 +219,9 @@ pub shown_stays : (hides : ℕ → Bool) (ps : List Place) (d : ℕ) → hides d
 shown_stays hides [] d h = h
 shown_stays hides (p ∷ ps) d h = shown_stays (showing hides p.block) ps d (ap (λ t. t && not (d == p.block)) h)
 
-pub still_hidden : (homes : List Home) (hides : ℕ → Bool) (ps : List Place) → ((b : ℕ) → hides b ≡ true → (home_of homes b).is_seen ≡ false) → (b : ℕ) → shown_of hides ps b ≡ true → (home_of (stood homes ps) b).is_seen ≡ false
+pub still_hidden : (homes : List Home) (hides : ℕ → Bool) (ps : List Place) → ((b : ℕ) → hides b ≡ true
+    → (home_of homes b).is_seen ≡ false) → (b : ℕ) → shown_of hides ps b ≡ true
+    → (home_of (stood homes ps) b).is_seen ≡ false
 still_hidden homes hides [] h b e = h b e
 still_hidden homes hides (p ∷ ps) h b e = still_hidden (set homes p.block (whole_home p.target)) (showing hides p.block) ps one b e
   where
@@ -317,7 +321,8 @@ ended_bytes : (t : Bool) (x : MemoryBlock) → (ended_if t x).bytes ≡ x.bytes
 ended_bytes true x = refl
 ended_bytes false x = refl
 
-pub blocks_only : (quiet hides : ℕ → Bool) (b : ℕ) → quiet b ≡ true → (m : List MemoryBlock) → AreShownBlocks quiet m → AreShownBlocks (λ d. d == b) (muted hides m)
+pub blocks_only : (quiet hides : ℕ → Bool) (b : ℕ) → quiet b ≡ true → (m : List MemoryBlock) → AreShownBlocks quiet m
+    → AreShownBlocks (λ d. d == b) (muted hides m)
 blocks_only quiet hides b e [] h = tt
 blocks_only quiet hides b e (x ∷ m) h = (subst (AreShownBytes (λ d. d == b)) (sym (ended_bytes (hides 0) x)) (each_map (IsShownByte quiet) (IsShownByte (λ d. d == b)) x.bytes (byte_only quiet b e) h.0), blocks_only quiet (λ i. hides (suc i)) b e m h.1)
 

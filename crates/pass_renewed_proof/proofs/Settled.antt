@@ -434,7 +434,8 @@ module _ (m : Module) (flags : Flags) (roots : Roots) (keeps : (func : ℕ)
         loud_value (Value.Ptr Pointer.Null) b at q = at
         loud_value (Value.Ptr (Pointer.Func n)) b at q = at
         loud_value (Value.Ptr (Pointer.At d o)) b at q =
-            let same : home_of k.homes d ≡ home_of (stood l.homes ps) d = faded_loud quiet (stood l.homes ps) ps d q in (
+            let same : home_of k.homes d ≡ home_of (stood l.homes ps) d = faded_loud quiet (stood l.homes ps) ps d q
+            in (
               ap (λ (z : Home). z.is_seen) same ∙ at.0,
               at.1
                   ∙ ap (λ (z : Home). Value.Ptr (Pointer.At z.block (moved o z.offset))) (sym same),

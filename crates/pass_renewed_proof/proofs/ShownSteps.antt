@@ -140,26 +140,50 @@ module _ (hides : ℕ → Bool) (c : Context) (w : Work) (shown : AreShownBlocks
   abbrev IsNextShown : Type 0
   IsNextShown = hides (length w.world.memory) ≡ false
 
-  allocator_fine : (a : Allocator) (result : Option ℕ) (vs : List Value) → ((HasNoSlot (AtInstr (Instr.Call result false None (Callee.Allocator a) [])) → ⊥) → IsNextShown) → Fine (allocator_call a w result vs)
-  allocator_fine Allocator.Malloc result vs new = length_fine (nth vs 0) _ (λ n. (fresh_shown hides m n 16 _ shown, result_shown hides w.values result _ (new (λ h. h))))
-  allocator_fine Allocator.Znwm result vs new = length_fine (nth vs 0) _ (λ n. (fresh_shown hides m n 16 _ shown, result_shown hides w.values result _ (new (λ h. h))))
+  allocator_fine : (a : Allocator) (result : Option ℕ) (vs : List Value)
+      → ((HasNoSlot (AtInstr (Instr.Call result false None (Callee.Allocator a) [])) → ⊥) → IsNextShown)
+      → Fine (allocator_call a w result vs)
+  allocator_fine Allocator.Malloc result vs new
+      = length_fine (nth vs 0) _ (λ n. (
+        fresh_shown hides m n 16 _ shown,
+        result_shown hides w.values result _
+            (new (λ h. h)),
+      ))
+  allocator_fine Allocator.Znwm result vs new
+      = length_fine (nth vs 0) _ (λ n. (
+        fresh_shown hides m n 16 _ shown,
+        result_shown hides w.values result _
+            (new (λ h. h)),
+      ))
   allocator_fine Allocator.Free result vs new = tt
   allocator_fine Allocator.ZdlPv result vs new = tt
   allocator_fine Allocator.ZdlPvm result vs new = tt
 
   -- whether a call makes a block goes by its callee alone
-  by_callee : (result : Option ℕ) (must_tail : Bool) (ty : Option Ty) (a : Allocator) (args : List Arg) → HasNoSlot (AtInstr (Instr.Call result must_tail ty (Callee.Allocator a) args)) → HasNoSlot (AtInstr (Instr.Call result false None (Callee.Allocator a) []))
+  by_callee : (result : Option ℕ) (must_tail : Bool) (ty : Option Ty) (a : Allocator) (args : List Arg)
+      → HasNoSlot (AtInstr (Instr.Call result must_tail ty (Callee.Allocator a) args))
+      → HasNoSlot (AtInstr (Instr.Call result false None (Callee.Allocator a) []))
   by_callee result must_tail ty Allocator.Malloc args h = h
   by_callee result must_tail ty Allocator.Znwm args h = h
   by_callee result must_tail ty Allocator.Free args h = tt
   by_callee result must_tail ty Allocator.ZdlPv args h = tt
   by_callee result must_tail ty Allocator.ZdlPvm args h = tt
 
-  call_fine : (result : Option ℕ) (must_tail : Bool) (ty : Option Ty) (callee : Callee) (args : List Arg) → ((HasNoSlot (AtInstr (Instr.Call result must_tail ty callee args)) → ⊥) → IsNextShown) → Each (IsShownOperand hides c w) (spread_at (AtInstr (Instr.Call result must_tail ty callee args))) → Fine (instr_action c w (Instr.Call result must_tail ty callee args))
-  call_fine result must_tail ty (Callee.Named n) args new h = named_fine (function_named c.code n) (declaration_named c.code n) ty result must_tail (arg_values c.code w.values args) (args_fine args h)
-  call_fine result must_tail ty (Callee.Allocator a) args new h = allocator_fine a result (arg_values c.code w.values args) (λ no. new (λ k. no (by_callee result must_tail ty a args k)))
-  call_fine result must_tail ty (Callee.Intrinsic i) args new h = intrinsic_fine i result args (arg_values c.code w.values args)
-  call_fine result must_tail ty (Callee.Local name) args new h = indirect_fine (value_in w.values name) ty result must_tail args (arg_values c.code w.values args) (args_fine args h.1)
+  call_fine : (result : Option ℕ) (must_tail : Bool) (ty : Option Ty) (callee : Callee) (args : List Arg)
+      → ((HasNoSlot (AtInstr (Instr.Call result must_tail ty callee args)) → ⊥) → IsNextShown)
+      → Each (IsShownOperand hides c w) (spread_at (AtInstr (Instr.Call result must_tail ty callee args)))
+      → Fine (instr_action c w (Instr.Call result must_tail ty callee args))
+  call_fine result must_tail ty (Callee.Named n) args new h
+      = named_fine (function_named c.code n) (declaration_named c.code n) ty result must_tail
+      (arg_values c.code w.values args) (args_fine args h)
+  call_fine result must_tail ty (Callee.Allocator a) args new h
+      = allocator_fine a result (arg_values c.code w.values args)
+      (λ no. new (λ k. no (by_callee result must_tail ty a args k)))
+  call_fine result must_tail ty (Callee.Intrinsic i) args new h
+      = intrinsic_fine i result args (arg_values c.code w.values args)
+  call_fine result must_tail ty (Callee.Local name) args new h
+      = indirect_fine (value_in w.values name) ty result must_tail args (arg_values c.code w.values args)
+      (args_fine args h.1)
 
   alloca_fine : (name size align : ℕ) → IsNextShown → Fine (alloca c w name size align)
   alloca_fine name size align new = (on (has_markers c.function name), set_shown hides w.values name _ new)
@@ -173,17 +197,25 @@ module _ (hides : ℕ → Bool) (c : Context) (w : Work) (shown : AreShownBlocks
 
   -- ---- instructions and terminators
 
-  instr_fine : (i : Instr) → ((HasNoSlot (AtInstr i) → ⊥) → IsNextShown) → Each (IsShownOperand hides c w) (spread_at (AtInstr i)) → Fine (instr_action c w i)
-  instr_fine (Instr.Binary name op flags ty a b) new h = done_fine (λ n. set_value w name (value_of n)) (binary op flags (number_at ty (value_at c w ty a)) (number_at ty (value_at c w ty b))) (λ n e. set_fine name _ (value_shown hides n))
+  instr_fine : (i : Instr) → ((HasNoSlot (AtInstr i) → ⊥) → IsNextShown)
+      → Each (IsShownOperand hides c w) (spread_at (AtInstr i)) → Fine (instr_action c w i)
+  instr_fine (Instr.Binary name op flags ty a b) new h
+      = done_fine (λ n. set_value w name (value_of n)) (binary op flags (number_at ty (value_at c w ty a))
+      (number_at ty (value_at c w ty b))) (λ n e. set_fine name _ (value_shown hides n))
   instr_fine (Instr.Icmp name pred ty a b) new h = compared_fine name pred ty _ _
-  instr_fine (Instr.Select name x a b) new h = set_fine name _ (chosen_fine (value_at c w (int 1) x) (arg_value c.code w.values a) (arg_value c.code w.values b) (h.1.0 a.ty) (h.1.1.0 b.ty))
+  instr_fine (Instr.Select name x a b) new h
+      = set_fine name _ (chosen_fine (value_at c w (int 1) x) (arg_value c.code w.values a)
+      (arg_value c.code w.values b) (h.1.0 a.ty) (h.1.1.0 b.ty))
   instr_fine (Instr.Cast name op nneg arg to) new h = set_fine name _ (cast_fine op nneg _ to)
-  instr_fine (Instr.Alloca name ty align) new h = if_fine align _ (alloca_fine name (size_of c.code ty) align (new (λ k. k)))
+  instr_fine (Instr.Alloca name ty align) new h
+      = if_fine align _ (alloca_fine name (size_of c.code ty) align (new (λ k. k)))
   instr_fine (Instr.Load name ty p align) new h =
       if_fine align _ (done_fine (set_value w name) (load c.rights m (address (value_at c w ptr p)) (access_of ty) align) (λ v e. set_fine name v (load_shown hides c.rights m (address (value_at c w ptr p)) (access_of ty) align v shown e)))
   instr_fine (Instr.Store arg p align) new h =
       if_fine align _ (memory_fine _ (store_shown hides c.rights m (address (value_at c w ptr p)) (stored (access_of arg.ty) (arg_value c.code w.values arg)) (access_of arg.ty) align (stored_shown hides (access_of arg.ty) _ (h.0 arg.ty)) shown))
-  instr_fine (Instr.Gep name inbounds ty base indices) new h = set_fine name _ (element_shown hides m inbounds (value_at c w ptr base) (distance c.code ty (indices_of c.code w.values indices)) (h.0 ptr))
+  instr_fine (Instr.Gep name inbounds ty base indices) new h
+      = set_fine name _ (element_shown hides m inbounds (value_at c w ptr base)
+      (distance c.code ty (indices_of c.code w.values indices)) (h.0 ptr))
   instr_fine (Instr.Call result must_tail ty callee args) new h = call_fine result must_tail ty callee args new h
 
   branch_fine : (v : Value) (a b : ℕ) → Fine (branch v a b)
@@ -204,7 +236,8 @@ module _ (hides : ℕ → Bool) (c : Context) (w : Work) (shown : AreShownBlocks
   term_fine (Terminator.Ret (Some arg)) h = h.0 arg.ty
   term_fine Terminator.Unreachable h = tt
 
-  pub step_shown : (here : Fetched) → ((HasNoSlot here → ⊥) → IsNextShown) → Each (IsShownOperand hides c w) (spread_at here) → IsShownAction hides w.values (action_of c w here)
+  pub step_shown : (here : Fetched) → ((HasNoSlot here → ⊥) → IsNextShown)
+      → Each (IsShownOperand hides c w) (spread_at here) → IsShownAction hides w.values (action_of c w here)
   step_shown Nowhere new h = tt
   step_shown (AtInstr i) new h = instr_fine i new h
   step_shown (AtTerm t) new h = term_fine t h

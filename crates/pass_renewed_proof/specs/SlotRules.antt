@@ -114,4 +114,5 @@ pub record KeepsAllSlots (m : Module) (keep : Keep) (flags : Flags) (roots : Roo
   -- slots of coroutines alone are made anew
   pub coroutines : (func a : ℕ) → IsTrue (flags func a) → (function_at m func).coroutine ≡ true
   -- a resume hands on the addresses of the slots
-  pub handed : (func a : ℕ) (s : Point) → IsTrue (flags func a) → IsTrue (has_point (suspends (function_at m func)) s) → IsTrue (keep func s a)
+  pub handed : (func a : ℕ) (s : Point) → IsTrue (flags func a) → IsTrue (has_point (suspends (function_at m func)) s)
+      → IsTrue (keep func s a)

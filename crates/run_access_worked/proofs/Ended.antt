@@ -67,7 +67,8 @@ same_frames : (xs : List Instance) → AreSameFrames xs xs
 same_frames [] = tt
 same_frames (x ∷ xs) = (record { coroutine = refl; block = refl; start = refl }, same_frames xs)
 
-pub set_frames : (xs : List Instance) (i : ℕ) (x y : Instance) → slice_get xs i ≡ Some x → IsSameFrame x y → AreSameFrames xs (slice_set xs i y)
+pub set_frames : (xs : List Instance) (i : ℕ) (x y : Instance) → slice_get xs i ≡ Some x → IsSameFrame x y
+    → AreSameFrames xs (slice_set xs i y)
 set_frames [] i x y e h = tt
 set_frames (z ∷ xs) zero x y e h =
     let is : x ≡ z = cc in

@@ -412,7 +412,8 @@ module _ (g : FramedGiven) (h : Hooks) (may : h.enters ≡ true) (same : h.given
           clear = λ e. subst (IsClear f) (sym place) c;
           away = λ e. let d : true ≡ false = sym e ∙ k.stays in absurd (cc);
           entering = λ from' label' e. absurd (cc);
-          stops = λ b. let d : b.suspend.at + 1 ≡ 0 = sym (ap (λ (z : Point). z.at) b.next) in absurd (omega (arith, d));
+          stops = λ b. let d : b.suspend.at + 1 ≡ 0 = sym (ap (λ (z : Point). z.at) b.next)
+              in absurd (omega (arith, d));
         });
     below = k.below;
     instances = k.instances;

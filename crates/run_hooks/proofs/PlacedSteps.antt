@@ -25,7 +25,7 @@ use Rattle.pass_kept_proof.proofs.Actions.{SameAction, action_same}
 use Rattle.pass_kept_proof.proofs.Same.{same_all}
 use Rattle.pass_kept_proof.specs.Needed.{BranchesTo}
 use Rattle.pass_kept_proof.specs.SuspendRules.{IsCallAt}
-use Rattle.pass_renewed_proof.specs.Left.{IsLeftAt}
+use Rattle.pass_renewed_proof.specs.Left.{IsLeftAt, IsLeftBy}
 use Rattle.pass_renewed_proof.specs.Left as left
 use Rattle.run_hooks.proofs.Points.{away_at_save, away_at_suspend, away_next, behind, behind_suspend}
 use Rattle.run_hooks.proofs.Points.{branch_away, branch_clear, branch_left, clear_next, instr_once}
@@ -271,7 +271,7 @@ module _ (hooks : Hooks) (rules : KeepsAllPlaceRules hooks.given) (keeps : Keeps
               ∙ sym end) j;
           at = 0;
         }) in
-        AtEnd end refl (subst (IsCallAt Intrinsic.CoroEnd f) same stop.is_end)
+        AtEnd x.suspend x.is_suspend end refl (subst (IsCallAt Intrinsic.CoroEnd f) same stop.is_end)
 
     clear_there : s.top.has_left ≡ false → IsClear f (entry_point f label)
     clear_there e = branch_clear g.given.code f r p t stands label b (clear_here g rules s reached h no_alloca e)
@@ -644,21 +644,19 @@ left_at h s k e = on (k.top.away e)
     p : Point
     p = point_in s.top
 
+    by_suspend : (s : Point) → IsCallAt Intrinsic.CoroSuspend f s → IsLeftBy f s p → IsLeftAt f p
+    by_suspend s c by = record { suspend = s; is_call = c; by = by }
+
     waits : (w : IsWaiting f p) → (p ≡ w.suspend) ⊎ IsInWindow f w.save w.suspend p → IsLeftAt f p
-    waits w (inl e) = left.AtSuspend (subst (IsCallAt Intrinsic.CoroSuspend f) (sym e)
-        (pair_suspend f w.save w.suspend w.pair))
-    waits w (inr v) = left.Between w.save w.suspend w.pair.is_save w.pair.takes v
+    waits w (inl e) = by_suspend w.suspend (pair_suspend f w.save w.suspend w.pair) (left.AtSuspend e)
+    waits w (inr v) = by_suspend w.suspend (pair_suspend f w.save w.suspend w.pair)
+        (left.Between w.save w.pair.is_save w.pair.takes v)
 
     on : IsAway f p ⊎ (IsBehind f p × IsClear f p) → IsLeftAt f p
     on (inl (Waits w)) = waits w w.within
-    on (inl (AtEnd b z c)) = left.AtEnd b z
-    on (inl (Behind a)) = left.Behind a
-    on (inr (b, c)) = left.AtSwitch (record {
-      before = b.suspend.at;
-      next = ap (λ (z : Point). z.at) b.next;
-      is_suspend = subst (λ (n : ℕ). IsCallAt Intrinsic.CoroSuspend f (record { block = n; at = b.suspend.at }))
-          (sym (ap (λ (z : Point). z.block) b.next)) b.is_suspend;
-    })
+    on (inl (AtEnd s c b z e)) = by_suspend s c (left.AtEnd b z)
+    on (inl (Behind s c a)) = by_suspend s c (left.Behind a)
+    on (inr (b, c)) = by_suspend b.suspend b.is_suspend (left.AtSwitch b.next)
 
 pub no_window : (h : Hooks) (s : State) → IsPlacedState h s → s.top.has_left ≡ false → ((from label : ℕ)
     → s.top.mode ≡ Mode.Entering from label → ⊥)

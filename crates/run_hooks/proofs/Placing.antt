@@ -32,7 +32,7 @@ use Rattle.pass_kept_proof.specs.SuspendRules.{IsCallAt}
 use Rattle.pass_renewed_proof.proofs.Left.{call_listed}
 use Rattle.rule_windows.specs.Sets.{IsAfterEnd}
 use Rattle.run_hooks.proofs.Points.{after_end as behind_end, after_clear, away_next, behind}
-use Rattle.run_hooks.proofs.Points.{clear_next, no_call}
+use Rattle.run_hooks.proofs.Points.{clear_next, left_by, no_call}
 use Rattle.run_hooks.proofs.Points.{straight, suspend_no_end}
 use Rattle.run_hooks.proofs.Reached.{IsOfInstr, at_is, of_term, sound_get}
 use Rattle.pass_kept_proof.specs.Related.{IsSoundStatus}
@@ -348,7 +348,7 @@ module _ (g : Hooks) (rules : KeepsAllPlaceRules g.given) (s : State) (reached :
   pub end_next : IsCallAt Intrinsic.CoroEnd f p → NotEntering → IsNext
   end_next c never =
       let a : IsAfterEnd f (behind p) = behind_end f p (behind p) c (straight f p c.instr c.stands) in
-      next_by never (λ left. after_clear g.given.code f r (behind p) a) (λ left. Behind a)
+      next_by never (λ left. after_clear g.given.code f r (behind p) a) (λ left. let s = left_by f p (away_here c.instr c.stands left) in Behind s.0 s.1 a)
       (λ d. suspend_no_end f p d c)
 
 -- a state whose topmost activation has gone on behind its instruction

@@ -158,6 +158,12 @@ module _ (f : Function) where
   pub pair_suspend : (k s : Point) → IsPair f k s → IsCallAt Intrinsic.CoroSuspend f s
   pair_suspend k s p = suspend_is_suspend f k s p.takes
 
+  -- the suspend by which an activation has left
+  pub left_by : (p : Point) → IsAway f p → (s : Point) × IsCallAt Intrinsic.CoroSuspend f s
+  left_by p (Waits w) = (w.suspend, pair_suspend w.save w.suspend w.pair)
+  left_by p (AtEnd s k b z e) = (s, k)
+  left_by p (Behind s k a) = (s, k)
+
   -- a suspend is no save
   suspend_not_save : (p : Point) → IsCallAt Intrinsic.CoroSuspend f p → IsNoSave p
   suspend_not_save p c d = save_no_suspend f p d c
@@ -289,8 +295,8 @@ module _ (m : Module) (f : Function) (r : KeepsPlaceRules m f) where
       on (inl e) = absurd (save_no_suspend f p c (subst (IsCallAt Intrinsic.CoroSuspend f) (sym e)
           (pair_suspend f w.save w.suspend w.pair)))
       on (inr v) = absurd (r.no_save w.save w.suspend p w.pair v c)
-  away_at_save p (AtEnd b z e) c = end_clear p e
-  away_at_save p (Behind a) c = after_clear p a
+  away_at_save p (AtEnd s k b z e) c = end_clear p e
+  away_at_save p (Behind s k a) c = after_clear p a
 
   -- at a suspend it is that for which it waits
   pub away_at_suspend : (p : Point) → IsAway f p → IsCallAt Intrinsic.CoroSuspend f p → IsClearBut f p p
@@ -299,8 +305,8 @@ module _ (m : Module) (f : Function) (r : KeepsPlaceRules m f) where
       on : (p ≡ w.suspend) ⊎ IsInWindow f w.save w.suspend p → IsClearBut f p p
       on (inl e) = subst (λ (z : Point). IsClearBut f z p) (sym e) w.other
       on (inr v) = absurd (r.no_suspend_in w.save w.suspend p w.pair v c)
-  away_at_suspend p (AtEnd b z e) c = absurd (suspend_no_end f p c e)
-  away_at_suspend p (Behind a) c = absurd (r.no_suspend p a c)
+  away_at_suspend p (AtEnd s k b z e) c = absurd (suspend_no_end f p c e)
+  away_at_suspend p (Behind s k a) c = absurd (r.no_suspend p a c)
 
   pub away_next : (p : Point) (i : Instr) → fetch f p.block p.at ≡ AtInstr i → (IsCallAt Intrinsic.CoroSave f p → ⊥)
       → (IsCallAt Intrinsic.CoroSuspend f p → ⊥)
@@ -322,8 +328,8 @@ module _ (m : Module) (f : Function) (r : KeepsPlaceRules m f) where
             (pair_suspend f w.save w.suspend w.pair) v.to_suspend.between v.to_suspend.is_path);
         other = clear_but_next f w.suspend p (behind p) edge no_save w.other;
       })
-  away_next p i e no_save no_suspend no_end (AtEnd b z c) = absurd (no_end c)
-  away_next p i e no_save no_suspend no_end (Behind a) = Behind (after_edge f p (behind p) a (straight f p i e))
+  away_next p i e no_save no_suspend no_end (AtEnd s k b z c) = absurd (no_end c)
+  away_next p i e no_save no_suspend no_end (Behind s k a) = Behind s k (after_edge f p (behind p) a (straight f p i e))
 
   -- ---- at a save
 
@@ -460,8 +466,8 @@ module _ (m : Module) (f : Function) (r : KeepsPlaceRules m f) where
         within = to v;
         other = clear_but_next f w.suspend p q edge (no_call_at_term Intrinsic.CoroSave f p t stands) w.other;
       })
-  branch_away p t stands label b stays (AtEnd e z c) = absurd (no_call_at_term Intrinsic.CoroEnd f p t stands c)
-  branch_away p t stands label b stays (Behind a) = Behind (after_edge f p (entry_point f label) a
+  branch_away p t stands label b stays (AtEnd s k e z c) = absurd (no_call_at_term Intrinsic.CoroEnd f p t stands c)
+  branch_away p t stands label b stays (Behind s k a) = Behind s k (after_edge f p (entry_point f label) a
       (branching f p label b))
 
   -- a branch that leaves a window comes to a clear place
@@ -505,5 +511,5 @@ module _ (m : Module) (f : Function) (r : KeepsPlaceRules m f) where
         where
           by : (j : Point) → IsPair f j w.suspend → ComesTo f j w.suspend q → ⊥
           by j y c = no_way (subst (λ (z : Point). ComesTo f z w.suspend q) (r.once w.save j w.suspend pair y) c)
-      on (AtEnd e z c) = absurd (no_call_at_term Intrinsic.CoroEnd f p t stands c)
-      on (Behind a) = absurd (after_clear p a w.save w.suspend pair here)
+      on (AtEnd s k e z c) = absurd (no_call_at_term Intrinsic.CoroEnd f p t stands c)
+      on (Behind s k a) = absurd (after_clear p a w.save w.suspend pair here)

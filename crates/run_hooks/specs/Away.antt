@@ -62,11 +62,12 @@ pub record IsWaiting (f : Function) (p : Point) : Type 0 where
   pub within : (p ≡ suspend) ⊎ IsInWindow f save suspend p
   pub other : IsClearBut f suspend p
 
--- an activation that has left may wait for its suspend, or be at the end or behind it
+-- an activation that has left by a suspend may wait for it, or be at the end or behind it
 pub data IsAway (f : Function) (p : Point) : Type 0 where
   Waits : IsWaiting f p → IsAway f p
-  AtEnd : p.block ≡ end_block f → p.at ≡ 0 → IsCallAt Intrinsic.CoroEnd f p → IsAway f p
-  Behind : IsAfterEnd f p → IsAway f p
+  AtEnd : (s : Point) → IsCallAt Intrinsic.CoroSuspend f s → p.block ≡ end_block f → p.at ≡ 0
+      → IsCallAt Intrinsic.CoroEnd f p → IsAway f p
+  Behind : (s : Point) → IsCallAt Intrinsic.CoroSuspend f s → IsAfterEnd f p → IsAway f p
 
 -- the instruction right before the point is a suspend
 pub record IsBehind (f : Function) (p : Point) : Type 0 where

@@ -2,4 +2,3 @@ pub mod Names
 pub mod SlotsAlike
 pub mod Still
 pub mod Strands
-pub mod Tests

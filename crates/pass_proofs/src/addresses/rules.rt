@@ -6,10 +6,10 @@
 ghost use Rattle.std.specs.Prelude.{ℕ, Bool, List, Option};
 ghost use Rattle.pass_proofs.specs.addresses.rules.Addresses.{AddressesFit};
 ghost use Rattle.pass_addresses.specs.Placing.{with_frame_addresses};
-ghost use Rattle.ir_laws.specs.rules.function_rules.Kept.{KeepsFunctionRules};
+ghost use Rattle.rule_laws.specs.rules.function_rules.Kept.{KeepsFunctionRules};
 ghost use Rattle.ir_model.specs.declared.module.Function.{Function};
 ghost use Rattle.ir_model.specs.declared.module.Module.{Module};
-ghost use Rattle.ir_laws.specs.rules.woven_rules.Pairs.{AreIncomingOnce};
+ghost use Rattle.rule_laws.specs.rules.woven_rules.Pairs.{AreIncomingOnce};
 
 /// A function that breaks none of the rules of functions, and whose phis name each label once, breaks none with its slots in the frame.
 pub fn addressed_functions_keep_rules()

@@ -3,7 +3,7 @@
 ghost use Rattle.std.specs.Prelude.{ℕ, Bool, List, Option};
 ghost use Rattle.pass_addresses.specs.Placing.{with_frame_addresses};
 ghost use Rattle.ir_model.specs.declared.module.Function.{Function};
-ghost use Rattle.ir_laws.specs.rules.spelled.Spelled.{IsSpelledFunction};
+ghost use Rattle.rule_laws.specs.rules.spelled.Spelled.{IsSpelledFunction};
 
 /// And where slots are bytes of the frame.
 pub fn addresses_can_be_spelled()

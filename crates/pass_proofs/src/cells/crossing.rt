@@ -4,11 +4,11 @@
 //! `coro.frame` (`nothing_crosses_cells`).
 
 ghost use Rattle.std.specs.Prelude.{◌≡◌, ℕ, Bool, true, List, None};
-ghost use Rattle.ir_laws.specs.frames.crossing.Crossed.{AreSuspendsApart, IsNothingNeeded};
+ghost use Rattle.rule_laws.specs.frames.crossing.Crossed.{AreSuspendsApart, IsNothingNeeded};
 ghost use Rattle.pass_proofs.specs.cells.rules.Asked.{AreCellsFor};
-ghost use Rattle.ir_laws.specs.rules.counted.Widths.{first_other_width};
+ghost use Rattle.rule_laws.specs.rules.counted.Widths.{first_other_width};
 ghost use Rattle.flow_solver.specs.Paths.{IsListed};
-ghost use Rattle.ir_laws.specs.rules.function_rules.Kept.{KeepsFunctionRules};
+ghost use Rattle.rule_laws.specs.rules.function_rules.Kept.{KeepsFunctionRules};
 ghost use Rattle.ir_model.specs.declared.module.Function.{Function};
 ghost use Rattle.ir_model.specs.declared.module.Module.{Module};
 ghost use Rattle.ir_paths.specs.Slots.{allocas_of};

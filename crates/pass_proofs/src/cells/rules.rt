@@ -3,12 +3,12 @@
 ghost use Rattle.std.specs.Prelude.{ℕ, Bool, List};
 ghost use Rattle.pass_proofs.specs.cells.rules.Asked.{AreCellsFor};
 ghost use Rattle.pass_proofs.specs.cells.rules.Weaving.{cells_weaving};
-ghost use Rattle.ir_laws.specs.rules.function_rules.Kept.{KeepsFunctionRules};
+ghost use Rattle.rule_laws.specs.rules.function_rules.Kept.{KeepsFunctionRules};
 ghost use Rattle.ir_model.specs.declared.module.Function.{Function};
 ghost use Rattle.ir_model.specs.declared.module.Module.{Module};
 ghost use Rattle.pass_cells.specs.Cells.{with_cells};
-ghost use Rattle.ir_laws.specs.rules.woven_rules.Blocks.{IsWoven};
-ghost use Rattle.ir_laws.specs.rules.woven_rules.Pairs.{AreIncomingOnce};
+ghost use Rattle.rule_laws.specs.rules.woven_rules.Blocks.{IsWoven};
+ghost use Rattle.rule_laws.specs.rules.woven_rules.Pairs.{AreIncomingOnce};
 
 /// A function whose crossing values are kept in cells is the function with instructions woven in.
 pub fn cells_are_woven()

@@ -1,11 +1,11 @@
 //! Lemmas on shape.
 
 ghost use Rattle.std.specs.Prelude.{◌≡◌, ℕ, true, None};
-ghost use Rattle.ir_laws.specs.frames.crossing.Crossed.{AreSuspendsApart};
+ghost use Rattle.rule_laws.specs.frames.crossing.Crossed.{AreSuspendsApart};
 ghost use Rattle.rule_shape.specs.OneOfEach.{wrong_call};
 ghost use Rattle.rule_shape.specs.Switches.{wrong_switch};
 ghost use Rattle.pass_edges.specs.EdgeBlocks.{with_edge_blocks};
-ghost use Rattle.ir_laws.specs.rules.function_rules.Kept.{KeepsFunctionRules};
+ghost use Rattle.rule_laws.specs.rules.function_rules.Kept.{KeepsFunctionRules};
 ghost use Rattle.ir_model.specs.declared.module.Function.{Function};
 ghost use Rattle.ir_model.specs.declared.module.Module.{Module};
 

@@ -6,11 +6,11 @@
 ghost use Rattle.std.specs.Prelude.{ℕ, Bool, List};
 ghost use Rattle.pass_copies.specs.BeginCopies.{with_begin_copies};
 ghost use Rattle.pass_proofs.specs.copies.rules.Copies.{CopiesFit, copied_slots, copy_weaving};
-ghost use Rattle.ir_laws.specs.rules.function_rules.Kept.{KeepsFunctionRules};
+ghost use Rattle.rule_laws.specs.rules.function_rules.Kept.{KeepsFunctionRules};
 ghost use Rattle.ir_model.specs.declared.module.Function.{Function};
 ghost use Rattle.ir_model.specs.declared.module.Module.{Module};
-ghost use Rattle.ir_laws.specs.rules.woven_rules.Blocks.{IsWoven};
-ghost use Rattle.ir_laws.specs.rules.woven_rules.Pairs.{AreIncomingOnce};
+ghost use Rattle.rule_laws.specs.rules.woven_rules.Blocks.{IsWoven};
+ghost use Rattle.rule_laws.specs.rules.woven_rules.Pairs.{AreIncomingOnce};
 
 /// The temporaries, their cells, the copies and the fetches are instructions that are woven in.
 pub fn copies_are_woven_in()

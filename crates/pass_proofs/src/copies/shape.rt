@@ -3,11 +3,11 @@
 ghost use Rattle.std.specs.Prelude.{◌≡◌, ℕ, Bool, true, List};
 ghost use Rattle.pass_proofs.specs.copies.rules.Copies.{copied_slots, copy_weaving};
 ghost use Rattle.pass_copies.specs.BeginCopies.{with_begin_copies};
-ghost use Rattle.ir_laws.specs.frames.shape.Quiet.{AreReturnsQuiet};
-ghost use Rattle.ir_laws.specs.rules.function_rules.Kept.{KeepsFunctionRules};
+ghost use Rattle.rule_laws.specs.frames.shape.Quiet.{AreReturnsQuiet};
+ghost use Rattle.rule_laws.specs.rules.function_rules.Kept.{KeepsFunctionRules};
 ghost use Rattle.ir_model.specs.declared.module.Function.{Function};
 ghost use Rattle.ir_model.specs.declared.module.Module.{Module};
-ghost use Rattle.ir_laws.specs.frames.woven_shape.Shaped.{IsShaped, KeepsCalls};
+ghost use Rattle.rule_laws.specs.frames.woven_shape.Shaped.{IsShaped, KeepsCalls};
 
 /// So do the copies at begin.
 pub fn copies_keep_calls()

@@ -3,7 +3,7 @@
 ghost use Rattle.std.specs.Prelude.{ℕ, Bool, List};
 ghost use Rattle.pass_copies.specs.BeginCopies.{with_begin_copies};
 ghost use Rattle.ir_model.specs.declared.module.Function.{Function};
-ghost use Rattle.ir_laws.specs.rules.spelled.Spelled.{IsSpelledFunction};
+ghost use Rattle.rule_laws.specs.rules.spelled.Spelled.{IsSpelledFunction};
 
 /// And where slots that are used before begin have temporaries.
 pub fn copies_can_be_spelled()

@@ -4,11 +4,11 @@ ghost use Rattle.std.specs.Prelude.{ℕ, ◌≡◌, None, true};
 ghost use Rattle.pass_front.specs.Front.{with_front_allocas};
 ghost use Rattle.ir_model.specs.declared.module.Function.{Function};
 ghost use Rattle.ir_model.specs.declared.module.Module.{Module};
-ghost use Rattle.ir_laws.specs.frames.shape.Passes.{IsKept};
+ghost use Rattle.rule_laws.specs.frames.shape.Passes.{IsKept};
 ghost use Rattle.rule_shape.specs.Switches.{wrong_switch};
 ghost use Rattle.rule_phis.specs.Edges.{first_wrong_edge};
-ghost use Rattle.ir_laws.specs.frames.crossing.Crossed.{IsNothingNeeded};
-ghost use Rattle.ir_laws.specs.frames.needed.Crossed.{AreFramesUnneeded};
+ghost use Rattle.rule_laws.specs.frames.crossing.Crossed.{IsNothingNeeded};
+ghost use Rattle.rule_laws.specs.frames.needed.Crossed.{AreFramesUnneeded};
 ghost use Rattle.pass_proofs.specs.edges.rules.Phis.{ArePhisEnteredByJumps};
 
 /// A coroutine stays what splitting asks: its rules, the labels of its phis, and its calls.

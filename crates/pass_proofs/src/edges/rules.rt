@@ -6,15 +6,15 @@
 
 ghost use Rattle.std.specs.Prelude.{ℕ, ◌≡◌, true, None, ◌↔◌, List};
 ghost use Rattle.pass_edges.specs.EdgeBlocks.{with_edge_blocks};
-ghost use Rattle.ir_laws.specs.rules.function_rules.Kept.{KeepsFunctionRules, AllKeepFunctionRules};
+ghost use Rattle.rule_laws.specs.rules.function_rules.Kept.{KeepsFunctionRules, AllKeepFunctionRules};
 ghost use Rattle.ir_model.specs.declared.module.Function.{Function};
 ghost use Rattle.ir_model.specs.declared.module.Module.{Module};
 ghost use Rattle.pass_proofs.specs.edges.states.MovedState.{edges_split};
-ghost use Rattle.ir_laws.specs.rules.woven_rules.Pairs.{AreIncomingOnce};
+ghost use Rattle.rule_laws.specs.rules.woven_rules.Pairs.{AreIncomingOnce};
 ghost use Rattle.pass_proofs.specs.edges.rules.Phis.{ArePhisEnteredByJumps};
 ghost use Rattle.pass_proofs.specs.edges.rules.Returns.{HaveOwnBlocks, AreSwitched};
 ghost use Rattle.rule_shape.specs.Switches.{wrong_switch};
-ghost use Rattle.ir_laws.specs.frames.rows.Returns.{HaveOwnReturns};
+ghost use Rattle.rule_laws.specs.frames.rows.Returns.{HaveOwnReturns};
 ghost use Rattle.frame_crossing.specs.Crossing.{AreCrossing};
 ghost use Rattle.pass_proofs.specs.edges.paths.Spots.{moved};
 ghost use Rattle.ir_paths.specs.declared.point.Point.{Point};

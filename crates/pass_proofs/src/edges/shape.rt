@@ -7,13 +7,13 @@ ghost use Rattle.std.specs.Prelude.{◌≡◌, ℕ, None, true};
 ghost use Rattle.rule_shape.specs.OneOfEach.{wrong_call};
 ghost use Rattle.rule_shape.specs.Switches.{wrong_switch};
 ghost use Rattle.pass_edges.specs.EdgeBlocks.{with_edge_blocks};
-ghost use Rattle.ir_laws.specs.rules.function_rules.Kept.{KeepsFunctionRules};
+ghost use Rattle.rule_laws.specs.rules.function_rules.Kept.{KeepsFunctionRules};
 ghost use Rattle.ir_model.specs.declared.module.Function.{Function};
 ghost use Rattle.ir_model.specs.declared.module.Module.{Module};
-ghost use Rattle.ir_laws.specs.rules.woven_shape.Calls.{shaping_calls};
+ghost use Rattle.rule_laws.specs.rules.woven_shape.Calls.{shaping_calls};
 ghost use Rattle.ir_model.specs.Calls.{first_result};
 ghost use Rattle.ir_model.specs.declared.operand.Intrinsic.{Intrinsic};
-ghost use Rattle.ir_laws.specs.frames.replaced.Splittable.{tokens_taken};
+ghost use Rattle.rule_laws.specs.frames.replaced.Splittable.{tokens_taken};
 
 /// The calls by which it is one are the same, in the blocks with the same labels, with what they name, the end in front, and each
 /// suspend with its switch right behind it, whose default edge gets no block.

@@ -13,7 +13,7 @@ ghost use Rattle.ir_model.specs.declared.module.Frame.{Frame};
 ghost use Rattle.ir_model.specs.declared.module.Module.{Module};
 ghost use Rattle.ir_laws.specs.facts.sound_states.Named.{AreLocalsNamed, AreUsesNamed};
 ghost use Rattle.run_agreement.specs.Costs.{AgreesBy};
-ghost use Rattle.pass_early_proof.specs.early_states.Beside.{source_machine};
+ghost use Rattle.pass_proofs.specs.early.early_states.Beside.{source_machine};
 ghost use Rattle.pass_proofs.specs.edges.simulation.Beside.{IsNearlySplitOf, IsSplitOf};
 
 /// Where coroutines' edges have blocks, each run agrees within 2 with the run of the module: a step through an edge with a

@@ -12,9 +12,9 @@ ghost use Rattle.pass_proofs.specs.edges.states.MovedState.{KeepsEdges, AreEdges
 ghost use Rattle.ir_parts.specs.Locals.{locals_of};
 ghost use Rattle.ir_model.specs.declared.module.Function.{Function};
 ghost use Rattle.rule_names.specs.Definitions.{first_twice};
-ghost use Rattle.ir_laws.specs.rules.local_rules.Local.{BreaksNoLocalRule};
-ghost use Rattle.ir_laws.specs.rules.path_rules.Shape.{KeepsShape};
-ghost use Rattle.ir_laws.specs.rules.source_rules.Named.{AreTabled};
+ghost use Rattle.rule_laws.specs.rules.local_rules.Local.{BreaksNoLocalRule};
+ghost use Rattle.rule_laws.specs.rules.path_rules.Shape.{KeepsShape};
+ghost use Rattle.rule_laws.specs.rules.source_rules.Named.{AreTabled};
 ghost use Rattle.ir_model.specs.declared.module.Module.{Module};
 ghost use Rattle.pass_early.specs.Early.{early_module};
 ghost use Rattle.rule_all.specs.Refused.{IsRefused};
@@ -26,7 +26,7 @@ ghost use Rattle.ir_base.specs.declared.outcome.Word.{Word};
 ghost use Rattle.run_source.specs.Source.{SourceAt};
 ghost use Rattle.ir_model.specs.declared.module.Frame.{Frame};
 ghost use Rattle.run_agreement.specs.Costs.{AgreesBy};
-ghost use Rattle.pass_early_proof.specs.early_states.Beside.{source_machine};
+ghost use Rattle.pass_proofs.specs.early.early_states.Beside.{source_machine};
 ghost use Rattle.pass_proofs.specs.edges.simulation.Beside.{IsEarlySplitOf, IsNearlyEarlySplitOf};
 
 /// A coroutine whose labels are positions of its table of names, and which has no fault of N1 among its locals, of F1 and of

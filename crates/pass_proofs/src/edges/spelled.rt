@@ -2,7 +2,7 @@
 
 ghost use Rattle.pass_edges.specs.EdgeBlocks.{with_edge_blocks};
 ghost use Rattle.ir_model.specs.declared.module.Function.{Function};
-ghost use Rattle.ir_laws.specs.rules.spelled.Spelled.{IsSpelledFunction};
+ghost use Rattle.rule_laws.specs.rules.spelled.Spelled.{IsSpelledFunction};
 
 /// And where edges have blocks.
 pub fn edge_blocks_can_be_spelled()

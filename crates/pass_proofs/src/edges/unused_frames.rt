@@ -3,7 +3,7 @@
 ghost use Rattle.std.specs.Prelude.{ℕ};
 ghost use Rattle.pass_edges.specs.EdgeBlocks.{with_edge_blocks};
 ghost use Rattle.ir_model.specs.declared.module.Function.{Function};
-ghost use Rattle.ir_laws.specs.rules.unused.Unused.{AreFramesUnused};
+ghost use Rattle.rule_laws.specs.rules.unused.Unused.{AreFramesUnused};
 
 /// Nor is one where edges have blocks.
 pub fn edge_blocks_use_no_frame()

@@ -1,7 +1,7 @@
 //! Lemmas on widths.
 
 ghost use Rattle.std.specs.Prelude.{◌≡◌, ℕ, None};
-ghost use Rattle.ir_laws.specs.rules.counted.Widths.{first_other_width};
+ghost use Rattle.rule_laws.specs.rules.counted.Widths.{first_other_width};
 ghost use Rattle.pass_edges.specs.EdgeBlocks.{with_edge_blocks};
 ghost use Rattle.ir_model.specs.declared.module.Function.{Function};
 

@@ -1,7 +1,7 @@
 //! Lemmas on spelled.
 
 ghost use Rattle.ir_model.specs.declared.module.Function.{Function};
-ghost use Rattle.ir_laws.specs.rules.spelled.Spelled.{IsSpelledFunction};
+ghost use Rattle.rule_laws.specs.rules.spelled.Spelled.{IsSpelledFunction};
 ghost use Rattle.pass_exits.specs.ExitBlocks.{with_exit_blocks};
 
 /// And where edges that leave windows have blocks.

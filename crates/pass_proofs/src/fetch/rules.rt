@@ -4,13 +4,13 @@
 
 ghost use Rattle.std.specs.Prelude.{ℕ, List, Option};
 ghost use Rattle.pass_proofs.specs.fetch.rules.Fetches.{FetchesFit, fetch_weaving};
-ghost use Rattle.ir_laws.specs.rules.function_rules.Kept.{KeepsFunctionRules};
+ghost use Rattle.rule_laws.specs.rules.function_rules.Kept.{KeepsFunctionRules};
 ghost use Rattle.ir_model.specs.declared.module.Function.{Function};
 ghost use Rattle.ir_model.specs.declared.module.Module.{Module};
 ghost use Rattle.pass_fetch.specs.Blocks.{with_fetches};
 ghost use Rattle.pass_fetch.specs.declared.fetch.Fetch.{Fetch};
-ghost use Rattle.ir_laws.specs.rules.woven_rules.Blocks.{IsWoven};
-ghost use Rattle.ir_laws.specs.rules.woven_rules.Pairs.{AreIncomingOnce};
+ghost use Rattle.rule_laws.specs.rules.woven_rules.Blocks.{IsWoven};
+ghost use Rattle.rule_laws.specs.rules.woven_rules.Pairs.{AreIncomingOnce};
 
 /// The fetches are instructions that are woven in.
 pub fn fetches_are_woven_in()

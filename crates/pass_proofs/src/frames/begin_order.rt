@@ -6,10 +6,10 @@
 ghost use Rattle.std.specs.Prelude.{ℕ, Bool, List, ◌≤◌, Option, length, ◌≡◌, None};
 ghost use Rattle.ir_laws.specs.facts.begin_order.Behind.{AreSizes};
 ghost use Rattle.pass_proofs.specs.frames.begin_order.Behind.{before_begin, IsFrameBehind, AreBlocksBehind};
-ghost use Rattle.ir_laws.specs.frames.counted.Asked.{IsAwayFromEntry};
+ghost use Rattle.rule_laws.specs.frames.counted.Asked.{IsAwayFromEntry};
 ghost use Rattle.pass_proofs.specs.copies.rules.Copies.{CopiesFit, copied_slots};
 ghost use Rattle.flow_solver.specs.Paths.{IsListed};
-ghost use Rattle.ir_laws.specs.rules.function_rules.Kept.{KeepsFunctionRules};
+ghost use Rattle.rule_laws.specs.rules.function_rules.Kept.{KeepsFunctionRules};
 ghost use Rattle.pass_intrinsics.specs.Shapes.{suspends_of};
 ghost use Rattle.pass_intrinsics.specs.declared.shape.SuspendPoint.{SuspendPoint};
 ghost use Rattle.ir_model.specs.declared.module.Function.{Function};
@@ -17,10 +17,10 @@ ghost use Rattle.ir_model.specs.declared.module.Module.{Module};
 ghost use Rattle.pass_frames.specs.Framed.{AreBefore, celled, begin_of, copied, offsets_of};
 ghost use Rattle.pass_proofs.specs.addresses.rules.Addresses.{AddressesFit};
 ghost use Rattle.pass_copies.specs.BeginCopies.{with_begin_copies};
-ghost use Rattle.ir_laws.specs.rules.woven_rules.Pairs.{AreIncomingOnce};
+ghost use Rattle.rule_laws.specs.rules.woven_rules.Pairs.{AreIncomingOnce};
 ghost use Rattle.pass_proofs.specs.frames.begin_order.Fields.{FieldsFit};
 ghost use Rattle.pass_proofs.specs.cells.rules.Asked.{AreCellsFor};
-ghost use Rattle.ir_laws.specs.rules.replaced.Splittable.{AreBlocksBegun};
+ghost use Rattle.rule_laws.specs.rules.replaced.Splittable.{AreBlocksBegun};
 ghost use Rattle.pass_cells.specs.Cells.{with_cells};
 ghost use Rattle.pass_proofs.specs.frames.begin_order.Frames.{IsFrameable};
 ghost use Rattle.frame_contents.specs.declared.contents.Contents.{Contents};
@@ -30,7 +30,7 @@ ghost use Rattle.pass_frames.specs.Tables.{class_flags, sizes_by_name};
 ghost use Rattle.ir_laws.specs.paths.threads.Labels.{HasNamedLabels};
 ghost use Rattle.pass_proofs.specs.edges.paths.Phis.{AreLabelsOnce};
 ghost use Rattle.pass_edges.specs.EdgeBlocks.{with_edge_blocks};
-ghost use Rattle.ir_laws.specs.rules.counted.Widths.{first_other_width};
+ghost use Rattle.rule_laws.specs.rules.counted.Widths.{first_other_width};
 ghost use Rattle.frame_contents.specs.Held.{held_of};
 
 /// Where begin stands, each path from the entry has made the slots that are used before it.

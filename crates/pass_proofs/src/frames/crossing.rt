@@ -5,7 +5,7 @@ ghost use Rattle.rule_shape.specs.OneOfEach.{wrong_call};
 ghost use Rattle.rule_shape.specs.Switches.{wrong_switch};
 ghost use Rattle.pass_edges.specs.EdgeBlocks.{with_edge_blocks};
 ghost use Rattle.pass_proofs.specs.split.crossing.Ended.{AreEndedFirst};
-ghost use Rattle.ir_laws.specs.rules.function_rules.Kept.{KeepsFunctionRules};
+ghost use Rattle.rule_laws.specs.rules.function_rules.Kept.{KeepsFunctionRules};
 ghost use Rattle.ir_model.specs.declared.module.Function.{Function};
 ghost use Rattle.ir_model.specs.declared.module.Module.{Module};
 ghost use Rattle.rule_windows.specs.Outside.{IsFirstOutside};
@@ -17,7 +17,7 @@ ghost use Rattle.ir_model.specs.declared.operand.Intrinsic.{Intrinsic};
 ghost use Rattle.pass_frames.specs.Framed.{celled, copied, placed};
 ghost use Rattle.frame_crossing.specs.Crossing.{AreCrossing};
 ghost use Rattle.rule_windows.specs.Windows.{IsFirstWindow};
-ghost use Rattle.ir_laws.specs.frames.crossing.Crossed.{IsNothingNeeded};
+ghost use Rattle.rule_laws.specs.frames.crossing.Crossed.{IsNothingNeeded};
 
 /// In a coroutine that breaks no rule (K5), no path leads from a suspend to a return outside the end's block where its edges have blocks.
 pub fn suspends_end_first_where_edges_have_blocks()

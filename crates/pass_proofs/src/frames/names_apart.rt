@@ -3,7 +3,7 @@
 ghost use Rattle.frame_layout.specs.declared.layout.Layout.{Layout};
 ghost use Rattle.ir_model.specs.declared.module.Function.{Function};
 ghost use Rattle.ir_model.specs.declared.module.Module.{Module};
-ghost use Rattle.ir_laws.specs.rules.names_apart.Words.{AreFew, IsTableOf, early_words, framed_words};
+ghost use Rattle.rule_laws.specs.rules.names_apart.Words.{AreFew, IsTableOf, early_words, framed_words};
 ghost use Rattle.pass_frames.specs.Framed.{IsFramedCoroutine};
 
 /// So do the passes that build its frame.

@@ -3,7 +3,7 @@
 
 ghost use Rattle.std.specs.Prelude.{ℕ, List, ◌<◌, ◌^◌, Bool, Ok, ◌≤◌, length, ◌≡◌};
 ghost use Rattle.frame_layout.specs.declared.layout.Layout.{Layout};
-ghost use Rattle.ir_laws.specs.frames.suspend_counts.Given.{IsGiven};
+ghost use Rattle.rule_laws.specs.frames.suspend_counts.Given.{IsGiven};
 ghost use Rattle.pass_frames.specs.Framed.{layout_at, IsFramedCoroutine};
 ghost use Rattle.frame_contents.specs.Frames.{AreLayouts};
 ghost use Rattle.frame_layout.specs.declared.layout.Layouts.{Layouts};
@@ -11,7 +11,7 @@ ghost use Rattle.ir_model.specs.declared.module.Module.{Module};
 ghost use Rattle.pass_frames.specs.Tables.{offset_at};
 ghost use Rattle.pass_intrinsics.specs.Shapes.{shape_of, suspends_of};
 ghost use Rattle.ir_model.specs.declared.module.Function.{Function};
-ghost use Rattle.ir_laws.specs.frames.replaced.Parted.{IsSmall};
+ghost use Rattle.rule_laws.specs.frames.replaced.Parted.{IsSmall};
 
 /// The layout that a coroutine is framed by is one of the module's, or that of a frame of an index alone.
 pub fn layouts_by_number_are_given()

@@ -12,7 +12,7 @@ ghost use Rattle.pass_proofs.specs.frames.shape.Passes.{PassesFit};
 ghost use Rattle.ir_model.specs.declared.module.Function.{Function};
 ghost use Rattle.ir_model.specs.declared.module.Module.{Module};
 ghost use Rattle.pass_frames.specs.Framed.{copied, celled, placed};
-ghost use Rattle.ir_laws.specs.frames.shape.Passes.{IsKept};
+ghost use Rattle.rule_laws.specs.frames.shape.Passes.{IsKept};
 
 /// What the passes that build frames ask of each other holds of such a coroutine: slots that are copied are made before begin, and what lies in
 /// the frame is used behind it.

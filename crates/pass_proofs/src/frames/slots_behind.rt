@@ -10,7 +10,7 @@ ghost use Rattle.rule_shape.specs.OneOfEach.{wrong_call};
 ghost use Rattle.frame_contents.specs.Frames.{AreContents};
 ghost use Rattle.frame_contents.specs.declared.contents.Contents.{Contents};
 ghost use Rattle.frame_layout.specs.declared.layout.Layout.{Layout};
-ghost use Rattle.ir_laws.specs.rules.function_rules.Kept.{KeepsFunctionRules};
+ghost use Rattle.rule_laws.specs.rules.function_rules.Kept.{KeepsFunctionRules};
 ghost use Rattle.ir_model.specs.Calls.{first_result};
 ghost use Rattle.ir_model.specs.declared.module.Function.{Function};
 ghost use Rattle.ir_model.specs.declared.module.Module.{Module};

@@ -11,7 +11,7 @@
 //! holds by N1, K1, K2, Y1 and Y2 (`functions_have_plain_names`).
 
 ghost use Rattle.std.specs.Prelude.{ℕ, ◌≡◌, None, true, Some, List, ℤ};
-ghost use Rattle.ir_laws.specs.rules.function_rules.Kept.{KeepsFunctionRules};
+ghost use Rattle.rule_laws.specs.rules.function_rules.Kept.{KeepsFunctionRules};
 ghost use Rattle.ir_model.specs.declared.module.Function.{Function};
 ghost use Rattle.ir_model.specs.declared.module.Module.{Module};
 ghost use Rattle.pass_kept_proof.specs.Crossing.{IsDefinite, AreDefinite};
@@ -20,8 +20,8 @@ ghost use Rattle.ir_model.specs.declared.operand.Intrinsic.{Intrinsic};
 ghost use Rattle.ir_paths.specs.declared.point.Point.{Point};
 ghost use Rattle.pass_kept_proof.specs.SuspendRules.{IsCallAt, IsSwitched, KeepsSuspendRules, AllKeepSuspendRules, KeepsNeeded};
 ghost use Rattle.pass_kept_proof.specs.Needed.{IsNeededBehind, given_by};
-ghost use Rattle.ir_laws.specs.rules.path_rules.Paths.{KeepsPaths};
-ghost use Rattle.ir_laws.specs.rules.path_rules.Shape.{KeepsShape};
+ghost use Rattle.rule_laws.specs.rules.path_rules.Paths.{KeepsPaths};
+ghost use Rattle.rule_laws.specs.rules.path_rules.Shape.{KeepsShape};
 ghost use Rattle.rule_shape.specs.OneOfEach.{wrong_call};
 ghost use Rattle.pass_kept_proof.specs.Handed.{HasPlainNames, HavePlainNames, HandsOn};
 ghost use Rattle.pass_early.specs.Early.{early_module};

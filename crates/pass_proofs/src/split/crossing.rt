@@ -7,21 +7,21 @@
 ghost use Rattle.pass_proofs.specs.split.crossing.Ended.{AreEndedFirst};
 ghost use Rattle.ir_model.specs.declared.module.Function.{Function};
 ghost use Rattle.ir_model.specs.declared.module.Module.{Module};
-ghost use Rattle.ir_laws.specs.rules.woven_rules.Blocks.{IsWoven};
-ghost use Rattle.ir_laws.specs.rules.woven_rules.Weaving.{Weaving};
-ghost use Rattle.ir_laws.specs.frames.woven_shape.Shaped.{KeepsCalls};
+ghost use Rattle.rule_laws.specs.rules.woven_rules.Blocks.{IsWoven};
+ghost use Rattle.rule_laws.specs.rules.woven_rules.Weaving.{Weaving};
+ghost use Rattle.rule_laws.specs.frames.woven_shape.Shaped.{KeepsCalls};
 ghost use Rattle.std.specs.Prelude.{◌≡◌, ℕ, true, None, Some, slice_get};
-ghost use Rattle.ir_laws.specs.frames.crossing.Crossed.{IsNothingNeeded};
+ghost use Rattle.rule_laws.specs.frames.crossing.Crossed.{IsNothingNeeded};
 ghost use Rattle.rule_shape.specs.OneOfEach.{wrong_call};
 ghost use Rattle.flow_solver.specs.Paths.{IsListed};
-ghost use Rattle.ir_laws.specs.frames.needed.Crossed.{AreFramesUnneeded};
-ghost use Rattle.ir_laws.specs.rules.function_rules.Kept.{KeepsFunctionRules};
+ghost use Rattle.rule_laws.specs.frames.needed.Crossed.{AreFramesUnneeded};
+ghost use Rattle.rule_laws.specs.rules.function_rules.Kept.{KeepsFunctionRules};
 ghost use Rattle.ir_model.specs.Calls.{first_result};
 ghost use Rattle.ir_model.specs.declared.module.Block.{Block};
 ghost use Rattle.ir_model.specs.declared.operand.Intrinsic.{Intrinsic};
 ghost use Rattle.ir_paths.specs.declared.point.Point.{Point};
 ghost use Rattle.pass_proofs.specs.split.rules.Reached.{IsLedTo};
-ghost use Rattle.ir_laws.specs.frames.replaced.Splittable.{may_cross};
+ghost use Rattle.rule_laws.specs.frames.replaced.Splittable.{may_cross};
 ghost use Rattle.frame_crossing.specs.Crossing.{suspends_of};
 ghost use Rattle.frame_crossing.specs.Paths.{IsDefinedBefore, IsNeededBehind};
 

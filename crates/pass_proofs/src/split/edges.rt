@@ -15,13 +15,13 @@ ghost use Rattle.pass_proofs.specs.split.rules.Parted.{IsPartOf};
 ghost use Rattle.pass_proofs.specs.split.rules.Splittable.{IsSplittable};
 ghost use Rattle.ir_parts.specs.Parts.{first_part, parts_of};
 ghost use Rattle.rule_names.specs.Known.{is_label};
-ghost use Rattle.ir_laws.specs.rules.replaced.Instructions.{names_lost};
+ghost use Rattle.rule_laws.specs.rules.replaced.Instructions.{names_lost};
 ghost use Rattle.rule_phis.specs.Edges.{first_wrong_edge};
 ghost use Rattle.pass_intrinsics.specs.Cuts.{goes_on};
-ghost use Rattle.ir_laws.specs.rules.replaced.Returns.{ReturnsNothing};
+ghost use Rattle.rule_laws.specs.rules.replaced.Returns.{ReturnsNothing};
 ghost use Rattle.rule_locals.specs.Entries.{first_late_alloca};
 ghost use Rattle.rule_locals.specs.Markers.{first_other_mark};
-ghost use Rattle.ir_laws.specs.frames.same_names.Parts.{HasPartsOf};
+ghost use Rattle.rule_laws.specs.frames.same_names.Parts.{HasPartsOf};
 
 /// The edges of a part lead to blocks of it.
 pub fn edges_of_parts_lead_to_their_blocks()

@@ -4,13 +4,13 @@ ghost use Rattle.std.specs.Prelude.{◌≡◌, ℕ, None, true, Some, slice_get}
 ghost use Rattle.rule_shape.specs.Switches.{wrong_switch};
 ghost use Rattle.pass_proofs.specs.edges.rules.Phis.{ArePhisEnteredByJumps};
 ghost use Rattle.flow_solver.specs.Paths.{IsListed};
-ghost use Rattle.ir_laws.specs.rules.function_rules.Kept.{KeepsFunctionRules};
+ghost use Rattle.rule_laws.specs.rules.function_rules.Kept.{KeepsFunctionRules};
 ghost use Rattle.pass_intrinsics.specs.Shapes.{suspends_of};
 ghost use Rattle.pass_intrinsics.specs.declared.shape.SuspendPoint.{SuspendPoint};
 ghost use Rattle.ir_model.specs.declared.module.Function.{Function};
 ghost use Rattle.ir_model.specs.declared.module.Module.{Module};
 ghost use Rattle.pass_proofs.specs.split.rules.Reached.{IsLedTo};
-ghost use Rattle.ir_laws.specs.frames.replaced.Splittable.{IsEndedFirst, may_cross};
+ghost use Rattle.rule_laws.specs.frames.replaced.Splittable.{IsEndedFirst, may_cross};
 ghost use Rattle.pass_exits.specs.ExitBlocks.{with_exit_blocks};
 ghost use Rattle.ir_model.specs.declared.module.Block.{Block};
 ghost use Rattle.ir_paths.specs.declared.point.Point.{Point};

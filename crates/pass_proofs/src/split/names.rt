@@ -7,8 +7,8 @@ ghost use Rattle.ir_model.specs.declared.module.Function.{Function};
 ghost use Rattle.ir_model.specs.declared.module.Module.{Module};
 ghost use Rattle.pass_proofs.specs.split.names.Sources.{ComesFrom};
 ghost use Rattle.rule_names.specs.declared.stage.Stage.{Stage};
-ghost use Rattle.ir_laws.specs.rules.plain_rules.Items.{KeepsItemRules};
-ghost use Rattle.ir_laws.specs.frames.same_names.Parts.{HasPartsOf};
+ghost use Rattle.rule_laws.specs.rules.plain_rules.Items.{KeepsItemRules};
+ghost use Rattle.rule_laws.specs.frames.same_names.Parts.{HasPartsOf};
 ghost use Rattle.ir_laws.specs.facts.same_names.Short.{HaveShortNames};
 
 /// Each function of a split module is one of those that a function of the module becomes.

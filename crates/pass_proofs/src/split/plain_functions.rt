@@ -2,11 +2,11 @@
 
 ghost use Rattle.std.specs.Prelude.{◌≡◌, ℕ, Some, false, slice_get};
 ghost use Rattle.pass_split.specs.Parts.{plain_of, plain_shape};
-ghost use Rattle.ir_laws.specs.rules.function_rules.Kept.{KeepsFunctionRules};
+ghost use Rattle.rule_laws.specs.rules.function_rules.Kept.{KeepsFunctionRules};
 ghost use Rattle.ir_model.specs.declared.module.Function.{Function};
 ghost use Rattle.ir_model.specs.declared.module.Module.{Module};
-ghost use Rattle.ir_laws.specs.rules.plain_rules.Kept.{KeepsPlainRules};
-ghost use Rattle.ir_laws.specs.frames.same_names.Parts.{HasPartsOf};
+ghost use Rattle.rule_laws.specs.rules.plain_rules.Kept.{KeepsPlainRules};
+ghost use Rattle.rule_laws.specs.frames.same_names.Parts.{HasPartsOf};
 
 /// A function that is no coroutine and breaks none of the rules of functions breaks none of those of modules without coroutines
 /// in a module with the parts of the coroutines.

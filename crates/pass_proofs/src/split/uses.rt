@@ -12,7 +12,7 @@ ghost use Rattle.ir_model.specs.declared.module.Function.{Function};
 ghost use Rattle.ir_model.specs.declared.module.Module.{Module};
 ghost use Rattle.pass_proofs.specs.split.rules.Parted.{IsPartOf};
 ghost use Rattle.pass_proofs.specs.split.rules.Splittable.{IsSplittable};
-ghost use Rattle.ir_laws.specs.rules.replaced.Instructions.{KnowsItsLocals};
+ghost use Rattle.rule_laws.specs.rules.replaced.Instructions.{KnowsItsLocals};
 ghost use Rattle.ir_parts.specs.Locals.{locals_of};
 ghost use Rattle.rule_names.specs.Definitions.{first_twice};
 

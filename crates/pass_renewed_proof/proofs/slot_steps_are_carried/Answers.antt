@@ -6,7 +6,8 @@ pub returns-clause-step : goal.returns-clause-step
 returns-clause-step c = λ homes hides quiet ps d w x here rights u. used_step homes hides quiet ps d w x here u rights
 
 pub returns-clause-spread : goal.returns-clause-spread
-returns-clause-spread c = λ homes hides quiet ps d w x here u spreads. step_shown quiet d w u.shown here (λ no. u.new_quiet) spreads
+returns-clause-spread c = λ homes hides quiet ps d w x here u spreads. step_shown quiet d w u.shown here
+    (λ no. u.new_quiet) spreads
 
 pub returns-clause-parts : goal.returns-clause-parts
 returns-clause-parts c = λ homes hides quiet ps d w x here u. part_placed homes hides quiet ps d w x here u

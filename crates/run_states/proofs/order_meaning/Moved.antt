@@ -17,7 +17,7 @@ use Rattle.ir_model.specs.declared.module.Module.{Module}
 use Rattle.ir_model.specs.declared.module.Param.{Param}
 use Rattle.ir_model.specs.declared.operand.Arg.{Arg}
 use Rattle.ir_model.specs.declared.operand.Operand.{Operand}
-use Rattle.ir_laws.proofs.rules.order_rules.Parts.{equal_same}
+use Rattle.ir_laws.proofs.facts.Renumbering.{equal_same}
 pub use Rattle.ir_laws.specs.paths.order_meaning.Beside.{AreMoved}
 pub use Rattle.ir_laws.specs.facts.order_meaning.Beside.{IsHeld, IsHeldResult}
 use Rattle.ir_laws.specs.facts.order_rules.Renumbered.{StaysApart, renumbered_arg, renumbered_case, renumbered_incoming, renumbered_operand, renumbered_param, renumbered_phi}

@@ -8,7 +8,7 @@ use Rattle.ir_base.specs.declared.outcome.Place.{Place}
 use Rattle.rule_uses.specs.Uses.{Use, block_uses, block_values, blocks_uses, incoming_use, incoming_uses, instr_uses, local_of, made_by_instrs, phi_uses, phi_values, uses_at, uses_of, values_at}
 use Rattle.ir_laws.proofs.facts.Members.{each_behind}
 use Rattle.ir_laws.proofs.paths.source_rules.Locals.{listed_either, listed_left, listed_right}
-use Rattle.ir_laws.proofs.rules.source_rules.Locals.{made_by}
+use Rattle.rule_laws.proofs.rules.source_rules.Locals.{made_by}
 use Rattle.flow_solver.specs.Paths.{IsListed}
 use Rattle.pass_addresses.specs.Placing.{stays, without_promise_of}
 use Rattle.ir_parts.specs.Contents.{ending_operands, instr_operands}

@@ -5,7 +5,7 @@ use Rattle.pass_proofs.specs.addresses.begin_order.Behind.{IsBehind, IsIncomingB
 use Rattle.rule_uses.specs.Undefined.{ReachesWithout, params_of}
 use Rattle.rule_uses.specs.Uses.{values_at}
 use Rattle.flow_solver.specs.Paths.{IsListed}
-use Rattle.ir_laws.specs.rules.function_rules.Kept.{KeepsFunctionRules}
+use Rattle.rule_laws.specs.rules.function_rules.Kept.{KeepsFunctionRules}
 use Rattle.ir_model.specs.Names.{position_of}
 use Rattle.ir_model.specs.declared.instr.Incoming.{Incoming}
 use Rattle.ir_model.specs.declared.instr.Phi.{Phi}
@@ -13,14 +13,14 @@ use Rattle.ir_model.specs.declared.module.Function.{Function}
 use Rattle.ir_model.specs.declared.module.Module.{Module}
 use Rattle.ir_model.specs.declared.operand.Operand.{Operand}
 use Rattle.run_laws.specs.changed.Changed.{Each}
-use Rattle.ir_laws.proofs.rules.woven_rules.Edges.{same_edges, same_position}
-use Rattle.ir_laws.proofs.rules.woven_rules.Laid.{AreLaidBlocks, laid}
-use Rattle.ir_laws.proofs.rules.woven_rules.Once.{below}
+use Rattle.rule_laws.proofs.rules.woven_rules.Edges.{same_edges, same_position}
+use Rattle.rule_laws.proofs.rules.woven_rules.Laid.{AreLaidBlocks, laid}
+use Rattle.rule_laws.proofs.rules.woven_rules.Once.{below}
 use Rattle.ir_laws.proofs.facts.Members.{each_turns}
-use Rattle.ir_laws.proofs.rules.woven_rules.Uses.{path_before, within_at}
-use Rattle.ir_laws.specs.rules.woven_rules.Blocks.{IsWoven}
-use Rattle.ir_laws.specs.rules.woven_rules.Pairs.{AreIncomingOnce}
-use Rattle.ir_laws.specs.rules.woven_rules.Weaving.{IsThere, Weaving}
+use Rattle.rule_laws.proofs.rules.woven_rules.Uses.{path_before, within_at}
+use Rattle.rule_laws.specs.rules.woven_rules.Blocks.{IsWoven}
+use Rattle.rule_laws.specs.rules.woven_rules.Pairs.{AreIncomingOnce}
+use Rattle.rule_laws.specs.rules.woven_rules.Weaving.{IsThere, Weaving}
 
 -- g makes the value where f does, and paths lead the same way
 pub record Passes (f g : Function) (begin : ℕ) : Type 0 where

@@ -4,13 +4,13 @@ use Rattle.std.specs.List.{list_all}
 use Rattle.std.specs.Prelude.{None, Option, Some, slice_get, ◌&&◌}
 use Rattle.ir_base.specs.declared.outcome.Place.{Place}
 use Rattle.ir_laws.proofs.facts.Members.{at_each}
-use Rattle.ir_laws.proofs.rules.local_rules.Fitting.{either, no_either}
+use Rattle.rule_laws.proofs.rules.local_rules.Fitting.{either, no_either}
 use Rattle.ir_laws.proofs.facts.Truth.{and_first, holds, first_no, second_no}
 use Rattle.flow_solver.specs.Paths.{IsListed}
 use Rattle.pass_addresses.specs.Placing.{stays}
 use Rattle.ir_parts.specs.Contents.{result_of}
 use Rattle.ir_parts.specs.Parts.{OfInstr, Part, parts_of}
-use Rattle.ir_laws.specs.rules.function_rules.Kept.{KeepsFunctionRules}
+use Rattle.rule_laws.specs.rules.function_rules.Kept.{KeepsFunctionRules}
 use Rattle.ir_model.specs.Ty.{Ty}
 use Rattle.ir_model.specs.declared.instr.Instr.{Instr}
 use Rattle.ir_model.specs.declared.module.Block.{Block}
@@ -24,9 +24,9 @@ use Rattle.rule_types.specs.Wants.{intrinsic_params}
 use Rattle.rule_values.specs.Instrs.{fits_called, fits_instr, fits_result, passes}
 use Rattle.rule_values.specs.Kinds.{value_kind}
 use Rattle.rule_values.specs.Values.{breaks_values}
-use Rattle.ir_laws.proofs.rules.woven_rules.Unbroken.{Passes, PassesIn, all_pass}
+use Rattle.rule_laws.proofs.rules.woven_rules.Unbroken.{Passes, PassesIn, all_pass}
 use Rattle.ir_laws.proofs.paths.woven_rules.Unbroken.{of_listed}
-use Rattle.ir_laws.proofs.rules.address_rules.Unmarked.{no_result}
+use Rattle.rule_laws.proofs.rules.address_rules.Unmarked.{no_result}
 
 module _ (m : Module) (k : ℕ) (f : Function) (marked : List Bool) (keeps : KeepsFunctionRules m k f) where
   abbrev fitting : Place → Part → Bool

@@ -7,7 +7,7 @@ use Rattle.pass_copies.specs.Uses.{flag_at, is_begin, still_before, used_before}
 use Rattle.pass_copies.specs.declared.copying.Copying.{Copying}
 use Rattle.pass_copies.specs.declared.slot.EarlySlot.{EarlySlot}
 use Rattle.pass_addresses.specs.Placing.{lies_outside, slot_fetches, stays, turned_block, with_frame_addresses, without_markers, without_promise, without_promise_of}
-use Rattle.ir_laws.proofs.frames.suspend_counts.Counted.{count, joined, one, total}
+use Rattle.rule_laws.proofs.frames.suspend_counts.Counted.{count, joined, one, total}
 use Rattle.pass_proofs.proofs.fetch.numbers.Fetched.{fetched_total, instr_same}
 use Rattle.ir_model.specs.declared.instr.Instr.{Instr}
 use Rattle.ir_model.specs.declared.module.Block.{Block}

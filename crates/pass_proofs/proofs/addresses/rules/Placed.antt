@@ -18,7 +18,7 @@ use Rattle.flow_solver.specs.Paths.{IsListed}
 use Rattle.pass_addresses.specs.Placing.{is_flagged, is_none, lies_outside, marks_flagged, slot_fetches, stays, turned_block, with_frame_addresses, without_markers, without_promise_of}
 use Rattle.ir_parts.specs.Contents.{arg_operands, instr_operands}
 use Rattle.ir_parts.specs.Parts.{Ending, OfInstr}
-use Rattle.ir_laws.specs.rules.function_rules.Kept.{KeepsFunctionRules}
+use Rattle.rule_laws.specs.rules.function_rules.Kept.{KeepsFunctionRules}
 use Rattle.ir_model.specs.Ty.{Ty}
 use Rattle.ir_model.specs.declared.instr.Case.{Case}
 use Rattle.ir_model.specs.declared.instr.Instr.{Instr}
@@ -44,17 +44,17 @@ use Rattle.rule_values.specs.Kinds.{value_kind}
 use Rattle.rule_values.specs.Switches.{any_twice, bits_in, case_word, fits_case, is_constant}
 use Rattle.rule_values.specs.Values.{breaks_values}
 use Rattle.rule_values.specs.declared.kinds.Kind.{Kind}
-use Rattle.ir_laws.proofs.rules.woven_rules.All.{rules_woven}
-use Rattle.ir_laws.proofs.rules.woven_rules.Edges.{incoming_woven}
-use Rattle.ir_laws.proofs.rules.woven_rules.Laid.{valued_old}
-use Rattle.ir_laws.proofs.rules.woven_rules.Once.{names_below}
-use Rattle.ir_laws.proofs.rules.woven_rules.Unbroken.{Passes, PassesIn, all_pass}
+use Rattle.rule_laws.proofs.rules.woven_rules.All.{rules_woven}
+use Rattle.rule_laws.proofs.rules.woven_rules.Edges.{incoming_woven}
+use Rattle.rule_laws.proofs.rules.woven_rules.Laid.{valued_old}
+use Rattle.rule_laws.proofs.rules.woven_rules.Once.{names_below}
+use Rattle.rule_laws.proofs.rules.woven_rules.Unbroken.{Passes, PassesIn, all_pass}
 use Rattle.ir_laws.proofs.paths.woven_rules.Unbroken.{each_listed}
 use Rattle.ir_laws.proofs.facts.Members.{each_turns}
-use Rattle.ir_laws.proofs.rules.woven_rules.ValueKinds.{old_kind}
-use Rattle.ir_laws.specs.rules.woven_rules.Blocks.{IsWoven, MayGo}
-use Rattle.ir_laws.specs.rules.woven_rules.Pairs.{AreIncomingOnce}
-use Rattle.ir_laws.specs.rules.woven_rules.Weaving.{Weaving, goes_in}
+use Rattle.rule_laws.proofs.rules.woven_rules.ValueKinds.{old_kind}
+use Rattle.rule_laws.specs.rules.woven_rules.Blocks.{IsWoven, MayGo}
+use Rattle.rule_laws.specs.rules.woven_rules.Pairs.{AreIncomingOnce}
+use Rattle.rule_laws.specs.rules.woven_rules.Weaving.{Weaving, goes_in}
 use Rattle.ir_model.specs.Layout.{same_type}
 
 -- ---- the table of fetches

@@ -4,14 +4,14 @@ use Rattle.std.specs.Prelude.{None, Option, Some, filter, map, option_to_list, �
 use Rattle.pass_proofs.proofs.addresses.rules.Turning.{MayFilter, TurnsWell, filter_fewer, filter_woven, turned_woven}
 use Rattle.pass_proofs.specs.addresses.rules.Addresses.{left_over, turning_weaving}
 use Rattle.ir_base.specs.declared.outcome.Place.{Place}
-use Rattle.ir_laws.proofs.rules.local_rules.Fitting.{either, no_either}
+use Rattle.rule_laws.proofs.rules.local_rules.Fitting.{either, no_either}
 use Rattle.ir_laws.proofs.facts.Truth.{and_first, holds, first_no, second_no}
-use Rattle.ir_laws.proofs.rules.source_rules.Locals.{made_by}
+use Rattle.rule_laws.proofs.rules.source_rules.Locals.{made_by}
 use Rattle.ir_laws.proofs.facts.Lists.{row_of}
 use Rattle.pass_addresses.specs.Placing.{stays, without_markers, without_promise, without_promise_of}
 use Rattle.ir_parts.specs.Contents.{ending_operands, instr_operands, result_of}
 use Rattle.ir_parts.specs.Parts.{OfInstr, Part, parts_of}
-use Rattle.ir_laws.specs.rules.function_rules.Kept.{KeepsFunctionRules}
+use Rattle.rule_laws.specs.rules.function_rules.Kept.{KeepsFunctionRules}
 use Rattle.ir_model.specs.Ty.{Ty}
 use Rattle.ir_model.specs.declared.instr.Incoming.{Incoming}
 use Rattle.ir_model.specs.declared.instr.Instr.{Instr}
@@ -30,16 +30,16 @@ use Rattle.rule_values.specs.Instrs.{fits_called, fits_instr, fits_result, passe
 use Rattle.rule_values.specs.Kinds.{value_kind}
 use Rattle.rule_values.specs.Values.{breaks_values}
 use Rattle.std.specs.List.{list_all}
-use Rattle.ir_laws.proofs.rules.woven_rules.All.{rules_woven}
-use Rattle.ir_laws.proofs.rules.woven_rules.Edges.{incoming_woven}
-use Rattle.ir_laws.proofs.rules.woven_rules.Unbroken.{Passes, PassesIn, all_pass}
-use Rattle.ir_laws.proofs.rules.woven_rules.Pieces.{still_stays}
+use Rattle.rule_laws.proofs.rules.woven_rules.All.{rules_woven}
+use Rattle.rule_laws.proofs.rules.woven_rules.Edges.{incoming_woven}
+use Rattle.rule_laws.proofs.rules.woven_rules.Unbroken.{Passes, PassesIn, all_pass}
+use Rattle.rule_laws.proofs.rules.woven_rules.Pieces.{still_stays}
 use Rattle.ir_laws.proofs.facts.Members.{each_all, each_turns}
-use Rattle.ir_laws.specs.rules.woven_rules.Blocks.{AreWoven, Done, IsWoven, MayGo, Remain, Stays, Unpromised}
-use Rattle.ir_laws.specs.rules.woven_rules.Pairs.{AreIncomingOnce}
+use Rattle.rule_laws.specs.rules.woven_rules.Blocks.{AreWoven, Done, IsWoven, MayGo, Remain, Stays, Unpromised}
+use Rattle.rule_laws.specs.rules.woven_rules.Pairs.{AreIncomingOnce}
 use Rattle.ir_laws.specs.facts.woven_rules.Pairs.{times}
-use Rattle.ir_laws.specs.rules.woven_rules.Weaving.{Weaving, goes_in}
-use Rattle.ir_laws.proofs.rules.address_rules.Unmarked.{no_result}
+use Rattle.rule_laws.specs.rules.woven_rules.Weaving.{Weaving, goes_in}
+use Rattle.rule_laws.proofs.rules.address_rules.Unmarked.{no_result}
 
 -- nothing goes
 abbrev pub stays_all : ℕ → Bool

@@ -1,12 +1,12 @@
 -- Markers and allocas that go, and the promise that becomes null, leave the calls of a coroutine.
 use Rattle.std.proofs.Common.{◌≡◌, ℕ, ◌+◌, Bool, true, false, List, [], ◌∷◌, length, refl, ap, arith}
 use Rattle.std.specs.Prelude.{Option, filter, map, if◌then◌else◌}
-use Rattle.pass_early_proof.proofs.path_rules.SavedSwitches.{times_in}
+use Rattle.pass_proofs.proofs.early.path_rules.SavedSwitches.{times_in}
 use Rattle.pass_proofs.proofs.edges.shape.Uses.{ends_total}
 use Rattle.pass_addresses.specs.Placing.{lies_outside, stays, turned_block, without_promise_of}
 use Rattle.pass_proofs.proofs.edges.calls.Spared.{AreInstrsOther, AreOther, IsSpared}
 use Rattle.pass_proofs.proofs.edges.calls.Steadily.{AreSteady}
-use Rattle.ir_laws.proofs.rules.shape.Steady.{AreAllOrdered, Ended, IsAlike, IsBlockKept, IsPlain, Keeps, LeadsAt, Left, Stay, all_calls, all_labels, behind_first, first_leads}
+use Rattle.rule_laws.proofs.rules.shape.Steady.{AreAllOrdered, Ended, IsAlike, IsBlockKept, IsPlain, Keeps, LeadsAt, Left, Stay, all_calls, all_labels, behind_first, first_leads}
 use Rattle.ir_laws.proofs.paths.shape.Steady.{AreOrdered, IsOrdered, is_end}
 use Rattle.ir_parts.specs.Contents.{ending_operands, instr_operands}
 use Rattle.ir_model.specs.declared.instr.Instr.{Instr}

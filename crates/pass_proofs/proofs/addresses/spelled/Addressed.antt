@@ -11,8 +11,8 @@ use Rattle.ir_model.specs.declared.operand.Callee.{Callee}
 use Rattle.ir_model.specs.declared.operand.Intrinsic.{Intrinsic}
 use Rattle.pass_proofs.proofs.fetch.spelled.Fetched.{IsSpelledFetch, fetches_spelled}
 use Rattle.ir_laws.proofs.facts.Members.{each_filtered, each_mapped}
-use Rattle.ir_laws.specs.texts.spelled.Spelled.{IsSpelled}
-use Rattle.ir_laws.specs.rules.spelled.Spelled.{IsSpelledBlock, IsSpelledFunction, IsSpelledInstr}
+use Rattle.rule_laws.specs.texts.spelled.Spelled.{IsSpelled}
+use Rattle.rule_laws.specs.rules.spelled.Spelled.{IsSpelledBlock, IsSpelledFunction, IsSpelledInstr}
 use Rattle.run_laws.specs.changed.Changed.{Each}
 use Rattle.pass_fetch.specs.Blocks.{with_fetches}
 

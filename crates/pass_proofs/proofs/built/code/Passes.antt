@@ -127,7 +127,8 @@ entry_there m p front n (c ∷ bs) zero b e = let same : c ≡ b = cc in
     ap (λ (x : Block). Some (written_block m p front n x)) same
 entry_there m p front n (c ∷ bs) (suc k) b e =
     written_there m p (after_written_block m p n c) bs k b e
-    ∙ ap (λ (xs : List Instr). Some (written_block m p xs (after_written m p (after_written_block m p n c) (take k bs)) b))
+    ∙ ap (λ (xs : List Instr). Some (written_block m p xs (after_written m p (after_written_block m p n c) (take k bs))
+    b))
     (sym (later_front k front))
 
 pub cells_made : (m : Module) (p : Plan) (f : Function) (k : ℕ)

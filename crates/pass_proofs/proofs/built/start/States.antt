@@ -66,7 +66,10 @@ module _ (g : FramedGiven) where
 
   -- frames let all pointers be compared
   nulls : (homes : List Home) (m : List MemoryBlock) → AreNullsKept owner_rights (frame_rights g []) homes m m
-  nulls homes m = record { each = λ b o seen e. on (home_of homes b).block (slice_get m (home_of homes b).block) (moved o (home_of homes b).offset) }
+  nulls homes m = record {
+    each = λ b o seen e. on (home_of homes b).block (slice_get m (home_of homes b).block)
+        (moved o (home_of homes b).offset);
+  }
     where
       either : (c : Bool) → (not c || true) ≡ true
       either true = refl

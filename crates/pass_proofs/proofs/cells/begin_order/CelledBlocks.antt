@@ -1,7 +1,7 @@
 -- The blocks of a function whose crossing values are kept in cells: what stands for each, where values are saved and loaded again.
 use Rattle.std.proofs.Common.{◌≡◌, ◌⊎◌, inl, inr, ⊎_elim, ℕ, zero, suc, ◌+◌, ◌<◌, ◌≤◌, Bool, true, List, [], ◌∷◌, length, refl, sym, ap, ◌∙◌, arith}
 use Rattle.std.specs.Prelude.{None, Option, Some, replicate, slice_get, slice_set}
-use Rattle.ir_laws.specs.frames.begin_order.Behind.{LeadsAgain}
+use Rattle.rule_laws.specs.frames.begin_order.Behind.{LeadsAgain}
 use Rattle.pass_proofs.proofs.cells.rules.Counts.{phis_rise}
 use Rattle.pass_proofs.proofs.cells.rules.Totals.{block_rise, written_rise}
 use Rattle.ir_laws.proofs.facts.Lists.{set_other}

@@ -1,7 +1,7 @@
 -- The operands of the instructions that sum a distance.
 use Rattle.std.proofs.Common.{◌≡◌, ℕ, ◌+◌, ◌≤◌, Bool, true, false, List, [], ◌∷◌, ◌++◌, refl, arith}
 use Rattle.std.specs.Prelude.{None, Option, Some, ℤ, if◌then◌else◌}
-use Rattle.ir_laws.specs.rules.begin_order.Behind.{other_operands}
+use Rattle.rule_laws.specs.rules.begin_order.Behind.{other_operands}
 use Rattle.ir_base.specs.declared.ops.CastOp.{CastOp}
 use Rattle.ir_laws.proofs.facts.Members.{each_behind}
 use Rattle.ir_parts.specs.Contents.{arg_operands, instr_operands}

@@ -143,7 +143,8 @@ pub quiet_ahead : (i : Intrinsic) (xs ys : List Instr) → AreQuiet xs → list_
 quiet_ahead i [] ys h = refl
 quiet_ahead i (x ∷ xs) ys h = (λ k. h.0 i k || list_any (is_call_of i) (xs ++ ys)) ∙ quiet_ahead i xs ys h.1
 
-pub same_call : (t : List (Option Fetch)) (n : ℕ) (i : Intrinsic) (x : Instr) → is_call_of i (with_fetched t n x) ≡ is_call_of i x
+pub same_call : (t : List (Option Fetch)) (n : ℕ) (i : Intrinsic) (x : Instr)
+    → is_call_of i (with_fetched t n x) ≡ is_call_of i x
 same_call t n i (Instr.Binary r op flags ty a b) = refl
 same_call t n i (Instr.Icmp r pred ty a b) = refl
 same_call t n i (Instr.Select r c a b) = refl

@@ -36,8 +36,8 @@ use Rattle.pass_cells.specs.Moves.{address_again, after_saved, again_one, again_
 use Rattle.pass_cells.specs.Written.{after_one, cell_of, distance_behind, distance_from, distance_into, save_row, stored, stored_at, stored_one, stored_phis, stored_result}
 use Rattle.pass_cells.specs.declared.plan.KeptValue.{KeptValue}
 use Rattle.pass_cells.specs.declared.plan.Plan.{Plan}
-use Rattle.ir_laws.specs.rules.woven_rules.Weaving.{Weaving}
-use Rattle.ir_laws.proofs.rules.crossing.Follows.{Ended, Extra, Follows, IsExtra, Same, Uses}
+use Rattle.rule_laws.specs.rules.woven_rules.Weaving.{Weaving}
+use Rattle.rule_laws.proofs.rules.crossing.Follows.{Ended, Extra, Follows, IsExtra, Same, Uses}
 
 pub extras_follow : (kept : ℕ → Type 0) (v : ℕ) (xs is js : List Instr) → Each (IsExtra v) xs → Follows kept v is js → Follows kept v is (xs ++ js)
 extras_follow kept v [] is js h rest = rest

@@ -4,9 +4,9 @@ use Rattle.std.specs.List.{list_all, list_any}
 use Rattle.std.specs.Prelude.{Option, Some, None, map, not, option_map, option_to_list, slice_get, ◌&&◌, ◌==◌, if◌then◌else◌}
 use Rattle.flow_blocks.specs.Edges.{edges_of_blocks}
 use Rattle.pass_proofs.proofs.cells.crossing.Calls.{AreQuiet, IsQuiet, agains_quiet, phis_quiet, quiet_ahead, spread_calls}
-use Rattle.ir_laws.proofs.rules.crossing.Follows.{Follows}
+use Rattle.rule_laws.proofs.rules.crossing.Follows.{Follows}
 use Rattle.pass_proofs.proofs.cells.crossing.Follows.{HasAPlace, agains_extra, extras_follow, list_stays, operand_stays, phis_extra, spread_follows}
-use Rattle.ir_laws.proofs.frames.crossing.Needed.{IsBlockLike}
+use Rattle.rule_laws.proofs.frames.crossing.Needed.{IsBlockLike}
 use Rattle.pass_proofs.proofs.cells.rules.Around.{again_low}
 use Rattle.pass_proofs.proofs.cells.rules.Counts.{instrs_rise, operands_rise, phis_rise, written_low}
 use Rattle.pass_proofs.proofs.cells.rules.Ends.{AreEndsFetches}
@@ -55,7 +55,7 @@ use Rattle.rule_values.specs.Fits.{fits_arg, fits_integer}
 use Rattle.rule_values.specs.Switches.{any_twice, bits_in, case_word, fits_case, is_constant}
 use Rattle.rule_values.specs.Values.{fits_ending}
 use Rattle.rule_values.specs.declared.kinds.Kind.{Kind}
-use Rattle.ir_laws.specs.rules.woven_rules.Weaving.{Weaving}
+use Rattle.rule_laws.specs.rules.woven_rules.Weaving.{Weaving}
 
 -- ---- values of switches are constants
 

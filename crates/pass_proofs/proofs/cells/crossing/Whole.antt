@@ -7,16 +7,16 @@ use Rattle.flow_blocks.specs.Edges.{block_edges, edges_of_blocks}
 use Rattle.flow_blocks.specs.Reach.{Edge, IsReached, Start}
 use Rattle.pass_proofs.proofs.cells.crossing.Calls.{AreQuiet, front_quiet}
 use Rattle.pass_proofs.proofs.cells.crossing.Complete.{crossed_listed, pair_placed}
-use Rattle.ir_laws.proofs.frames.crossing.Defined.{defined_before, switch_leads}
-use Rattle.ir_laws.proofs.frames.crossing.Entries.{none_enters, not_entered}
+use Rattle.rule_laws.proofs.frames.crossing.Defined.{defined_before, switch_leads}
+use Rattle.rule_laws.proofs.frames.crossing.Entries.{none_enters, not_entered}
 use Rattle.pass_proofs.proofs.cells.crossing.Follows.{HasAPlace}
 use Rattle.pass_proofs.proofs.cells.crossing.Like.{Matched, block_like, entry_calls, entry_edges, entry_label, entry_length, entry_match, entry_phis, entry_used, none_of, place_of}
-use Rattle.ir_laws.proofs.frames.crossing.Needed.{IsLike, needed_behind}
-use Rattle.ir_laws.proofs.frames.crossing.NewUses.{new_unneeded}
-use Rattle.ir_laws.proofs.frames.crossing.Paths.{point_found, point_there}
+use Rattle.rule_laws.proofs.frames.crossing.Needed.{IsLike, needed_behind}
+use Rattle.rule_laws.proofs.frames.crossing.NewUses.{new_unneeded}
+use Rattle.rule_laws.proofs.frames.crossing.Paths.{point_found, point_there}
 use Rattle.pass_proofs.proofs.cells.crossing.Values.{no_cell}
-use Rattle.ir_laws.proofs.frames.crossing.Values.{old_value}
-use Rattle.ir_laws.specs.frames.crossing.Crossed.{AreSuspendsApart, IsApart}
+use Rattle.rule_laws.proofs.frames.crossing.Values.{old_value}
+use Rattle.rule_laws.specs.frames.crossing.Crossed.{AreSuspendsApart, IsApart}
 use Rattle.ir_laws.proofs.facts.Lists.{FoundParam, FoundPhi, phi_names, row_of}
 use Rattle.pass_proofs.proofs.cells.rules.Keepable.{keepable, once}
 use Rattle.ir_laws.proofs.paths.counted.Keepable.{param_listed, phi_listed}
@@ -24,19 +24,19 @@ use Rattle.pass_proofs.proofs.cells.rules.NewNames.{blocks_are, defined_below, f
 use Rattle.pass_proofs.proofs.cells.rules.Ends.{AreEndsFetches}
 use Rattle.pass_proofs.proofs.cells.rules.Planned.{IsPlanned}
 use Rattle.pass_proofs.proofs.cells.rules.Single.{IsSound}
-use Rattle.ir_laws.specs.rules.woven_rules.Weaving.{Weaving}
+use Rattle.rule_laws.specs.rules.woven_rules.Weaving.{Weaving}
 use Rattle.pass_cells.specs.declared.plan.Plan.{Plan}
-use Rattle.ir_laws.proofs.rules.counted.PartFacts.{block_passes}
-use Rattle.ir_laws.proofs.rules.counted.Slots.{alloca_sized}
+use Rattle.rule_laws.proofs.rules.counted.PartFacts.{block_passes}
+use Rattle.rule_laws.proofs.rules.counted.Slots.{alloca_sized}
 use Rattle.pass_proofs.proofs.cells.rules.Whole.{front_is, g, is_woven, loads, p, planned, rows, sound, start, t, w}
 use Rattle.pass_proofs.specs.cells.rules.Asked.{AreCellsFor}
 use Rattle.rule_uses.specs.Undefined.{params_of}
-use Rattle.ir_laws.proofs.rules.local_rules.Names.{numbers}
+use Rattle.rule_laws.proofs.rules.local_rules.Names.{numbers}
 use Rattle.ir_laws.proofs.facts.Truth.{holds}
-use Rattle.ir_laws.proofs.rules.source_rules.Locals.{block_names, made_by}
+use Rattle.rule_laws.proofs.rules.source_rules.Locals.{block_names, made_by}
 use Rattle.ir_laws.proofs.paths.source_rules.Locals.{in_row, listed_left, listed_right}
 use Rattle.flow_solver.specs.Paths.{IsListed}
-use Rattle.ir_laws.specs.rules.function_rules.Kept.{KeepsFunctionRules}
+use Rattle.rule_laws.specs.rules.function_rules.Kept.{KeepsFunctionRules}
 use Rattle.ir_model.specs.Names.{first_where, position_of}
 use Rattle.ir_model.specs.declared.instr.Instr.{Instr}
 use Rattle.ir_model.specs.declared.module.Block.{Block}

@@ -2,7 +2,7 @@
 use Rattle.std.proofs.Common.{◌≡◌, ℕ, zero, suc, ◌+◌, Bool, true, false, List, [], ◌∷◌, ◌++◌, length, refl, ◌∙◌, arith}
 use Rattle.std.specs.Prelude.{codes, None, Option, Some, slice_get, if◌then◌else◌}
 use Rattle.ir_base.specs.declared.ops.CastOp.{CastOp}
-use Rattle.ir_laws.proofs.frames.suspend_counts.Counted.{count, joined, one, total}
+use Rattle.rule_laws.proofs.frames.suspend_counts.Counted.{count, joined, one, total}
 use Rattle.pass_proofs.proofs.fetch.numbers.Fetched.{fetched_total}
 use Rattle.ir_parts.specs.Contents.{result_of}
 use Rattle.pass_distances.specs.Sums.{distance_instrs, is_wide, start_instrs, start_value, sum_instrs, way_instrs, widening}

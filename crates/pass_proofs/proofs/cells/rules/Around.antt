@@ -2,10 +2,10 @@
 use Rattle.std.proofs.Common.{◌≡◌, inl, inr, ℕ, ◌+◌, ◌≤◌, true, List, [], ◌∷◌, refl, sym, ap, ◌∙◌, subst, arith}
 use Rattle.std.specs.Prelude.{Option, Some, None, is_some, map, option_to_list, slice_get}
 use Rattle.pass_proofs.proofs.cells.rules.Fetched.{AreAtHand, still_at_hand}
-use Rattle.ir_laws.proofs.rules.counted.Lists.{AreAmong, among_behind, made_grows}
+use Rattle.rule_laws.proofs.rules.counted.Lists.{AreAmong, among_behind, made_grows}
 use Rattle.pass_proofs.proofs.cells.rules.Planned.{HasPlace, IsKeptWell, IsPlanned}
-use Rattle.ir_laws.proofs.rules.counted.Planned.{IsSlot}
-use Rattle.ir_laws.proofs.rules.counted.Puts.{ArePut, known_grows, puts_joined}
+use Rattle.rule_laws.proofs.rules.counted.Planned.{IsSlot}
+use Rattle.rule_laws.proofs.rules.counted.Puts.{ArePut, known_grows, puts_joined}
 use Rattle.pass_proofs.proofs.cells.rules.Single.{IsSound, IsTold, address_put, cell_kind, load_kind, load_put, new_kind, old_kind, own_kind, store_put}
 use Rattle.rule_uses.specs.Undefined.{params_of}
 use Rattle.rule_uses.specs.Uses.{made_by_instrs}
@@ -26,7 +26,7 @@ use Rattle.pass_cells.specs.declared.plan.KeptValue.{KeptValue}
 use Rattle.pass_cells.specs.declared.plan.Plan.{Plan}
 use Rattle.rule_values.specs.Kinds.{kind_of, value_kind}
 use Rattle.rule_values.specs.declared.kinds.Kind.{Kind}
-use Rattle.ir_laws.specs.rules.woven_rules.Weaving.{IsKnown, New, Old, Weaving}
+use Rattle.rule_laws.specs.rules.woven_rules.Weaving.{IsKnown, New, Old, Weaving}
 
 pub saved_low : (first n : ℕ) (ks : List ℕ) → first ≤ n → first ≤ after_saved n ks
 saved_low first n [] low = low

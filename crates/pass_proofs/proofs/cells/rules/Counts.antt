@@ -4,8 +4,8 @@ use Rattle.std.specs.Prelude.{Option, Some, None, map, option_to_list, pos, slic
 use Rattle.pass_proofs.proofs.cells.rules.Around.{again_low, saved_low}
 use Rattle.pass_proofs.proofs.cells.rules.Indices.{behind_low}
 use Rattle.pass_proofs.proofs.cells.rules.Instrs.{same_made}
-use Rattle.ir_laws.proofs.rules.counted.Times.{Adds, adds_as, adds_joined, adds_none, adds_one, adds_wider, made_both, made_one, made_times, same_times}
-use Rattle.ir_laws.proofs.rules.source_rules.Locals.{made_by}
+use Rattle.rule_laws.proofs.rules.counted.Times.{Adds, adds_as, adds_joined, adds_none, adds_one, adds_wider, made_both, made_one, made_times, same_times}
+use Rattle.rule_laws.proofs.rules.source_rules.Locals.{made_by}
 use Rattle.ir_parts.specs.Contents.{instr_operands, result_of}
 use Rattle.ir_base.specs.declared.ops.BinOp.{BinOp}
 use Rattle.ir_base.specs.declared.ops.CastOp.{CastOp}

@@ -2,10 +2,10 @@
 use Rattle.std.proofs.Common.{◌≡◌, inl, ℕ, ◌+◌, ◌-◌, ◌^◌, ◌≤◌, Bool, true, false, List, [], ◌∷◌, ◌++◌, refl, sym, ap, ◌∙◌, subst, arith}
 use Rattle.std.proofs.lemmas.Bool.{lt-ltb}
 use Rattle.std.specs.Prelude.{Option, Some, None, nat_lt, pos, if◌then◌else◌}
-use Rattle.ir_laws.proofs.rules.counted.Lists.{AreAmong, among_behind, made_grows, made_joined}
-use Rattle.ir_laws.proofs.rules.counted.Puts.{ArePut, known_grows, puts_joined}
+use Rattle.rule_laws.proofs.rules.counted.Lists.{AreAmong, among_behind, made_grows, made_joined}
+use Rattle.rule_laws.proofs.rules.counted.Puts.{ArePut, known_grows, puts_joined}
 use Rattle.pass_proofs.proofs.cells.rules.Single.{IsSound, IsTold, cell_kind, load_kind, load_put, new_kind, number_put, own_kind, store_of, widening_put}
-use Rattle.ir_laws.proofs.rules.counted.Types.{narrower}
+use Rattle.rule_laws.proofs.rules.counted.Types.{narrower}
 use Rattle.ir_laws.specs.facts.counted.Widths.{has_width}
 use Rattle.ir_base.specs.declared.ops.BinOp.{BinOp}
 use Rattle.ir_base.specs.declared.ops.CastOp.{CastOp}
@@ -27,7 +27,7 @@ use Rattle.run_laws.specs.changed.Changed.{Each}
 use Rattle.ir_sizes.specs.Cut.{capped}
 use Rattle.rule_values.specs.Fits.{fits, fits_integer, fits_kind}
 use Rattle.rule_values.specs.declared.kinds.Kind.{Kind}
-use Rattle.ir_laws.specs.rules.woven_rules.Weaving.{Constant, IsKnown, New, Weaving, kinds_with}
+use Rattle.rule_laws.specs.rules.woven_rules.Weaving.{Constant, IsKnown, New, Weaving, kinds_with}
 use Rattle.ir_laws.proofs.facts.Numbers.{min_small}
 
 capped_small : (n : ℕ) → nat_lt (capped n) (2 ^ 64) ≡ true

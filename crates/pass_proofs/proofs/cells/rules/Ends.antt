@@ -4,11 +4,11 @@ use Rattle.std.specs.Prelude.{Option, Some, None, map, replicate, slice_set}
 use Rattle.pass_proofs.proofs.cells.rules.Counts.{operands_rise, phis_rise}
 use Rattle.pass_proofs.proofs.cells.rules.Fetched.{AreFetches, IsFetch, operand_fetch, operand_low}
 use Rattle.ir_laws.proofs.facts.Truth.{either}
-use Rattle.ir_laws.proofs.rules.counted.Times.{Adds, adds_as, adds_none, adds_wider, made_both, made_times, names_times, same_times, same_one, other_none}
+use Rattle.rule_laws.proofs.rules.counted.Times.{Adds, adds_as, adds_none, adds_wider, made_both, made_times, names_times, same_times, same_one, other_none}
 use Rattle.ir_laws.proofs.facts.Lists.{times_joined, set_length, row_of}
 use Rattle.pass_proofs.proofs.cells.rules.Single.{IsSound}
 use Rattle.ir_laws.proofs.facts.Members.{each_joined}
-use Rattle.ir_laws.proofs.rules.source_rules.Locals.{block_names}
+use Rattle.rule_laws.proofs.rules.source_rules.Locals.{block_names}
 use Rattle.ir_laws.proofs.paths.source_rules.Locals.{listed_left, listed_right}
 use Rattle.flow_solver.specs.Paths.{IsListed}
 use Rattle.ir_model.specs.declared.instr.Incoming.{Incoming}
@@ -21,7 +21,7 @@ use Rattle.pass_fetch.specs.Blocks.{end_at, ends_of_blocks, ends_of_incoming, en
 use Rattle.pass_fetch.specs.Fetching.{fetch_into, fetch_of, fetches_by, fetches_of, next_after, next_after_all, next_by}
 use Rattle.pass_fetch.specs.declared.fetch.Fetch.{Fetch}
 use Rattle.ir_laws.specs.facts.woven_rules.Pairs.{times}
-use Rattle.ir_laws.specs.rules.woven_rules.Weaving.{Weaving}
+use Rattle.rule_laws.specs.rules.woven_rules.Weaving.{Weaving}
 
 abbrev Rows : Type 0
 Rows = List (List Instr)

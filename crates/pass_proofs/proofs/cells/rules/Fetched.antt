@@ -1,13 +1,13 @@
 -- Operands that are loaded from their cells: what is loaded may be put in, and stands in the place of the operand.
 use Rattle.std.proofs.Common.{◌≡◌, inl, ℕ, ◌≤◌, true, List, [], ◌∷◌, ◌++◌, refl, sym, ◌∙◌, subst, arith}
 use Rattle.std.specs.Prelude.{Option, Some, None, slice_get}
-use Rattle.ir_laws.proofs.rules.counted.Lists.{AreAmong, among_behind, row_joined}
-use Rattle.ir_laws.proofs.rules.counted.Puts.{ArePut, known_grows}
+use Rattle.rule_laws.proofs.rules.counted.Lists.{AreAmong, among_behind, row_joined}
+use Rattle.rule_laws.proofs.rules.counted.Puts.{ArePut, known_grows}
 use Rattle.pass_proofs.proofs.cells.rules.Single.{IsSound, IsTold, cell_kind, load_put, own_kind}
-use Rattle.ir_laws.proofs.rules.counted.Types.{is_cell_type}
+use Rattle.rule_laws.proofs.rules.counted.Types.{is_cell_type}
 use Rattle.ir_laws.proofs.facts.Members.{each_left, each_right, each_joined}
 use Rattle.ir_laws.proofs.paths.source_rules.Locals.{listed_left, listed_right}
-use Rattle.ir_laws.proofs.rules.source_rules.Locals.{made_by}
+use Rattle.rule_laws.proofs.rules.source_rules.Locals.{made_by}
 use Rattle.ir_laws.proofs.facts.Lists.{row_of}
 use Rattle.flow_solver.specs.Paths.{IsListed}
 use Rattle.ir_parts.specs.Contents.{arg_operands, instr_operands}
@@ -27,9 +27,9 @@ use Rattle.pass_fetch.specs.declared.fetch.Fetch.{Fetch}
 use Rattle.pass_cells.specs.Moves.{load_from}
 use Rattle.rule_values.specs.Kinds.{kind_of, value_kind}
 use Rattle.ir_laws.specs.facts.woven_rules.Pairs.{Empty, Pair, Pairwise}
-use Rattle.ir_laws.specs.rules.woven_rules.Parts.{Alloca, Binary, Call, CalleeStays, Cast, Direct, Gep, Icmp, Indirect, InstrStays, Load, Select, Store}
+use Rattle.rule_laws.specs.rules.woven_rules.Parts.{Alloca, Binary, Call, CalleeStays, Cast, Direct, Gep, Icmp, Indirect, InstrStays, Load, Select, Store}
 use Rattle.ir_laws.specs.facts.woven_rules.Parts.{ArgStays, Branch, Jump, Return, ReturnVoid, Switch, TermStays, Unreachable}
-use Rattle.ir_laws.specs.rules.woven_rules.Weaving.{Fetched, IsInPlace, IsKnown, Same, Weaving}
+use Rattle.rule_laws.specs.rules.woven_rules.Weaving.{Fetched, IsInPlace, IsKnown, Same, Weaving}
 
 -- a load from a cell into a new name
 pub data IsFetch (w : Weaving) : Instr → Type 0 where

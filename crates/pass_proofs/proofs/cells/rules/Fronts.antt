@@ -3,14 +3,14 @@ use Rattle.std.proofs.Common.{◌≡◌, inl, inr, ⊎_elim, ℕ, zero, suc, ◌
 use Rattle.std.specs.Prelude.{Option, Some, None, slice_get}
 use Rattle.pass_proofs.proofs.cells.rules.Counts.{lists_joined}
 use Rattle.ir_laws.proofs.facts.Truth.{either}
-use Rattle.ir_laws.proofs.rules.counted.Lists.{row_joined}
-use Rattle.ir_laws.proofs.rules.counted.Puts.{ArePut}
+use Rattle.rule_laws.proofs.rules.counted.Lists.{row_joined}
+use Rattle.rule_laws.proofs.rules.counted.Puts.{ArePut}
 use Rattle.pass_proofs.proofs.cells.rules.Single.{IsTold, alloca_put}
-use Rattle.ir_laws.proofs.rules.counted.Times.{Adds, adds_as, adds_joined, adds_none, adds_one, adds_wider, made_both, made_times, same_times}
-use Rattle.ir_laws.proofs.rules.counted.Types.{is_cell_type}
+use Rattle.rule_laws.proofs.rules.counted.Times.{Adds, adds_as, adds_joined, adds_none, adds_one, adds_wider, made_both, made_times, same_times}
+use Rattle.rule_laws.proofs.rules.counted.Types.{is_cell_type}
 use Rattle.ir_laws.proofs.facts.Members.{each_joined}
 use Rattle.ir_laws.proofs.paths.source_rules.Locals.{listed_left, listed_right}
-use Rattle.ir_laws.proofs.rules.source_rules.Locals.{made_by}
+use Rattle.rule_laws.proofs.rules.source_rules.Locals.{made_by}
 use Rattle.ir_laws.proofs.facts.Lists.{row_of}
 use Rattle.flow_solver.specs.Paths.{IsListed}
 use Rattle.ir_model.specs.Ty.{Ty, int}
@@ -22,8 +22,8 @@ use Rattle.pass_cells.specs.Links.{cell_name, distance_name, field_name, link_na
 use Rattle.pass_cells.specs.Moves.{cell_alloca}
 use Rattle.pass_cells.specs.Written.{distance_alloca, distance_allocas, kept_allocas, link_allocas}
 use Rattle.pass_cells.specs.declared.plan.KeptValue.{KeptValue}
-use Rattle.ir_laws.specs.rules.woven_rules.Blocks.{IsPutIn}
-use Rattle.ir_laws.specs.rules.woven_rules.Weaving.{Weaving}
+use Rattle.rule_laws.specs.rules.woven_rules.Blocks.{IsPutIn}
+use Rattle.rule_laws.specs.rules.woven_rules.Weaving.{Weaving}
 
 -- ---- what stands there
 

@@ -4,7 +4,7 @@ use Rattle.std.specs.List.{list_all}
 use Rattle.std.specs.Prelude.{Option, Some, None, not, option_to_list, slice_get, ◌&&◌}
 use Rattle.pass_proofs.proofs.cells.rules.Instrs.{AreGood}
 use Rattle.pass_proofs.proofs.cells.rules.Keepable.{block_fits, block_widths, keeping_holds, kept_values}
-use Rattle.ir_laws.proofs.rules.counted.PartFacts.{AllMadeBefore, block_made, block_passes}
+use Rattle.rule_laws.proofs.rules.counted.PartFacts.{AllMadeBefore, block_made, block_passes}
 use Rattle.pass_proofs.specs.cells.rules.Asked.{AreCellsFor}
 use Rattle.ir_laws.specs.facts.counted.Widths.{has_width}
 use Rattle.ir_base.specs.declared.outcome.Place.{Place}
@@ -13,7 +13,7 @@ use Rattle.ir_laws.proofs.facts.Members.{at_each, each_there}
 use Rattle.ir_laws.proofs.facts.Truth.{holds}
 use Rattle.flow_solver.specs.Paths.{IsListed}
 use Rattle.ir_parts.specs.Contents.{arg_operands, instr_operands, instr_types, result_of}
-use Rattle.ir_laws.specs.rules.function_rules.Kept.{KeepsFunctionRules}
+use Rattle.rule_laws.specs.rules.function_rules.Kept.{KeepsFunctionRules}
 use Rattle.ir_model.specs.declared.instr.Instr.{Instr}
 use Rattle.ir_model.specs.declared.module.Block.{Block}
 use Rattle.ir_model.specs.declared.module.Function.{Function}
@@ -28,7 +28,7 @@ use Rattle.pass_cells.specs.Kept.{entry}
 use Rattle.pass_cells.specs.declared.plan.Plan.{Plan}
 use Rattle.rule_values.specs.Instrs.{fits_instr}
 use Rattle.rule_values.specs.Kinds.{value_kind}
-use Rattle.ir_laws.specs.rules.woven_rules.Blocks.{is_mark}
+use Rattle.rule_laws.specs.rules.woven_rules.Blocks.{is_mark}
 
 -- ---- markers mark slots
 

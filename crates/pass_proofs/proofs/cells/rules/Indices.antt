@@ -4,9 +4,9 @@ use Rattle.std.specs.List.{list_all}
 use Rattle.std.specs.Prelude.{Option, Some, None, is_some, option_to_list, ◌&&◌}
 use Rattle.pass_proofs.proofs.cells.rules.Distances.{IsIndex, distance_put, ways_there}
 use Rattle.pass_proofs.proofs.cells.rules.Fetched.{AreAtHand, AreFetches, AreInPlace}
-use Rattle.ir_laws.proofs.rules.counted.Lists.{AreAmong}
+use Rattle.rule_laws.proofs.rules.counted.Lists.{AreAmong}
 use Rattle.pass_proofs.proofs.cells.rules.Planned.{IsPlanned}
-use Rattle.ir_laws.proofs.rules.counted.Puts.{ArePut}
+use Rattle.rule_laws.proofs.rules.counted.Puts.{ArePut}
 use Rattle.pass_proofs.proofs.cells.rules.Single.{IsSound, IsTold}
 use Rattle.ir_laws.specs.facts.counted.Widths.{has_width}
 use Rattle.rule_uses.specs.Uses.{local_of, locals_in}
@@ -37,8 +37,8 @@ use Rattle.rule_values.specs.Geps.{indices_fit}
 use Rattle.rule_values.specs.Instrs.{fits_instr}
 use Rattle.rule_values.specs.Kinds.{value_kind}
 use Rattle.rule_values.specs.declared.kinds.Kind.{Kind}
-use Rattle.ir_laws.specs.rules.woven_rules.Weaving.{Constant, Fetched, IsInPlace, New, Old, Same, Weaving}
-use Rattle.ir_laws.proofs.rules.counted.Indices.{AreMadeBefore, IsMadeBefore}
+use Rattle.rule_laws.specs.rules.woven_rules.Weaving.{Constant, Fetched, IsInPlace, New, Old, Same, Weaving}
+use Rattle.rule_laws.proofs.rules.counted.Indices.{AreMadeBefore, IsMadeBefore}
 
 pub head_made : (f : Function) (block : ℕ) (before : List ℕ) (x : Operand) (xs : List Operand) → AreMadeBefore f block before (x ∷ xs) → (v : ℕ) → local_of x ≡ Some v → IsMadeBefore f block before v
 head_made f block before x xs h v e =

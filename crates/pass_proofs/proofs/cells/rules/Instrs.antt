@@ -4,18 +4,18 @@ use Rattle.std.specs.List.{list_all}
 use Rattle.std.specs.Prelude.{Option, None, option_to_list, slice_get}
 use Rattle.pass_proofs.proofs.cells.rules.Around.{saved_low, saved_put, stored_result_put}
 use Rattle.pass_proofs.proofs.cells.rules.Fetched.{AreAtHand, AreFetches, AreInPlace, IsFetch, all_fetches, all_in_place, fetches_put, instr_stays, operands_low, still_at_hand}
-use Rattle.ir_laws.proofs.rules.counted.Indices.{AreMadeBefore}
+use Rattle.rule_laws.proofs.rules.counted.Indices.{AreMadeBefore}
 use Rattle.pass_proofs.proofs.cells.rules.Indices.{behind_low, behind_put}
-use Rattle.ir_laws.proofs.rules.counted.Lists.{AreAmong, among_both, made_grows, made_listed}
+use Rattle.rule_laws.proofs.rules.counted.Lists.{AreAmong, among_both, made_grows, made_listed}
 use Rattle.pass_proofs.proofs.cells.rules.Planned.{IsPlanned, planned_fetches, unplaced_fetch}
-use Rattle.ir_laws.proofs.rules.counted.Puts.{all_put, puts_woven}
+use Rattle.rule_laws.proofs.rules.counted.Puts.{all_put, puts_woven}
 use Rattle.pass_proofs.proofs.cells.rules.Single.{IsSound, IsTold}
 use Rattle.pass_proofs.proofs.cells.rules.Spread.{spread}
 use Rattle.ir_laws.specs.facts.counted.Widths.{has_width}
 use Rattle.rule_uses.specs.Uses.{local_of, locals_in, made_by_instrs}
 use Rattle.ir_laws.proofs.facts.Members.{each_left, each_right}
 use Rattle.ir_laws.proofs.paths.source_rules.Locals.{listed_left, listed_right}
-use Rattle.ir_laws.proofs.rules.source_rules.Locals.{made_by}
+use Rattle.rule_laws.proofs.rules.source_rules.Locals.{made_by}
 use Rattle.ir_laws.proofs.facts.Lists.{row_of}
 use Rattle.flow_solver.specs.Paths.{IsListed}
 use Rattle.ir_parts.specs.Contents.{arg_operands, instr_operands, instr_types, result_of}
@@ -36,8 +36,8 @@ use Rattle.pass_cells.specs.Written.{after_one, distance_behind, save_row, store
 use Rattle.pass_cells.specs.declared.plan.Plan.{Plan}
 use Rattle.rule_values.specs.Instrs.{fits_instr}
 use Rattle.rule_values.specs.Kinds.{value_kind}
-use Rattle.ir_laws.specs.rules.woven_rules.Blocks.{AreWoven, Kept, Remain, Stays, is_mark}
-use Rattle.ir_laws.specs.rules.woven_rules.Weaving.{Weaving, goes_in}
+use Rattle.rule_laws.specs.rules.woven_rules.Blocks.{AreWoven, Kept, Remain, Stays, is_mark}
+use Rattle.rule_laws.specs.rules.woven_rules.Weaving.{Weaving, goes_in}
 
 -- What is known of an instruction of the function in a block that makes some values before it: types, uses, and that a marker marks nothing that is kept.
 pub record IsGood (m : Module) (f : Function) (p : Plan) (block : ℕ) (before : List ℕ) (i : Instr) : Type 0 where

@@ -2,30 +2,30 @@
 use Rattle.std.proofs.Common.{◌≡◌, ◌⊎◌, inl, inr, ⊎_elim, ℕ, zero, suc, ◌≤◌, Bool, true, false, List, [], ◌∷◌, ◌++◌, length, refl, sym, ap, ◌∙◌, subst}
 use Rattle.std.specs.List.{list_all}
 use Rattle.std.specs.Prelude.{Some, None, map, option_to_list, slice_get, ◌&&◌}
-use Rattle.ir_laws.proofs.frames.counted.CellKinds.{IsCellKind, made_cell}
+use Rattle.rule_laws.proofs.frames.counted.CellKinds.{IsCellKind, made_cell}
 use Rattle.pass_proofs.proofs.cells.rules.CellKinds.{result_typed}
-use Rattle.ir_laws.proofs.rules.counted.DefinedKinds.{kind_of_instr, kind_of_param, kind_of_phi, made_in}
+use Rattle.rule_laws.proofs.rules.counted.DefinedKinds.{kind_of_instr, kind_of_param, kind_of_phi, made_in}
 use Rattle.pass_proofs.proofs.cells.rules.Keeping.{IsKeeping, keeping_is}
-use Rattle.ir_laws.proofs.rules.counted.PartFacts.{all_at, block_passes, signature_passes}
+use Rattle.rule_laws.proofs.rules.counted.PartFacts.{all_at, block_passes, signature_passes}
 use Rattle.ir_laws.proofs.paths.counted.PartFacts.{all_listed}
-use Rattle.ir_laws.proofs.rules.counted.Slots.{instr_size, param_size, phi_size}
-use Rattle.ir_laws.proofs.rules.counted.Times.{apart_times}
-use Rattle.ir_laws.proofs.rules.counted.Types.{scalar_cell}
+use Rattle.rule_laws.proofs.rules.counted.Slots.{instr_size, param_size, phi_size}
+use Rattle.rule_laws.proofs.rules.counted.Times.{apart_times}
+use Rattle.rule_laws.proofs.rules.counted.Types.{scalar_cell}
 use Rattle.pass_proofs.proofs.cells.rules.ValueTypes.{TellBlock, TellResult, Tells, made_names}
 use Rattle.pass_proofs.specs.cells.rules.Asked.{AreCellsFor}
 use Rattle.ir_laws.specs.facts.counted.Widths.{has_width}
-use Rattle.ir_laws.specs.rules.counted.Widths.{is_of_other_width}
+use Rattle.rule_laws.specs.rules.counted.Widths.{is_of_other_width}
 use Rattle.ir_laws.proofs.facts.Members.{at_each, each_there}
-use Rattle.ir_laws.proofs.rules.local_rules.Names.{numbers}
+use Rattle.rule_laws.proofs.rules.local_rules.Names.{numbers}
 use Rattle.ir_laws.proofs.facts.Truth.{and_first, and_second, holds}
-use Rattle.ir_laws.proofs.rules.local_rules.Woven.{apart_names}
+use Rattle.rule_laws.proofs.rules.local_rules.Woven.{apart_names}
 use Rattle.ir_laws.proofs.paths.source_rules.Locals.{Apart, in_row, listed_either, listed_left, listed_right}
-use Rattle.ir_laws.proofs.rules.source_rules.Locals.{made_by, names_are}
+use Rattle.rule_laws.proofs.rules.source_rules.Locals.{made_by, names_are}
 use Rattle.ir_laws.proofs.facts.Lists.{phi_names, row_of, FoundParam, FoundPhi}
 use Rattle.flow_solver.specs.Paths.{IsListed}
 use Rattle.ir_parts.specs.Contents.{instr_types, result_of}
 use Rattle.ir_parts.specs.Locals.{locals_of}
-use Rattle.ir_laws.specs.rules.function_rules.Kept.{KeepsFunctionRules}
+use Rattle.rule_laws.specs.rules.function_rules.Kept.{KeepsFunctionRules}
 use Rattle.ir_model.specs.Ty.{Ty}
 use Rattle.ir_model.specs.declared.instr.Instr.{Instr}
 use Rattle.ir_model.specs.declared.module.Block.{Block}
@@ -43,7 +43,7 @@ use Rattle.rule_values.specs.Instrs.{fits_instr}
 use Rattle.rule_values.specs.Kinds.{instr_kind, value_kind}
 use Rattle.rule_values.specs.Values.{breaks_values, fits_phi, has_scalar, is_scalar_or_void, takes}
 use Rattle.ir_laws.specs.facts.woven_rules.Pairs.{times}
-use Rattle.ir_laws.proofs.frames.counted.Keepable.{FoundBlock, FoundInstr, blocks_found, distinct_listed, params_found}
+use Rattle.rule_laws.proofs.frames.counted.Keepable.{FoundBlock, FoundInstr, blocks_found, distinct_listed, params_found}
 use Rattle.ir_laws.proofs.paths.counted.Keepable.{param_listed, phi_listed}
 
 -- a value that may be kept: an integer or an address, which the function defines, and which is no slot

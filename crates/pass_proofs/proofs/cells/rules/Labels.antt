@@ -4,15 +4,15 @@ use Rattle.std.proofs.Common.{◌≡◌, ◌⊎◌, inl, inr, ⊎_elim, ℕ, zer
 use Rattle.std.specs.List.{list_all, list_any}
 use Rattle.std.specs.Prelude.{Option, Some, None, filter, map, not, replicate, slice_get, slice_set, ◌&&◌, ◌==◌, if◌then◌else◌}
 use Rattle.ir_laws.proofs.paths.counted.PartFacts.{all_listed}
-use Rattle.ir_laws.proofs.rules.counted.PartFacts.{block_passes}
+use Rattle.rule_laws.proofs.rules.counted.PartFacts.{block_passes}
 use Rattle.pass_proofs.specs.cells.rules.Asked.{AreCellsFor}
 use Rattle.ir_laws.proofs.facts.Members.{at_each, each_there}
 use Rattle.ir_laws.proofs.facts.Truth.{equal_numbers, and_first, and_second, holds}
 use Rattle.ir_laws.proofs.facts.Lists.{set_other}
-use Rattle.ir_laws.proofs.rules.source_rules.Locals.{own_label}
+use Rattle.rule_laws.proofs.rules.source_rules.Locals.{own_label}
 use Rattle.rule_phis.specs.Edges.{block_at, breaks_edges, differs, fits_edges, has, incoming_labels, into_block, leads, predecessors}
 use Rattle.flow_solver.specs.Paths.{IsListed}
-use Rattle.ir_laws.specs.rules.function_rules.Kept.{KeepsFunctionRules}
+use Rattle.rule_laws.specs.rules.function_rules.Kept.{KeepsFunctionRules}
 use Rattle.pass_intrinsics.specs.Shapes.{suspends_of}
 use Rattle.pass_intrinsics.specs.declared.shape.SuspendPoint.{SuspendPoint}
 use Rattle.ir_model.specs.Names.{position_of}

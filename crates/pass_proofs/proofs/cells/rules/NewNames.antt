@@ -2,13 +2,13 @@
 use Rattle.std.proofs.Common.{◌≡◌, ◌⊎◌, inl, inr, ⊎_elim, ℕ, ◌+◌, ◌-◌, ◌<◌, ◌≤◌, Bool, List, [], ◌∷◌, ◌++◌, length, refl, sym, ap, ◌∙◌, subst, arith, length-append}
 use Rattle.std.specs.Prelude.{Option, Some, codes, map, replicate, slice_get}
 use Rattle.pass_proofs.proofs.cells.rules.Counts.{by_phis_rise, lists_joined, params_stored}
-use Rattle.ir_laws.proofs.rules.counted.DefinedKinds.{kind_of_instr, made_in}
+use Rattle.rule_laws.proofs.rules.counted.DefinedKinds.{kind_of_instr, made_in}
 use Rattle.pass_proofs.proofs.cells.rules.Ends.{IsPlaced, blank_placed, blocks_placed, ends_add, ends_times}
 use Rattle.pass_proofs.proofs.cells.rules.Fronts.{IsNumbered, kept_adds, links_add}
 use Rattle.pass_proofs.proofs.cells.rules.Keepable.{blocks_tell, keeping_holds, once, params_tell}
 use Rattle.pass_proofs.proofs.cells.rules.Plans.{kept_length, kept_numbered}
 use Rattle.pass_proofs.proofs.cells.rules.Single.{IsTold}
-use Rattle.ir_laws.proofs.rules.counted.Times.{Adds, adds_as, adds_joined, adds_wider, blocks_times, made_both, made_times}
+use Rattle.rule_laws.proofs.rules.counted.Times.{Adds, adds_as, adds_joined, adds_wider, blocks_times, made_both, made_times}
 use Rattle.ir_laws.proofs.paths.woven_rules.Once.{times_listed as listed_times, times_none as unlisted_times}
 use Rattle.ir_laws.proofs.facts.Lists.{times_joined, phi_names, row_of}
 use Rattle.pass_proofs.proofs.cells.rules.Totals.{all_rise, blocks_rise, entry_blocks_add, fetched_blocks_add, numbered_length}
@@ -17,12 +17,12 @@ use Rattle.pass_proofs.specs.cells.rules.Weaving.{plan_weaving}
 use Rattle.ir_base.specs.declared.name.Name.{Name}
 use Rattle.rule_uses.specs.Undefined.{params_of}
 use Rattle.ir_laws.proofs.facts.Members.{each_there}
-use Rattle.ir_laws.proofs.rules.local_rules.Names.{numbers, is_definition as definition_there}
-use Rattle.ir_laws.proofs.rules.source_rules.Locals.{block_names, made_by, names_are}
+use Rattle.rule_laws.proofs.rules.local_rules.Names.{numbers, is_definition as definition_there}
+use Rattle.rule_laws.proofs.rules.source_rules.Locals.{block_names, made_by, names_are}
 use Rattle.ir_laws.proofs.paths.source_rules.Locals.{in_row, listed_right}
 use Rattle.flow_solver.specs.Paths.{IsListed}
 use Rattle.ir_parts.specs.Locals.{locals_of}
-use Rattle.ir_laws.specs.rules.function_rules.Kept.{KeepsFunctionRules}
+use Rattle.rule_laws.specs.rules.function_rules.Kept.{KeepsFunctionRules}
 use Rattle.ir_model.specs.declared.instr.Instr.{Instr}
 use Rattle.ir_model.specs.declared.module.Block.{Block}
 use Rattle.ir_model.specs.declared.module.Function.{Function}
@@ -36,9 +36,9 @@ use Rattle.pass_cells.specs.Links.{link_name}
 use Rattle.pass_cells.specs.Plan.{plan_of}
 use Rattle.pass_cells.specs.Written.{after_blocks, entry_blocks, entry_front, kept_allocas, link_allocas, stored_params}
 use Rattle.pass_cells.specs.declared.plan.Plan.{Plan}
-use Rattle.ir_laws.specs.rules.woven_rules.Blocks.{times_made}
+use Rattle.rule_laws.specs.rules.woven_rules.Blocks.{times_made}
 use Rattle.ir_laws.specs.facts.woven_rules.Pairs.{times}
-use Rattle.ir_laws.specs.rules.woven_rules.Weaving.{Weaving}
+use Rattle.rule_laws.specs.rules.woven_rules.Weaving.{Weaving}
 
 -- ---- the counters of the passes
 

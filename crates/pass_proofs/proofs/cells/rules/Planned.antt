@@ -2,7 +2,7 @@
 use Rattle.std.proofs.Common.{◌≡◌, ℕ, ◌<◌, zero, suc, true, List, [], ◌∷◌, refl, sym, ap, ◌∙◌, subst}
 use Rattle.std.specs.Prelude.{Option, Some, None, map, slice_get}
 use Rattle.pass_proofs.proofs.cells.rules.Fetched.{AreFetches, IsFetchOf, Loaded, NotFetched}
-use Rattle.ir_laws.proofs.rules.counted.Types.{is_cell_type}
+use Rattle.rule_laws.proofs.rules.counted.Types.{is_cell_type}
 use Rattle.flow_solver.specs.Paths.{IsListed}
 use Rattle.ir_model.specs.declared.module.Function.{Function}
 use Rattle.pass_fetch.specs.Fetching.{fetch_at}
@@ -11,8 +11,8 @@ use Rattle.pass_cells.specs.Kept.{entry}
 use Rattle.pass_cells.specs.declared.plan.KeptValue.{KeptValue}
 use Rattle.pass_cells.specs.declared.plan.Plan.{Plan}
 use Rattle.rule_values.specs.Kinds.{kind_of, value_kind}
-use Rattle.ir_laws.specs.rules.woven_rules.Weaving.{Weaving}
-use Rattle.ir_laws.proofs.rules.counted.Planned.{IsSlot}
+use Rattle.rule_laws.specs.rules.woven_rules.Weaving.{Weaving}
+use Rattle.rule_laws.proofs.rules.counted.Planned.{IsSlot}
 
 -- cell, field and what the field is filled from are among the cells, and types are those of values in cells
 pub record IsKeptWell (w : Weaving) (f : Function) (x : KeptValue) : Type 0 where

@@ -1,19 +1,19 @@
 -- The plan of a function says what the rules ask of it.
 use Rattle.std.proofs.Common.{◌≡◌, ℕ, zero, suc, ◌+◌, ◌<◌, ◌≤◌, Bool, true, List, [], ◌∷◌, length, refl, sym, ap, ◌∙◌, subst, arith}
 use Rattle.std.specs.Prelude.{Option, Some, None, option_map, slice_get}
-use Rattle.ir_laws.proofs.frames.counted.CellKinds.{same_cell}
+use Rattle.rule_laws.proofs.frames.counted.CellKinds.{same_cell}
 use Rattle.pass_proofs.proofs.cells.rules.Fronts.{HasCells, IsNumbered, cell_in, distance_in, field_in, link_in}
 use Rattle.pass_proofs.proofs.cells.rules.Keepable.{IsKeepable}
 use Rattle.pass_proofs.proofs.cells.rules.Keeping.{IsKeeping, place_within}
 use Rattle.pass_proofs.proofs.cells.rules.Links.{HasSlot, IsDistanceCell, OfLink, OfValue, distance_there, marks_have, slot_flagged}
-use Rattle.ir_laws.proofs.rules.counted.Lists.{row_joined}
+use Rattle.rule_laws.proofs.rules.counted.Lists.{row_joined}
 use Rattle.pass_proofs.proofs.cells.rules.Planned.{HasPlace, IsKeptWell, IsPlanned}
-use Rattle.ir_laws.proofs.rules.counted.Planned.{IsSlot}
-use Rattle.ir_laws.proofs.rules.counted.Types.{is_cell_type}
+use Rattle.rule_laws.proofs.rules.counted.Planned.{IsSlot}
+use Rattle.rule_laws.proofs.rules.counted.Types.{is_cell_type}
 use Rattle.pass_proofs.proofs.cells.rules.ValueTypes.{TellBlock, Tells, types_seen}
 use Rattle.pass_proofs.specs.cells.rules.Weaving.{front_allocas}
 use Rattle.ir_laws.proofs.paths.source_rules.Locals.{listed_left, listed_right}
-use Rattle.ir_laws.proofs.rules.source_rules.Locals.{made_by}
+use Rattle.rule_laws.proofs.rules.source_rules.Locals.{made_by}
 use Rattle.ir_laws.proofs.facts.Lists.{row_of}
 use Rattle.flow_solver.specs.Paths.{IsListed}
 use Rattle.ir_model.specs.Ty.{Ty, int}
@@ -29,7 +29,7 @@ use Rattle.pass_cells.specs.declared.keeping.Keeping.{Keeping}
 use Rattle.pass_cells.specs.declared.plan.KeptValue.{KeptValue}
 use Rattle.pass_cells.specs.declared.plan.Plan.{Plan}
 use Rattle.rule_values.specs.Kinds.{kind_of, value_kind}
-use Rattle.ir_laws.specs.rules.woven_rules.Weaving.{Weaving}
+use Rattle.rule_laws.specs.rules.woven_rules.Weaving.{Weaving}
 
 -- ---- what is kept at each place
 

@@ -2,7 +2,7 @@
 use Rattle.std.proofs.Common.{◌≡◌, ℕ, ◌≤◌, Bool, true, false, List, [], ◌∷◌, refl, sym, ap, ◌∙◌, subst}
 use Rattle.std.specs.Prelude.{Option, Some, None, not, nat_lt, ◌&&◌, ◌==◌, if◌then◌else◌}
 use Rattle.pass_proofs.proofs.fetch.cells.Types.{cell_aligned}
-use Rattle.ir_laws.proofs.rules.counted.Types.{cell_known, cell_scalar, cell_shallow, cell_sized, cell_tokenless, is_cell_type, kind_fits}
+use Rattle.rule_laws.proofs.rules.counted.Types.{cell_known, cell_scalar, cell_shallow, cell_sized, cell_tokenless, is_cell_type, kind_fits}
 use Rattle.ir_base.specs.declared.ops.BinOp.{BinOp}
 use Rattle.ir_base.specs.declared.ops.CastOp.{CastOp}
 use Rattle.ir_laws.proofs.facts.Truth.{itself}
@@ -21,8 +21,8 @@ use Rattle.pass_cells.specs.Moves.{cell_alloca, load_from, store_to}
 use Rattle.rule_values.specs.Fits.{fits, fits_kind}
 use Rattle.rule_values.specs.Kinds.{kind_of, value_kind}
 use Rattle.rule_values.specs.declared.kinds.Kind.{Kind}
-use Rattle.ir_laws.specs.rules.woven_rules.Blocks.{IsNew, IsPutIn}
-use Rattle.ir_laws.specs.rules.woven_rules.Weaving.{IsKnown, Weaving, kinds_with}
+use Rattle.rule_laws.specs.rules.woven_rules.Blocks.{IsNew, IsPutIn}
+use Rattle.rule_laws.specs.rules.woven_rules.Weaving.{IsKnown, Weaving, kinds_with}
 
 -- what an instruction makes of new names is told by the weaving
 abbrev pub IsTold : Weaving → Instr → Type 0

@@ -13,7 +13,7 @@ use Rattle.pass_cells.specs.Kept.{entry}
 use Rattle.pass_cells.specs.Moves.{after_saved, load_from, saved_values}
 use Rattle.pass_cells.specs.Written.{after_one, distance_behind, save_row, stored_at, stored_result, written_instrs, written_one}
 use Rattle.pass_cells.specs.declared.plan.Plan.{Plan}
-use Rattle.ir_laws.specs.rules.woven_rules.Weaving.{Weaving}
+use Rattle.rule_laws.specs.rules.woven_rules.Weaving.{Weaving}
 
 -- k is the next name of what is written, and n that of what is fetched; the rest stands behind the instructions
 abbrev pub spread : Module → Plan → List (Option Fetch) → ℕ → ℕ → List Instr → List Instr → List Instr

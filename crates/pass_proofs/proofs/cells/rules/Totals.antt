@@ -4,9 +4,9 @@ use Rattle.std.specs.Prelude.{Option}
 use Rattle.pass_proofs.proofs.cells.rules.Around.{again_low}
 use Rattle.pass_proofs.proofs.cells.rules.Counts.{again_times, fetched_times, fetches_times, instrs_rise, list_behind, lists_joined, operands_rise, phis_stored, written_low, written_times}
 use Rattle.pass_proofs.proofs.cells.rules.Ends.{ends_times}
-use Rattle.ir_laws.proofs.rules.counted.Times.{Adds, adds_as, adds_joined, adds_none, made_both, made_times, names_times}
+use Rattle.rule_laws.proofs.rules.counted.Times.{Adds, adds_as, adds_joined, adds_none, made_both, made_times, names_times}
 use Rattle.ir_laws.proofs.facts.Lists.{times_joined, phi_names, row_of}
-use Rattle.ir_laws.proofs.rules.source_rules.Locals.{block_names}
+use Rattle.rule_laws.proofs.rules.source_rules.Locals.{block_names}
 use Rattle.ir_model.specs.Names.{numbered}
 use Rattle.ir_model.specs.declared.instr.Instr.{Instr}
 use Rattle.ir_model.specs.declared.instr.Phi.{Phi}

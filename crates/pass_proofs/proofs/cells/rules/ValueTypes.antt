@@ -5,7 +5,7 @@ use Rattle.pass_proofs.proofs.cells.rules.Keeping.{IsKeeping}
 use Rattle.ir_laws.proofs.facts.Truth.{either}
 use Rattle.ir_laws.proofs.facts.Lists.{get_within, set_here, set_length, set_other, phi_names, row_of}
 use Rattle.ir_laws.proofs.paths.source_rules.Locals.{listed_either}
-use Rattle.ir_laws.proofs.rules.source_rules.Locals.{made_by}
+use Rattle.rule_laws.proofs.rules.source_rules.Locals.{made_by}
 use Rattle.flow_solver.specs.Paths.{IsListed}
 use Rattle.ir_parts.specs.Contents.{result_of}
 use Rattle.ir_model.specs.Ty.{Ty, ptr}

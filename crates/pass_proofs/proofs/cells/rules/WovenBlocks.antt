@@ -7,19 +7,19 @@ use Rattle.pass_proofs.proofs.cells.rules.Ends.{AreBlocksEnds, AreEnds, AreEndsF
 use Rattle.pass_proofs.proofs.cells.rules.Fetched.{AreAtHand, AreFetches, IsFetch, all_fetches, all_in_place, operand_in_place, operand_low, operands_low, still_at_hand, term_stays}
 use Rattle.pass_proofs.proofs.cells.rules.Instrs.{AreGood, instrs_woven}
 use Rattle.pass_proofs.proofs.cells.rules.Labels.{IsLabel}
-use Rattle.ir_laws.proofs.rules.counted.Lists.{AreAmong, made_grows, made_joined, made_listed}
+use Rattle.rule_laws.proofs.rules.counted.Lists.{AreAmong, made_grows, made_joined, made_listed}
 use Rattle.pass_proofs.proofs.fetch.cells.Members.{fetched_phis_make}
 use Rattle.ir_laws.proofs.paths.woven_rules.Unbroken.{of_listed as listed_each}
-use Rattle.ir_laws.proofs.rules.counted.Members.{phis_made, row_among, row_to}
+use Rattle.rule_laws.proofs.rules.counted.Members.{phis_made, row_among, row_to}
 use Rattle.pass_proofs.proofs.cells.rules.Members.{spread_has}
 use Rattle.pass_proofs.proofs.cells.rules.Planned.{IsPlanned, planned_fetches}
-use Rattle.ir_laws.proofs.rules.counted.Puts.{ArePut, puts_joined, puts_woven}
+use Rattle.rule_laws.proofs.rules.counted.Puts.{ArePut, puts_joined, puts_woven}
 use Rattle.pass_proofs.proofs.cells.rules.Single.{IsSound, IsTold}
 use Rattle.pass_proofs.proofs.cells.rules.Spread.{spread, spread_is}
 use Rattle.rule_uses.specs.Uses.{block_values, made_by_instrs, phi_values, values_at, values_in}
 use Rattle.ir_laws.proofs.facts.Members.{at_each, each_joined, each_left, each_right}
 use Rattle.ir_laws.proofs.facts.Truth.{equal_numbers, itself}
-use Rattle.ir_laws.proofs.rules.source_rules.Locals.{found_in, made_by}
+use Rattle.rule_laws.proofs.rules.source_rules.Locals.{found_in, made_by}
 use Rattle.ir_laws.proofs.paths.source_rules.Locals.{listed_either, listed_left, listed_right}
 use Rattle.ir_laws.proofs.facts.Lists.{phi_names, row_of}
 use Rattle.flow_solver.specs.Paths.{IsListed}
@@ -40,10 +40,10 @@ use Rattle.pass_cells.specs.Cells.{fetches_of as fetch_table}
 use Rattle.pass_cells.specs.Moves.{after_again, again_values}
 use Rattle.pass_cells.specs.Written.{after_block, again_row, stored_phis, written_block, written_blocks, written_instrs}
 use Rattle.pass_cells.specs.declared.plan.Plan.{Plan}
-use Rattle.ir_laws.specs.rules.woven_rules.Blocks.{AreWoven, AreWovenBlocks, IsWovenBlock, NoBlock, OneBlock}
+use Rattle.rule_laws.specs.rules.woven_rules.Blocks.{AreWoven, AreWovenBlocks, IsWovenBlock, NoBlock, OneBlock}
 use Rattle.ir_laws.specs.facts.woven_rules.Pairs.{Empty, Pair, Pairwise}
-use Rattle.ir_laws.specs.rules.woven_rules.Parts.{IncomingStays, PhiStays}
-use Rattle.ir_laws.specs.rules.woven_rules.Weaving.{Front, IsInPlace, Weaving}
+use Rattle.rule_laws.specs.rules.woven_rules.Parts.{IncomingStays, PhiStays}
+use Rattle.rule_laws.specs.rules.woven_rules.Weaving.{Front, IsInPlace, Weaving}
 
 module _ (w : Weaving) (m : Module) (f g : Function) (p : Plan) (ok : IsSound w f) (planned : IsPlanned w f p) (ends : List (List Instr)) (loads : AreEndsFetches w ends) where
   abbrev pub table : List (Option Fetch)

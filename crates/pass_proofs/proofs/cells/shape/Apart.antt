@@ -1,8 +1,8 @@
 -- Where edges have blocks, suspends stand apart.
 use Rattle.std.proofs.Common.{◌≡◌, ℕ, ◌+◌, true, [], length, sym, ap, ◌∙◌, arith}
 use Rattle.std.specs.Prelude.{Some, None, Option, slice_get}
-use Rattle.ir_laws.proofs.frames.crossing.Paths.{point_found}
-use Rattle.ir_laws.specs.frames.crossing.Crossed.{AreSuspendsApart, IsApart}
+use Rattle.rule_laws.proofs.frames.crossing.Paths.{point_found}
+use Rattle.rule_laws.specs.frames.crossing.Crossed.{AreSuspendsApart, IsApart}
 use Rattle.ir_laws.specs.facts.crossing.Crossed.{is_switch}
 use Rattle.rule_shape.specs.OneOfEach.{wrong_call}
 use Rattle.rule_shape.specs.Switches.{wrong_switch}
@@ -10,20 +10,20 @@ use Rattle.rule_uses.specs.Uses.{made_by_phis}
 use Rattle.ir_laws.proofs.facts.Members.{at_each}
 use Rattle.pass_proofs.proofs.edges.rules.Kept.{rules_kept, suspend_blocks}
 use Rattle.pass_proofs.proofs.edges.rules.Switched.{switched}
-use Rattle.ir_laws.specs.frames.rows.Returns.{HaveOwnReturns, return_labels}
-use Rattle.ir_laws.specs.rules.rows.Returns.{IsSwitched}
+use Rattle.rule_laws.specs.frames.rows.Returns.{HaveOwnReturns, return_labels}
+use Rattle.rule_laws.specs.rules.rows.Returns.{IsSwitched}
 use Rattle.pass_proofs.proofs.edges.shape.Kept.{calls_kept, switches_kept}
 use Rattle.pass_edges.specs.EdgeBlocks.{with_edge_blocks}
 use Rattle.flow_solver.specs.Paths.{IsListed}
 use Rattle.pass_proofs.proofs.edges.calls.Fetched.{call_suspends}
 use Rattle.ir_laws.proofs.paths.shape.Fetched.{ordered_value}
-use Rattle.ir_laws.proofs.rules.shape.Ordered.{IsSuspendValue, all_ordered, placed_calls}
-use Rattle.ir_laws.proofs.frames.shape.Points.{HasPoint, destroy_listed, point_there, resume_listed}
+use Rattle.rule_laws.proofs.rules.shape.Ordered.{IsSuspendValue, all_ordered, placed_calls}
+use Rattle.rule_laws.proofs.frames.shape.Points.{HasPoint, destroy_listed, point_there, resume_listed}
 use Rattle.ir_laws.proofs.paths.shape.Steady.{is_suspend}
-use Rattle.ir_laws.proofs.rules.shape.Unneeded.{suspend_result}
+use Rattle.rule_laws.proofs.rules.shape.Unneeded.{suspend_result}
 use Rattle.pass_proofs.proofs.cells.shape.Unneeded.{unneeded}
 use Rattle.ir_parts.specs.Contents.{result_of}
-use Rattle.ir_laws.specs.rules.function_rules.Kept.{KeepsFunctionRules}
+use Rattle.rule_laws.specs.rules.function_rules.Kept.{KeepsFunctionRules}
 use Rattle.pass_intrinsics.specs.Shapes.{suspends_of as all_suspends}
 use Rattle.ir_model.specs.Names.{position_of}
 use Rattle.ir_model.specs.declared.instr.Instr.{Instr}

@@ -6,15 +6,15 @@ use Rattle.pass_proofs.proofs.cells.rules.Keeping.{keeping_is}
 use Rattle.rule_shape.specs.Switches.{wrong_switch}
 use Rattle.rule_uses.specs.Uses.{local_of, locals_in}
 use Rattle.ir_laws.proofs.facts.Members.{at_each}
-use Rattle.pass_early_proof.proofs.path_rules.SavedSwitches.{times_in}
+use Rattle.pass_proofs.proofs.early.path_rules.SavedSwitches.{times_in}
 use Rattle.ir_laws.proofs.paths.source_rules.Locals.{listed_either}
 use Rattle.pass_proofs.proofs.edges.rules.Switched.{switched}
 use Rattle.pass_proofs.proofs.edges.shape.Uses.{ends_total}
 use Rattle.flow_solver.specs.Paths.{IsListed}
 use Rattle.pass_proofs.proofs.edges.calls.Fetched.{call_suspends}
-use Rattle.ir_laws.proofs.rules.shape.Ordered.{IsSuspendValue}
+use Rattle.rule_laws.proofs.rules.shape.Ordered.{IsSuspendValue}
 use Rattle.pass_proofs.proofs.edges.calls.Spared.{IsOther, IsSpared, ends_once, none_times, spared, used_at_end}
-use Rattle.ir_laws.proofs.rules.shape.Stands.{StandsAt, suspend_stands}
+use Rattle.rule_laws.proofs.rules.shape.Stands.{StandsAt, suspend_stands}
 use Rattle.pass_proofs.proofs.cells.shape.Written.{other_unused}
 use Rattle.ir_parts.specs.Contents.{ending_operands, instr_operands, result_of}
 use Rattle.ir_model.specs.Names.{is_local, position_of}
@@ -36,7 +36,7 @@ use Rattle.frame_crossing.specs.Paths.{Across, IsNeeded, IsNeededBehind, IsNeede
 use Rattle.frame_crossing.specs.Values.{values_of}
 use Rattle.frame_crossing.specs.declared.edge_use.EdgeUse.{EdgeUse}
 use Rattle.pass_cells.specs.Kept.{entry, keeping_of}
-use Rattle.ir_laws.proofs.rules.shape.Unneeded.{suspend_result}
+use Rattle.rule_laws.proofs.rules.shape.Unneeded.{suspend_result}
 
 -- ---- no further end uses it
 

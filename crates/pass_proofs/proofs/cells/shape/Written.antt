@@ -2,7 +2,7 @@
 use Rattle.std.proofs.Common.{◌≡◌, ◌⊎◌, inl, inr, ⊎_elim, ℕ, ◌+◌, ◌<◌, ◌≤◌, Bool, true, false, List, [], ◌∷◌, ◌++◌, length, refl, sym, ap, ◌∙◌, subst, arith, append_assoc}
 use Rattle.std.specs.Prelude.{Some, None, Option, slice_get, ◌==◌}
 use Rattle.pass_proofs.proofs.cells.crossing.Calls.{AreQuiet, IsQuiet, agains_quiet, behind_quiet, phis_quiet, result_quiet, saves_quiet}
-use Rattle.ir_laws.proofs.rules.crossing.Follows.{IsExtra}
+use Rattle.rule_laws.proofs.rules.crossing.Follows.{IsExtra}
 use Rattle.pass_proofs.proofs.cells.crossing.Follows.{agains_extra, behind_extra, saves_extra}
 use Rattle.pass_proofs.proofs.cells.rules.Around.{again_low, saved_low}
 use Rattle.pass_proofs.proofs.cells.rules.Indices.{behind_low}
@@ -13,13 +13,13 @@ use Rattle.rule_uses.specs.Uses.{locals_in}
 use Rattle.ir_laws.proofs.facts.Truth.{itself}
 use Rattle.ir_laws.proofs.facts.Members.{each_joined}
 use Rattle.ir_laws.proofs.facts.local_rules.Woven.{other_number}
-use Rattle.pass_early_proof.proofs.path_rules.SavedSwitches.{times_in}
+use Rattle.pass_proofs.proofs.early.path_rules.SavedSwitches.{times_in}
 use Rattle.pass_proofs.proofs.edges.shape.Uses.{ends_total}
 use Rattle.flow_solver.specs.Paths.{IsListed}
-use Rattle.ir_laws.proofs.rules.shape.Ordered.{HasNoFirstEnd, phis_no_end}
+use Rattle.rule_laws.proofs.rules.shape.Ordered.{HasNoFirstEnd, phis_no_end}
 use Rattle.pass_proofs.proofs.edges.calls.Spared.{AreInstrsOther, AreOther, IsOther, IsSpared}
 use Rattle.pass_proofs.proofs.edges.calls.Steadily.{AreSteady, IsFirstClear}
-use Rattle.ir_laws.proofs.rules.shape.Steady.{AreAllOrdered, IsBlockKept, IsPlain, Keeps, LeadsAt, Ended, all_calls, all_labels, behind_first, in_front, row}
+use Rattle.rule_laws.proofs.rules.shape.Steady.{AreAllOrdered, IsBlockKept, IsPlain, Keeps, LeadsAt, Ended, all_calls, all_labels, behind_first, in_front, row}
 use Rattle.ir_laws.proofs.paths.shape.Steady.{AreOrdered, is_end, is_suspend}
 use Rattle.ir_parts.specs.Contents.{ending_operands, instr_operands, result_of}
 use Rattle.ir_model.specs.Names.{intrinsic_number}
@@ -40,7 +40,7 @@ use Rattle.pass_cells.specs.Written.{after_block, after_one, again_row, distance
 use Rattle.pass_cells.specs.declared.plan.KeptValue.{KeptValue}
 use Rattle.pass_cells.specs.declared.plan.Plan.{Plan}
 use Rattle.ir_laws.specs.facts.woven_rules.Pairs.{Empty, Pair, Pairwise}
-use Rattle.ir_laws.specs.rules.woven_rules.Weaving.{Weaving}
+use Rattle.rule_laws.specs.rules.woven_rules.Weaving.{Weaving}
 
 -- ---- an instruction that calls no intrinsic is none of the calls
 

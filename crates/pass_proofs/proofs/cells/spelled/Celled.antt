@@ -21,9 +21,9 @@ use Rattle.ir_model.specs.declared.operand.Operand.{Operand}
 use Rattle.pass_proofs.proofs.fetch.spelled.Fetched.{IsSpelledFetch, each_same, each_set, fetches_spelled}
 use Rattle.pass_proofs.proofs.fetch.spelled.Names.{all_numbered}
 use Rattle.pass_proofs.proofs.cells.spelled.Names.{own_named}
-use Rattle.ir_laws.proofs.texts.spelled.Types.{byte_spelled, ptr_spelled, truth_spelled, word_spelled}
-use Rattle.ir_laws.specs.texts.spelled.Spelled.{IsSpelled}
-use Rattle.ir_laws.specs.rules.spelled.Spelled.{IsSpelledBlock, IsSpelledFunction, IsSpelledInstr}
+use Rattle.rule_laws.proofs.texts.spelled.Types.{byte_spelled, ptr_spelled, truth_spelled, word_spelled}
+use Rattle.rule_laws.specs.texts.spelled.Spelled.{IsSpelled}
+use Rattle.rule_laws.specs.rules.spelled.Spelled.{IsSpelledBlock, IsSpelledFunction, IsSpelledInstr}
 use Rattle.run_laws.specs.changed.Changed.{Each}
 use Rattle.pass_fetch.specs.Blocks.{numbered_names}
 use Rattle.pass_cells.specs.Cells.{fetch_by, fetch_for, fetched_function, fetches_of, named_function, with_cells, with_plan, written_function}

@@ -5,7 +5,7 @@ use Rattle.pass_copies.specs.Slots.{early_slot, fetches_of, resumed_at, set_fetc
 use Rattle.pass_copies.specs.Uses.{flag_at}
 use Rattle.pass_copies.specs.declared.slot.EarlySlot.{EarlySlot}
 use Rattle.pass_proofs.proofs.copies.begin_order.Marks.{flag_back, none_flagged}
-use Rattle.ir_laws.specs.frames.begin_order.Behind.{LeadsAgain}
+use Rattle.rule_laws.specs.frames.begin_order.Behind.{LeadsAgain}
 use Rattle.pass_proofs.proofs.copies.rules.Slots.{cell_found}
 use Rattle.ir_laws.proofs.facts.Lists.{set_here, set_length, set_other}
 use Rattle.ir_laws.proofs.paths.source_rules.Locals.{listed_either}

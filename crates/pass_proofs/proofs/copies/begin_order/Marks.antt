@@ -2,7 +2,7 @@
 use Rattle.std.proofs.Common.{◌≡◌, ◌⊎◌, inl, inr, ⊎_elim, ℕ, zero, suc, ◌<◌, Bool, true, false, List, [], ◌∷◌, length, refl, sym, ap, ◌∙◌, subst, arith}
 use Rattle.std.specs.Prelude.{None, Option, Some, replicate, slice_get, slice_set, unwrap_or, if◌then◌else◌}
 use Rattle.pass_copies.specs.Uses.{flag_at, is_begin, mark, mark_addresses, mark_args, mark_blocks, mark_instr, mark_instrs, mark_operand, still_before}
-use Rattle.ir_laws.specs.rules.begin_order.Behind.{access_operands}
+use Rattle.rule_laws.specs.rules.begin_order.Behind.{access_operands}
 use Rattle.ir_laws.proofs.facts.Lists.{get_within, set_here, set_length, set_other}
 use Rattle.flow_solver.specs.Paths.{IsListed}
 use Rattle.ir_parts.specs.Contents.{arg_operands}

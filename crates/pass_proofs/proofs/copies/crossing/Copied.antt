@@ -6,19 +6,19 @@ use Rattle.pass_copies.specs.Slots.{entry_instrs}
 use Rattle.pass_copies.specs.Uses.{flag_at, is_begin, still_before, used_before}
 use Rattle.pass_copies.specs.declared.copying.Copying.{Copying}
 use Rattle.pass_copies.specs.declared.slot.EarlySlot.{EarlySlot}
-use Rattle.ir_laws.proofs.rules.crossing.Follows.{IsExtra}
+use Rattle.rule_laws.proofs.rules.crossing.Follows.{IsExtra}
 use Rattle.pass_proofs.proofs.copies.rules.Slots.{cell_found, cell_named, front_range, from_allocas, numbered, temporary_named}
 use Rattle.pass_proofs.specs.copies.rules.Copies.{copied_slots, front_names}
 use Rattle.ir_laws.proofs.paths.source_rules.Locals.{listed_left}
 use Rattle.pass_proofs.proofs.fetch.rules.Puts.{fetch_rises}
 use Rattle.pass_proofs.specs.fetch.rules.Fetches.{base_of}
 use Rattle.flow_solver.specs.Paths.{IsListed}
-use Rattle.ir_laws.proofs.frames.needed.Apart.{apart_no_value}
+use Rattle.rule_laws.proofs.frames.needed.Apart.{apart_no_value}
 use Rattle.pass_proofs.proofs.fetch.crossing.Fetched.{one_follows}
-use Rattle.ir_laws.proofs.frames.needed.Others.{IsOther}
-use Rattle.ir_laws.proofs.frames.needed.Follows.{Ended, Follows, Same, extras_follow}
+use Rattle.rule_laws.proofs.frames.needed.Others.{IsOther}
+use Rattle.rule_laws.proofs.frames.needed.Follows.{Ended, Follows, Same, extras_follow}
 use Rattle.ir_parts.specs.Contents.{instr_operands, result_of}
-use Rattle.ir_laws.specs.rules.function_rules.Kept.{KeepsFunctionRules}
+use Rattle.rule_laws.specs.rules.function_rules.Kept.{KeepsFunctionRules}
 use Rattle.ir_model.specs.declared.instr.Instr.{Instr}
 use Rattle.ir_model.specs.declared.module.Block.{Block}
 use Rattle.ir_model.specs.declared.module.Function.{Function}

@@ -18,21 +18,21 @@ use Rattle.rule_uses.specs.Undefined.{params_of}
 use Rattle.rule_uses.specs.Uses.{block_values, made_by_instrs, phi_values, values_at, values_in}
 use Rattle.ir_laws.proofs.facts.Members.{at_each, all_pass as all_tested, each_all}
 use Rattle.ir_laws.proofs.facts.Truth.{itself, and_both, and_first, and_second, holds, second_no}
-use Rattle.ir_laws.proofs.rules.local_rules.Names.{numbers}
-use Rattle.ir_laws.proofs.rules.local_rules.Woven.{apart_names}
+use Rattle.rule_laws.proofs.rules.local_rules.Names.{numbers}
+use Rattle.rule_laws.proofs.rules.local_rules.Woven.{apart_names}
 use Rattle.ir_laws.proofs.paths.source_rules.Locals.{Apart, listed_either, listed_left, listed_right}
-use Rattle.ir_laws.proofs.rules.source_rules.Locals.{block_names, made_by, names_are}
+use Rattle.rule_laws.proofs.rules.source_rules.Locals.{block_names, made_by, names_are}
 use Rattle.ir_laws.proofs.facts.Lists.{row_of}
 use Rattle.pass_proofs.proofs.fetch.rules.Fetched.{numbered_length}
 use Rattle.pass_proofs.proofs.fetch.rules.Puts.{fetch_range, fetch_rises, fetched_woven, none_goes}
-use Rattle.ir_laws.proofs.rules.fetching_rules.Puts.{int_shallow, ptr_shallow}
+use Rattle.rule_laws.proofs.rules.fetching_rules.Puts.{int_shallow, ptr_shallow}
 use Rattle.pass_proofs.proofs.fetch.rules.Times.{with_result}
 use Rattle.pass_proofs.specs.fetch.rules.Fetches.{FitsFetch, FitsTable, base_of}
 use Rattle.flow_solver.specs.Paths.{IsListed}
 use Rattle.ir_parts.specs.Contents.{ending_operands, instr_operands, result_of}
 use Rattle.ir_parts.specs.Locals.{locals_of}
 use Rattle.ir_parts.specs.Parts.{OfInstr, Part}
-use Rattle.ir_laws.specs.rules.function_rules.Kept.{KeepsFunctionRules}
+use Rattle.rule_laws.specs.rules.function_rules.Kept.{KeepsFunctionRules}
 use Rattle.ir_model.specs.Names.{position_of}
 use Rattle.ir_model.specs.Ty.{int, ptr}
 use Rattle.ir_model.specs.declared.instr.Instr.{Instr}
@@ -58,18 +58,18 @@ use Rattle.rule_values.specs.Fits.{fits_kind, is_tokenless}
 use Rattle.rule_values.specs.Kinds.{value_kind}
 use Rattle.rule_values.specs.Values.{breaks_values}
 use Rattle.rule_values.specs.declared.kinds.Kind.{Kind}
-use Rattle.ir_laws.proofs.rules.woven_rules.Once.{apart_once, names_below}
+use Rattle.rule_laws.proofs.rules.woven_rules.Once.{apart_once, names_below}
 use Rattle.ir_laws.proofs.paths.woven_rules.Once.{times_none}
-use Rattle.ir_laws.proofs.rules.woven_rules.Operands.{term_itself}
-use Rattle.ir_laws.proofs.rules.woven_rules.Pieces.{known_more, listed_woven, made_contains, phis_itself, still_stays}
-use Rattle.ir_laws.proofs.rules.woven_rules.Told.{told, value_told}
-use Rattle.ir_laws.proofs.rules.woven_rules.Unbroken.{Passes, PassesIn, all_pass}
+use Rattle.rule_laws.proofs.rules.woven_rules.Operands.{term_itself}
+use Rattle.rule_laws.proofs.rules.woven_rules.Pieces.{known_more, listed_woven, made_contains, phis_itself, still_stays}
+use Rattle.rule_laws.proofs.rules.woven_rules.Told.{told, value_told}
+use Rattle.rule_laws.proofs.rules.woven_rules.Unbroken.{Passes, PassesIn, all_pass}
 use Rattle.ir_laws.proofs.paths.woven_rules.Unbroken.{each_listed, of_listed}
-use Rattle.ir_laws.proofs.rules.woven_rules.Uses.{entry_alone}
-use Rattle.ir_laws.proofs.rules.woven_rules.ValueKinds.{made_grows, none_new}
-use Rattle.ir_laws.specs.rules.woven_rules.Blocks.{AreWoven, AreWovenBlocks, Done, IsFront, IsNew, IsPutIn, IsWoven, IsWovenBlock, NoBlock, OneBlock, Remain, is_mark, times_made}
+use Rattle.rule_laws.proofs.rules.woven_rules.Uses.{entry_alone}
+use Rattle.rule_laws.proofs.rules.woven_rules.ValueKinds.{made_grows, none_new}
+use Rattle.rule_laws.specs.rules.woven_rules.Blocks.{AreWoven, AreWovenBlocks, Done, IsFront, IsNew, IsPutIn, IsWoven, IsWovenBlock, NoBlock, OneBlock, Remain, is_mark, times_made}
 use Rattle.ir_laws.specs.facts.woven_rules.Pairs.{times}
-use Rattle.ir_laws.specs.rules.woven_rules.Weaving.{Constant, Front, IsInPlace, IsKnown, IsThere, New, Old, Same, Weaving, goes_in, kinds_with}
+use Rattle.rule_laws.specs.rules.woven_rules.Weaving.{Constant, Front, IsInPlace, IsKnown, IsThere, New, Old, Same, Weaving, goes_in, kinds_with}
 
 -- ---- names rise
 

@@ -6,12 +6,12 @@ use Rattle.pass_copies.specs.Uses.{used_before}
 use Rattle.pass_proofs.proofs.copies.rules.Copied.{copies_woven}
 use Rattle.pass_proofs.proofs.copies.rules.Slots.{from_allocas, numbered}
 use Rattle.pass_proofs.specs.copies.rules.Copies.{CopiesFit, copied_slots, copy_weaving}
-use Rattle.ir_laws.specs.rules.function_rules.Kept.{KeepsFunctionRules}
+use Rattle.rule_laws.specs.rules.function_rules.Kept.{KeepsFunctionRules}
 use Rattle.ir_model.specs.declared.module.Function.{Function}
 use Rattle.ir_model.specs.declared.module.Module.{Module}
-use Rattle.ir_laws.proofs.rules.woven_rules.All.{rules_woven}
-use Rattle.ir_laws.specs.rules.woven_rules.Blocks.{IsWoven}
-use Rattle.ir_laws.specs.rules.woven_rules.Pairs.{AreIncomingOnce}
+use Rattle.rule_laws.proofs.rules.woven_rules.All.{rules_woven}
+use Rattle.rule_laws.specs.rules.woven_rules.Blocks.{IsWoven}
+use Rattle.rule_laws.specs.rules.woven_rules.Pairs.{AreIncomingOnce}
 
 pub with_copies_woven : (m : Module) (k : ℕ) (f : Function) (slots before : List Bool) (sizes : List ℕ) → KeepsFunctionRules m k f → CopiesFit f (copied_slots f slots before sizes) → IsWoven (copy_weaving f before (copied_slots f slots before sizes)) m f (with_begin_copies f slots before sizes)
 with_copies_woven m k f slots before sizes keeps fit =

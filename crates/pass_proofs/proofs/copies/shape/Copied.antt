@@ -7,15 +7,15 @@ use Rattle.pass_copies.specs.declared.copying.Copying.{Copying}
 use Rattle.pass_copies.specs.declared.slot.EarlySlot.{EarlySlot}
 use Rattle.ir_laws.proofs.facts.Members.{each_joined}
 use Rattle.ir_laws.proofs.facts.local_rules.Woven.{other_number}
-use Rattle.pass_early_proof.proofs.path_rules.SavedSwitches.{times_in}
+use Rattle.pass_proofs.proofs.early.path_rules.SavedSwitches.{times_in}
 use Rattle.pass_proofs.proofs.edges.shape.Uses.{ends_total}
 use Rattle.pass_proofs.proofs.fetch.rules.Puts.{fetch_rises}
 use Rattle.pass_proofs.specs.fetch.rules.Fetches.{base_of}
 use Rattle.pass_proofs.proofs.fetch.shape.Fetching.{fetches_other, fetches_plain, instr_other}
-use Rattle.ir_laws.proofs.rules.shape.Ordered.{HasNoFirstEnd}
+use Rattle.rule_laws.proofs.rules.shape.Ordered.{HasNoFirstEnd}
 use Rattle.pass_proofs.proofs.edges.calls.Spared.{AreInstrsOther, AreOther, IsOther, IsSpared}
 use Rattle.pass_proofs.proofs.edges.calls.Steadily.{IsFirstClear}
-use Rattle.ir_laws.proofs.rules.shape.Steady.{AreAllOrdered, Ended, IsAlike, IsBlockKept, IsPlain, Keeps, LeadsAt, behind_first, in_front, row}
+use Rattle.rule_laws.proofs.rules.shape.Steady.{AreAllOrdered, Ended, IsAlike, IsBlockKept, IsPlain, Keeps, LeadsAt, behind_first, in_front, row}
 use Rattle.ir_laws.proofs.paths.shape.Steady.{AreOrdered, IsOrdered, is_end, is_suspend}
 use Rattle.pass_proofs.proofs.cells.shape.Written.{leads_when, still_ahead}
 use Rattle.ir_parts.specs.Contents.{ending_operands, instr_operands}

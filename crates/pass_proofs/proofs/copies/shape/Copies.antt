@@ -14,13 +14,13 @@ use Rattle.pass_proofs.proofs.edges.shape.Uses.{ends_total}
 use Rattle.pass_proofs.specs.fetch.rules.Fetches.{base_of}
 use Rattle.flow_solver.specs.Paths.{IsListed}
 use Rattle.pass_proofs.proofs.copies.shape.Copied.{AreResumedClear, IsApartFrom, all_kept, blocks_other, copied_ends, front_other, front_plain}
-use Rattle.ir_laws.proofs.rules.shape.Ordered.{IsNoEnd, IsSuspendValue, all_ordered, block_no_end, placed_calls}
-use Rattle.ir_laws.proofs.rules.shape.Results.{names_once, suspend_kind, suspend_low}
+use Rattle.rule_laws.proofs.rules.shape.Ordered.{IsNoEnd, IsSuspendValue, all_ordered, block_no_end, placed_calls}
+use Rattle.rule_laws.proofs.rules.shape.Results.{names_once, suspend_kind, suspend_low}
 use Rattle.pass_proofs.proofs.copies.shape.Returned.{resumed_listed}
 use Rattle.pass_proofs.proofs.edges.calls.Steadily.{AreSteady, entry_no_end, first_clear, keeps_calls}
-use Rattle.ir_laws.proofs.rules.shape.Steady.{AreAllOrdered, IsBlockKept, all_calls, all_labels}
-use Rattle.ir_laws.specs.frames.shape.Quiet.{AreReturnsQuiet}
-use Rattle.ir_laws.specs.rules.function_rules.Kept.{KeepsFunctionRules}
+use Rattle.rule_laws.proofs.rules.shape.Steady.{AreAllOrdered, IsBlockKept, all_calls, all_labels}
+use Rattle.rule_laws.specs.frames.shape.Quiet.{AreReturnsQuiet}
+use Rattle.rule_laws.specs.rules.function_rules.Kept.{KeepsFunctionRules}
 use Rattle.ir_model.specs.declared.instr.Instr.{Instr}
 use Rattle.ir_model.specs.declared.module.Block.{Block}
 use Rattle.ir_model.specs.declared.module.Function.{Function}
@@ -31,11 +31,11 @@ use Rattle.pass_fetch.specs.Fetching.{fetch_of}
 use Rattle.pass_fetch.specs.declared.fetch.Fetch.{Fetch}
 use Rattle.rule_values.specs.Kinds.{value_kind}
 use Rattle.rule_values.specs.declared.kinds.Kind.{Kind}
-use Rattle.ir_laws.proofs.rules.woven_rules.Told.{value_told}
+use Rattle.rule_laws.proofs.rules.woven_rules.Told.{value_told}
 use Rattle.ir_laws.proofs.paths.woven_rules.Unbroken.{each_listed, of_listed}
 use Rattle.ir_laws.specs.facts.woven_rules.Pairs.{Pairwise}
-use Rattle.ir_laws.specs.rules.woven_shape.Calls.{ShapingCall, calls_of_block}
-use Rattle.ir_laws.specs.frames.woven_shape.Shaped.{IsShaped, KeepsCalls}
+use Rattle.rule_laws.specs.rules.woven_shape.Calls.{ShapingCall, calls_of_block}
+use Rattle.rule_laws.specs.frames.woven_shape.Shaped.{IsShaped, KeepsCalls}
 
 record HasEntry (bs : List Block) (j : Instr) : Type 0 where
   block : Block

@@ -5,7 +5,7 @@ use Rattle.pass_copies.specs.Slots.{resumed_at, set_resumed}
 use Rattle.pass_copies.specs.Uses.{flag_at}
 use Rattle.ir_laws.proofs.facts.Truth.{either}
 use Rattle.ir_laws.proofs.facts.Lists.{set_other}
-use Rattle.ir_laws.specs.frames.rows.Returns.{return_labels}
+use Rattle.rule_laws.specs.frames.rows.Returns.{return_labels}
 use Rattle.flow_solver.specs.Paths.{IsListed}
 use Rattle.pass_intrinsics.specs.Shapes.{suspends_of}
 use Rattle.pass_intrinsics.specs.declared.shape.SuspendPoint.{SuspendPoint}

@@ -13,9 +13,9 @@ use Rattle.ir_model.specs.declared.module.Function.{Function}
 use Rattle.pass_proofs.proofs.fetch.spelled.Fetched.{IsSpelledFetch, each_same, each_set, instr_fetched}
 use Rattle.pass_proofs.proofs.fetch.spelled.Names.{all_numbered}
 use Rattle.pass_proofs.proofs.copies.spelled.Names.{slots_named}
-use Rattle.ir_laws.proofs.texts.spelled.Types.{ptr_spelled, truth_spelled, word_spelled}
-use Rattle.ir_laws.specs.texts.spelled.Spelled.{IsSpelled}
-use Rattle.ir_laws.specs.rules.spelled.Spelled.{IsSpelledBlock, IsSpelledFunction, IsSpelledInstr}
+use Rattle.rule_laws.proofs.texts.spelled.Types.{ptr_spelled, truth_spelled, word_spelled}
+use Rattle.rule_laws.specs.texts.spelled.Spelled.{IsSpelled}
+use Rattle.rule_laws.specs.rules.spelled.Spelled.{IsSpelledBlock, IsSpelledFunction, IsSpelledInstr}
 use Rattle.run_laws.specs.changed.Changed.{Each}
 use Rattle.pass_fetch.specs.Blocks.{numbered_names}
 use Rattle.pass_fetch.specs.Instrs.{fetched_instr}

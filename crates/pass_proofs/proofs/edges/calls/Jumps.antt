@@ -12,12 +12,12 @@ use Rattle.ir_model.specs.declared.module.Block.{Block}
 use Rattle.ir_model.specs.declared.module.Function.{Function}
 use Rattle.ir_model.specs.declared.module.Module.{Module}
 use Rattle.ir_model.specs.declared.operand.Operand.{Operand}
-use Rattle.ir_laws.proofs.rules.woven_rules.Operands.{same_labels}
-use Rattle.ir_laws.specs.rules.woven_rules.Blocks.{AreWovenBlocks, IsWoven, NoBlock, OneBlock}
+use Rattle.rule_laws.proofs.rules.woven_rules.Operands.{same_labels}
+use Rattle.rule_laws.specs.rules.woven_rules.Blocks.{AreWovenBlocks, IsWoven, NoBlock, OneBlock}
 use Rattle.ir_laws.specs.facts.woven_rules.Pairs.{Empty, Pair, Pairwise}
 use Rattle.ir_laws.specs.facts.woven_rules.Parts.{Branch, Jump, Return, ReturnVoid, Switch, TermStays, Unreachable}
-use Rattle.ir_laws.specs.rules.woven_rules.Parts.{PhiStays}
-use Rattle.ir_laws.specs.rules.woven_rules.Weaving.{IsInPlace, Weaving}
+use Rattle.rule_laws.specs.rules.woven_rules.Parts.{PhiStays}
+use Rattle.rule_laws.specs.rules.woven_rules.Weaving.{IsInPlace, Weaving}
 
 same_jump : (R : Operand → Operand → Type 0) (l : ℕ) (t u : Terminator) → TermStays R t u → t ≡ Terminator.Jump l → u ≡ Terminator.Jump l
 same_jump R l _ _ (Jump label) e = e

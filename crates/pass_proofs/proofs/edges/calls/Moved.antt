@@ -10,7 +10,7 @@ use Rattle.pass_proofs.specs.edges.paths.Spots.{moved}
 use Rattle.ir_laws.specs.paths.threads.Threads.{AreAvoidedToo, AreThreads}
 use Rattle.pass_proofs.proofs.edges.rules.Homes.{IsEdge, IsOwn, home}
 use Rattle.pass_edges.specs.EdgeBlocks.{edge_block, with_edge_blocks}
-use Rattle.ir_laws.proofs.rules.shape.Beginning.{NoneWithout}
+use Rattle.rule_laws.proofs.rules.shape.Beginning.{NoneWithout}
 use Rattle.ir_model.specs.declared.module.Block.{Block}
 use Rattle.ir_model.specs.declared.module.Function.{Function}
 use Rattle.ir_model.specs.declared.operand.Intrinsic.{Intrinsic}

@@ -4,9 +4,9 @@ use Rattle.std.specs.Prelude.{Some, None, Option, cond, flat_map, map, nat_le, n
 use Rattle.rule_shape.specs.Switches.{end_label, wrong_switch}
 use Rattle.rule_shape.specs.Uses.{block_operands, phi_operands, uses_of}
 use Rattle.ir_laws.proofs.facts.Truth.{and_second}
-use Rattle.pass_early_proof.proofs.path_rules.SavedSwitches.{times_append, times_in, times_more}
+use Rattle.pass_proofs.proofs.early.path_rules.SavedSwitches.{times_append, times_in, times_more}
 use Rattle.pass_proofs.proofs.edges.shape.Uses.{IsNamed, all_named, ends_total}
-use Rattle.ir_laws.proofs.rules.shape.Ordered.{IsSuspendValue}
+use Rattle.rule_laws.proofs.rules.shape.Ordered.{IsSuspendValue}
 use Rattle.ir_parts.specs.Contents.{ending_operands, instr_operands}
 use Rattle.ir_model.specs.Names.{is_local}
 use Rattle.ir_model.specs.declared.instr.Incoming.{Incoming}
@@ -17,8 +17,8 @@ use Rattle.ir_model.specs.declared.module.Function.{Function}
 use Rattle.ir_model.specs.declared.operand.Operand.{Operand}
 use Rattle.run_laws.specs.changed.Changed.{Each}
 use Rattle.ir_laws.proofs.paths.woven_rules.Unbroken.{of_listed}
-use Rattle.ir_laws.proofs.rules.woven_shape.Switches.{IsFine, all_fine, is_fine, leads_to}
-use Rattle.ir_laws.specs.rules.woven_shape.Calls.{is_suspend_call, shaping_calls}
+use Rattle.rule_laws.proofs.rules.woven_shape.Switches.{IsFine, all_fine, is_fine, leads_to}
+use Rattle.rule_laws.specs.rules.woven_shape.Calls.{is_suspend_call, shaping_calls}
 
 abbrev pub IsOther : ℕ → Operand → Type 0
 IsOther v x = is_local v x ≡ false

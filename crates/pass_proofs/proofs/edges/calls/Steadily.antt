@@ -4,18 +4,18 @@ use Rattle.std.specs.Prelude.{Some, None, map, slice_get}
 use Rattle.rule_shape.specs.OneOfEach.{wrong_call}
 use Rattle.rule_shape.specs.Switches.{wrong_switch}
 use Rattle.pass_proofs.proofs.edges.shape.Uses.{ends_total}
-use Rattle.ir_laws.proofs.rules.shape.Ordered.{HasNoFirstEnd, IsNoEnd, IsPlaced, IsSuspendValue, all_ordered, block_no_end, none_in_entry, placed_calls}
+use Rattle.rule_laws.proofs.rules.shape.Ordered.{HasNoFirstEnd, IsNoEnd, IsPlaced, IsSuspendValue, all_ordered, block_no_end, none_in_entry, placed_calls}
 use Rattle.pass_proofs.proofs.edges.calls.Spared.{IsSpared, spared, uses_fewer}
-use Rattle.ir_laws.proofs.rules.shape.Steady.{AreAllOrdered}
+use Rattle.rule_laws.proofs.rules.shape.Steady.{AreAllOrdered}
 use Rattle.ir_model.specs.Calls.{first_result}
 use Rattle.ir_model.specs.declared.module.Block.{Block}
 use Rattle.ir_model.specs.declared.module.Function.{Function}
 use Rattle.ir_model.specs.declared.operand.Intrinsic.{Intrinsic}
-use Rattle.ir_laws.specs.rules.replaced.Splittable.{AreBlocksBegun}
+use Rattle.rule_laws.specs.rules.replaced.Splittable.{AreBlocksBegun}
 use Rattle.run_laws.specs.changed.Changed.{Each}
-use Rattle.ir_laws.specs.rules.woven_rules.Weaving.{Weaving}
-use Rattle.ir_laws.specs.rules.woven_shape.Calls.{ShapingCall, calls_of_block, joined}
-use Rattle.ir_laws.specs.frames.woven_shape.Shaped.{KeepsCalls}
+use Rattle.rule_laws.specs.rules.woven_rules.Weaving.{Weaving}
+use Rattle.rule_laws.specs.rules.woven_shape.Calls.{ShapingCall, calls_of_block, joined}
+use Rattle.rule_laws.specs.frames.woven_shape.Shaped.{KeepsCalls}
 
 -- labels and the calls of blocks stay, and these values, where phis and instructions don't use them, are used no more often
 pub record AreSteady (V : ℕ → Type 0) (bs cs : List Block) : Type 0 where

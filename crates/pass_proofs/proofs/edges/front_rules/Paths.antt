@@ -9,9 +9,9 @@ use Rattle.rule_shape.specs.Switches.{wrong_switch}
 use Rattle.rule_phis.specs.Edges.{breaks_edges, first_wrong_edge, is_empty, leads, predecessors}
 use Rattle.ir_laws.proofs.facts.Truth.{equal_numbers, holds}
 use Rattle.ir_laws.proofs.paths.renamed.Outside.{where_pass}
-use Rattle.ir_laws.proofs.rules.renamed.Switches.{none_part}
+use Rattle.rule_laws.proofs.rules.renamed.Switches.{none_part}
 use Rattle.ir_laws.specs.facts.renamed.Regular.{passes}
-use Rattle.ir_laws.proofs.rules.path_rules.Holding.{of_parts}
+use Rattle.rule_laws.proofs.rules.path_rules.Holding.{of_parts}
 use Rattle.flow_solver.specs.Paths.{IsListed}
 use Rattle.pass_proofs.proofs.edges.rules.CaseLabels.{switch_target}
 use Rattle.pass_proofs.proofs.edges.rules.Switched.{switched}
@@ -30,15 +30,15 @@ use Rattle.ir_paths.specs.Paths.{targets}
 use Rattle.ir_paths.specs.Windows.{end_block, instr_at, instr_in, is_call_of, label_at, label_of_term}
 use Rattle.ir_paths.specs.declared.point.Point.{Point}
 use Rattle.pass_proofs.proofs.edges.exit_rules.Shape.{suspend_is}
-use Rattle.ir_laws.proofs.rules.threaded.Single.{listed_leads}
-use Rattle.ir_laws.proofs.rules.threaded.Sources.{none_filtered}
+use Rattle.rule_laws.proofs.rules.threaded.Single.{listed_leads}
+use Rattle.rule_laws.proofs.rules.threaded.Sources.{none_filtered}
 use Rattle.ir_laws.proofs.paths.threaded.Whole.{has_listed, listed_has}
 use Rattle.ir_laws.proofs.facts.Numbers.{First, IsSource, Same}
 use Rattle.ir_laws.proofs.facts.Lists.{came_from, in_front, last_stays, source_of}
 use Rattle.pass_proofs.proofs.edges.front_rules.Shape.{flat_front}
-use Rattle.ir_laws.proofs.rules.front_rules.Uses.{same_edges, same_position}
-use Rattle.ir_laws.specs.frames.crossing.Crossed.{IsNothingNeeded}
-use Rattle.ir_laws.specs.frames.needed.Crossed.{AreFramesUnneeded}
+use Rattle.rule_laws.proofs.rules.front_rules.Uses.{same_edges, same_position}
+use Rattle.rule_laws.specs.frames.crossing.Crossed.{IsNothingNeeded}
+use Rattle.rule_laws.specs.frames.needed.Crossed.{AreFramesUnneeded}
 use Rattle.run_step.specs.Step.{Fetched, fetch, fetch_in, fetch_or}
 use Rattle.frame_slots.proofs.Points.{where_complete}
 use Rattle.frame_crossing.specs.Crossing.{suspends_of as suspend_points}

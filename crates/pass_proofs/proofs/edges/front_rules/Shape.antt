@@ -11,8 +11,8 @@ use Rattle.rule_shape.specs.declared.one_of_each.Calls.{Calls}
 use Rattle.rule_uses.specs.Undefined.{Entry}
 use Rattle.rule_uses.specs.Uses.{made_by_phis}
 use Rattle.ir_laws.proofs.facts.Truth.{equal_numbers, and_first, holds, second_no as or_second}
-use Rattle.ir_laws.proofs.rules.renamed.Switches.{none_part}
-use Rattle.ir_laws.proofs.rules.path_rules.Holding.{of_parts}
+use Rattle.rule_laws.proofs.rules.renamed.Switches.{none_part}
+use Rattle.rule_laws.proofs.rules.path_rules.Holding.{of_parts}
 use Rattle.pass_proofs.proofs.edges.rules.Switched.{switched}
 use Rattle.pass_front.specs.Front.{allocas_first, is_alloca, is_no_alloca, with_allocas_first, with_front_allocas}
 use Rattle.ir_parts.specs.Contents.{ending_operands, instr_operands}
@@ -31,20 +31,20 @@ use Rattle.ir_paths.specs.Windows.{is_call_of}
 use Rattle.pass_proofs.proofs.edges.exit_rules.Shape.{suspend_is}
 use Rattle.ir_laws.proofs.facts.Lists.{in_front, same_count, same_length, source_of}
 use Rattle.ir_laws.proofs.facts.Numbers.{same_term}
-use Rattle.ir_laws.proofs.rules.front_rules.Local.{sources_same}
-use Rattle.ir_laws.proofs.rules.front_rules.Uses.{begun_kept}
-use Rattle.ir_laws.proofs.rules.woven_shape.Found.{made, not_begin, result_made}
-use Rattle.ir_laws.proofs.rules.woven_shape.OneOfEach.{wrong_call_same}
-use Rattle.ir_laws.proofs.rules.woven_shape.Switches.{wrong_switch_same}
-use Rattle.ir_laws.specs.rules.replaced.Splittable.{AreBegun, AreBlocksBegun}
-use Rattle.ir_laws.specs.frames.replaced.Splittable.{HasOwnEdges, IsLedToBy, token_taken}
+use Rattle.rule_laws.proofs.rules.front_rules.Local.{sources_same}
+use Rattle.rule_laws.proofs.rules.front_rules.Uses.{begun_kept}
+use Rattle.rule_laws.proofs.rules.woven_shape.Found.{made, not_begin, result_made}
+use Rattle.rule_laws.proofs.rules.woven_shape.OneOfEach.{wrong_call_same}
+use Rattle.rule_laws.proofs.rules.woven_shape.Switches.{wrong_switch_same}
+use Rattle.rule_laws.specs.rules.replaced.Splittable.{AreBegun, AreBlocksBegun}
+use Rattle.rule_laws.specs.frames.replaced.Splittable.{HasOwnEdges, IsLedToBy, token_taken}
 use Rattle.ir_laws.specs.facts.replaced.Splittable.{asks_begin}
-use Rattle.ir_laws.specs.rules.woven_shape.Calls.{ShapingCall, call_at, calls_in, calls_of_block, default_behind, default_on, first_named, is_shaping, joined, leads_block, second_named, shaping_calls, switched_to}
-use Rattle.ir_laws.specs.frames.woven_shape.Shaped.{IsShaped}
+use Rattle.rule_laws.specs.rules.woven_shape.Calls.{ShapingCall, call_at, calls_in, calls_of_block, default_behind, default_on, first_named, is_shaping, joined, leads_block, second_named, shaping_calls, switched_to}
+use Rattle.rule_laws.specs.frames.woven_shape.Shaped.{IsShaped}
 use Rattle.ir_laws.specs.paths.woven_rules.Pairs.{AreDifferent}
 use Rattle.run_laws.specs.changed.Changed.{Each}
-use Rattle.ir_laws.proofs.frames.front_rules.Shape.{same_suspends}
-use Rattle.ir_laws.proofs.rules.front_rules.Shape.{no_operands}
+use Rattle.rule_laws.proofs.frames.front_rules.Shape.{same_suspends}
+use Rattle.rule_laws.proofs.rules.front_rules.Shape.{no_operands}
 
 -- ---- the calls of a block
 

@@ -4,7 +4,7 @@ use Rattle.std.specs.Prelude.{slice_get}
 use Rattle.pass_edges.specs.Edges.{has_phis}
 use Rattle.rule_phis.specs.Edges.{has, leads}
 use Rattle.pass_proofs.specs.edges.rules.Phis.{ArePhisEnteredByJumps}
-use Rattle.ir_laws.specs.rules.woven_rules.Pairs.{AreIncomingOnce}
+use Rattle.rule_laws.specs.rules.woven_rules.Pairs.{AreIncomingOnce}
 use Rattle.pass_front.specs.Front.{with_front_allocas}
 use Rattle.ir_parts.specs.Contents.{ending_labels}
 use Rattle.ir_model.specs.declared.instr.Phi.{Phi}
@@ -15,8 +15,8 @@ use Rattle.ir_model.specs.declared.module.Module.{Module}
 use Rattle.ir_laws.proofs.facts.Numbers.{same_term}
 use Rattle.ir_laws.proofs.facts.Lists.{source_of}
 use Rattle.pass_proofs.proofs.edges.front_rules.Shape.{shape_kept}
-use Rattle.ir_laws.specs.frames.shape.Passes.{IsKept}
-use Rattle.ir_laws.proofs.rules.front_rules.Whole.{rules_kept}
+use Rattle.rule_laws.specs.frames.shape.Passes.{IsKept}
+use Rattle.rule_laws.proofs.rules.front_rules.Whole.{rules_kept}
 
 pub once_kept : (f : Function) → AreIncomingOnce f → AreIncomingOnce (with_front_allocas f)
 once_kept f once k j c p there phi =

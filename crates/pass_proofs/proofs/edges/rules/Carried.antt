@@ -3,8 +3,8 @@ use Rattle.std.proofs.Common.{Bool, None, Option, Some, ap, false, length, map, 
 use Rattle.std.proofs.lemmas.Option.{slice_get-map}
 use Rattle.std.specs.Prelude.{slice_get}
 use Rattle.ir_base.specs.declared.outcome.Place.{Place}
-use Rattle.ir_laws.proofs.rules.renamed.Switches.{none_part}
-use Rattle.ir_laws.proofs.rules.path_rules.Holding.{HoldsIn, of_parts, part_none, to_parts}
+use Rattle.rule_laws.proofs.rules.renamed.Switches.{none_part}
+use Rattle.rule_laws.proofs.rules.path_rules.Holding.{HoldsIn, of_parts, part_none, to_parts}
 use Rattle.pass_proofs.proofs.edges.paths.Blocks.{spot}
 use Rattle.pass_proofs.proofs.edges.paths.Edges.{edges_of_block}
 use Rattle.pass_proofs.specs.edges.paths.Spots.{table_of}
@@ -19,7 +19,7 @@ use Rattle.ir_model.specs.declared.instr.Terminator.{Terminator}
 use Rattle.ir_model.specs.declared.module.Block.{Block}
 use Rattle.ir_model.specs.declared.module.Function.{Function}
 use Rattle.rule_locals.specs.Instrs.{on_instr}
-use Rattle.ir_laws.proofs.rules.rows.Carried.{AreAlikePlaced}
+use Rattle.rule_laws.proofs.rules.rows.Carried.{AreAlikePlaced}
 
 -- what each part has become breaks the rule nowhere, if the part doesn't
 pub record Carries (f : Function) (breaks now : Place → Part → Bool) : Type 0 where

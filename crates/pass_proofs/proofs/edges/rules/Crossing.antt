@@ -4,7 +4,7 @@ use Rattle.std.specs.List.{list_any}
 use Rattle.std.specs.Prelude.{◌↔◌, slice_get}
 use Rattle.ir_laws.proofs.paths.renamed.Outside.{where_pass}
 use Rattle.ir_laws.specs.facts.renamed.Regular.{passes}
-use Rattle.ir_laws.proofs.frames.alike_crossing.Crossing.{crossing_same}
+use Rattle.rule_laws.proofs.frames.alike_crossing.Crossing.{crossing_same}
 use Rattle.pass_proofs.proofs.edges.paths.Blocks.{own_number, position_edge, spot}
 use Rattle.pass_proofs.proofs.edges.paths.Edges.{edges_of_block}
 use Rattle.pass_proofs.proofs.edges.paths.Points.{points_moved}
@@ -16,7 +16,7 @@ use Rattle.pass_proofs.specs.edges.paths.Phis.{AreLabelsOnce, ArePhisForEdges}
 use Rattle.pass_proofs.specs.edges.paths.Spots.{behind_edges, moved, table_of}
 use Rattle.pass_proofs.proofs.edges.rules.CaseLabels.{switch_split, switch_target}
 use Rattle.pass_proofs.proofs.edges.rules.EdgeUses.{label_there, used_forth, used_home}
-use Rattle.ir_laws.proofs.frames.rows.EdgeUses.{taken_by}
+use Rattle.rule_laws.proofs.frames.rows.EdgeUses.{taken_by}
 use Rattle.pass_proofs.proofs.edges.rules.Edges.{phis_there}
 use Rattle.pass_proofs.proofs.edges.rules.Homes.{IsEdge, IsOwn, home, edge_spots, edge_target, own_block, own_there, spots_apart, spots_no_edge}
 use Rattle.pass_proofs.proofs.edges.rules.Standing.{branch_forth, branch_home, fetch_edge, instr_forth, instr_home, jumps, leads_forth, leads_home, no_instr, only_target, phis_edge, phis_own, place_of_target, stand_alike, used_same}

@@ -25,7 +25,7 @@ use Rattle.ir_laws.proofs.facts.Members.{at_each as each_at}
 use Rattle.run_laws.specs.changed.Changed.{Each}
 use Rattle.frame_crossing.specs.EdgeUses.{IsUsedOn}
 use Rattle.ir_laws.proofs.facts.Numbers.{IsTakenBy}
-use Rattle.ir_laws.proofs.frames.rows.EdgeUses.{taken_by, used_on}
+use Rattle.rule_laws.proofs.frames.rows.EdgeUses.{taken_by, used_on}
 
 -- ---- labels and positions
 

@@ -4,9 +4,9 @@ use Rattle.std.proofs.lemmas.Option.{slice_get-map}
 use Rattle.std.specs.List.{cons_option, list_all, list_any}
 use Rattle.std.specs.Prelude.{filter_map, slice_get}
 use Rattle.ir_base.specs.declared.outcome.Place.{Place}
-use Rattle.ir_laws.proofs.rules.renamed.Switches.{none_part}
+use Rattle.rule_laws.proofs.rules.renamed.Switches.{none_part}
 use Rattle.ir_laws.proofs.facts.Truth.{and_both, and_first, and_second, holds}
-use Rattle.ir_laws.proofs.rules.path_rules.Holding.{HoldsIn, of_parts, part_none, to_parts}
+use Rattle.rule_laws.proofs.rules.path_rules.Holding.{HoldsIn, of_parts, part_none, to_parts}
 use Rattle.pass_proofs.proofs.edges.paths.Blocks.{spot}
 use Rattle.pass_proofs.proofs.edges.paths.Edges.{edges_of_block}
 use Rattle.pass_proofs.proofs.edges.paths.Tables.{flag_at, one_edge}
@@ -22,7 +22,7 @@ use Rattle.pass_edges.specs.Edges.{edges_at, edges_of, has_phis, phi_flags}
 use Rattle.pass_edges.specs.declared.edge.Edge.{Edge}
 use Rattle.rule_phis.specs.Edges.{breaks_edges, differs, first_wrong_edge, fits_edges, has, incoming_labels, into_block, is_empty, leads, predecessors}
 use Rattle.rule_phis.specs.Operands.{same_operand}
-use Rattle.ir_laws.proofs.rules.known_labels.Rules.{labels_spelt}
+use Rattle.rule_laws.proofs.rules.known_labels.Rules.{labels_spelt}
 use Rattle.ir_laws.proofs.facts.known_labels.Rules.{none_at}
 use Rattle.flow_solver.specs.Paths.{IsListed}
 use Rattle.ir_parts.specs.Parts.{Part, parts_of}
@@ -35,7 +35,7 @@ use Rattle.ir_paths.proofs.Search.{eq_from, eq_itself, or_left, or_right}
 use Rattle.ir_paths.specs.Paths.{targets}
 use Rattle.ir_laws.proofs.facts.Members.{at_each as each_at}
 use Rattle.run_laws.specs.changed.Changed.{Each}
-use Rattle.ir_laws.proofs.rules.edges.Entered.{has_listed as listed_has}
+use Rattle.rule_laws.proofs.rules.edges.Entered.{has_listed as listed_has}
 
 -- ---- lists
 

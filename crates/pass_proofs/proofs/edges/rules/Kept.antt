@@ -3,7 +3,7 @@ use Rattle.std.proofs.Common.{ℕ, None, true, ◌≡◌, List}
 use Rattle.std.specs.Prelude.{◌↔◌}
 use Rattle.pass_proofs.specs.edges.paths.Spots.{moved}
 use Rattle.rule_shape.specs.Switches.{wrong_switch}
-use Rattle.ir_laws.proofs.rules.source_rules.Locals.{own_label}
+use Rattle.rule_laws.proofs.rules.source_rules.Locals.{own_label}
 use Rattle.ir_laws.specs.paths.threads.Labels.{HasNamedLabels}
 use Rattle.pass_proofs.specs.edges.paths.Phis.{AreLabelsOnce}
 use Rattle.pass_proofs.proofs.edges.rules.Alive.{alive_stays}
@@ -17,17 +17,17 @@ use Rattle.pass_proofs.proofs.edges.rules.Suspends.{own_returns}
 use Rattle.pass_proofs.proofs.edges.rules.Uses.{uses_kept}
 use Rattle.pass_proofs.specs.edges.rules.Phis.{ArePhisEnteredByJumps}
 use Rattle.pass_proofs.specs.edges.rules.Returns.{HaveOwnBlocks}
-use Rattle.ir_laws.specs.frames.rows.Returns.{HaveOwnReturns}
+use Rattle.rule_laws.specs.frames.rows.Returns.{HaveOwnReturns}
 use Rattle.pass_edges.specs.EdgeBlocks.{with_edge_blocks}
-use Rattle.ir_laws.proofs.rules.known_labels.Known.{labels_known}
+use Rattle.rule_laws.proofs.rules.known_labels.Known.{labels_known}
 use Rattle.pass_proofs.proofs.edges.sources.Rules.{rules_kept as keeps_edges}
-use Rattle.ir_laws.specs.rules.function_rules.Kept.{KeepsFunctionRules}
+use Rattle.rule_laws.specs.rules.function_rules.Kept.{KeepsFunctionRules}
 use Rattle.ir_model.specs.declared.module.Function.{Function}
 use Rattle.ir_model.specs.declared.module.Module.{Module}
 use Rattle.ir_paths.specs.declared.point.Point.{Point}
 use Rattle.frame_classes.specs.Alive.{MayBeAlive}
 use Rattle.frame_crossing.specs.Crossing.{AreCrossing}
-use Rattle.ir_laws.specs.rules.woven_rules.Pairs.{AreIncomingOnce}
+use Rattle.rule_laws.specs.rules.woven_rules.Pairs.{AreIncomingOnce}
 
 module _ (m : Module) (func : ℕ) (f : Function) (rules : KeepsFunctionRules m func f) where
   named : HasNamedLabels f

@@ -3,7 +3,7 @@ use Rattle.std.proofs.Common.{Bool, List, None, Option, Some, [], ap, arith, fal
 use Rattle.std.proofs.lemmas.Bool.{cases_lt}
 use Rattle.std.specs.List.{cons_option, list_all, list_any}
 use Rattle.std.specs.Prelude.{filter_map, slice_get}
-use Rattle.ir_laws.proofs.rules.local_rules.Defined.{label_defined}
+use Rattle.rule_laws.proofs.rules.local_rules.Defined.{label_defined}
 use Rattle.ir_laws.proofs.facts.Truth.{and_both, and_first, and_second}
 use Rattle.pass_proofs.proofs.edges.paths.Blocks.{number, spot}
 use Rattle.pass_proofs.proofs.edges.paths.Edges.{edges_of_block}
@@ -14,7 +14,7 @@ use Rattle.pass_proofs.proofs.edges.rules.Homes.{IsTarget, edge_target, edge_the
 use Rattle.pass_edges.specs.EdgeBlocks.{edge_block, incoming_on, incoming_with, operand_from, split_blocks, with_edge_blocks}
 use Rattle.pass_edges.specs.Edges.{block_edges, edges_at, edges_by, edges_of, phi_flags}
 use Rattle.pass_edges.specs.declared.edge.Edge.{Edge}
-use Rattle.ir_laws.proofs.rules.known_labels.Rules.{labels_spelt}
+use Rattle.rule_laws.proofs.rules.known_labels.Rules.{labels_spelt}
 use Rattle.ir_laws.proofs.facts.known_labels.Rules.{all_at}
 use Rattle.flow_solver.specs.Paths.{IsListed}
 use Rattle.ir_parts.specs.Contents.{ending_labels}

@@ -3,14 +3,14 @@ use Rattle.std.proofs.Common.{Bool, List, None, Option, Some, [], ap, false, len
 use Rattle.std.specs.List.{list_all}
 use Rattle.std.specs.Prelude.{filter_map, slice_get}
 use Rattle.ir_base.specs.declared.outcome.Place.{Place}
-use Rattle.ir_laws.proofs.rules.renamed.Switches.{none_part}
+use Rattle.rule_laws.proofs.rules.renamed.Switches.{none_part}
 use Rattle.ir_laws.proofs.facts.Truth.{and_both, and_first, and_second, holds}
-use Rattle.ir_laws.specs.rules.local_rules.Local.{BreaksNoLocalRuleIn}
-use Rattle.ir_laws.proofs.rules.path_rules.Holding.{of_parts}
+use Rattle.rule_laws.specs.rules.local_rules.Local.{BreaksNoLocalRuleIn}
+use Rattle.rule_laws.proofs.rules.path_rules.Holding.{of_parts}
 use Rattle.pass_proofs.proofs.edges.paths.Blocks.{own_number}
 use Rattle.ir_laws.specs.paths.threads.Labels.{HasLabelsBelow, HasNamedLabels}
 use Rattle.pass_proofs.specs.edges.paths.Spots.{table_of}
-use Rattle.ir_laws.proofs.rules.rows.Carried.{AreAlikePlaced}
+use Rattle.rule_laws.proofs.rules.rows.Carried.{AreAlikePlaced}
 use Rattle.pass_proofs.proofs.edges.rules.Carried.{Carries, carried, on_instrs}
 use Rattle.pass_proofs.proofs.edges.rules.Homes.{own_block}
 use Rattle.pass_proofs.proofs.edges.rules.Labels.{edge_target_known, incoming_known, targets_known}
@@ -22,7 +22,7 @@ use Rattle.pass_edges.specs.Edges.{edges_at, ends_in_suspend, phi_flags}
 use Rattle.pass_edges.specs.declared.edge.Edge.{Edge}
 use Rattle.ir_parts.specs.Contents.{ending_labels, ending_operands, ending_types, part_labels, part_operands, part_types}
 use Rattle.ir_parts.specs.Parts.{Ending, Head, OfInstr, OfPhi, first_part, parts_of}
-use Rattle.ir_laws.proofs.rules.function_rules.Depths.{plain_part, types_fit}
+use Rattle.rule_laws.proofs.rules.function_rules.Depths.{plain_part, types_fit}
 use Rattle.ir_model.specs.Ty.{Ty}
 use Rattle.ir_model.specs.declared.instr.Incoming.{Incoming}
 use Rattle.ir_model.specs.declared.instr.Instr.{Instr}

@@ -1,12 +1,12 @@
 -- The locals that the function defines whose edges have blocks are apart, and positions of its table of names (rule N1).
 use Rattle.std.proofs.Common.{Bool, List, None, [], ap, arith, length, length-append, map, refl, subst, suc, sym, ℕ, ⊎_elim, ◌++◌, ◌+◌, ◌<◌, ◌∷◌, ◌≡◌, ◌≤◌}
 use Rattle.rule_uses.specs.Undefined.{params_of}
-use Rattle.ir_laws.proofs.rules.local_rules.Names.{numbers}
-use Rattle.ir_laws.proofs.rules.local_rules.Woven.{Ends, New, Woven, apart_names, apart_woven, joined_woven, listed_woven, none_twice, same_woven}
+use Rattle.rule_laws.proofs.rules.local_rules.Names.{numbers}
+use Rattle.rule_laws.proofs.rules.local_rules.Woven.{Ends, New, Woven, apart_names, apart_woven, joined_woven, listed_woven, none_twice, same_woven}
 use Rattle.ir_laws.proofs.paths.source_rules.Locals.{Apart}
-use Rattle.ir_laws.proofs.rules.source_rules.Locals.{block_names, made_by, names_are}
+use Rattle.rule_laws.proofs.rules.source_rules.Locals.{block_names, made_by, names_are}
 use Rattle.ir_laws.proofs.facts.Lists.{phi_names, row_of}
-use Rattle.ir_laws.specs.rules.source_rules.Named.{HasTabledLocals}
+use Rattle.rule_laws.specs.rules.source_rules.Named.{HasTabledLocals}
 use Rattle.pass_proofs.proofs.edges.paths.Legs.{AreNumbered, term_numbered}
 use Rattle.pass_proofs.specs.edges.paths.Spots.{behind_edges, table_of}
 use Rattle.pass_edges.specs.EdgeBlocks.{edge_block, edge_names, split_block, split_blocks, split_phi, with_edge_blocks}
@@ -15,7 +15,7 @@ use Rattle.pass_edges.specs.declared.edge.Edge.{Edge}
 use Rattle.pass_proofs.proofs.edges.states.Parts.{names_length}
 use Rattle.flow_solver.specs.Paths.{IsListed}
 use Rattle.ir_parts.specs.Locals.{locals_of}
-use Rattle.ir_laws.proofs.rules.function_rules.Tabled.{numbers_below, tabled_by}
+use Rattle.rule_laws.proofs.rules.function_rules.Tabled.{numbers_below, tabled_by}
 use Rattle.ir_model.specs.declared.instr.Phi.{Phi}
 use Rattle.ir_model.specs.declared.module.Block.{Block}
 use Rattle.ir_model.specs.declared.module.Function.{Function}

@@ -1,7 +1,7 @@
 -- What is noted beside values stays where edges have blocks: their kinds, and the sizes of slots.
 use Rattle.std.proofs.Common.{Bool, List, None, Option, [], ap, length, map, refl, sym, ℕ, ◌++◌, ◌∙◌, ◌∷◌, ◌≡◌}
 use Rattle.std.specs.Prelude.{is_some}
-use Rattle.ir_laws.proofs.rules.local_rules.Defined.{value_defined}
+use Rattle.rule_laws.proofs.rules.local_rules.Defined.{value_defined}
 use Rattle.pass_proofs.specs.edges.paths.Spots.{behind_edges, table_of}
 use Rattle.pass_edges.specs.EdgeBlocks.{edge_block, split_block, split_blocks, split_phi, with_edge_blocks}
 use Rattle.pass_edges.specs.Edges.{block_edges, edges_at, phi_flags}

@@ -14,8 +14,8 @@ use Rattle.pass_proofs.proofs.edges.rules.Returns.{have_own_blocks}
 use Rattle.ir_laws.proofs.paths.rows.Rows.{in_row_of, row_different}
 use Rattle.pass_proofs.proofs.edges.rules.Switched.{both_split, switched}
 use Rattle.ir_laws.specs.paths.rows.Returns.{AreOwnAndDifferent, IsOwnBlock, LeadsFrom}
-use Rattle.ir_laws.specs.frames.rows.Returns.{HaveOwnReturns, return_labels}
-use Rattle.ir_laws.specs.rules.rows.Returns.{IsSwitched}
+use Rattle.rule_laws.specs.frames.rows.Returns.{HaveOwnReturns, return_labels}
+use Rattle.rule_laws.specs.rules.rows.Returns.{IsSwitched}
 use Rattle.pass_edges.specs.EdgeBlocks.{split_cases, split_label, split_term, with_edge_blocks}
 use Rattle.pass_edges.specs.Edges.{after_edge, ends_in_suspend, is_suspend, is_suspend_at, phi_flags}
 use Rattle.flow_solver.specs.Paths.{IsListed}

@@ -3,13 +3,13 @@ use Rattle.std.proofs.Common.{Bool, List, None, Option, Some, [], ap, arith, fal
 use Rattle.std.specs.Prelude.{slice_get}
 use Rattle.rule_shape.specs.Places.{is_the}
 use Rattle.rule_shape.specs.Switches.{are_both, breaks_switch, end_label, is_last, is_switch_on, is_switched, is_switched_in, wrong_switch}
-use Rattle.ir_laws.proofs.rules.renamed.Switches.{none_part}
+use Rattle.rule_laws.proofs.rules.renamed.Switches.{none_part}
 use Rattle.ir_laws.proofs.facts.Truth.{and_first, and_second, holds}
-use Rattle.ir_laws.proofs.rules.path_rules.Holding.{of_parts}
+use Rattle.rule_laws.proofs.rules.path_rules.Holding.{of_parts}
 use Rattle.pass_proofs.proofs.edges.paths.Blocks.{own_number}
 use Rattle.pass_proofs.proofs.edges.rules.Homes.{IsEdge, IsOwn, home, own_block}
 use Rattle.pass_proofs.specs.edges.rules.Returns.{AreSwitched}
-use Rattle.ir_laws.specs.rules.rows.Returns.{IsSwitched}
+use Rattle.rule_laws.specs.rules.rows.Returns.{IsSwitched}
 use Rattle.pass_edges.specs.EdgeBlocks.{edge_block, split_cases, split_label, split_term, with_edge_blocks}
 use Rattle.pass_edges.specs.Edges.{after_edge, ends_in_suspend, is_suspend, phi_flags}
 use Rattle.ir_parts.specs.Parts.{first_part, instr_place, parts_of}

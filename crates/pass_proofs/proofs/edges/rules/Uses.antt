@@ -6,9 +6,9 @@ use Rattle.ir_base.specs.declared.outcome.Place.{Place}
 use Rattle.rule_uses.specs.Undefined.{Entry, IsFirstUndefined, IsUndefined, Next, ReachesWithout}
 use Rattle.rule_uses.specs.Uses.{Use, block_uses, block_values, blocks_uses, incoming_use, incoming_uses, instr_uses, local_of, locals_in, made_by_instrs, made_by_phis, phi_uses, phi_values, use_of, uses_at, uses_of, values_at, values_in}
 use Rattle.ir_laws.proofs.facts.Members.{each_behind, at_each as each_at}
-use Rattle.ir_laws.proofs.rules.renamed.Outside.{each_left, each_right}
-use Rattle.ir_laws.proofs.rules.renamed.Uses.{AreOfBlock, none_undefined, of_block, three_kinds}
-use Rattle.ir_laws.proofs.rules.path_rules.SavedUses.{all_defined}
+use Rattle.rule_laws.proofs.rules.renamed.Outside.{each_left, each_right}
+use Rattle.rule_laws.proofs.rules.renamed.Uses.{AreOfBlock, none_undefined, of_block, three_kinds}
+use Rattle.rule_laws.proofs.rules.path_rules.SavedUses.{all_defined}
 use Rattle.pass_proofs.proofs.edges.paths.Blocks.{own_number, position_edge, position_moved, spot}
 use Rattle.pass_proofs.proofs.edges.paths.Edges.{edges_of_block}
 use Rattle.ir_laws.specs.paths.threads.Labels.{HasLabelsBelow, HasNamedLabels}

@@ -6,8 +6,8 @@ use Rattle.rule_shape.specs.Switches.{end_label, wrong_switch}
 use Rattle.rule_shape.specs.Uses.{uses_of}
 use Rattle.ir_laws.proofs.facts.Truth.{equal_numbers, and_first, and_second}
 use Rattle.ir_laws.specs.facts.renamed.Regular.{passes}
-use Rattle.ir_laws.proofs.rules.source_rules.Ends.{end_first}
-use Rattle.ir_laws.proofs.rules.source_rules.Locals.{own_label}
+use Rattle.rule_laws.proofs.rules.source_rules.Ends.{end_first}
+use Rattle.rule_laws.proofs.rules.source_rules.Locals.{own_label}
 use Rattle.pass_proofs.proofs.edges.paths.Tables.{flag_at}
 use Rattle.ir_laws.specs.paths.threads.Labels.{HasNamedLabels}
 use Rattle.pass_proofs.specs.edges.paths.Phis.{AreLabelsOnce}
@@ -15,8 +15,8 @@ use Rattle.pass_proofs.specs.edges.paths.Spots.{table_of}
 use Rattle.pass_edges.specs.EdgeBlocks.{with_edge_blocks}
 use Rattle.pass_edges.specs.Edges.{has_phis, phi_flags}
 use Rattle.pass_proofs.proofs.edges.shape.Unsplit.{IsUnsplit, Unflagged, same_blocks}
-use Rattle.ir_laws.proofs.rules.known_labels.Known.{labels_known}
-use Rattle.ir_laws.specs.rules.function_rules.Kept.{KeepsFunctionRules}
+use Rattle.rule_laws.proofs.rules.known_labels.Known.{labels_known}
+use Rattle.rule_laws.specs.rules.function_rules.Kept.{KeepsFunctionRules}
 use Rattle.ir_model.specs.Calls.{first_result}
 use Rattle.ir_model.specs.declared.instr.Instr.{Instr}
 use Rattle.ir_model.specs.declared.module.Block.{Block}
@@ -27,11 +27,11 @@ use Rattle.ir_model.specs.declared.operand.Intrinsic.{Intrinsic}
 use Rattle.ir_paths.specs.Windows.{end_block, instr_in, is_call_of}
 use Rattle.run_laws.specs.changed.Changed.{Each}
 use Rattle.ir_laws.proofs.facts.Members.{each_turns}
-use Rattle.ir_laws.proofs.rules.woven_shape.Found.{made, not_begin, result_made}
-use Rattle.ir_laws.proofs.rules.woven_shape.Gathered.{to_row}
-use Rattle.ir_laws.proofs.rules.woven_shape.OneOfEach.{IsRight, all_right, wrong_call_same}
-use Rattle.ir_laws.proofs.rules.woven_shape.Switches.{IsFine, all_fine, is_fine, leads_to, wrong_switch_same}
-use Rattle.ir_laws.specs.rules.woven_shape.Calls.{calls_in, is_suspend_call, shaping_calls, ShapingCall}
+use Rattle.rule_laws.proofs.rules.woven_shape.Found.{made, not_begin, result_made}
+use Rattle.rule_laws.proofs.rules.woven_shape.Gathered.{to_row}
+use Rattle.rule_laws.proofs.rules.woven_shape.OneOfEach.{IsRight, all_right, wrong_call_same}
+use Rattle.rule_laws.proofs.rules.woven_shape.Switches.{IsFine, all_fine, is_fine, leads_to, wrong_switch_same}
+use Rattle.rule_laws.specs.rules.woven_shape.Calls.{calls_in, is_suspend_call, shaping_calls, ShapingCall}
 use Rattle.pass_proofs.proofs.edges.shape.Uses.{IsNamed, all_named, blocks_same, ends_total, no_phi}
 use Rattle.flow_solver.specs.Paths.{IsListed}
 use Rattle.ir_laws.proofs.paths.woven_rules.Unbroken.{of_listed}

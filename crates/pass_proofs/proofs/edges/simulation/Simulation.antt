@@ -30,7 +30,7 @@ use Rattle.run_step.specs.Step.{action_of, fetch, first_world, global_block}
 use Rattle.run_step.specs.Values.{access_of, stored}
 use Rattle.run_step.specs.declared.world.World.{World}
 use Rattle.run_states.proofs.sound_states.Steps.{first_sound, source_step_sound}
-use Rattle.pass_early_proof.specs.early_states.Beside.{source_machine}
+use Rattle.pass_proofs.specs.early.early_states.Beside.{source_machine}
 use Rattle.ir_laws.specs.facts.sound_states.Named.{AreLocalsNamed}
 use Rattle.run_states.specs.sound_states.Sound.{IsSound}
 use Rattle.run_source_tables.specs.Given.{Given}

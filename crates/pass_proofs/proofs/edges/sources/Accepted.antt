@@ -6,22 +6,22 @@ use Rattle.run_agreement.specs.Agreements.{AgreesWithin}
 use Rattle.run_agreement.specs.Machines.{Seen}
 use Rattle.ir_base.specs.declared.outcome.Word.{Word}
 use Rattle.run_source.specs.Source.{SourceAt}
-use Rattle.pass_early_proof.proofs.renaming.Composition.{early_in_turn}
-use Rattle.pass_early_proof.specs.renaming.Passes.{named_module, renamed_module}
-use Rattle.pass_early_proof.proofs.local_rules.Names.{early_once}
+use Rattle.pass_proofs.proofs.early.renaming.Composition.{early_in_turn}
+use Rattle.pass_proofs.specs.early.renaming.Passes.{named_module, renamed_module}
+use Rattle.pass_proofs.proofs.early.local_rules.Names.{early_once}
 use Rattle.pass_early.specs.BeginName.{with_begin_name}
 use Rattle.pass_early.specs.Early.{early_function, early_module, early_named, renaming_of}
-use Rattle.pass_early_proof.proofs.meaning.Names.{named_locals, renamed_locals}
-use Rattle.pass_early_proof.proofs.path_rules.Passes.{early_shape}
-use Rattle.pass_early_proof.proofs.path_rules.RenamedOperands.{map_was}
-use Rattle.ir_laws.specs.rules.path_rules.Shape.{KeepsShape}
-use Rattle.ir_laws.proofs.rules.source_rules.Order.{IsUnbroken, unbroken}
-use Rattle.ir_laws.specs.rules.source_rules.Named.{HasTabledLocals}
-use Rattle.pass_early_proof.proofs.sources.Accepted.{accepted_agree}
-use Rattle.ir_laws.proofs.rules.sources.Tables.{all_tabled}
+use Rattle.pass_proofs.proofs.early.meaning.Names.{named_locals, renamed_locals}
+use Rattle.pass_proofs.proofs.early.path_rules.Passes.{early_shape}
+use Rattle.pass_proofs.proofs.early.path_rules.RenamedOperands.{map_was}
+use Rattle.rule_laws.specs.rules.path_rules.Shape.{KeepsShape}
+use Rattle.rule_laws.proofs.rules.source_rules.Order.{IsUnbroken, unbroken}
+use Rattle.rule_laws.specs.rules.source_rules.Named.{HasTabledLocals}
+use Rattle.pass_proofs.proofs.early.sources.Accepted.{accepted_agree}
+use Rattle.rule_laws.proofs.rules.sources.Tables.{all_tabled}
 use Rattle.ir_laws.specs.paths.threads.Labels.{HasNamedLabels}
 use Rattle.pass_proofs.proofs.edges.simulation.Simulation.{edges_agree}
-use Rattle.pass_early_proof.proofs.labels.Labels.{labels_early, labels_named, text_labels}
+use Rattle.pass_proofs.proofs.early.labels.Labels.{labels_early, labels_named, text_labels}
 use Rattle.pass_proofs.proofs.edges.sources.Rules.{rules_kept}
 use Rattle.pass_proofs.specs.edges.states.MovedState.{AreEdgesKept, Keeps, edges_split}
 use Rattle.rule_all.specs.Refused.{IsRefused}
@@ -33,8 +33,8 @@ use Rattle.ir_model.specs.declared.module.Function.{Function}
 use Rattle.ir_model.specs.declared.module.Module.{Module}
 use Rattle.ir_model.specs.declared.operand.Intrinsic.{Intrinsic}
 use Rattle.rule_names.specs.declared.stage.Stage.{Stage}
-use Rattle.ir_laws.proofs.texts.named_texts.Placed.{locals_named, uses_named}
-use Rattle.pass_early_proof.proofs.save_simulation.Tables.{locals_stay_named}
+use Rattle.rule_laws.proofs.texts.named_texts.Placed.{locals_named, uses_named}
+use Rattle.pass_proofs.proofs.early.save_simulation.Tables.{locals_stay_named}
 use Rattle.ir_laws.specs.facts.sound_states.Named.{AreLocalsNamed}
 
 -- ---- functions

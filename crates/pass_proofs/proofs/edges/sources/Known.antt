@@ -1,10 +1,10 @@
 -- Lemmas on known.
 use Rattle.std.proofs.Common.{◌≡◌, ℕ, ◌+◌, [], refl, ap, ◌∙◌, subst, arith}
 use Rattle.std.specs.Prelude.{Some, None, Option, slice_get, unwrap_or}
-use Rattle.ir_laws.proofs.rules.local_rules.Rules.{second_out}
-use Rattle.ir_laws.specs.rules.local_rules.Local.{BreaksNoLocalRule}
-use Rattle.ir_laws.specs.rules.path_rules.Shape.{KeepsShape}
-use Rattle.ir_laws.specs.rules.source_rules.Named.{AreTabled, HasTabledLocals}
+use Rattle.rule_laws.proofs.rules.local_rules.Rules.{second_out}
+use Rattle.rule_laws.specs.rules.local_rules.Local.{BreaksNoLocalRule}
+use Rattle.rule_laws.specs.rules.path_rules.Shape.{KeepsShape}
+use Rattle.rule_laws.specs.rules.source_rules.Named.{AreTabled, HasTabledLocals}
 use Rattle.pass_proofs.proofs.edges.sources.Rules.{rules_kept}
 use Rattle.pass_proofs.specs.edges.states.MovedState.{AreEdgesKept, Keeps}
 use Rattle.ir_parts.specs.Locals.{locals_of}
@@ -16,7 +16,7 @@ use Rattle.rule_names.specs.Definitions.{first_second, first_twice, is_second_fu
 use Rattle.rule_names.specs.Items.{first_item}
 use Rattle.rule_names.specs.Known.{first_unknown, unknown_names}
 use Rattle.ir_base.specs.declared.outcome.Item.{Item}
-use Rattle.ir_laws.proofs.rules.known_labels.Known.{functions_hold, labels_known}
+use Rattle.rule_laws.proofs.rules.known_labels.Known.{functions_hold, labels_known}
 
 module _ (m : Module) (tabled : AreTabled m) (local : BreaksNoLocalRule m) (shape : (k : ℕ) (f : Function) → slice_get m.functions k ≡ Some f → KeepsShape k f) where
   once_there : (k : ℕ) (f : Function) → slice_get m.functions k ≡ Some f → first_twice [] (locals_of k f) ≡ None

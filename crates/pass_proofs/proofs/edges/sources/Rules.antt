@@ -5,10 +5,10 @@ use Rattle.std.specs.Prelude.{ℤ, pos, negsuc, Some, None, Option, filter, map,
 use Rattle.ir_base.specs.declared.outcome.Place.{Place}
 use Rattle.rule_shape.specs.Switches.{breaks_switch, end_label, is_last, is_switch_on, is_switched, is_switched_in, wrong_switch}
 use Rattle.ir_laws.proofs.facts.Truth.{equal_numbers, itself, both_true, holds, was_not as fails}
-use Rattle.ir_laws.proofs.rules.renamed.Switches.{none_part}
+use Rattle.rule_laws.proofs.rules.renamed.Switches.{none_part}
 use Rattle.ir_laws.proofs.paths.renamed.Uses.{stands_in}
-use Rattle.ir_laws.proofs.rules.path_rules.Holding.{of_parts}
-use Rattle.ir_laws.proofs.rules.source_rules.Locals.{own_label}
+use Rattle.rule_laws.proofs.rules.path_rules.Holding.{of_parts}
+use Rattle.rule_laws.proofs.rules.source_rules.Locals.{own_label}
 use Rattle.ir_laws.specs.paths.threads.Labels.{HasNamedLabels}
 use Rattle.pass_proofs.specs.edges.paths.Phis.{ArePhisForEdges, ComesFrom, IsForEdge}
 use Rattle.pass_edges.specs.EdgeBlocks.{operand_from}
@@ -28,7 +28,7 @@ use Rattle.rule_names.specs.Definitions.{first_twice}
 use Rattle.run_step.proofs.Tables.{same_name-same}
 use Rattle.run_laws.specs.changed.Changed.{Each}
 use Rattle.ir_laws.proofs.facts.known_labels.Rules.{all_at, each_there, none_at}
-use Rattle.ir_laws.proofs.rules.known_labels.Rules.{is_switch, labels_spelt}
+use Rattle.rule_laws.proofs.rules.known_labels.Rules.{is_switch, labels_spelt}
 
 -- ---- operands that are written the same are the same
 

@@ -7,12 +7,12 @@ use Rattle.run_agreement.specs.Machines.{Machine}
 use Rattle.ir_base.specs.declared.outcome.Word.{Word}
 use Rattle.run_source.specs.declared.state.State.{State}
 use Rattle.pass_early.specs.Early.{early_module}
-use Rattle.pass_early_proof.proofs.early_states.Composition.{early_corresponds}
+use Rattle.pass_proofs.proofs.early.early_states.Composition.{early_corresponds}
 use Rattle.run_states.proofs.early_states.Scaled.{scale_by}
-use Rattle.pass_early_proof.specs.early_states.Beside.{IsEarlyOf, IsNearlyEarlyOf, source_machine}
-use Rattle.pass_early_proof.proofs.source_rules.Accepted.{all_named_keep}
-use Rattle.ir_laws.proofs.rules.sources.Tables.{all_tabled}
-use Rattle.ir_laws.proofs.texts.named_texts.Placed.{locals_named, uses_named}
+use Rattle.pass_proofs.specs.early.early_states.Beside.{IsEarlyOf, IsNearlyEarlyOf, source_machine}
+use Rattle.pass_proofs.proofs.early.source_rules.Accepted.{all_named_keep}
+use Rattle.rule_laws.proofs.rules.sources.Tables.{all_tabled}
+use Rattle.rule_laws.proofs.texts.named_texts.Placed.{locals_named, uses_named}
 use Rattle.pass_proofs.proofs.edges.simulation.Simulation.{edges_correspond}
 use Rattle.pass_proofs.proofs.edges.sources.Accepted.{accepted_kept, locals_now}
 use Rattle.pass_proofs.specs.edges.simulation.Beside.{IsEarlySplitOf, IsNearlyEarlySplitOf, IsNearlySplitOf, IsSplitOf}

@@ -15,7 +15,7 @@ use Rattle.ir_model.specs.declared.module.Function.{Function}
 use Rattle.ir_paths.specs.Windows.{instr_at, instr_in}
 use Rattle.ir_paths.specs.declared.point.Point.{Point}
 use Rattle.ir_laws.proofs.paths.unused.Standing.{stands_at}
-use Rattle.ir_laws.specs.rules.unused.Unused.{AreFramesUnused, is_other, names_value}
+use Rattle.rule_laws.specs.rules.unused.Unused.{AreFramesUnused, is_other, names_value}
 use Rattle.pass_proofs.proofs.edges.rules.Carried as edges
 use Rattle.pass_proofs.proofs.edges.rules.Operands as operands
 

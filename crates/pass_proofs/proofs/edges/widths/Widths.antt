@@ -1,8 +1,8 @@
 -- Lemmas on widths.
 use Rattle.std.proofs.Common.{◌≡◌, ℕ, refl}
 use Rattle.std.specs.Prelude.{None}
-use Rattle.ir_laws.specs.rules.counted.Widths.{first_other_width, is_of_other_width}
-use Rattle.pass_early_proof.proofs.local_rules.Known.{ending_types_same}
+use Rattle.rule_laws.specs.rules.counted.Widths.{first_other_width, is_of_other_width}
+use Rattle.pass_proofs.proofs.early.local_rules.Known.{ending_types_same}
 use Rattle.pass_proofs.proofs.edges.rules.Homes.{own_block}
 use Rattle.pass_edges.specs.EdgeBlocks.{with_edge_blocks}
 use Rattle.pass_edges.specs.Edges.{ends_in_suspend, phi_flags}

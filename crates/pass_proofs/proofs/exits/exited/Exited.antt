@@ -9,7 +9,7 @@ use Rattle.ir_model.specs.declared.module.Function.{Function}
 use Rattle.ir_model.specs.declared.module.Module.{Module}
 use Rattle.ir_model.specs.declared.module.Param.{Param}
 use Rattle.rule_names.specs.Reserved.{part_name}
-use Rattle.ir_laws.specs.frames.same_names.Parts.{HasPart, HasPartsOf, HasSignature}
+use Rattle.rule_laws.specs.frames.same_names.Parts.{HasPart, HasPartsOf, HasSignature}
 use Rattle.pass_exits.specs.ExitBlocks.{with_exit_blocks}
 
 abbrev pub exited : Function → Function

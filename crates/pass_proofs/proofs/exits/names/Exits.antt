@@ -11,9 +11,9 @@ use Rattle.pass_exits.specs.ExitBlocks.{exit_name, exit_names}
 use Rattle.pass_exits.specs.declared.exit.Exit.{Exit}
 use Rattle.run_laws.specs.changed.Changed.{Each}
 use Rattle.ir_laws.proofs.facts.Lists.{AreDifferent, IsNone}
-use Rattle.ir_laws.proofs.rules.names_apart.Numbered.{text_in}
-use Rattle.ir_laws.proofs.rules.names_apart.Words.{AreNew}
-use Rattle.ir_laws.specs.rules.names_apart.Words.{begins_with_one}
+use Rattle.rule_laws.proofs.rules.names_apart.Numbered.{text_in}
+use Rattle.rule_laws.proofs.rules.names_apart.Words.{AreNew}
+use Rattle.rule_laws.specs.rules.names_apart.Words.{begins_with_one}
 
 -- ---- a number's text has no dot
 

@@ -1,6 +1,6 @@
 -- Lemmas on edges.
 use Rattle.std.proofs.Common.{◌≡◌, ℕ, ◌+◌, List, [], ◌∷◌, ◌++◌, length, refl, ◌∙◌, arith}
-use Rattle.ir_laws.proofs.frames.suspend_counts.Counted.{as_many, count, total}
+use Rattle.rule_laws.proofs.frames.suspend_counts.Counted.{as_many, count, total}
 use Rattle.pass_intrinsics.specs.Shapes.{suspends_of}
 use Rattle.ir_model.specs.declared.module.Block.{Block}
 use Rattle.ir_model.specs.declared.module.Function.{Function}

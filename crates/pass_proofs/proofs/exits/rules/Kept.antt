@@ -2,20 +2,20 @@
 use Rattle.std.proofs.Common.{◌≡◌, ⊎_elim, ℕ, [], Some, sym, ap, ◌∙◌}
 use Rattle.std.specs.Prelude.{slice_get}
 use Rattle.pass_proofs.specs.edges.rules.Phis.{ArePhisEnteredByJumps}
-use Rattle.ir_laws.specs.rules.function_rules.Kept.{KeepsFunctionRules}
+use Rattle.rule_laws.specs.rules.function_rules.Kept.{KeepsFunctionRules}
 use Rattle.ir_model.specs.declared.module.Block.{Block}
 use Rattle.ir_model.specs.declared.module.Function.{Function}
 use Rattle.ir_model.specs.declared.module.Module.{Module}
-use Rattle.ir_laws.specs.rules.replaced.Splittable.{AreBlocksBegun}
+use Rattle.rule_laws.specs.rules.replaced.Splittable.{AreBlocksBegun}
 use Rattle.pass_exits.specs.ExitBlocks.{with_exit_blocks}
-use Rattle.ir_laws.specs.rules.woven_rules.Pairs.{AreIncomingOnce}
-use Rattle.ir_laws.proofs.rules.threaded.Labels.{incoming_there}
+use Rattle.rule_laws.specs.rules.woven_rules.Pairs.{AreIncomingOnce}
+use Rattle.rule_laws.proofs.rules.threaded.Labels.{incoming_there}
 use Rattle.pass_proofs.proofs.exits.rules.Local.{calls_kept, depths_kept, known_kept, local_kept}
 use Rattle.pass_proofs.proofs.exits.rules.Names.{names_once, names_tabled}
 use Rattle.pass_proofs.proofs.exits.rules.Places.{IsExit, IsOwn, home}
 use Rattle.pass_proofs.proofs.exits.rules.Sources.{edges_kept}
 use Rattle.pass_proofs.proofs.exits.rules.Threaded.{moves, old_position, threaded}
-use Rattle.ir_laws.proofs.rules.threaded.Uses.{ArePhisMoved, begun_kept, uses_kept}
+use Rattle.rule_laws.proofs.rules.threaded.Uses.{ArePhisMoved, begun_kept, uses_kept}
 
 module _ (m : Module) (func : ℕ) (f : Function) (rules : KeepsFunctionRules m func f) (jumps : ArePhisEnteredByJumps f) where
   pub phis_moved : ArePhisMoved f (with_exit_blocks f) (moves f)

@@ -3,19 +3,19 @@ use Rattle.std.proofs.Common.{◌≡◌, ⊎_elim, inl, inr, ℕ, Bool, true, fa
 use Rattle.std.specs.List.{list_all}
 use Rattle.std.specs.Prelude.{slice_get, ◌==◌}
 use Rattle.ir_base.specs.declared.outcome.Place.{Place}
-use Rattle.ir_laws.proofs.rules.local_rules.Defined.{label_defined}
+use Rattle.rule_laws.proofs.rules.local_rules.Defined.{label_defined}
 use Rattle.ir_laws.proofs.facts.Truth.{and_both, and_first, and_second, holds}
-use Rattle.ir_laws.specs.rules.local_rules.Local.{BreaksNoLocalRuleIn}
-use Rattle.ir_laws.proofs.rules.rows.Carried.{AreAlikePlaced}
+use Rattle.rule_laws.specs.rules.local_rules.Local.{BreaksNoLocalRuleIn}
+use Rattle.rule_laws.proofs.rules.rows.Carried.{AreAlikePlaced}
 use Rattle.pass_proofs.proofs.edges.rules.Labels.{any_at, at_all}
 use Rattle.pass_proofs.specs.edges.rules.Phis.{ArePhisEnteredByJumps}
-use Rattle.ir_laws.proofs.rules.known_labels.Rules.{labels_spelt}
+use Rattle.rule_laws.proofs.rules.known_labels.Rules.{labels_spelt}
 use Rattle.flow_solver.proofs.Lists.{listed_at}
 use Rattle.flow_solver.specs.Paths.{IsListed}
 use Rattle.ir_parts.specs.Contents.{ending_labels, ending_operands, ending_types, part_labels, part_operands, part_types}
 use Rattle.ir_parts.specs.Parts.{Ending, Head, OfInstr, OfPhi, first_part, parts_of}
-use Rattle.ir_laws.proofs.rules.function_rules.Depths.{plain_part, types_fit}
-use Rattle.ir_laws.specs.rules.function_rules.Kept.{KeepsFunctionRules}
+use Rattle.rule_laws.proofs.rules.function_rules.Depths.{plain_part, types_fit}
+use Rattle.rule_laws.specs.rules.function_rules.Kept.{KeepsFunctionRules}
 use Rattle.ir_model.specs.Names.{position_of}
 use Rattle.ir_model.specs.declared.instr.Instr.{Instr}
 use Rattle.ir_model.specs.declared.instr.Terminator.{Terminator}
@@ -41,14 +41,14 @@ use Rattle.rule_values.specs.Kinds.{value_kind}
 use Rattle.rule_values.specs.Values.{breaks_values, first_wrong_value}
 use Rattle.rule_values.specs.declared.kinds.Kind.{Kind}
 use Rattle.pass_exits.specs.ExitBlocks.{exit_term, with_exit_blocks}
-use Rattle.ir_laws.proofs.rules.threaded.Carried.{Carries, carried, on_instrs}
-use Rattle.ir_laws.proofs.rules.threaded.Labels.{HasBlock, block_there, ending_known}
+use Rattle.rule_laws.proofs.rules.threaded.Carried.{Carries, carried, on_instrs}
+use Rattle.rule_laws.proofs.rules.threaded.Labels.{HasBlock, block_there, ending_known}
 use Rattle.pass_proofs.proofs.exits.rules.Noted.{kinds_same, sizes_same, values_same}
 use Rattle.pass_proofs.proofs.exits.rules.Operands.{ending_fits, ending_types_same}
 use Rattle.pass_proofs.proofs.exits.rules.Places.{own_number, own_there, spot}
 use Rattle.pass_proofs.proofs.exits.rules.Threaded.{moves, threaded}
 use Rattle.ir_laws.proofs.paths.threaded.Threads.{IsOver, Moves, between, ended}
-use Rattle.ir_laws.proofs.rules.threaded.Threads.{IsThreaded}
+use Rattle.rule_laws.proofs.rules.threaded.Threads.{IsThreaded}
 
 module _ (m : Module) (func : ℕ) (f : Function) (rules : KeepsFunctionRules m func f) (jumps : ArePhisEnteredByJumps f) where
   abbrev g : Function

@@ -1,7 +1,7 @@
 -- What is noted beside values stays when blocks are put on edges that leave windows: their kinds, and the sizes of slots.
 use Rattle.std.proofs.Common.{◌≡◌, ℕ, ◌+◌, List, [], ◌∷◌, ◌++◌, None, Option, length, refl, sym, ap, ◌∙◌}
 use Rattle.std.specs.Prelude.{is_some}
-use Rattle.ir_laws.proofs.rules.local_rules.Defined.{value_defined}
+use Rattle.rule_laws.proofs.rules.local_rules.Defined.{value_defined}
 use Rattle.ir_model.specs.declared.module.Block.{Block}
 use Rattle.ir_model.specs.declared.module.Function.{Function}
 use Rattle.ir_model.specs.declared.module.Module.{Module}

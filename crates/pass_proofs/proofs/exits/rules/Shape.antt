@@ -19,7 +19,7 @@ use Rattle.ir_paths.specs.Windows.{windows_of}
 use Rattle.pass_exits.specs.ExitBlocks.{after_exit, blocks_by, exit_blocks, exit_cases, exit_label, exit_term, with_exit_blocks, with_exits}
 use Rattle.pass_exits.specs.Exits.{block_exits, end_of, mark_from, mark_in, mark_of}
 use Rattle.pass_exits.specs.declared.exit.Exit.{Exit}
-use Rattle.ir_laws.specs.rules.woven_shape.Calls.{call_at, calls_in, calls_of_block, default_on, first_named, is_shaping, joined, leads_block, second_named, shaping_call, shaping_calls, switched_to}
+use Rattle.rule_laws.specs.rules.woven_shape.Calls.{call_at, calls_in, calls_of_block, default_on, first_named, is_shaping, joined, leads_block, second_named, shaping_call, shaping_calls, switched_to}
 use Rattle.pass_proofs.proofs.exits.rules.Operands.{ending_operands_same}
 use Rattle.pass_proofs.proofs.edges.exit_rules.Shape.{suspend_is}
 

@@ -19,7 +19,7 @@ use Rattle.ir_paths.specs.declared.point.Point.{Point}
 use Rattle.ir_paths.specs.declared.point.Window.{Window}
 use Rattle.pass_exits.specs.Exits.{end_of, mark_from, mark_in, mark_of, number_of, or_else}
 use Rattle.ir_laws.proofs.facts.Truth.{first_no as none_first, not_below, second_no as none_second}
-use Rattle.ir_laws.proofs.rules.threaded.Single.{listed_leads}
+use Rattle.rule_laws.proofs.rules.threaded.Single.{listed_leads}
 
 no_mark_by : (x y z : Bool) → (x ≡ true → (y || z) ≡ true) → (x && not y && not z) ≡ false
 no_mark_by true true z h = refl

@@ -1,12 +1,12 @@
 -- With blocks on the edges that leave windows, edges lead over blocks of their own that hold a jump alone.
 use Rattle.std.proofs.Common.{◌≡◌, inl, inr, ⊎_elim, ℕ, suc, ◌+◌, Bool, true, false, List, [], ◌∷◌, None, Some, refl, sym, ap, ◌∙◌, subst}
 use Rattle.std.specs.Prelude.{slice_get}
-use Rattle.ir_laws.proofs.rules.source_rules.Locals.{own_label}
+use Rattle.rule_laws.proofs.rules.source_rules.Locals.{own_label}
 use Rattle.pass_proofs.proofs.edges.rules.EdgeUses.{label_there}
 use Rattle.pass_proofs.specs.edges.rules.Phis.{ArePhisEnteredByJumps}
 use Rattle.pass_edges.specs.Edges.{has_phis}
 use Rattle.flow_solver.specs.Paths.{IsListed}
-use Rattle.ir_laws.specs.rules.function_rules.Kept.{KeepsFunctionRules}
+use Rattle.rule_laws.specs.rules.function_rules.Kept.{KeepsFunctionRules}
 use Rattle.ir_model.specs.Names.{position_of}
 use Rattle.ir_model.specs.declared.instr.Phi.{Phi}
 use Rattle.ir_model.specs.declared.module.Block.{Block}
@@ -17,13 +17,13 @@ use Rattle.pass_exits.specs.ExitBlocks.{exit_block, exit_term, with_exit_blocks}
 use Rattle.pass_exits.specs.Exits.{block_exits, mark_of}
 use Rattle.pass_exits.specs.declared.exit.Exit.{Exit}
 use Rattle.pass_proofs.proofs.exits.rules.Cuts.{Cut, IsMarked, IsTaken, cut_back, cut_forth, cut_targets, taken}
-use Rattle.ir_laws.proofs.rules.threaded.Labels.{HasBlock, target_there}
+use Rattle.rule_laws.proofs.rules.threaded.Labels.{HasBlock, target_there}
 use Rattle.pass_proofs.proofs.exits.rules.Names.{names_once}
 use Rattle.pass_proofs.proofs.exits.rules.Operands.{ending_operands_same}
 use Rattle.pass_proofs.proofs.exits.rules.Places.{IsExit, IsOwn, exit_spots, exit_there, home, none_there, own_number, own_there, spot, spots_apart, spots_no_exit}
 use Rattle.pass_proofs.proofs.exits.rules.Single.{phis_unmarked}
 use Rattle.ir_laws.proofs.paths.threaded.Threads.{IsBlockOver, IsOver, IsWay, LeadsBack, LeadsForth, Moves, between}
-use Rattle.ir_laws.proofs.rules.threaded.Threads.{IsThreaded}
+use Rattle.rule_laws.proofs.rules.threaded.Threads.{IsThreaded}
 
 abbrev pub moves : Function → Moves
 moves f = record { spot = spot f; term = λ k b. exit_term f k (own_number f k) b.term }

@@ -5,7 +5,7 @@ use Rattle.frame_layout.specs.declared.layout.Layout.{Layout}
 use Rattle.pass_intrinsics.specs.Shapes.{shape_of}
 use Rattle.pass_intrinsics.specs.declared.shape.SuspendPoint.{SuspendPoint}
 use Rattle.ir_model.specs.declared.module.Function.{Function}
-use Rattle.ir_laws.specs.frames.replaced.Parted.{IsSmall}
+use Rattle.rule_laws.specs.frames.replaced.Parted.{IsSmall}
 use Rattle.pass_exits.specs.ExitBlocks.{with_exit_blocks}
 use Rattle.pass_proofs.proofs.exits.rules.Suspends.{same_suspends}
 

@@ -6,9 +6,9 @@ use Rattle.ir_model.specs.Calls.{first_result}
 use Rattle.ir_model.specs.declared.module.Function.{Function}
 use Rattle.ir_model.specs.declared.operand.Intrinsic.{Intrinsic}
 use Rattle.pass_exits.specs.ExitBlocks.{with_exit_blocks}
-use Rattle.ir_laws.proofs.rules.woven_shape.Found.{made, not_begin, result_made}
-use Rattle.ir_laws.proofs.rules.woven_shape.OneOfEach.{wrong_call_same}
-use Rattle.ir_laws.proofs.rules.woven_shape.Switches.{wrong_switch_same}
+use Rattle.rule_laws.proofs.rules.woven_shape.Found.{made, not_begin, result_made}
+use Rattle.rule_laws.proofs.rules.woven_shape.OneOfEach.{wrong_call_same}
+use Rattle.rule_laws.proofs.rules.woven_shape.Switches.{wrong_switch_same}
 use Rattle.pass_proofs.proofs.exits.rules.Shape.{same_calls, same_uses}
 
 -- ---- calls

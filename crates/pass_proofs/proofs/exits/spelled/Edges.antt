@@ -6,8 +6,8 @@ use Rattle.ir_laws.proofs.facts.Members.{each_joined, joined_names}
 use Rattle.ir_model.specs.declared.module.Block.{Block}
 use Rattle.ir_model.specs.declared.module.Function.{Function}
 use Rattle.ir_laws.proofs.facts.Lists.{number_bytes, numbered_named, word_first}
-use Rattle.ir_laws.specs.texts.spelled.Spelled.{IsSpelled}
-use Rattle.ir_laws.specs.rules.spelled.Spelled.{IsSpelledBlock, IsSpelledFunction}
+use Rattle.rule_laws.specs.texts.spelled.Spelled.{IsSpelled}
+use Rattle.rule_laws.specs.rules.spelled.Spelled.{IsSpelledBlock, IsSpelledFunction}
 use Rattle.run_laws.specs.changed.Changed.{Each}
 use Rattle.pass_exits.specs.ExitBlocks.{blocks_by, exit_blocks, exit_names, mark_text, with_exit_blocks}
 use Rattle.pass_exits.specs.Exits.{block_exits, exits_of}

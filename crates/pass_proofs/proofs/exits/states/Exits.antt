@@ -7,7 +7,7 @@ use Rattle.run_states.specs.sound_states.Sound.{IsSuspendAt}
 use Rattle.pass_proofs.proofs.edges.rules.CaseLabels.{switch_target}
 use Rattle.pass_proofs.proofs.edges.rules.Switched.{switched}
 use Rattle.pass_proofs.specs.edges.rules.Returns.{AreSwitched}
-use Rattle.ir_laws.specs.rules.rows.Returns.{IsSwitched}
+use Rattle.rule_laws.specs.rules.rows.Returns.{IsSwitched}
 use Rattle.ir_laws.specs.facts.threads.Moved.{ArePaired}
 use Rattle.ir_laws.specs.facts.branches.MovedState.{IsSwitch}
 use Rattle.ir_laws.specs.paths.branches.Ways.{AreFetched}
@@ -28,7 +28,7 @@ use Rattle.pass_proofs.proofs.exits.rules.Shape.{suspend_block}
 use Rattle.pass_proofs.proofs.edges.exit_rules.Shape.{suspend_is}
 use Rattle.pass_proofs.proofs.exits.rules.Suspends.{suspend_ends}
 use Rattle.pass_proofs.proofs.exits.rules.Threaded.{moves, threaded}
-use Rattle.ir_laws.proofs.rules.threaded.Threads.{IsThreaded}
+use Rattle.rule_laws.proofs.rules.threaded.Threads.{IsThreaded}
 use Rattle.run_step.specs.Step.{AtInstr, AtTerm, Fetched, Nowhere, fetch, has_markers, is_marker_of, label_of, phis_of}
 use Rattle.pass_proofs.proofs.exits.states.Points.{begin_same, final_moved, finals_same, suspend_moved}
 use Rattle.pass_proofs.proofs.exits.states.Ways.{places_kept}

@@ -9,7 +9,7 @@ use Rattle.ir_laws.specs.paths.threads.Threads.{IsBetween}
 use Rattle.pass_proofs.specs.edges.rules.Phis.{ArePhisEnteredByJumps}
 use Rattle.ir_laws.specs.paths.branches.Ways.{AreFetched}
 use Rattle.ir_laws.specs.facts.branches.Ways.{TermsPaired}
-use Rattle.ir_laws.specs.rules.function_rules.Kept.{KeepsFunctionRules}
+use Rattle.rule_laws.specs.rules.function_rules.Kept.{KeepsFunctionRules}
 use Rattle.ir_model.specs.Names.{position_of}
 use Rattle.ir_model.specs.declared.instr.Case.{Case}
 use Rattle.ir_model.specs.declared.instr.Instr.{Instr}
@@ -24,11 +24,11 @@ use Rattle.ir_paths.specs.declared.point.Point.{Point}
 use Rattle.pass_proofs.proofs.exits.rules.Cuts.{Cut, cut_labels, cut_targets, later_cut, one_cut}
 use Rattle.pass_proofs.proofs.exits.rules.Places.{none_there, own_number, own_there, spot}
 use Rattle.pass_proofs.proofs.exits.rules.Threaded.{moves, threaded, way}
-use Rattle.ir_laws.proofs.rules.threaded.Threads.{IsThreaded}
+use Rattle.rule_laws.proofs.rules.threaded.Threads.{IsThreaded}
 use Rattle.ir_laws.proofs.paths.threaded.Threads.{IsWay}
 use Rattle.run_step.specs.Step.{Nowhere, fetch, fetch_in, fetch_or, phis_of}
 use Rattle.pass_proofs.proofs.exits.states.Points.{moved, points_moved, suspend_moved}
-use Rattle.ir_laws.proofs.rules.threading.Threading.{entry_has, entry_moved, is_between, moved_nexts, own_nexts, threads}
+use Rattle.rule_laws.proofs.rules.threading.Threading.{entry_has, entry_moved, is_between, moved_nexts, own_nexts, threads}
 use Rattle.pass_proofs.proofs.edges.threads.Windows.{left_moved, none_left}
 use Rattle.run_states.specs.moved_states.Moving.{Goes, saves_left}
 use Rattle.pass_exits.specs.ExitBlocks.{after_exit, exit_cases, exit_term, with_exit_blocks}

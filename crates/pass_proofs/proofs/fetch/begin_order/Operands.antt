@@ -1,7 +1,7 @@
 -- Operands of instructions, of accesses and others, where they are fetched anew.
 use Rattle.std.proofs.Common.{ℕ, ◌≤◌, Bool, List, [], ◌∷◌, ◌++◌, arith}
 use Rattle.std.specs.Prelude.{None, Option, Some}
-use Rattle.ir_laws.specs.rules.begin_order.Behind.{access_operands, besides_second, other_operands}
+use Rattle.rule_laws.specs.rules.begin_order.Behind.{access_operands, besides_second, other_operands}
 use Rattle.pass_proofs.proofs.fetch.rules.Puts.{fetch_rises}
 use Rattle.ir_parts.specs.Contents.{arg_operands, callee_operands, ending_operands, instr_operands}
 use Rattle.ir_model.specs.Ty.{Ty}

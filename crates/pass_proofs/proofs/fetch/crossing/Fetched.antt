@@ -1,7 +1,7 @@
 -- Where operands are fetched, a value by which nothing is fetched is used only where it was.
 use Rattle.std.proofs.Common.{◌≡◌, ⊎_elim, inl, inr, ℕ, zero, suc, ◌<◌, ◌≤◌, List, [], ◌∷◌, ◌++◌, append_assoc, refl, sym, ap, subst, arith}
 use Rattle.std.specs.Prelude.{None, Option, Some, map, option_to_list, replicate, slice_get, slice_set}
-use Rattle.ir_laws.proofs.rules.crossing.Follows.{IsExtra, Uses}
+use Rattle.rule_laws.proofs.rules.crossing.Follows.{IsExtra, Uses}
 use Rattle.rule_uses.specs.Uses.{local_of, locals_in}
 use Rattle.ir_laws.proofs.paths.source_rules.Locals.{listed_either, listed_left, listed_right}
 use Rattle.pass_proofs.proofs.fetch.rules.Ends.{phis_rise}
@@ -9,7 +9,7 @@ use Rattle.pass_proofs.proofs.fetch.rules.Fetched.{block_rises, instrs_rise}
 use Rattle.pass_proofs.proofs.fetch.rules.Puts.{fetch_rises}
 use Rattle.pass_proofs.specs.fetch.rules.Fetches.{base_of}
 use Rattle.flow_solver.specs.Paths.{IsListed}
-use Rattle.ir_laws.proofs.frames.needed.Follows.{Ended, Extra, Follows, Same, extras_follow}
+use Rattle.rule_laws.proofs.frames.needed.Follows.{Ended, Extra, Follows, Same, extras_follow}
 use Rattle.pass_proofs.proofs.fetch.shape.Fetching.{no_rows}
 use Rattle.ir_parts.specs.Contents.{arg_operands, callee_operands, instr_operands, result_of}
 use Rattle.ir_model.specs.declared.instr.Incoming.{Incoming}

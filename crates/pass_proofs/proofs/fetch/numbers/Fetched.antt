@@ -1,7 +1,7 @@
 -- What is fetched before uses has no suspends.
 use Rattle.std.proofs.Common.{◌≡◌, ℕ, zero, suc, ◌+◌, Bool, List, [], ◌∷◌, ◌++◌, length, replicate, refl, ap, ◌∙◌, arith}
 use Rattle.std.specs.Prelude.{None, Option, Some, slice_set}
-use Rattle.ir_laws.proofs.frames.suspend_counts.Counted.{count, joined, one, total}
+use Rattle.rule_laws.proofs.frames.suspend_counts.Counted.{count, joined, one, total}
 use Rattle.ir_parts.specs.Contents.{callee_operands, instr_operands}
 use Rattle.ir_model.specs.declared.instr.Incoming.{Incoming}
 use Rattle.ir_model.specs.declared.instr.Instr.{Instr}

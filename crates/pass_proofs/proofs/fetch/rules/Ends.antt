@@ -18,7 +18,7 @@ use Rattle.run_laws.specs.changed.Changed.{Each}
 use Rattle.pass_fetch.specs.Blocks.{end_at, ends_of_blocks, ends_of_incoming, ends_of_phis, next_after_phi, next_after_phis, next_after_phis_by, with_end}
 use Rattle.pass_fetch.specs.Fetching.{fetch_into, fetch_of, next_after, next_after_all, next_by}
 use Rattle.pass_fetch.specs.declared.fetch.Fetch.{Fetch}
-use Rattle.ir_laws.specs.rules.woven_rules.Weaving.{IsThere}
+use Rattle.rule_laws.specs.rules.woven_rules.Weaving.{IsThere}
 use Rattle.ir_laws.proofs.facts.Truth.{is_number}
 
 -- names only rise

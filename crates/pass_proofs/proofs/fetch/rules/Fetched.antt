@@ -4,10 +4,10 @@ use Rattle.std.proofs.lemmas.List.{length-append}
 use Rattle.std.specs.Prelude.{Option, Some, is_some, map, option_map, option_to_list, slice_get, unwrap_or, ◌==◌, if◌then◌else◌}
 use Rattle.ir_base.specs.declared.outcome.Place.{Place}
 use Rattle.rule_uses.specs.Uses.{block_uses, block_values, blocks_uses, instr_uses, made_by_instrs, made_by_phis, phi_values, uses_at, values_at, values_in}
-use Rattle.ir_laws.proofs.rules.local_rules.Carried.{Passing}
+use Rattle.rule_laws.proofs.rules.local_rules.Carried.{Passing}
 use Rattle.ir_laws.proofs.facts.Members.{each_left, each_right}
 use Rattle.ir_laws.proofs.paths.source_rules.Locals.{listed_either, listed_left, listed_right}
-use Rattle.ir_laws.proofs.rules.source_rules.Locals.{made_by, own_label}
+use Rattle.rule_laws.proofs.rules.source_rules.Locals.{made_by, own_label}
 use Rattle.pass_proofs.proofs.fetch.rules.Ends.{AreGood, HasEnds, HaveEnds, IsGrown, blocks_rise, grown_blocks, grown_both, grown_phis, has_phis, phis_rise}
 use Rattle.pass_proofs.proofs.fetch.rules.Puts.{HasMade, KnowsBase, all_in_place, fetch_makes, fetch_put, fetch_range, fetch_rises, fetched_woven, one_in_place, puts_woven, term_fetched}
 use Rattle.pass_proofs.proofs.fetch.rules.Times.{with_result}
@@ -15,7 +15,7 @@ use Rattle.pass_proofs.specs.fetch.rules.Fetches.{FetchesFit, FitsTable, HasBase
 use Rattle.flow_solver.specs.Paths.{IsListed}
 use Rattle.ir_parts.specs.Contents.{ending_operands, instr_operands, result_of}
 use Rattle.ir_parts.specs.Parts.{Part, block_parts, blocks_parts, instr_place, phi_parts}
-use Rattle.ir_laws.specs.rules.function_rules.Kept.{KeepsFunctionRules}
+use Rattle.rule_laws.specs.rules.function_rules.Kept.{KeepsFunctionRules}
 use Rattle.ir_model.specs.Names.{first_where, numbered, position_of}
 use Rattle.ir_model.specs.declared.instr.Incoming.{Incoming}
 use Rattle.ir_model.specs.declared.instr.Instr.{Instr}
@@ -34,13 +34,13 @@ use Rattle.pass_fetch.specs.Instrs.{fetched_instr, fetched_instrs, next_after_in
 use Rattle.pass_fetch.specs.declared.fetch.Fetch.{Fetch}
 use Rattle.rule_values.specs.declared.kinds.Kind.{Kind}
 use Rattle.pass_proofs.proofs.fetch.rules.Good.{LabelsKnown, all_good, all_pass, based_block, final, final_ends, found, no_names, once, phi_labels, phis_pass, start, unknown}
-use Rattle.ir_laws.proofs.rules.woven_rules.Pieces.{listed_woven, made_contains}
-use Rattle.ir_laws.proofs.rules.woven_rules.Told.{told}
-use Rattle.ir_laws.proofs.rules.woven_rules.ValueKinds.{made_grows}
-use Rattle.ir_laws.specs.rules.woven_rules.Blocks.{AreWoven, AreWovenBlocks, Done, IsNew, IsPutIn, IsWoven, IsWovenBlock, NoBlock, OneBlock}
+use Rattle.rule_laws.proofs.rules.woven_rules.Pieces.{listed_woven, made_contains}
+use Rattle.rule_laws.proofs.rules.woven_rules.Told.{told}
+use Rattle.rule_laws.proofs.rules.woven_rules.ValueKinds.{made_grows}
+use Rattle.rule_laws.specs.rules.woven_rules.Blocks.{AreWoven, AreWovenBlocks, Done, IsNew, IsPutIn, IsWoven, IsWovenBlock, NoBlock, OneBlock}
 use Rattle.ir_laws.specs.facts.woven_rules.Pairs.{Empty, Pair, Pairwise}
-use Rattle.ir_laws.specs.rules.woven_rules.Parts.{IncomingStays, PhiStays}
-use Rattle.ir_laws.specs.rules.woven_rules.Weaving.{IsInPlace, IsKnown, IsThere, Old, Weaving, kinds_with}
+use Rattle.rule_laws.specs.rules.woven_rules.Parts.{IncomingStays, PhiStays}
+use Rattle.rule_laws.specs.rules.woven_rules.Weaving.{IsInPlace, IsKnown, IsThere, Old, Weaving, kinds_with}
 
 append_none : {A : Type 0} (xs : List A) → xs ++ [] ≡ xs
 append_none [] = refl

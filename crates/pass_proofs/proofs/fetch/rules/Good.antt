@@ -7,13 +7,13 @@ use Rattle.ir_base.specs.declared.outcome.Place.{Place}
 use Rattle.rule_uses.specs.Undefined.{params_of}
 use Rattle.rule_uses.specs.Uses.{Use, block_uses, block_values, blocks_uses, incoming_use, incoming_uses, instr_uses, local_of, phi_uses, phi_values, uses_at, values_at}
 use Rattle.ir_laws.proofs.facts.Truth.{equal_numbers, and_first, and_second, holds}
-use Rattle.ir_laws.proofs.rules.local_rules.Carried.{Passing, passing}
-use Rattle.ir_laws.proofs.rules.local_rules.Defined.{label_defined}
+use Rattle.rule_laws.proofs.rules.local_rules.Carried.{Passing, passing}
+use Rattle.rule_laws.proofs.rules.local_rules.Defined.{label_defined}
 use Rattle.ir_laws.proofs.facts.Members.{each_left, each_right}
-use Rattle.ir_laws.proofs.paths.local_rules.ValueKinds.{apart_right}
-use Rattle.ir_laws.proofs.rules.local_rules.Woven.{apart_names}
+use Rattle.rule_laws.proofs.rules.local_rules.Rows.{apart_right}
+use Rattle.rule_laws.proofs.rules.local_rules.Woven.{apart_names}
 use Rattle.ir_laws.proofs.paths.source_rules.Locals.{Apart, in_row, listed_right}
-use Rattle.ir_laws.proofs.rules.source_rules.Locals.{block_names, made_by, names_are}
+use Rattle.rule_laws.proofs.rules.source_rules.Locals.{block_names, made_by, names_are}
 use Rattle.ir_laws.proofs.facts.Lists.{phi_names, row_of}
 use Rattle.pass_proofs.proofs.fetch.rules.Ends.{AllEnds, AreGood, IsGood, blocks_rise, grown_blocks, no_ends}
 use Rattle.pass_proofs.proofs.fetch.rules.Times.{fetches_once}
@@ -22,7 +22,7 @@ use Rattle.flow_solver.specs.Paths.{IsListed}
 use Rattle.ir_parts.specs.Contents.{ending_operands, part_labels, part_operands, part_types}
 use Rattle.ir_parts.specs.Locals.{locals_of}
 use Rattle.ir_parts.specs.Parts.{Ending, OfPhi, Part, block_parts, blocks_parts, instr_parts, instr_place, parts_of, phi_parts}
-use Rattle.ir_laws.specs.rules.function_rules.Kept.{KeepsFunctionRules}
+use Rattle.rule_laws.specs.rules.function_rules.Kept.{KeepsFunctionRules}
 use Rattle.ir_model.specs.Names.{position_of}
 use Rattle.ir_model.specs.declared.instr.Incoming.{Incoming}
 use Rattle.ir_model.specs.declared.instr.Instr.{Instr}
@@ -36,10 +36,10 @@ use Rattle.run_laws.specs.changed.Changed.{Each}
 use Rattle.pass_fetch.specs.Blocks.{ends_of_blocks, next_after_blocks, with_fetches}
 use Rattle.pass_fetch.specs.Fetching.{fetch_of}
 use Rattle.pass_fetch.specs.declared.fetch.Fetch.{Fetch}
-use Rattle.ir_laws.proofs.rules.woven_rules.Once.{names_below}
+use Rattle.rule_laws.proofs.rules.woven_rules.Once.{names_below}
 use Rattle.ir_laws.proofs.paths.woven_rules.Once.{times_none}
-use Rattle.ir_laws.specs.rules.woven_rules.Blocks.{times_made}
-use Rattle.ir_laws.specs.rules.woven_rules.Weaving.{IsThere, Weaving}
+use Rattle.rule_laws.specs.rules.woven_rules.Blocks.{times_made}
+use Rattle.rule_laws.specs.rules.woven_rules.Weaving.{IsThere, Weaving}
 
 -- ---- labels
 

@@ -5,7 +5,7 @@ use Rattle.std.specs.Prelude.{None, Option, Some, not, pos, nat_lt, ◌&&◌, �
 use Rattle.rule_uses.specs.Uses.{made_by_instrs}
 use Rattle.ir_laws.proofs.facts.Truth.{itself, and_both}
 use Rattle.ir_laws.proofs.paths.source_rules.Locals.{listed_either, listed_left, listed_right}
-use Rattle.ir_laws.proofs.rules.source_rules.Locals.{made_by}
+use Rattle.rule_laws.proofs.rules.source_rules.Locals.{made_by}
 use Rattle.pass_proofs.specs.fetch.rules.Fetches.{AreUnfetched, FitsFetch, FitsTable, LeavesMarks, base_of, fetched_kind}
 use Rattle.flow_solver.specs.Paths.{IsListed}
 use Rattle.ir_parts.specs.Contents.{arg_operands, instr_operands, result_of}
@@ -28,15 +28,15 @@ use Rattle.pass_fetch.specs.declared.fetch.Fetch.{Fetch}
 use Rattle.rule_values.specs.Fits.{fits_kind, is_scalar}
 use Rattle.rule_values.specs.Kinds.{instr_kind, kind_of}
 use Rattle.rule_values.specs.declared.kinds.Kind.{Kind}
-use Rattle.ir_laws.proofs.rules.woven_rules.Pieces.{made_contains, made_joined}
+use Rattle.rule_laws.proofs.rules.woven_rules.Pieces.{made_contains, made_joined}
 use Rattle.ir_laws.proofs.facts.Members.{each_all, each_turns}
-use Rattle.ir_laws.proofs.rules.woven_rules.ValueKinds.{made_grows}
-use Rattle.ir_laws.specs.rules.woven_rules.Blocks.{AreWoven, IsNew, IsPutIn, Kept, Put, Remain, Stays, is_mark}
+use Rattle.rule_laws.proofs.rules.woven_rules.ValueKinds.{made_grows}
+use Rattle.rule_laws.specs.rules.woven_rules.Blocks.{AreWoven, IsNew, IsPutIn, Kept, Put, Remain, Stays, is_mark}
 use Rattle.ir_laws.specs.facts.woven_rules.Pairs.{Empty, Pair, Pairwise}
-use Rattle.ir_laws.specs.rules.woven_rules.Parts.{Alloca, Binary, Call, CalleeStays, Cast, Direct, Gep, Icmp, Indirect, InstrStays, Load, Select, Store}
+use Rattle.rule_laws.specs.rules.woven_rules.Parts.{Alloca, Binary, Call, CalleeStays, Cast, Direct, Gep, Icmp, Indirect, InstrStays, Load, Select, Store}
 use Rattle.ir_laws.specs.facts.woven_rules.Parts.{ArgStays, Branch, Jump, Return, ReturnVoid, Switch, TermStays, Unreachable}
-use Rattle.ir_laws.specs.rules.woven_rules.Weaving.{Constant, Fetched, IsInPlace, IsKnown, Same, Weaving, goes_in, kinds_with}
-use Rattle.ir_laws.proofs.rules.fetching_rules.Puts.{int_shallow, ptr_shallow}
+use Rattle.rule_laws.specs.rules.woven_rules.Weaving.{Constant, Fetched, IsInPlace, IsKnown, Same, Weaving, goes_in, kinds_with}
+use Rattle.rule_laws.proofs.rules.fetching_rules.Puts.{int_shallow, ptr_shallow}
 
 -- ---- one fetch
 

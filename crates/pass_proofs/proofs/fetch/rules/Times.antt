@@ -7,7 +7,7 @@ use Rattle.ir_laws.proofs.facts.Truth.{itself, is_number}
 use Rattle.ir_laws.proofs.facts.Lists.{set_other, phi_names, row_of, times_joined}
 use Rattle.ir_laws.proofs.facts.local_rules.Woven.{other_number}
 use Rattle.ir_laws.proofs.paths.source_rules.Locals.{Apart}
-use Rattle.ir_laws.proofs.rules.source_rules.Locals.{block_names, made_by}
+use Rattle.rule_laws.proofs.rules.source_rules.Locals.{block_names, made_by}
 use Rattle.flow_solver.specs.Paths.{IsListed}
 use Rattle.ir_parts.specs.Contents.{instr_operands, result_of}
 use Rattle.ir_model.specs.declared.instr.Incoming.{Incoming}
@@ -19,8 +19,8 @@ use Rattle.pass_fetch.specs.Blocks.{end_at, ends_of_blocks, ends_of_incoming, en
 use Rattle.pass_fetch.specs.Fetching.{fetch_into, fetch_of, fetches_by, fetches_of, fetches_of_all, next_after, next_after_all, next_by}
 use Rattle.pass_fetch.specs.Instrs.{fetched_instr, fetched_instrs, next_after_instr, next_after_instrs, term_operands, with_fetched}
 use Rattle.pass_fetch.specs.declared.fetch.Fetch.{Fetch}
-use Rattle.ir_laws.proofs.rules.woven_rules.Once.{times_block}
-use Rattle.ir_laws.specs.rules.woven_rules.Blocks.{times_made}
+use Rattle.rule_laws.proofs.rules.woven_rules.Once.{times_block}
+use Rattle.rule_laws.specs.rules.woven_rules.Blocks.{times_made}
 use Rattle.ir_laws.specs.facts.woven_rules.Pairs.{one_if, times}
 
 pub with_result : (t : List (Option Fetch)) (n : ℕ) (i : Instr) → result_of (with_fetched t n i) ≡ result_of i

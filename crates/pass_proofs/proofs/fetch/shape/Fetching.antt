@@ -5,7 +5,7 @@ use Rattle.rule_shape.specs.Switches.{are_both}
 use Rattle.ir_laws.proofs.facts.Lists.{set_other}
 use Rattle.ir_laws.proofs.facts.Members.{each_joined}
 use Rattle.ir_laws.proofs.facts.local_rules.Woven.{other_number}
-use Rattle.pass_early_proof.proofs.path_rules.SavedSwitches.{times_in, times_more}
+use Rattle.pass_proofs.proofs.early.path_rules.SavedSwitches.{times_in, times_more}
 use Rattle.pass_proofs.proofs.edges.shape.Uses.{ends_total}
 use Rattle.pass_proofs.proofs.fetch.rules.Ends.{phis_rise}
 use Rattle.pass_proofs.proofs.fetch.rules.Fetched.{block_rises, instrs_rise}
@@ -14,7 +14,7 @@ use Rattle.pass_proofs.specs.fetch.rules.Fetches.{AreUnfetched, base_of}
 use Rattle.flow_solver.specs.Paths.{IsListed}
 use Rattle.pass_proofs.proofs.fetch.shape.Held.{IsHeldInstr}
 use Rattle.pass_proofs.proofs.edges.calls.Spared.{AreInstrsOther, AreOther, ArePhisOther, IsOther, IsSpared}
-use Rattle.ir_laws.proofs.rules.shape.Steady.{AreAllOrdered, IsBlockKept, IsPlain, Keeps, LeadsAt, all_put, behind_first, first_leads, row}
+use Rattle.rule_laws.proofs.rules.shape.Steady.{AreAllOrdered, IsBlockKept, IsPlain, Keeps, LeadsAt, all_put, behind_first, first_leads, row}
 use Rattle.ir_laws.proofs.paths.shape.Steady.{AreOrdered, is_suspend}
 use Rattle.ir_parts.specs.Contents.{arg_operands, callee_operands, ending_operands, instr_operands}
 use Rattle.ir_model.specs.Names.{is_local}
@@ -32,7 +32,7 @@ use Rattle.pass_fetch.specs.Fetching.{callee_by, fetch_at, fetch_into, fetch_of,
 use Rattle.pass_fetch.specs.Instrs.{fetched_instr, fetched_instrs, fetched_term, next_after_instr, next_after_instrs, term_operands, with_fetched}
 use Rattle.pass_fetch.specs.declared.fetch.Fetch.{Fetch}
 use Rattle.ir_laws.specs.facts.woven_rules.Pairs.{Empty, Pair, Pairwise}
-use Rattle.ir_laws.specs.rules.woven_shape.Calls.{default_on}
+use Rattle.rule_laws.specs.rules.woven_shape.Calls.{default_on}
 
 -- ---- what is fetched
 

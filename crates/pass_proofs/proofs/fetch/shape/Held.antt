@@ -2,21 +2,21 @@
 use Rattle.std.proofs.Common.{◌≡◌, ℕ, zero, suc, ◌+◌, Bool, true, false, List, [], ◌∷◌, length, refl, sym, ap, ◌∙◌, subst}
 use Rattle.std.specs.List.{list_all}
 use Rattle.std.specs.Prelude.{Some, None, Option, slice_get, if◌then◌else◌, ◌&&◌}
-use Rattle.ir_laws.proofs.rules.counted.PartFacts.{block_passes}
+use Rattle.rule_laws.proofs.rules.counted.PartFacts.{block_passes}
 use Rattle.ir_base.specs.declared.outcome.Place.{Place}
 use Rattle.ir_calls.specs.Calls.{value_of_first}
 use Rattle.rule_shape.specs.OneOfEach.{calls_of, wrong_call}
 use Rattle.ir_laws.proofs.facts.Members.{at_each, each_there}
-use Rattle.ir_laws.proofs.rules.renamed.Outside.{each_left, each_right}
+use Rattle.rule_laws.proofs.rules.renamed.Outside.{each_left, each_right}
 use Rattle.ir_laws.proofs.facts.Truth.{and_second, holds}
 use Rattle.pass_proofs.specs.fetch.rules.Fetches.{AreUnfetched, base_of}
-use Rattle.ir_laws.proofs.rules.shape.Ordered.{IsSuspendValue}
-use Rattle.ir_laws.proofs.rules.shape.Steady.{IsAlike}
+use Rattle.rule_laws.proofs.rules.shape.Ordered.{IsSuspendValue}
+use Rattle.rule_laws.proofs.rules.shape.Steady.{IsAlike}
 use Rattle.ir_laws.proofs.paths.shape.Steady.{is_end}
 use Rattle.pass_proofs.proofs.fetch.shape.Wanted.{IsHeldCall, found_made, held_call}
 use Rattle.ir_parts.specs.Contents.{instr_operands}
 use Rattle.ir_parts.specs.Parts.{OfInstr}
-use Rattle.ir_laws.specs.rules.function_rules.Kept.{KeepsFunctionRules}
+use Rattle.rule_laws.specs.rules.function_rules.Kept.{KeepsFunctionRules}
 use Rattle.ir_model.specs.Calls.{first_result}
 use Rattle.ir_model.specs.Names.{same_intrinsic}
 use Rattle.ir_model.specs.Ty.{Ty, token}
@@ -39,11 +39,11 @@ use Rattle.rule_values.specs.Fits.{fits_kind}
 use Rattle.rule_values.specs.Instrs.{fits_called, fits_instr, fits_result, passes}
 use Rattle.rule_values.specs.Kinds.{value_kind}
 use Rattle.rule_values.specs.Values.{breaks_values}
-use Rattle.ir_laws.proofs.rules.woven_shape.Found.{made, not_begin, result_made, value_found}
-use Rattle.ir_laws.proofs.rules.woven_shape.Gathered.{to_row}
-use Rattle.ir_laws.proofs.rules.woven_shape.OneOfEach.{IsRight, all_right}
+use Rattle.rule_laws.proofs.rules.woven_shape.Found.{made, not_begin, result_made, value_found}
+use Rattle.rule_laws.proofs.rules.woven_shape.Gathered.{to_row}
+use Rattle.rule_laws.proofs.rules.woven_shape.OneOfEach.{IsRight, all_right}
 use Rattle.rule_shape.specs.declared.one_of_each.Calls.{Calls}
-use Rattle.ir_laws.specs.rules.woven_shape.Calls.{call_at, calls_in, first_named, is_shaping, leads_block, second_named, shaping_call, shaping_calls}
+use Rattle.rule_laws.specs.rules.woven_shape.Calls.{call_at, calls_in, first_named, is_shaping, leads_block, second_named, shaping_call, shaping_calls}
 
 -- tokens, begin's value and the results of suspends aren't fetched, and nothing is fetched by the results of suspends
 pub record IsHeld (f : Function) (begin : ℕ) (t : List (Option Fetch)) : Type 0 where

@@ -2,7 +2,7 @@
 use Rattle.std.proofs.Common.{◌≡◌, ℕ, zero, suc, Bool, true, false, List, [], ◌∷◌, refl, sym, ap, ◌∙◌, subst}
 use Rattle.std.specs.List.{list_all}
 use Rattle.std.specs.Prelude.{Some, None, Option, option_and_then, slice_get, if◌then◌else◌, ◌&&◌, ◌||◌}
-use Rattle.ir_laws.proofs.rules.counted.PartFacts.{all_at}
+use Rattle.rule_laws.proofs.rules.counted.PartFacts.{all_at}
 use Rattle.ir_calls.specs.Calls.{is_null, is_value}
 use Rattle.ir_laws.proofs.facts.Truth.{equal_numbers, and_first, and_second}
 use Rattle.pass_proofs.specs.fetch.rules.Fetches.{AreUnfetched}
@@ -26,9 +26,9 @@ use Rattle.pass_fetch.specs.declared.fetch.Fetch.{Fetch}
 use Rattle.rule_values.specs.Fits.{fits, fits_arg, fits_kind}
 use Rattle.rule_values.specs.Instrs.{is_passed, passes}
 use Rattle.rule_values.specs.declared.kinds.Kind.{Kind}
-use Rattle.ir_laws.proofs.rules.woven_shape.Found.{found, made}
-use Rattle.ir_laws.proofs.rules.woven_shape.OneOfEach.{right_of}
-use Rattle.ir_laws.specs.rules.woven_shape.Calls.{ShapingCall, first_named, is_shaping, second_named}
+use Rattle.rule_laws.proofs.rules.woven_shape.Found.{found, made}
+use Rattle.rule_laws.proofs.rules.woven_shape.OneOfEach.{right_of}
+use Rattle.rule_laws.specs.rules.woven_shape.Calls.{ShapingCall, first_named, is_shaping, second_named}
 
 -- ---- arguments as the table of intrinsics wants them
 

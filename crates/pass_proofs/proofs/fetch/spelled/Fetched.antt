@@ -15,9 +15,9 @@ use Rattle.ir_model.specs.declared.operand.Arg.{Arg}
 use Rattle.ir_model.specs.declared.operand.Callee.{Callee}
 use Rattle.ir_model.specs.declared.operand.Operand.{Operand}
 use Rattle.pass_proofs.proofs.fetch.spelled.Names.{all_numbered}
-use Rattle.ir_laws.proofs.texts.spelled.Types.{byte_spelled, word_spelled}
-use Rattle.ir_laws.specs.texts.spelled.Spelled.{IsSpelled}
-use Rattle.ir_laws.specs.rules.spelled.Spelled.{IsSpelledBlock, IsSpelledFunction, IsSpelledInstr, MayStand}
+use Rattle.rule_laws.proofs.texts.spelled.Types.{byte_spelled, word_spelled}
+use Rattle.rule_laws.specs.texts.spelled.Spelled.{IsSpelled}
+use Rattle.rule_laws.specs.rules.spelled.Spelled.{IsSpelledBlock, IsSpelledFunction, IsSpelledInstr, MayStand}
 use Rattle.run_laws.specs.changed.Changed.{Each}
 use Rattle.pass_fetch.specs.Blocks.{end_at, ends_of_blocks, ends_of_incoming, ends_of_phis, fetched_block, fetched_blocks, fetched_phis, next_after_block, next_after_blocks, next_after_phi, next_after_phis, next_after_phis_by, numbered_names, with_end, with_fetches}
 use Rattle.pass_fetch.specs.Fetching.{callee_by, fetch_at, fetch_into, fetch_of, fetched_args, fetches_by, fetches_of, fetches_of_all, next_after}

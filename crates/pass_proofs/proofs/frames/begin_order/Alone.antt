@@ -4,16 +4,16 @@ use Rattle.std.specs.Prelude.{None, Option, Some, slice_get, ◌&&◌, if◌then
 use Rattle.rule_shape.specs.OneOfEach.{wrong_call}
 use Rattle.ir_laws.proofs.facts.Members.{at_each}
 use Rattle.ir_laws.proofs.facts.Truth.{itself, and_first, holds}
-use Rattle.ir_laws.proofs.rules.local_rules.Names.{numbers}
-use Rattle.ir_laws.proofs.rules.local_rules.Woven.{apart_names}
+use Rattle.rule_laws.proofs.rules.local_rules.Names.{numbers}
+use Rattle.rule_laws.proofs.rules.local_rules.Woven.{apart_names}
 use Rattle.ir_laws.proofs.paths.source_rules.Locals.{Apart}
-use Rattle.ir_laws.proofs.rules.source_rules.Locals.{names_are, same_instr}
-use Rattle.ir_laws.proofs.rules.source_rules.Once.{one_begin}
+use Rattle.rule_laws.proofs.rules.source_rules.Locals.{names_are, same_instr}
+use Rattle.rule_laws.proofs.rules.source_rules.Once.{one_begin}
 use Rattle.flow_solver.specs.Paths.{IsListed}
 use Rattle.ir_parts.specs.Contents.{result_of}
 use Rattle.ir_parts.specs.Locals.{locals_of}
 use Rattle.ir_parts.specs.Parts.{OfInstr}
-use Rattle.ir_laws.specs.rules.function_rules.Kept.{KeepsFunctionRules}
+use Rattle.rule_laws.specs.rules.function_rules.Kept.{KeepsFunctionRules}
 use Rattle.ir_model.specs.Calls.{first_result, first_result_by, first_result_in, or_else, result_of_call}
 use Rattle.ir_model.specs.Ty.{Ty, ptr}
 use Rattle.ir_model.specs.declared.instr.Instr.{Instr}
@@ -29,9 +29,9 @@ use Rattle.rule_types.specs.Signatures.{are_wanted, calls_otherwise, is_result}
 use Rattle.rule_types.specs.Wants.{intrinsic_params, intrinsic_result}
 use Rattle.rule_values.specs.Kinds.{call_kind, instr_kind, result_kind, value_kind}
 use Rattle.rule_values.specs.declared.kinds.Kind.{Kind}
-use Rattle.ir_laws.proofs.rules.woven_rules.Once.{apart_once}
-use Rattle.ir_laws.proofs.rules.woven_rules.Told.{value_told}
-use Rattle.ir_laws.proofs.rules.woven_rules.Unbroken.{Passes, PassesIn, all_pass}
+use Rattle.rule_laws.proofs.rules.woven_rules.Once.{apart_once}
+use Rattle.rule_laws.proofs.rules.woven_rules.Told.{value_told}
+use Rattle.rule_laws.proofs.rules.woven_rules.Unbroken.{Passes, PassesIn, all_pass}
 use Rattle.ir_laws.proofs.paths.woven_rules.Unbroken.{of_listed}
 use Rattle.ir_laws.specs.facts.woven_rules.Pairs.{times}
 use Rattle.ir_laws.proofs.paths.begin_order.Framed.{get_listed as listed_from}

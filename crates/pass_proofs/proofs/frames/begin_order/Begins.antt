@@ -4,7 +4,7 @@ use Rattle.std.specs.Prelude.{Option, Some, not, slice_get}
 use Rattle.pass_copies.specs.Slots.{entry_instrs}
 use Rattle.rule_uses.specs.Uses.{phi_values}
 use Rattle.ir_laws.proofs.facts.Truth.{and_second}
-use Rattle.ir_laws.proofs.rules.source_rules.Locals.{made_by}
+use Rattle.rule_laws.proofs.rules.source_rules.Locals.{made_by}
 use Rattle.flow_solver.specs.Paths.{IsListed}
 use Rattle.ir_parts.specs.Contents.{result_of}
 use Rattle.ir_model.specs.Ty.{Ty}
@@ -18,10 +18,10 @@ use Rattle.ir_model.specs.declared.operand.Intrinsic.{Intrinsic}
 use Rattle.ir_model.specs.declared.operand.Operand.{Operand}
 use Rattle.ir_paths.specs.Slots.{allocas_in}
 use Rattle.pass_frames.specs.Framed.{is_begin}
-use Rattle.ir_laws.proofs.rules.woven_rules.ValueKinds.{same_result}
-use Rattle.ir_laws.specs.rules.woven_rules.Blocks.{AreWoven, AreWovenBlocks, Done, Gone, IsWoven, IsWovenBlock, Kept, NoBlock, OneBlock, Put, Remain, Stays, Unpromised, is_copy, may_stand}
-use Rattle.ir_laws.specs.rules.woven_rules.Parts.{Alloca, Binary, Call, CalleeStays, Cast, Direct, Gep, Icmp, Indirect, InstrStays, Load, Select, Store}
-use Rattle.ir_laws.specs.rules.woven_rules.Weaving.{IsInPlace, Weaving}
+use Rattle.rule_laws.proofs.rules.woven_rules.ValueKinds.{same_result}
+use Rattle.rule_laws.specs.rules.woven_rules.Blocks.{AreWoven, AreWovenBlocks, Done, Gone, IsWoven, IsWovenBlock, Kept, NoBlock, OneBlock, Put, Remain, Stays, Unpromised, is_copy, may_stand}
+use Rattle.rule_laws.specs.rules.woven_rules.Parts.{Alloca, Binary, Call, CalleeStays, Cast, Direct, Gep, Icmp, Indirect, InstrStays, Load, Select, Store}
+use Rattle.rule_laws.specs.rules.woven_rules.Weaving.{IsInPlace, Weaving}
 
 -- ---- instructions
 

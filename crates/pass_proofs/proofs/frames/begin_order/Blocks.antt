@@ -10,11 +10,11 @@ use Rattle.rule_uses.specs.Undefined.{Entry, Next, ReachesWithout, params_of}
 use Rattle.rule_uses.specs.Uses.{phi_values, values_at, values_in}
 use Rattle.ir_laws.proofs.facts.Truth.{equal_numbers, itself}
 use Rattle.ir_laws.proofs.facts.Lists.{get_within, set_length, row_of, flags_length}
-use Rattle.ir_laws.proofs.rules.source_rules.Locals.{block_names, own_label}
+use Rattle.rule_laws.proofs.rules.source_rules.Locals.{block_names, own_label}
 use Rattle.ir_laws.proofs.paths.source_rules.Locals.{in_row, listed_right}
 use Rattle.flow_solver.specs.Paths.{IsListed}
 use Rattle.ir_parts.specs.Contents.{result_of}
-use Rattle.ir_laws.specs.rules.function_rules.Kept.{KeepsFunctionRules}
+use Rattle.rule_laws.specs.rules.function_rules.Kept.{KeepsFunctionRules}
 use Rattle.ir_model.specs.Names.{position_of}
 use Rattle.ir_model.specs.declared.instr.Instr.{Instr}
 use Rattle.ir_model.specs.declared.module.Block.{Block}
@@ -24,8 +24,8 @@ use Rattle.ir_model.specs.declared.operand.Callee.{Callee}
 use Rattle.ir_model.specs.declared.operand.Intrinsic.{Intrinsic}
 use Rattle.pass_frames.specs.Framed.{AreBefore, begin_block, begin_from, has_begin, is_begin, starts_before}
 use Rattle.pass_frames.specs.Tables.{label_flags, with_label, with_labels}
-use Rattle.ir_laws.proofs.rules.woven_rules.Once.{names_below}
-use Rattle.ir_laws.proofs.rules.woven_rules.Pieces.{made_contains}
+use Rattle.rule_laws.proofs.rules.woven_rules.Once.{names_below}
+use Rattle.rule_laws.proofs.rules.woven_rules.Pieces.{made_contains}
 
 -- ---- begin
 

@@ -5,7 +5,7 @@ use Rattle.pass_proofs.specs.addresses.rules.Addresses.{lies_in_frame}
 use Rattle.pass_proofs.proofs.frames.begin_order.Begins.{alone_still, allocas_still, named_still}
 use Rattle.pass_proofs.proofs.addresses.begin_order.Early.{in_frame}
 use Rattle.pass_proofs.proofs.frames.begin_order.Fields.{AllQuiet, Quiet, count_is, distance_quiet, far_quiet, fetch_quiet, numbered_field, own_low, params_quiet, phis_quiet, result_quiet}
-use Rattle.ir_laws.proofs.rules.begin_order.Known.{IsOwn, each_both, own_instrs, own_phis, own_term}
+use Rattle.rule_laws.proofs.rules.begin_order.Known.{IsOwn, each_both, own_instrs, own_phis, own_term}
 use Rattle.pass_proofs.proofs.fetch.begin_order.Operands.{accesses_kept, accesses_of, ending_kept, low_after, operand_kept, others_kept, others_of}
 use Rattle.pass_proofs.proofs.addresses.begin_order.Passing.{Passes, there_still, woven_passes}
 use Rattle.pass_proofs.proofs.frames.begin_order.Puts.{Whole, all_whole, are_only, are_put, behind_grown, both_grown, may_access}
@@ -14,8 +14,8 @@ use Rattle.pass_proofs.proofs.cells.begin_order.Sums.{behind_holds}
 use Rattle.pass_proofs.proofs.fetch.rules.Times.{with_result as same_fetched}
 use Rattle.pass_proofs.specs.frames.begin_order.Behind.{AreBehind, IsBlockBehind, IsEntrySlot, IsFrameBehind, MayBeAccessed}
 use Rattle.pass_proofs.specs.addresses.begin_order.Behind.{IsBehind, IsIncomingBehind}
-use Rattle.ir_laws.specs.frames.begin_order.Behind.{LeadsAgain}
-use Rattle.ir_laws.specs.rules.begin_order.Behind.{access_operands, other_operands}
+use Rattle.rule_laws.specs.frames.begin_order.Behind.{LeadsAgain}
+use Rattle.rule_laws.specs.rules.begin_order.Behind.{access_operands, other_operands}
 use Rattle.pass_proofs.specs.frames.begin_order.Fields.{FieldsFit, IsField, values_kept}
 use Rattle.pass_proofs.proofs.cells.rules.Around.{saved_low, again_low}
 use Rattle.pass_proofs.proofs.cells.rules.Counts.{by_phis_rise, instrs_rise, written_low}
@@ -30,12 +30,12 @@ use Rattle.pass_proofs.specs.cells.rules.Weaving.{cells_weaving}
 use Rattle.rule_uses.specs.Undefined.{ReachesWithout}
 use Rattle.rule_uses.specs.Uses.{block_values, phi_values, values_at, values_in}
 use Rattle.ir_laws.proofs.facts.Members.{each_behind, each_turns}
-use Rattle.ir_laws.proofs.rules.source_rules.Locals.{made_by}
+use Rattle.rule_laws.proofs.rules.source_rules.Locals.{made_by}
 use Rattle.pass_proofs.proofs.fetch.rules.Puts.{fetch_rises}
 use Rattle.flow_solver.specs.Paths.{IsListed}
 use Rattle.pass_addresses.specs.Placing.{is_none}
 use Rattle.ir_parts.specs.Contents.{ending_operands, instr_operands, result_of}
-use Rattle.ir_laws.specs.rules.function_rules.Kept.{KeepsFunctionRules}
+use Rattle.rule_laws.specs.rules.function_rules.Kept.{KeepsFunctionRules}
 use Rattle.pass_intrinsics.specs.Shapes.{suspends_of}
 use Rattle.ir_model.specs.Names.{position_of}
 use Rattle.ir_model.specs.declared.instr.Incoming.{Incoming}
@@ -45,7 +45,7 @@ use Rattle.ir_model.specs.declared.module.Block.{Block}
 use Rattle.ir_model.specs.declared.module.Function.{Function}
 use Rattle.ir_model.specs.declared.module.Module.{Module}
 use Rattle.ir_model.specs.declared.operand.Operand.{Operand}
-use Rattle.ir_laws.specs.rules.replaced.Splittable.{AreBegun, AreBlocksBegun}
+use Rattle.rule_laws.specs.rules.replaced.Splittable.{AreBegun, AreBlocksBegun}
 use Rattle.ir_laws.specs.facts.replaced.Splittable.{asks_begin}
 use Rattle.run_laws.specs.changed.Changed.{Each}
 use Rattle.pass_fetch.specs.Blocks.{end_at, fetched_block, fetched_incoming, fetched_phis, next_after_phi, numbered_names}
@@ -61,14 +61,14 @@ use Rattle.pass_cells.specs.declared.plan.KeptValue.{KeptValue}
 use Rattle.pass_cells.specs.declared.plan.Plan.{Plan}
 use Rattle.rule_values.specs.Kinds.{value_kind}
 use Rattle.rule_values.specs.declared.kinds.Kind.{Kind}
-use Rattle.ir_laws.proofs.rules.woven_rules.Laid.{valued_old}
-use Rattle.ir_laws.proofs.rules.woven_rules.Once.{names_below}
-use Rattle.ir_laws.proofs.rules.woven_rules.ValueKinds.{old_kind}
-use Rattle.ir_laws.specs.rules.woven_rules.Blocks.{IsWoven}
-use Rattle.ir_laws.specs.rules.woven_rules.Pairs.{AreIncomingOnce}
-use Rattle.ir_laws.specs.rules.woven_rules.Weaving.{IsThere, Weaving}
+use Rattle.rule_laws.proofs.rules.woven_rules.Laid.{valued_old}
+use Rattle.rule_laws.proofs.rules.woven_rules.Once.{names_below}
+use Rattle.rule_laws.proofs.rules.woven_rules.ValueKinds.{old_kind}
+use Rattle.rule_laws.specs.rules.woven_rules.Blocks.{IsWoven}
+use Rattle.rule_laws.specs.rules.woven_rules.Pairs.{AreIncomingOnce}
+use Rattle.rule_laws.specs.rules.woven_rules.Weaving.{IsThere, Weaving}
 use Rattle.pass_proofs.proofs.cells.begin_order.CelledBlocks.{IsCelled, entry_there, first_of, returns_lead, row_asks, same_asks, there_is}
-use Rattle.ir_laws.proofs.rules.begin_order.CelledBlocks.{begun_at}
+use Rattle.rule_laws.proofs.rules.begin_order.CelledBlocks.{begun_at}
 
 -- ---- the function
 

@@ -19,18 +19,18 @@ use Rattle.pass_proofs.proofs.frames.begin_order.Turned.{access_stays, access_tu
 use Rattle.pass_proofs.proofs.fetch.rules.Times.{with_result as same_fetched}
 use Rattle.pass_proofs.specs.frames.begin_order.Behind.{AreBehind, IsBlockBehind, IsFrameBehind, MayBeAccessed, before_begin}
 use Rattle.pass_proofs.specs.addresses.begin_order.Behind.{IsBehind, IsIncomingBehind}
-use Rattle.ir_laws.specs.rules.begin_order.Behind.{access_operands, other_operands}
+use Rattle.rule_laws.specs.rules.begin_order.Behind.{access_operands, other_operands}
 use Rattle.pass_proofs.proofs.copies.rules.KeptCopies.{with_copies_keeps, with_copies_woven}
 use Rattle.pass_proofs.proofs.copies.rules.Slots.{AreNumbered, Cell, IsFrontOf, Temporary, cell_named, front_allocas, front_range, numbered, one_of, temporary_named}
 use Rattle.pass_proofs.specs.copies.rules.Copies.{CopiesFit, copied_slots, copy_weaving}
 use Rattle.rule_uses.specs.Uses.{block_uses, block_values, phi_values, uses_of, values_in}
 use Rattle.ir_laws.proofs.paths.source_rules.Locals.{listed_either, listed_left, listed_right}
-use Rattle.ir_laws.proofs.rules.source_rules.Locals.{made_by}
+use Rattle.rule_laws.proofs.rules.source_rules.Locals.{made_by}
 use Rattle.pass_proofs.proofs.fetch.rules.Puts.{fetch_rises}
 use Rattle.flow_solver.specs.Paths.{IsListed}
 use Rattle.pass_addresses.specs.Placing.{is_flagged, stays, without_markers}
 use Rattle.ir_parts.specs.Contents.{ending_operands, instr_operands, result_of}
-use Rattle.ir_laws.specs.rules.function_rules.Kept.{KeepsFunctionRules}
+use Rattle.rule_laws.specs.rules.function_rules.Kept.{KeepsFunctionRules}
 use Rattle.ir_model.specs.declared.instr.Instr.{Instr}
 use Rattle.ir_model.specs.declared.module.Block.{Block}
 use Rattle.ir_model.specs.declared.module.Function.{Function}
@@ -43,15 +43,15 @@ use Rattle.pass_fetch.specs.Instrs.{fetched_instr, next_after_instr, with_fetche
 use Rattle.pass_fetch.specs.declared.fetch.Fetch.{Fetch}
 use Rattle.rule_values.specs.Kinds.{value_kind}
 use Rattle.rule_values.specs.declared.kinds.Kind.{Kind}
-use Rattle.ir_laws.proofs.rules.woven_rules.All.{rules_woven}
-use Rattle.ir_laws.proofs.rules.woven_rules.Edges.{incoming_woven}
-use Rattle.ir_laws.proofs.rules.woven_rules.Laid.{valued_old}
-use Rattle.ir_laws.proofs.rules.woven_rules.Once.{names_below}
+use Rattle.rule_laws.proofs.rules.woven_rules.All.{rules_woven}
+use Rattle.rule_laws.proofs.rules.woven_rules.Edges.{incoming_woven}
+use Rattle.rule_laws.proofs.rules.woven_rules.Laid.{valued_old}
+use Rattle.rule_laws.proofs.rules.woven_rules.Once.{names_below}
 use Rattle.ir_laws.proofs.paths.woven_rules.Unbroken.{each_listed, of_listed}
-use Rattle.ir_laws.proofs.rules.woven_rules.ValueKinds.{is_result, listed_result, made_grows, old_kind}
-use Rattle.ir_laws.specs.rules.woven_rules.Blocks.{IsWoven}
-use Rattle.ir_laws.specs.rules.woven_rules.Pairs.{AreIncomingOnce}
-use Rattle.ir_laws.specs.rules.woven_rules.Weaving.{IsThere}
+use Rattle.rule_laws.proofs.rules.woven_rules.ValueKinds.{is_result, listed_result, made_grows, old_kind}
+use Rattle.rule_laws.specs.rules.woven_rules.Blocks.{IsWoven}
+use Rattle.rule_laws.specs.rules.woven_rules.Pairs.{AreIncomingOnce}
+use Rattle.rule_laws.specs.rules.woven_rules.Weaving.{IsThere}
 use Rattle.pass_proofs.proofs.frames.begin_order.CopiedBlocks.{IsCopyOf, copy_there, left_block, with_copies}
 use Rattle.pass_proofs.proofs.copies.rules.Copied.{copies_are as copied_are}
 

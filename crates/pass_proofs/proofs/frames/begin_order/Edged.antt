@@ -5,11 +5,11 @@ use Rattle.std.specs.Prelude.{None, Option, Some, filter_map, map, slice_get, if
 use Rattle.pass_copies.specs.Slots.{entry_instrs}
 use Rattle.pass_proofs.specs.frames.begin_order.Behind.{AreBehind, AreBlocksBehind, IsBlockBehind, IsEntrySlot, MayBeAccessed}
 use Rattle.pass_proofs.specs.addresses.begin_order.Behind.{IsBehind, IsIncomingBehind}
-use Rattle.ir_laws.specs.rules.begin_order.Behind.{access_operands, other_operands}
+use Rattle.rule_laws.specs.rules.begin_order.Behind.{access_operands, other_operands}
 use Rattle.ir_base.specs.declared.outcome.Place.{Place}
 use Rattle.rule_uses.specs.Uses.{block_values, phi_values, values_at}
 use Rattle.ir_laws.proofs.facts.Truth.{equal_numbers}
-use Rattle.ir_laws.proofs.rules.source_rules.Locals.{made_by}
+use Rattle.rule_laws.proofs.rules.source_rules.Locals.{made_by}
 use Rattle.pass_proofs.proofs.edges.paths.Blocks.{own_number, spot}
 use Rattle.pass_proofs.proofs.edges.paths.Edges.{edges_of_block}
 use Rattle.ir_laws.specs.paths.threads.Labels.{HasLabelsBelow, HasNamedLabels}
@@ -35,7 +35,7 @@ use Rattle.ir_model.specs.declared.operand.Operand.{Operand}
 use Rattle.ir_paths.specs.Slots.{allocas_in}
 use Rattle.ir_laws.proofs.facts.Members.{at_each as each_at, each_turns}
 use Rattle.run_laws.specs.changed.Changed.{Each}
-use Rattle.ir_laws.specs.rules.woven_rules.Weaving.{IsThere}
+use Rattle.rule_laws.specs.rules.woven_rules.Weaving.{IsThere}
 
 module _ (f : Function) (named : HasNamedLabels f) (once : AreLabelsOnce f) (begin : ℕ) (slots : List Bool) (offsets : List (Option ℕ)) where
   abbrev g : Function

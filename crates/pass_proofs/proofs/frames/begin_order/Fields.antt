@@ -16,7 +16,7 @@ use Rattle.ir_base.specs.declared.name.Name.{Name}
 use Rattle.ir_laws.proofs.facts.Members.{each_behind}
 use Rattle.ir_laws.proofs.facts.Lists.{get_within}
 use Rattle.ir_parts.specs.Contents.{instr_operands}
-use Rattle.ir_laws.specs.rules.function_rules.Kept.{KeepsFunctionRules}
+use Rattle.rule_laws.specs.rules.function_rules.Kept.{KeepsFunctionRules}
 use Rattle.ir_model.specs.declared.instr.Instr.{Instr}
 use Rattle.ir_model.specs.declared.instr.Phi.{Phi}
 use Rattle.ir_model.specs.declared.module.Function.{Function}

@@ -4,7 +4,7 @@ use Rattle.std.specs.Prelude.{None, Option, Some, flat_map, is_some, map, not, r
 use Rattle.pass_proofs.specs.addresses.rules.Addresses.{AddressesFit, lies_in_frame}
 use Rattle.pass_copies.specs.BeginCopies.{with_begin_copies}
 use Rattle.pass_copies.specs.Uses.{flag_at}
-use Rattle.ir_laws.proofs.frames.begin_order.Again.{again_behind}
+use Rattle.rule_laws.proofs.frames.begin_order.Again.{again_behind}
 use Rattle.pass_proofs.proofs.frames.begin_order.Alone.{begin_pointer, begins_alone, begins_named}
 use Rattle.pass_proofs.proofs.frames.begin_order.Before.{slots_before}
 use Rattle.pass_proofs.proofs.frames.begin_order.Celled.{cells_behind}
@@ -20,9 +20,9 @@ use Rattle.pass_proofs.specs.frames.begin_order.Fields.{FieldsFit, IsField, valu
 use Rattle.pass_proofs.specs.frames.begin_order.Frames.{IsFrameable, slot_offsets}
 use Rattle.pass_proofs.proofs.cells.rules.Keepable.{IsKeepable, keeping_holds, once as names_once}
 use Rattle.pass_proofs.proofs.cells.rules.Keeping.{IsKeeping}
-use Rattle.ir_laws.proofs.rules.counted.Slots.{alloca_sized, alloca_slot}
+use Rattle.rule_laws.proofs.rules.counted.Slots.{alloca_sized, alloca_slot}
 use Rattle.pass_proofs.proofs.cells.rules.Whole.{is_woven}
-use Rattle.ir_laws.specs.frames.counted.Asked.{IsAwayFromEntry}
+use Rattle.rule_laws.specs.frames.counted.Asked.{IsAwayFromEntry}
 use Rattle.pass_proofs.specs.cells.rules.Weaving.{cells_weaving}
 use Rattle.pass_proofs.specs.copies.rules.Copies.{CopiesFit, copied_slots}
 use Rattle.frame_contents.specs.Held.{crossing_values, frame_slots, held_blocks, held_of, held_params}
@@ -35,7 +35,7 @@ use Rattle.flow_solver.specs.Paths.{IsListed}
 use Rattle.pass_addresses.specs.Placing.{is_none}
 use Rattle.frame_layout.specs.declared.layout.Layout.{Layout}
 use Rattle.ir_parts.specs.Contents.{result_of}
-use Rattle.ir_laws.specs.rules.function_rules.Kept.{KeepsFunctionRules}
+use Rattle.rule_laws.specs.rules.function_rules.Kept.{KeepsFunctionRules}
 use Rattle.pass_intrinsics.specs.Shapes.{suspends_of}
 use Rattle.pass_intrinsics.specs.declared.shape.SuspendPoint.{SuspendPoint}
 use Rattle.ir_model.specs.Calls.{first_result, first_result_by, first_result_in, or_else}
@@ -54,13 +54,13 @@ use Rattle.pass_cells.specs.Kept.{entry}
 use Rattle.pass_cells.specs.declared.keeping.Keeping.{Keeping}
 use Rattle.rule_values.specs.Kinds.{value_kind}
 use Rattle.rule_values.specs.declared.kinds.Kind.{Kind}
-use Rattle.ir_laws.proofs.rules.woven_rules.All.{rules_woven}
-use Rattle.ir_laws.proofs.rules.woven_rules.Edges.{incoming_woven}
-use Rattle.ir_laws.proofs.rules.woven_rules.Laid.{valued_old}
-use Rattle.ir_laws.proofs.rules.woven_rules.Once.{names_below}
-use Rattle.ir_laws.specs.rules.woven_rules.Blocks.{IsWoven}
-use Rattle.ir_laws.specs.rules.woven_rules.Pairs.{AreIncomingOnce}
-use Rattle.ir_laws.specs.rules.woven_rules.Weaving.{Weaving}
+use Rattle.rule_laws.proofs.rules.woven_rules.All.{rules_woven}
+use Rattle.rule_laws.proofs.rules.woven_rules.Edges.{incoming_woven}
+use Rattle.rule_laws.proofs.rules.woven_rules.Laid.{valued_old}
+use Rattle.rule_laws.proofs.rules.woven_rules.Once.{names_below}
+use Rattle.rule_laws.specs.rules.woven_rules.Blocks.{IsWoven}
+use Rattle.rule_laws.specs.rules.woven_rules.Pairs.{AreIncomingOnce}
+use Rattle.rule_laws.specs.rules.woven_rules.Weaving.{Weaving}
 use Rattle.ir_laws.proofs.facts.Lists.{blank_length}
 use Rattle.ir_laws.proofs.paths.begin_order.Framed.{get_listed}
 

@@ -4,9 +4,9 @@ use Rattle.std.specs.Prelude.{Option}
 use Rattle.pass_proofs.proofs.fetch.begin_order.Operands.{accesses_of, others_of}
 use Rattle.pass_proofs.specs.frames.begin_order.Behind.{AreBehind, MayBeAccessed}
 use Rattle.pass_proofs.specs.addresses.begin_order.Behind.{IsBehind}
-use Rattle.ir_laws.specs.rules.begin_order.Behind.{access_operands}
+use Rattle.rule_laws.specs.rules.begin_order.Behind.{access_operands}
 use Rattle.ir_laws.proofs.paths.source_rules.Locals.{listed_either, listed_left, listed_right}
-use Rattle.ir_laws.proofs.rules.source_rules.Locals.{made_by}
+use Rattle.rule_laws.proofs.rules.source_rules.Locals.{made_by}
 use Rattle.flow_solver.specs.Paths.{IsListed}
 use Rattle.ir_parts.specs.Contents.{instr_operands}
 use Rattle.ir_model.specs.declared.instr.Instr.{Instr}

@@ -3,8 +3,8 @@ use Rattle.std.proofs.Common.{◌≡◌, ℕ, ◌+◌, Bool, true, false, List, 
 use Rattle.std.specs.List.{list_all}
 use Rattle.std.specs.Prelude.{None, Some, map, option_to_list, replicate, slice_get, slice_set}
 use Rattle.ir_laws.specs.facts.begin_order.Behind.{AreSizes}
-use Rattle.ir_laws.proofs.rules.counted.PartFacts.{block_passes, signature_passes}
-use Rattle.ir_laws.specs.rules.counted.Widths.{first_other_width, is_of_other_width}
+use Rattle.rule_laws.proofs.rules.counted.PartFacts.{block_passes, signature_passes}
+use Rattle.rule_laws.specs.rules.counted.Widths.{first_other_width, is_of_other_width}
 use Rattle.ir_laws.specs.facts.counted.Widths.{has_width}
 use Rattle.frame_contents.specs.Held.{crossing_values, frame_slots, held_blocks, held_of, held_params}
 use Rattle.frame_contents.specs.declared.contents.Contents.{Contents}
@@ -23,7 +23,7 @@ use Rattle.ir_model.specs.declared.module.Param.{Param}
 use Rattle.ir_paths.specs.Slots.{has_name, promise_of}
 use Rattle.pass_frames.specs.Tables.{sizes_by_name, with_sizes}
 use Rattle.run_laws.specs.changed.Changed.{Each}
-use Rattle.ir_laws.proofs.frames.begin_order.Sizes.{HasWidths, IsSmall, all_behind, blocks_small, each_set, none_sized, params_small}
+use Rattle.rule_laws.proofs.frames.begin_order.Sizes.{HasWidths, IsSmall, all_behind, blocks_small, each_set, none_sized, params_small}
 
 all_set : (hs : List Holding) (sizes : List ℕ) → Each IsSmall hs → AreSizes sizes → AreSizes (with_sizes hs sizes)
 all_set [] sizes h k = k

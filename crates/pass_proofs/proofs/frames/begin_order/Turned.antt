@@ -2,7 +2,7 @@
 use Rattle.std.proofs.Common.{◌≡◌, ℕ, ◌≤◌, Bool, true, false, List, [], ◌∷◌, refl, arith}
 use Rattle.std.specs.Prelude.{None, Option, Some}
 use Rattle.pass_copies.specs.Uses.{is_access, is_begin}
-use Rattle.ir_laws.specs.rules.begin_order.Behind.{access_operands, other_operands}
+use Rattle.rule_laws.specs.rules.begin_order.Behind.{access_operands, other_operands}
 use Rattle.pass_proofs.proofs.fetch.rules.Puts.{fetch_rises}
 use Rattle.pass_addresses.specs.Placing.{is_flagged, stays, without_promise_of}
 use Rattle.ir_parts.specs.Contents.{arg_operands, instr_operands}

@@ -4,21 +4,21 @@ use Rattle.std.specs.Prelude.{Option, codes, filter, map}
 use Rattle.pass_proofs.proofs.addresses.rules.Placed.{fetched, fetched_keeps, slots_woven}
 use Rattle.pass_proofs.proofs.addresses.rules.Unmarked.{left_woven, markers_woven, stays_all, unmarked_keeps}
 use Rattle.pass_proofs.specs.addresses.rules.Addresses.{AddressesFit, left_over, lies_in_frame, turning_weaving}
-use Rattle.ir_laws.specs.frames.crossing.Crossed.{IsNothingNeeded}
+use Rattle.rule_laws.specs.frames.crossing.Crossed.{IsNothingNeeded}
 use Rattle.pass_proofs.specs.edges.rules.Phis.{ArePhisEnteredByJumps}
 use Rattle.pass_proofs.proofs.fetch.rules.Ends.{blocks_rise}
 use Rattle.pass_proofs.specs.fetch.rules.Fetches.{base_of, fetch_weaving, second_name}
 use Rattle.pass_addresses.specs.Placing.{lies_outside, slot_fetches, stays, with_frame_addresses, without_markers, without_promise_of}
 use Rattle.pass_proofs.proofs.fetch.crossing.Fetched.{fetches_follow}
 use Rattle.pass_proofs.proofs.addresses.crossing.Marks.{marker_none}
-use Rattle.ir_laws.proofs.frames.needed.Others.{is_address, other_than_begin}
+use Rattle.rule_laws.proofs.frames.needed.Others.{is_address, other_than_begin}
 use Rattle.pass_proofs.proofs.split.crossing.Steps.{IsQuiet, frames_stay, nothing_stays}
 use Rattle.pass_proofs.proofs.addresses.crossing.Turned.{filter_follows, promise_follows, turned_follows}
 use Rattle.pass_proofs.proofs.split.crossing.Ways.{woven_end_first}
-use Rattle.ir_laws.specs.frames.needed.Crossed.{AreFramesUnneeded}
+use Rattle.rule_laws.specs.frames.needed.Crossed.{AreFramesUnneeded}
 use Rattle.pass_proofs.specs.split.crossing.Ended.{AreEndedFirst}
 use Rattle.pass_proofs.proofs.frames.shape.Addresses.{address_found, keeps_unmarked, keeps_unpromised, keeps_refetched, keeps_addressed, rules_unmarked, shape_unmarked, shape_unpromised, shape_refetched}
-use Rattle.ir_laws.specs.rules.function_rules.Kept.{KeepsFunctionRules}
+use Rattle.rule_laws.specs.rules.function_rules.Kept.{KeepsFunctionRules}
 use Rattle.ir_model.specs.declared.instr.Instr.{Instr}
 use Rattle.ir_model.specs.declared.module.Block.{Block}
 use Rattle.ir_model.specs.declared.module.Function.{Function}
@@ -27,10 +27,10 @@ use Rattle.ir_paths.specs.Windows.{instr_in}
 use Rattle.ir_paths.specs.declared.point.Point.{Point}
 use Rattle.pass_fetch.specs.Blocks.{with_fetches}
 use Rattle.pass_fetch.specs.declared.fetch.Fetch.{Fetch}
-use Rattle.ir_laws.specs.rules.woven_rules.Blocks.{IsWoven}
-use Rattle.ir_laws.specs.rules.woven_rules.Pairs.{AreIncomingOnce}
-use Rattle.ir_laws.specs.rules.woven_rules.Weaving.{Weaving}
-use Rattle.ir_laws.specs.frames.woven_shape.Shaped.{IsShaped, KeepsCalls}
+use Rattle.rule_laws.specs.rules.woven_rules.Blocks.{IsWoven}
+use Rattle.rule_laws.specs.rules.woven_rules.Pairs.{AreIncomingOnce}
+use Rattle.rule_laws.specs.rules.woven_rules.Weaving.{Weaving}
+use Rattle.rule_laws.specs.frames.woven_shape.Shaped.{IsShaped, KeepsCalls}
 use Rattle.ir_laws.proofs.paths.crossing.Values.{listed_at}
 
 -- what lies in the frame is an alloca

@@ -3,15 +3,15 @@ use Rattle.std.proofs.Common.{◌≡◌, ℕ, ◌<◌, ◌≤◌, Bool, true, Li
 use Rattle.std.specs.Prelude.{None, Some}
 use Rattle.pass_proofs.specs.addresses.rules.Addresses.{AddressesFit}
 use Rattle.pass_proofs.proofs.cells.crossing.Whole.{nothing_needed, was_needed}
-use Rattle.ir_laws.specs.frames.crossing.Crossed.{IsNothingNeeded}
-use Rattle.ir_laws.proofs.rules.local_rules.Names.{numbers}
-use Rattle.ir_laws.proofs.rules.local_rules.Woven.{apart_names}
+use Rattle.rule_laws.specs.frames.crossing.Crossed.{IsNothingNeeded}
+use Rattle.rule_laws.proofs.rules.local_rules.Names.{numbers}
+use Rattle.rule_laws.proofs.rules.local_rules.Woven.{apart_names}
 use Rattle.ir_laws.proofs.paths.source_rules.Locals.{Apart}
-use Rattle.ir_laws.proofs.rules.source_rules.Locals.{names_are}
-use Rattle.ir_laws.proofs.rules.counted.DefinedKinds.{made_in}
-use Rattle.ir_laws.proofs.rules.counted.Slots.{instr_size}
-use Rattle.ir_laws.proofs.rules.counted.Times.{apart_times}
-use Rattle.ir_laws.proofs.rules.woven_rules.Once.{names_below}
+use Rattle.rule_laws.proofs.rules.source_rules.Locals.{names_are}
+use Rattle.rule_laws.proofs.rules.counted.DefinedKinds.{made_in}
+use Rattle.rule_laws.proofs.rules.counted.Slots.{instr_size}
+use Rattle.rule_laws.proofs.rules.counted.Times.{apart_times}
+use Rattle.rule_laws.proofs.rules.woven_rules.Once.{names_below}
 use Rattle.pass_proofs.specs.cells.rules.Asked.{AreCellsFor}
 use Rattle.ir_laws.specs.facts.woven_rules.Pairs.{times}
 use Rattle.ir_parts.specs.Locals.{locals_of}
@@ -27,14 +27,14 @@ use Rattle.pass_proofs.proofs.frames.crossing.Ending.{edges_end_first}
 use Rattle.pass_proofs.proofs.frames.crossing.Framed.{addresses_end_first, addresses_frames, addresses_nothing}
 use Rattle.pass_proofs.proofs.split.crossing.Steps.{IsQuiet, frame_back, frame_named, frames_stay, nothing_stays}
 use Rattle.pass_proofs.proofs.split.crossing.Ways.{woven_end_first}
-use Rattle.ir_laws.specs.frames.needed.Crossed.{AreFramesUnneeded}
+use Rattle.rule_laws.specs.frames.needed.Crossed.{AreFramesUnneeded}
 use Rattle.pass_proofs.specs.split.crossing.Ended.{AreEndedFirst}
 use Rattle.pass_proofs.proofs.cells.shape.Apart.{edges_apart}
 use Rattle.pass_proofs.proofs.edges.calls.Edges.{edges_shaped}
 use Rattle.pass_proofs.proofs.frames.shape.Fits.{cells_fit}
 use Rattle.pass_proofs.proofs.frames.shape.Framed.{begin_is, coroutine_c, coroutine_d, crossed_e, jumps_d, keeps_c, keeps_d, once_d, rules_c, rules_d, rules_e, shape_c, shape_d, woven_c, woven_d}
 use Rattle.pass_proofs.specs.frames.shape.Passes.{PassesFit}
-use Rattle.ir_laws.specs.rules.function_rules.Kept.{KeepsFunctionRules}
+use Rattle.rule_laws.specs.rules.function_rules.Kept.{KeepsFunctionRules}
 use Rattle.ir_model.specs.Calls.{first_result}
 use Rattle.ir_model.specs.declared.instr.Instr.{Instr}
 use Rattle.ir_model.specs.declared.module.Function.{Function}
@@ -44,19 +44,19 @@ use Rattle.ir_paths.specs.Windows.{instr_at, is_call_of}
 use Rattle.ir_paths.specs.declared.point.Point.{Point}
 use Rattle.rule_locals.specs.Markers.{made_size, slot_size}
 use Rattle.pass_proofs.proofs.edges.unused_frames.Edges.{unused_where_edges_have_blocks}
-use Rattle.pass_early_proof.proofs.unused_frames.Flags.{IsFrame}
+use Rattle.pass_proofs.proofs.early.unused_frames.Flags.{IsFrame}
 use Rattle.ir_laws.proofs.paths.unused.Standing.{stands_at}
-use Rattle.ir_laws.proofs.frames.unused.Unneeded.{unneeded}
-use Rattle.ir_laws.specs.rules.unused.Unused.{AreFramesUnused}
+use Rattle.rule_laws.proofs.frames.unused.Unneeded.{unneeded}
+use Rattle.rule_laws.specs.rules.unused.Unused.{AreFramesUnused}
 use Rattle.frame_classes.specs.declared.class.SlotClass.{SlotClass}
 use Rattle.pass_frames.specs.Framed.{begin_block, begin_of, celled, copied, offsets_of, placed}
 use Rattle.pass_frames.specs.Tables.{class_flags, label_flags, sizes_by_name}
 use Rattle.frame_crossing.specs.Crossing.{AreCrossing}
 use Rattle.rule_windows.specs.Outside.{IsFirstOutside}
 use Rattle.rule_windows.specs.Windows.{IsFirstWindow}
-use Rattle.ir_laws.specs.rules.woven_rules.Blocks.{IsWoven}
-use Rattle.ir_laws.specs.rules.woven_rules.Weaving.{Weaving}
-use Rattle.ir_laws.specs.frames.woven_shape.Shaped.{IsShaped, KeepsCalls}
+use Rattle.rule_laws.specs.rules.woven_rules.Blocks.{IsWoven}
+use Rattle.rule_laws.specs.rules.woven_rules.Weaving.{Weaving}
+use Rattle.rule_laws.specs.frames.woven_shape.Shaped.{IsShaped, KeepsCalls}
 
 no_size : (m : Module) (i : Instr) (v : ℕ) → is_call_of Intrinsic.CoroFrame i ≡ true → made_size m i v ≡ None
 no_size m (Instr.Alloca r ty align) v e = absurd (cc)

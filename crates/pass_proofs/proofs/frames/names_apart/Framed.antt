@@ -21,11 +21,11 @@ use Rattle.pass_cells.specs.Cells.{fetched_function, fetches_of, named_function,
 use Rattle.pass_cells.specs.Plan.{plan_of}
 use Rattle.pass_cells.specs.Written.{after_blocks}
 use Rattle.pass_cells.specs.declared.plan.Plan.{Plan}
-use Rattle.ir_laws.proofs.rules.names_apart.Numbered.{are_right}
-use Rattle.ir_laws.proofs.rules.names_apart.Steps.{IsStep, then_step}
+use Rattle.rule_laws.proofs.rules.names_apart.Numbered.{are_right}
+use Rattle.rule_laws.proofs.rules.names_apart.Steps.{IsStep, then_step}
 use Rattle.pass_proofs.proofs.split.names_apart.Steps.{copies_step, edges_step, named_step, own_step, own_words}
-use Rattle.ir_laws.proofs.rules.names_apart.Words.{are_all_unlike, are_own}
-use Rattle.ir_laws.specs.rules.names_apart.Words.{AreFew, IsTableOf, cell_words, copy_words, early_words, edge_words, framed_words}
+use Rattle.rule_laws.proofs.rules.names_apart.Words.{are_all_unlike, are_own}
+use Rattle.rule_laws.specs.rules.names_apart.Words.{AreFew, IsTableOf, cell_words, copy_words, early_words, edge_words, framed_words}
 
 -- ---- blocks on edges, and uses that are fetched
 

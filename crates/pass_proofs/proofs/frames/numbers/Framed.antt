@@ -5,9 +5,9 @@ use Rattle.pass_edges.specs.EdgeBlocks.{with_edge_blocks}
 use Rattle.frame_layout.specs.declared.layout.Layout.{Layout}
 use Rattle.pass_proofs.proofs.cells.numbers.Cells.{cells_total}
 use Rattle.pass_proofs.proofs.addresses.numbers.Copies.{copies_total, placed_total}
-use Rattle.ir_laws.proofs.frames.suspend_counts.Counted.{as_many, total}
+use Rattle.rule_laws.proofs.frames.suspend_counts.Counted.{as_many, total}
 use Rattle.pass_proofs.proofs.edges.numbers.Edges.{edges_as_many}
-use Rattle.ir_laws.proofs.frames.front_rules.Shape.{same_suspends}
+use Rattle.rule_laws.proofs.frames.front_rules.Shape.{same_suspends}
 use Rattle.pass_intrinsics.specs.Shapes.{suspends_of}
 use Rattle.pass_intrinsics.specs.declared.shape.SuspendPoint.{SuspendPoint}
 use Rattle.ir_model.specs.declared.module.Function.{Function}

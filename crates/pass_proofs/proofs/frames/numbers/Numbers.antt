@@ -20,7 +20,7 @@ use Rattle.frame_layout.specs.Layouts.{IsLayoutBy, index_offset, rooms_of}
 use Rattle.frame_layout.specs.declared.layout.Field.{Field}
 use Rattle.frame_layout.specs.declared.layout.Layout.{Layout}
 use Rattle.frame_layout.specs.declared.layout.Layouts.{Layouts}
-use Rattle.ir_laws.specs.frames.suspend_counts.Given.{IsGiven}
+use Rattle.rule_laws.specs.frames.suspend_counts.Given.{IsGiven}
 use Rattle.ir_model.specs.declared.module.Function.{Function}
 use Rattle.ir_model.specs.declared.module.Module.{Module}
 use Rattle.pass_frames.specs.Framed.{layout_at}

@@ -4,11 +4,11 @@ use Rattle.frame_contents.specs.Frames.{AreLayouts}
 use Rattle.frame_layout.specs.declared.layout.Layout.{Layout}
 use Rattle.frame_layout.specs.declared.layout.Layouts.{Layouts}
 use Rattle.pass_proofs.proofs.frames.numbers.Numbers.{given_bounded}
-use Rattle.ir_laws.specs.frames.suspend_counts.Given.{IsGiven}
+use Rattle.rule_laws.specs.frames.suspend_counts.Given.{IsGiven}
 use Rattle.pass_intrinsics.specs.Shapes.{shape_of, suspends_of}
 use Rattle.ir_model.specs.declared.module.Function.{Function}
 use Rattle.ir_model.specs.declared.module.Module.{Module}
-use Rattle.ir_laws.specs.frames.replaced.Parted.{IsSmall}
+use Rattle.rule_laws.specs.frames.replaced.Parted.{IsSmall}
 
 pub shape_small : (m : Module) (share : Bool) (layouts : Layouts) → AreLayouts m share (Ok layouts) → (f : Function) → length (suspends_of f) ≤ 65536 → (l : Layout) → IsGiven layouts.coroutines l → IsSmall (shape_of f l)
 shape_small m share layouts laid f low l given =

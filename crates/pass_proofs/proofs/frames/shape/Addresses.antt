@@ -12,12 +12,12 @@ use Rattle.pass_addresses.specs.Placing.{slot_fetches, with_frame_addresses, wit
 use Rattle.pass_proofs.proofs.frames.shape.Fetched.{fetch_steady}
 use Rattle.pass_proofs.proofs.fetch.shape.Held.{IsHeld}
 use Rattle.pass_proofs.proofs.edges.calls.Jumps.{jumps_stay}
-use Rattle.ir_laws.proofs.rules.shape.Ordered.{IsSuspendValue, all_ordered, placed_calls}
-use Rattle.ir_laws.proofs.rules.shape.Results.{suspend_kind, suspend_low}
+use Rattle.rule_laws.proofs.rules.shape.Ordered.{IsSuspendValue, all_ordered, placed_calls}
+use Rattle.rule_laws.proofs.rules.shape.Results.{suspend_kind, suspend_low}
 use Rattle.pass_proofs.proofs.edges.calls.Steadily.{keeps_calls}
-use Rattle.ir_laws.proofs.rules.shape.Steady.{AreAllOrdered}
+use Rattle.rule_laws.proofs.rules.shape.Steady.{AreAllOrdered}
 use Rattle.pass_proofs.proofs.addresses.shape.Turned.{markers_steady, promise_steady, slots_steady}
-use Rattle.ir_laws.specs.rules.function_rules.Kept.{KeepsFunctionRules}
+use Rattle.rule_laws.specs.rules.function_rules.Kept.{KeepsFunctionRules}
 use Rattle.ir_model.specs.Ty.{token}
 use Rattle.ir_model.specs.declared.module.Function.{Function}
 use Rattle.ir_model.specs.declared.module.Module.{Module}
@@ -28,13 +28,13 @@ use Rattle.pass_fetch.specs.declared.fetch.Fetch.{Fetch}
 use Rattle.rule_values.specs.Fits.{fits_kind}
 use Rattle.rule_values.specs.Kinds.{value_kind}
 use Rattle.rule_values.specs.declared.kinds.Kind.{Kind}
-use Rattle.ir_laws.proofs.rules.woven_rules.All.{rules_woven}
-use Rattle.ir_laws.proofs.rules.woven_rules.Edges.{incoming_woven}
-use Rattle.ir_laws.specs.rules.woven_rules.Blocks.{IsWoven}
-use Rattle.ir_laws.specs.rules.woven_rules.Pairs.{AreIncomingOnce}
-use Rattle.ir_laws.specs.rules.woven_rules.Weaving.{Weaving}
-use Rattle.ir_laws.proofs.frames.woven_shape.Shaped.{shape_kept}
-use Rattle.ir_laws.specs.frames.woven_shape.Shaped.{IsShaped, KeepsCalls}
+use Rattle.rule_laws.proofs.rules.woven_rules.All.{rules_woven}
+use Rattle.rule_laws.proofs.rules.woven_rules.Edges.{incoming_woven}
+use Rattle.rule_laws.specs.rules.woven_rules.Blocks.{IsWoven}
+use Rattle.rule_laws.specs.rules.woven_rules.Pairs.{AreIncomingOnce}
+use Rattle.rule_laws.specs.rules.woven_rules.Weaving.{Weaving}
+use Rattle.rule_laws.proofs.frames.woven_shape.Shaped.{shape_kept}
+use Rattle.rule_laws.specs.frames.woven_shape.Shaped.{IsShaped, KeepsCalls}
 
 -- what is fetched is an address behind begin's value
 pub record IsAddress (begin : ℕ) (offsets : List (Option ℕ)) (v : ℕ) (y : Fetch) : Type 0 where

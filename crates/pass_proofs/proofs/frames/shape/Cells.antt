@@ -5,7 +5,7 @@ use Rattle.pass_proofs.proofs.cells.crossing.Calls.{front_quiet}
 use Rattle.pass_proofs.proofs.cells.rules.NewNames.{blocks_are, fetched, first_kept, first_kept_low, first_phi, first_phi_low, first_use, first_use_low, front, table}
 use Rattle.pass_proofs.proofs.cells.rules.Planned.{IsPlanned, fetch_there, unplaced_fetch}
 use Rattle.pass_proofs.proofs.cells.rules.Single.{IsSound}
-use Rattle.ir_laws.proofs.rules.counted.Types.{is_cell_type}
+use Rattle.rule_laws.proofs.rules.counted.Types.{is_cell_type}
 use Rattle.pass_proofs.proofs.cells.rules.Whole.{p, planned, sound, w}
 use Rattle.pass_proofs.specs.cells.rules.Asked.{AreCellsFor}
 use Rattle.pass_proofs.specs.cells.rules.Weaving.{cells_weaving}
@@ -15,17 +15,17 @@ use Rattle.pass_proofs.specs.fetch.rules.Fetches.{base_of}
 use Rattle.pass_proofs.proofs.cells.shape.Begin.{begin_unplaced}
 use Rattle.pass_proofs.proofs.frames.shape.Fetched.{fetch_steady}
 use Rattle.pass_proofs.proofs.fetch.shape.Held.{IsHeld}
-use Rattle.ir_laws.proofs.rules.shape.Ordered.{IsSuspendValue, block_no_end, placed_calls, IsNoEnd}
-use Rattle.ir_laws.proofs.rules.shape.Results.{suspend_kind, suspend_low}
+use Rattle.rule_laws.proofs.rules.shape.Ordered.{IsSuspendValue, block_no_end, placed_calls, IsNoEnd}
+use Rattle.rule_laws.proofs.rules.shape.Results.{suspend_kind, suspend_low}
 use Rattle.pass_proofs.proofs.copies.shape.Returned.{returned_listed}
 use Rattle.pass_proofs.proofs.edges.calls.Spared.{AreInstrsOther, AreOther}
-use Rattle.ir_laws.proofs.rules.shape.Stands.{StandsAt, begin_stands}
+use Rattle.rule_laws.proofs.rules.shape.Stands.{StandsAt, begin_stands}
 use Rattle.pass_proofs.proofs.edges.calls.Steadily.{AreSteady, entry_no_end, first_clear, keeps_calls, quiet_there, steady_both, still_ordered}
 use Rattle.pass_proofs.proofs.cells.shape.Unneeded.{unplaced}
 use Rattle.pass_proofs.proofs.cells.shape.Written.{AreReturnsClear, all_plain, entry_ends, entry_other, entry_steady, params_other}
-use Rattle.ir_laws.specs.frames.shape.Quiet.{AreReturnsQuiet}
+use Rattle.rule_laws.specs.frames.shape.Quiet.{AreReturnsQuiet}
 use Rattle.ir_parts.specs.Contents.{instr_operands}
-use Rattle.ir_laws.specs.rules.function_rules.Kept.{KeepsFunctionRules}
+use Rattle.rule_laws.specs.rules.function_rules.Kept.{KeepsFunctionRules}
 use Rattle.pass_intrinsics.specs.Shapes.{suspends_of}
 use Rattle.ir_model.specs.Ty.{Ty, int, ptr, token}
 use Rattle.ir_model.specs.declared.instr.Instr.{Instr}
@@ -46,9 +46,9 @@ use Rattle.pass_cells.specs.declared.plan.Plan.{Plan}
 use Rattle.rule_values.specs.Fits.{fits_kind}
 use Rattle.rule_values.specs.Kinds.{kind_of, value_kind}
 use Rattle.rule_values.specs.declared.kinds.Kind.{Kind}
-use Rattle.ir_laws.specs.rules.woven_rules.Weaving.{Weaving}
-use Rattle.ir_laws.specs.rules.woven_shape.Calls.{ShapingCall, calls_of_block}
-use Rattle.ir_laws.specs.frames.woven_shape.Shaped.{IsShaped, KeepsCalls}
+use Rattle.rule_laws.specs.rules.woven_rules.Weaving.{Weaving}
+use Rattle.rule_laws.specs.rules.woven_shape.Calls.{ShapingCall, calls_of_block}
+use Rattle.rule_laws.specs.frames.woven_shape.Shaped.{IsShaped, KeepsCalls}
 
 cell_no_token : (ty : Ty) → is_cell_type ty ≡ true → fits_kind (Some (kind_of ty)) token ≡ true → ⊥
 cell_no_token (int n) e h = absurd (cc)

@@ -3,12 +3,12 @@ use Rattle.std.proofs.Common.{◌≡◌, inl, inr, ℕ, zero, suc, ◌<◌, ◌�
 use Rattle.std.specs.List.{list_all, list_any}
 use Rattle.std.specs.Prelude.{Some, None, Option, filter, map, not, replicate, slice_get, if◌then◌else◌, ◌&&◌, ◌||◌, ◌==◌}
 use Rattle.ir_laws.proofs.paths.counted.PartFacts.{all_listed}
-use Rattle.ir_laws.proofs.rules.counted.PartFacts.{block_passes}
+use Rattle.rule_laws.proofs.rules.counted.PartFacts.{block_passes}
 use Rattle.rule_shape.specs.OneOfEach.{wrong_call}
 use Rattle.rule_shape.specs.Switches.{wrong_switch}
 use Rattle.ir_laws.proofs.facts.Members.{at_each, each_there}
 use Rattle.ir_laws.proofs.facts.Truth.{equal_numbers, and_first, and_second, holds}
-use Rattle.ir_laws.proofs.rules.source_rules.Locals.{own_label}
+use Rattle.rule_laws.proofs.rules.source_rules.Locals.{own_label}
 use Rattle.pass_proofs.proofs.edges.rules.Switched.{switched}
 use Rattle.pass_proofs.specs.edges.rules.Phis.{ArePhisEnteredByJumps}
 use Rattle.pass_proofs.proofs.edges.shape.Uses.{ends_total}
@@ -18,11 +18,11 @@ use Rattle.pass_proofs.specs.fetch.rules.Fetches.{AreUnfetched}
 use Rattle.flow_solver.specs.Paths.{IsListed}
 use Rattle.pass_proofs.proofs.fetch.shape.Fetching.{IsHeldBlock, IsNotFrom, all_spared, blocks_kept, default_same, ends_each, ends_other, ends_same, fetch_plain, no_rows, rows_none}
 use Rattle.pass_proofs.proofs.fetch.shape.Held.{IsHeld, all_held}
-use Rattle.ir_laws.proofs.rules.shape.Ordered.{IsSuspendValue, all_ordered, placed_calls}
+use Rattle.rule_laws.proofs.rules.shape.Ordered.{IsSuspendValue, all_ordered, placed_calls}
 use Rattle.pass_proofs.proofs.edges.calls.Steadily.{AreSteady}
-use Rattle.ir_laws.proofs.rules.shape.Steady.{AreAllOrdered, IsBlockKept, IsPlain, all_calls, all_labels}
+use Rattle.rule_laws.proofs.rules.shape.Steady.{AreAllOrdered, IsBlockKept, IsPlain, all_calls, all_labels}
 use Rattle.ir_laws.proofs.paths.shape.Steady.{is_suspend}
-use Rattle.ir_laws.specs.rules.function_rules.Kept.{KeepsFunctionRules}
+use Rattle.rule_laws.specs.rules.function_rules.Kept.{KeepsFunctionRules}
 use Rattle.ir_model.specs.Calls.{first_result}
 use Rattle.ir_model.specs.Names.{position_of}
 use Rattle.ir_model.specs.declared.instr.Incoming.{Incoming}

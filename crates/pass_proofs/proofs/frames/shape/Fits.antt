@@ -2,10 +2,10 @@
 use Rattle.std.proofs.Common.{◌≡◌, ◌⊎◌, inl, inr, ⊎_elim, ℕ, zero, suc, ◌+◌, Bool, true, false, List, [], ◌∷◌, length, refl, sym, ap, ◌∙◌, subst}
 use Rattle.std.specs.List.{list_all}
 use Rattle.std.specs.Prelude.{None, Option, not, replicate, slice_get, slice_set, if◌then◌else◌}
-use Rattle.ir_laws.proofs.frames.crossing.Asking.{lead_away, pairs_of_values}
+use Rattle.rule_laws.proofs.frames.crossing.Asking.{lead_away, pairs_of_values}
 use Rattle.ir_laws.proofs.facts.Truth.{either}
 use Rattle.pass_proofs.specs.cells.rules.Asked.{AreCellsFor}
-use Rattle.ir_laws.specs.rules.counted.Widths.{first_other_width, is_of_other_width}
+use Rattle.rule_laws.specs.rules.counted.Widths.{first_other_width, is_of_other_width}
 use Rattle.ir_laws.specs.facts.counted.Widths.{has_width}
 use Rattle.rule_shape.specs.OneOfEach.{wrong_call}
 use Rattle.rule_shape.specs.Switches.{wrong_switch}
@@ -20,7 +20,7 @@ use Rattle.pass_edges.specs.EdgeBlocks.{with_edge_blocks}
 use Rattle.pass_edges.specs.Edges.{ends_in_suspend, phi_flags}
 use Rattle.flow_solver.specs.Paths.{IsListed}
 use Rattle.pass_proofs.proofs.cells.shape.Apart.{edges_apart}
-use Rattle.ir_laws.specs.rules.function_rules.Kept.{KeepsFunctionRules}
+use Rattle.rule_laws.specs.rules.function_rules.Kept.{KeepsFunctionRules}
 use Rattle.ir_model.specs.Ty.{Ty}
 use Rattle.ir_model.specs.declared.module.Function.{Function}
 use Rattle.ir_model.specs.declared.module.Module.{Module}

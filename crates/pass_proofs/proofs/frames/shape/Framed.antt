@@ -11,10 +11,10 @@ use Rattle.pass_proofs.specs.copies.rules.Copies.{CopiesFit, copied_slots, copy_
 use Rattle.rule_shape.specs.OneOfEach.{wrong_call}
 use Rattle.rule_shape.specs.Switches.{wrong_switch}
 use Rattle.frame_contents.specs.declared.contents.Contents.{Contents}
-use Rattle.ir_laws.proofs.rules.source_rules.Locals.{own_label}
+use Rattle.rule_laws.proofs.rules.source_rules.Locals.{own_label}
 use Rattle.pass_proofs.proofs.edges.rules.Kept.{crossing_kept, labels_different, phis_by_jumps, rules_kept, suspend_blocks}
 use Rattle.pass_proofs.specs.edges.rules.Phis.{ArePhisEnteredByJumps}
-use Rattle.ir_laws.specs.frames.rows.Returns.{HaveOwnReturns, return_labels}
+use Rattle.rule_laws.specs.frames.rows.Returns.{HaveOwnReturns, return_labels}
 use Rattle.pass_proofs.proofs.edges.shape.Kept.{begin_kept}
 use Rattle.pass_edges.specs.EdgeBlocks.{with_edge_blocks}
 use Rattle.flow_solver.specs.Paths.{IsListed}
@@ -27,10 +27,10 @@ use Rattle.pass_proofs.proofs.edges.calls.Edges.{edges_shaped}
 use Rattle.pass_proofs.proofs.frames.shape.Fits.{cells_fit}
 use Rattle.pass_proofs.proofs.edges.calls.Jumps.{jumps_stay}
 use Rattle.pass_proofs.proofs.edges.calls.Steadily.{quiet_there}
-use Rattle.ir_laws.specs.frames.shape.Passes.{IsKept}
+use Rattle.rule_laws.specs.frames.shape.Passes.{IsKept}
 use Rattle.pass_proofs.specs.frames.shape.Passes.{PassesFit}
-use Rattle.ir_laws.specs.frames.shape.Quiet.{AreReturnsQuiet}
-use Rattle.ir_laws.specs.rules.function_rules.Kept.{KeepsFunctionRules}
+use Rattle.rule_laws.specs.frames.shape.Quiet.{AreReturnsQuiet}
+use Rattle.rule_laws.specs.rules.function_rules.Kept.{KeepsFunctionRules}
 use Rattle.pass_intrinsics.specs.declared.shape.SuspendPoint.{SuspendPoint}
 use Rattle.ir_model.specs.Calls.{first_result}
 use Rattle.ir_model.specs.Names.{position_of}
@@ -44,14 +44,14 @@ use Rattle.pass_frames.specs.Tables.{class_flags, label_flags, sizes_by_name}
 use Rattle.frame_crossing.specs.Crossing.{AreCrossing}
 use Rattle.rule_windows.specs.Outside.{IsFirstOutside}
 use Rattle.rule_windows.specs.Windows.{IsFirstWindow}
-use Rattle.ir_laws.proofs.rules.woven_rules.All.{rules_woven}
-use Rattle.ir_laws.proofs.rules.woven_rules.Edges.{incoming_woven}
-use Rattle.ir_laws.specs.rules.woven_rules.Blocks.{IsWoven}
-use Rattle.ir_laws.specs.rules.woven_rules.Pairs.{AreIncomingOnce}
-use Rattle.ir_laws.specs.rules.woven_rules.Weaving.{Weaving}
-use Rattle.ir_laws.proofs.frames.woven_shape.Shaped.{shape_kept, suspends_kept}
-use Rattle.ir_laws.specs.rules.woven_shape.Calls.{calls_in, calls_of_block}
-use Rattle.ir_laws.specs.frames.woven_shape.Shaped.{IsShaped, KeepsCalls}
+use Rattle.rule_laws.proofs.rules.woven_rules.All.{rules_woven}
+use Rattle.rule_laws.proofs.rules.woven_rules.Edges.{incoming_woven}
+use Rattle.rule_laws.specs.rules.woven_rules.Blocks.{IsWoven}
+use Rattle.rule_laws.specs.rules.woven_rules.Pairs.{AreIncomingOnce}
+use Rattle.rule_laws.specs.rules.woven_rules.Weaving.{Weaving}
+use Rattle.rule_laws.proofs.frames.woven_shape.Shaped.{shape_kept, suspends_kept}
+use Rattle.rule_laws.specs.rules.woven_shape.Calls.{calls_in, calls_of_block}
+use Rattle.rule_laws.specs.frames.woven_shape.Shaped.{IsShaped, KeepsCalls}
 
 -- ---- blocks of their own have no calls
 

@@ -6,7 +6,7 @@ use Rattle.pass_proofs.proofs.frames.begin_order.Alone.{begins_named}
 use Rattle.ir_laws.proofs.paths.begin_order.Framed.{get_listed}
 use Rattle.pass_proofs.specs.frames.begin_order.Behind.{AreBehind, AreBlocksBehind, MayBeAccessed}
 use Rattle.pass_proofs.specs.addresses.begin_order.Behind.{IsBehind, IsIncomingBehind}
-use Rattle.ir_laws.specs.rules.begin_order.Behind.{access_operands}
+use Rattle.rule_laws.specs.rules.begin_order.Behind.{access_operands}
 use Rattle.pass_proofs.specs.frames.begin_order.Frames.{slot_offsets}
 use Rattle.rule_shape.specs.OneOfEach.{wrong_call}
 use Rattle.frame_contents.specs.Frames.{AreContents}
@@ -14,12 +14,12 @@ use Rattle.frame_contents.specs.declared.contents.Contents.{Contents}
 use Rattle.rule_uses.specs.Undefined.{ReachesWithout}
 use Rattle.rule_uses.specs.Uses.{block_values, phi_values, values_in}
 use Rattle.ir_laws.proofs.facts.Members.{at_each, each_there, each_all, each_turns}
-use Rattle.pass_early_proof.proofs.path_rules.SavedEarly.{NothingEarly, of_early}
+use Rattle.pass_proofs.proofs.early.path_rules.SavedEarly.{NothingEarly, of_early}
 use Rattle.flow_solver.specs.Paths.{IsListed}
 use Rattle.frame_layout.specs.declared.layout.Layout.{Layout}
 use Rattle.ir_parts.specs.Contents.{ending_operands, result_of}
 use Rattle.ir_parts.specs.Parts.{OfInstr}
-use Rattle.ir_laws.specs.rules.function_rules.Kept.{KeepsFunctionRules}
+use Rattle.rule_laws.specs.rules.function_rules.Kept.{KeepsFunctionRules}
 use Rattle.ir_model.specs.Calls.{first_result}
 use Rattle.ir_model.specs.Names.{position_of}
 use Rattle.ir_model.specs.declared.instr.Incoming.{Incoming}
@@ -36,14 +36,14 @@ use Rattle.ir_paths.specs.declared.point.Point.{Point}
 use Rattle.frame_classes.specs.declared.class.SlotClass.{SlotClass}
 use Rattle.rule_slots.specs.Early.{IsBeforeBegin, IsFirstEarly, IsTakenEarly, end_of, instr_count, other_uses}
 use Rattle.rule_slots.specs.Slots.{NamesAddress}
-use Rattle.ir_laws.proofs.rules.slots_behind.Operands.{each_unless, others_used}
+use Rattle.rule_laws.proofs.rules.slots_behind.Operands.{each_unless, others_used}
 use Rattle.pass_proofs.proofs.frames.slots_behind.Slots.{entry_slot, slot_address}
-use Rattle.ir_laws.proofs.rules.slots_behind.Walks.{AreNamed, IsSound, end_before, front_before, sound_on}
+use Rattle.rule_laws.proofs.rules.slots_behind.Walks.{AreNamed, IsSound, end_before, front_before, sound_on}
 use Rattle.pass_frames.specs.Framed.{is_begin}
 use Rattle.pass_frames.specs.Tables.{class_flags}
 use Rattle.run_laws.specs.changed.Changed.{Each}
 use Rattle.rule_types.specs.Signatures.{calls_otherwise}
-use Rattle.ir_laws.proofs.rules.woven_rules.Unbroken.{Passes, PassesIn, all_pass}
+use Rattle.rule_laws.proofs.rules.woven_rules.Unbroken.{Passes, PassesIn, all_pass}
 
 begin_called : (i : Instr) → is_call_of Intrinsic.CoroBegin i ≡ true → is_begin i ≡ true
 begin_called (Instr.Call r must_tail ty (Callee.Intrinsic Intrinsic.CoroBegin) args) e = refl

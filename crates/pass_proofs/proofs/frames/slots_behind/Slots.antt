@@ -11,22 +11,22 @@ use Rattle.ir_laws.proofs.paths.begin_order.Framed.{get_listed}
 use Rattle.pass_proofs.proofs.frames.begin_order.Tables.{IsOfClass, IsSlotAt, IsSlotHeld, flagged_slot, frame_slot, in_blocks, in_params, slot_at}
 use Rattle.pass_proofs.specs.frames.begin_order.Behind.{IsEntrySlot}
 use Rattle.pass_proofs.specs.frames.begin_order.Frames.{slot_offsets}
-use Rattle.ir_laws.proofs.rules.counted.PartFacts.{block_passes}
-use Rattle.ir_laws.proofs.rules.counted.Slots.{alloca_slot}
+use Rattle.rule_laws.proofs.rules.counted.PartFacts.{block_passes}
+use Rattle.rule_laws.proofs.rules.counted.Slots.{alloca_slot}
 use Rattle.frame_contents.specs.Frames.{AreContents}
 use Rattle.frame_contents.specs.Held.{crossing_values, frame_slots, held_blocks, held_of, held_params}
 use Rattle.frame_contents.specs.declared.contents.Contents.{Contents}
 use Rattle.ir_laws.proofs.facts.Members.{at_each}
 use Rattle.ir_laws.proofs.facts.Truth.{equal_numbers, holds}
-use Rattle.ir_laws.proofs.rules.local_rules.Names.{numbers}
-use Rattle.ir_laws.proofs.rules.local_rules.ValueKinds.{kind_none}
-use Rattle.ir_laws.proofs.rules.local_rules.Woven.{apart_names}
+use Rattle.rule_laws.proofs.rules.local_rules.Names.{numbers}
+use Rattle.rule_laws.proofs.rules.local_rules.ValueKinds.{kind_none}
+use Rattle.rule_laws.proofs.rules.local_rules.Woven.{apart_names}
 use Rattle.ir_laws.proofs.paths.source_rules.Locals.{Apart, listed_either}
-use Rattle.ir_laws.proofs.rules.source_rules.Locals.{names_are}
+use Rattle.rule_laws.proofs.rules.source_rules.Locals.{names_are}
 use Rattle.flow_solver.specs.Paths.{IsListed}
 use Rattle.frame_layout.specs.declared.layout.Layout.{Layout}
 use Rattle.ir_parts.specs.Locals.{locals_of}
-use Rattle.ir_laws.specs.rules.function_rules.Kept.{KeepsFunctionRules}
+use Rattle.rule_laws.specs.rules.function_rules.Kept.{KeepsFunctionRules}
 use Rattle.ir_model.specs.Ty.{Ty}
 use Rattle.ir_model.specs.declared.instr.Instr.{Instr}
 use Rattle.ir_model.specs.declared.module.Block.{Block}
@@ -43,7 +43,7 @@ use Rattle.pass_frames.specs.Tables.{class_flags, is_of}
 use Rattle.frame_crossing.proofs.Numbering.{name_at}
 use Rattle.rule_values.specs.Kinds.{value_kind}
 use Rattle.rule_values.specs.declared.kinds.Kind.{Kind}
-use Rattle.ir_laws.proofs.rules.woven_rules.Once.{apart_once, names_below}
+use Rattle.rule_laws.proofs.rules.woven_rules.Once.{apart_once, names_below}
 use Rattle.ir_laws.specs.facts.woven_rules.Pairs.{times}
 
 -- ---- allocas stand in the entry block

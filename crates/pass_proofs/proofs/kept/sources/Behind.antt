@@ -4,9 +4,9 @@ use Rattle.std.specs.Prelude.{IsTrue, slice_get, ◌==◌, ◌||◌, if◌then�
 use Rattle.rule_uses.specs.Uses.{Use, block_values, local_of, locals_in, phi_values, use_of, uses_of, values_at, values_in}
 use Rattle.ir_laws.proofs.facts.Truth.{equal_numbers, not_equal}
 use Rattle.ir_laws.proofs.facts.Lists.{get_within}
-use Rattle.ir_laws.proofs.rules.renamed.Uses.{AreOfBlock, block_edge, instr_use, none_made, of_block, of_phis, three_kinds, use_at}
+use Rattle.rule_laws.proofs.rules.renamed.Uses.{AreOfBlock, block_edge, instr_use, none_made, of_block, of_phis, three_kinds, use_at}
 use Rattle.ir_laws.proofs.paths.renamed.Uses.{stands_in}
-use Rattle.pass_early_proof.proofs.save_simulation.Suspending.{fetch_at}
+use Rattle.pass_proofs.proofs.early.save_simulation.Suspending.{fetch_at}
 use Rattle.ir_laws.specs.paths.renamed.Regular.{is_call_at, makes}
 use Rattle.ir_laws.specs.facts.renamed.Regular.{is_result, passes}
 use Rattle.flow_solver.specs.Paths.{IsListed}
@@ -24,7 +24,7 @@ use Rattle.ir_model.specs.declared.operand.Operand.{Operand}
 use Rattle.ir_paths.specs.Paths.{targets}
 use Rattle.ir_paths.specs.Windows.{destroy_label, end_block, instr_at, instr_in, is_call_of, resume_label}
 use Rattle.ir_paths.specs.declared.point.Point.{Point}
-use Rattle.ir_laws.proofs.rules.sources.Places.{IsEnd, any_local, instr_there, point, term_there}
+use Rattle.rule_laws.proofs.rules.sources.Places.{IsEnd, any_local, instr_there, point, term_there}
 use Rattle.pass_proofs.proofs.kept.sources.Places.{branch_there}
 use Rattle.pass_kept_proof.proofs.Read.{end_reads_nothing, listed_by_name, made_phi, read_here}
 use Rattle.pass_kept_proof.specs.Needed.{BranchesTo, IsNeeded, IsNeededBehind, IsNeededOn, PassesBy, enter, given_by, label_of_block, next, phi, phis_at, phis_give, phis_read, read, reads_at}

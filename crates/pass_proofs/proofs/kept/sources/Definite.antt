@@ -6,19 +6,19 @@ use Rattle.rule_uses.specs.Uses.{Use, block_values, locals_in, phi_values, use_o
 use Rattle.ir_laws.proofs.facts.Members.{at_each, each_there}
 use Rattle.ir_laws.proofs.facts.Truth.{equal_numbers, not_equal, holds}
 use Rattle.ir_laws.proofs.facts.Lists.{get_within}
-use Rattle.ir_laws.proofs.rules.renamed.Uses.{AreOfBlock, block_edge, instr_use, none_made, none_undefined, of_block, of_phis, result_spelt, three_kinds, use_at}
+use Rattle.rule_laws.proofs.rules.renamed.Uses.{AreOfBlock, block_edge, instr_use, none_made, none_undefined, of_block, of_phis, result_spelt, three_kinds, use_at}
 use Rattle.ir_laws.proofs.paths.renamed.Uses.{stands_in}
 use Rattle.ir_laws.specs.facts.renamed.Regular.{is_result, passes}
 use Rattle.ir_laws.specs.paths.renamed.Regular.{makes}
-use Rattle.ir_laws.proofs.rules.local_rules.Names.{numbers}
-use Rattle.ir_laws.proofs.rules.local_rules.Woven.{apart_names}
+use Rattle.rule_laws.proofs.rules.local_rules.Names.{numbers}
+use Rattle.rule_laws.proofs.rules.local_rules.Woven.{apart_names}
 use Rattle.ir_laws.proofs.paths.source_rules.Locals.{Apart}
-use Rattle.ir_laws.proofs.rules.source_rules.Locals.{names_are, own_label}
+use Rattle.rule_laws.proofs.rules.source_rules.Locals.{names_are, own_label}
 use Rattle.flow_solver.specs.Paths.{IsListed}
-use Rattle.ir_laws.proofs.rules.counted.DefinedKinds.{kind_of_instr}
-use Rattle.ir_laws.proofs.rules.counted.PartFacts.{block_passes}
-use Rattle.ir_laws.proofs.rules.counted.Times.{apart_times}
-use Rattle.ir_laws.specs.rules.function_rules.Kept.{KeepsFunctionRules}
+use Rattle.rule_laws.proofs.rules.counted.DefinedKinds.{kind_of_instr}
+use Rattle.rule_laws.proofs.rules.counted.PartFacts.{block_passes}
+use Rattle.rule_laws.proofs.rules.counted.Times.{apart_times}
+use Rattle.rule_laws.specs.rules.function_rules.Kept.{KeepsFunctionRules}
 use Rattle.ir_laws.specs.facts.woven_rules.Pairs.{times}
 use Rattle.ir_parts.specs.Contents.{ending_operands, instr_operands, result_of as part_result}
 use Rattle.ir_parts.specs.Locals.{locals_of}
@@ -32,7 +32,7 @@ use Rattle.ir_model.specs.declared.module.Module.{Module}
 use Rattle.ir_paths.specs.Paths.{targets}
 use Rattle.ir_paths.specs.Windows.{instr_at, instr_in}
 use Rattle.ir_paths.specs.declared.point.Point.{Point}
-use Rattle.ir_laws.proofs.rules.sources.Places.{any_local, any_param, instr_there, point, term_there}
+use Rattle.rule_laws.proofs.rules.sources.Places.{any_local, any_param, instr_there, point, term_there}
 use Rattle.pass_proofs.proofs.kept.sources.Places.{branch_there}
 use Rattle.pass_proofs.proofs.kept.sources.Scalars.{IsScalarValue, instr_reads, phis_reads, term_reads}
 use Rattle.pass_proofs.proofs.kept.sources.Tokens.{FitsCallee, IsNoScalar, ungiven_kind}

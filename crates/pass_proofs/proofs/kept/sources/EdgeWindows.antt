@@ -24,7 +24,7 @@ use Rattle.ir_paths.specs.Paths.{Leads, same_point}
 use Rattle.ir_paths.specs.Windows.{IsInWindow, suspend_of}
 use Rattle.ir_paths.specs.declared.point.Point.{Point}
 use Rattle.pass_proofs.proofs.kept.sources.EdgeNeeds.{behind_home, edge_phis, own_phis}
-use Rattle.ir_laws.proofs.rules.sources.Places.{IsEnd, instr_there, point, term_there}
+use Rattle.rule_laws.proofs.rules.sources.Places.{IsEnd, instr_there, point, term_there}
 use Rattle.pass_proofs.proofs.kept.sources.Suspends.{switched_by}
 use Rattle.pass_kept_proof.proofs.Rules.{suspend_is_suspend}
 use Rattle.pass_kept_proof.specs.Needed.{IsNeededBehind, given_by, phis_give}

@@ -7,15 +7,15 @@ use Rattle.ir_base.specs.declared.outcome.Word.{Word}
 use Rattle.run_source.specs.Source.{SourceAt}
 use Rattle.rule_shape.specs.OneOfEach.{wrong_call}
 use Rattle.pass_early.specs.Early.{early_module}
-use Rattle.pass_early_proof.proofs.path_rules.Passes.{early_paths, early_shape}
-use Rattle.pass_early_proof.proofs.sources.Accepted.{accepted_agree}
-use Rattle.ir_laws.proofs.rules.sources.Tables.{all_tabled}
-use Rattle.ir_laws.proofs.texts.named_texts.Placed.{locals_named, uses_named}
-use Rattle.ir_laws.specs.rules.path_rules.Paths.{KeepsPaths}
-use Rattle.ir_laws.specs.rules.path_rules.Shape.{KeepsShape}
-use Rattle.pass_early_proof.proofs.function_rules.Early.{all_kept}
-use Rattle.ir_laws.proofs.rules.function_rules.Shaped.{all_shaped}
-use Rattle.ir_laws.specs.rules.function_rules.Kept.{AllKeepFunctionRules, KeepsFunctionRules}
+use Rattle.pass_proofs.proofs.early.path_rules.Passes.{early_paths, early_shape}
+use Rattle.pass_proofs.proofs.early.sources.Accepted.{accepted_agree}
+use Rattle.rule_laws.proofs.rules.sources.Tables.{all_tabled}
+use Rattle.rule_laws.proofs.texts.named_texts.Placed.{locals_named, uses_named}
+use Rattle.rule_laws.specs.rules.path_rules.Paths.{KeepsPaths}
+use Rattle.rule_laws.specs.rules.path_rules.Shape.{KeepsShape}
+use Rattle.pass_proofs.proofs.early.function_rules.Early.{all_kept}
+use Rattle.rule_laws.proofs.rules.function_rules.Shaped.{all_shaped}
+use Rattle.rule_laws.specs.rules.function_rules.Kept.{AllKeepFunctionRules, KeepsFunctionRules}
 use Rattle.rule_all.specs.Refused.{IsRefused}
 use Rattle.text_grammar.specs.Text.{StandsFor}
 use Rattle.ir_model.specs.Names.{function_at, no_function}

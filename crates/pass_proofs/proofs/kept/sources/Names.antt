@@ -7,20 +7,20 @@ use Rattle.rule_shape.specs.OneOfEach.{calls_of, is_right_instr, wrong_call}
 use Rattle.rule_shape.specs.declared.one_of_each.Calls.{Calls}
 use Rattle.ir_laws.proofs.facts.Members.{at_each}
 use Rattle.ir_laws.proofs.facts.Truth.{equal_numbers, and_first}
-use Rattle.ir_laws.proofs.rules.renamed.Uses.{result_spelt}
+use Rattle.rule_laws.proofs.rules.renamed.Uses.{result_spelt}
 use Rattle.ir_laws.proofs.paths.renamed.Uses.{stands_in}
-use Rattle.pass_early_proof.proofs.save_simulation.Suspending.{fetch_at}
+use Rattle.pass_proofs.proofs.early.save_simulation.Suspending.{fetch_at}
 use Rattle.ir_laws.specs.facts.renamed.Regular.{passes}
-use Rattle.ir_laws.proofs.rules.source_rules.Ends.{end_first}
+use Rattle.rule_laws.proofs.rules.source_rules.Ends.{end_first}
 use Rattle.ir_laws.proofs.paths.source_rules.Locals.{listed_either}
-use Rattle.ir_laws.proofs.rules.source_rules.Locals.{no_param, no_phi, own_label, same_instr}
-use Rattle.ir_laws.proofs.rules.source_rules.Once.{right_call}
+use Rattle.rule_laws.proofs.rules.source_rules.Locals.{no_param, no_phi, own_label, same_instr}
+use Rattle.rule_laws.proofs.rules.source_rules.Once.{right_call}
 use Rattle.flow_solver.specs.Paths.{IsListed}
-use Rattle.ir_laws.proofs.frames.counted.Keepable.{FoundBlock, FoundInstr, blocks_found, distinct_listed, params_found}
+use Rattle.rule_laws.proofs.frames.counted.Keepable.{FoundBlock, FoundInstr, blocks_found, distinct_listed, params_found}
 use Rattle.ir_laws.proofs.facts.Lists.{FoundParam, FoundPhi}
 use Rattle.ir_laws.proofs.paths.counted.Keepable.{param_listed, phi_listed}
-use Rattle.ir_laws.proofs.rules.counted.PartFacts.{block_passes}
-use Rattle.ir_laws.specs.rules.function_rules.Kept.{KeepsFunctionRules}
+use Rattle.rule_laws.proofs.rules.counted.PartFacts.{block_passes}
+use Rattle.rule_laws.specs.rules.function_rules.Kept.{KeepsFunctionRules}
 use Rattle.ir_parts.specs.Contents.{result_of}
 use Rattle.ir_parts.specs.Parts.{instr_place}
 use Rattle.ir_model.specs.Names.{first_where, same_intrinsic}
@@ -35,7 +35,7 @@ use Rattle.ir_model.specs.declared.operand.Callee.{Callee}
 use Rattle.ir_model.specs.declared.operand.Intrinsic.{Intrinsic}
 use Rattle.ir_paths.specs.Windows.{end_block, instr_at, instr_in, is_call_of}
 use Rattle.pass_proofs.proofs.kept.sources.Definite.{call_fits, instr_fits}
-use Rattle.ir_laws.proofs.rules.sources.Places.{instr_there, point}
+use Rattle.rule_laws.proofs.rules.sources.Places.{instr_there, point}
 use Rattle.pass_proofs.proofs.kept.sources.Tokens.{FitsCallee, token_typed}
 use Rattle.pass_kept_proof.specs.Handed.{HasPlainNames}
 use Rattle.pass_kept_proof.specs.Needed.{given_by, given_by_allocator, given_by_intrinsic}

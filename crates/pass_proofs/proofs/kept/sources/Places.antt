@@ -4,7 +4,7 @@ use Rattle.ir_model.specs.declared.instr.Terminator.{Terminator}
 use Rattle.ir_model.specs.declared.module.Function.{Function}
 use Rattle.pass_kept_proof.specs.Needed.{BranchesTo}
 use Rattle.run_step.specs.Step.{AtInstr, AtTerm, Fetched, Nowhere, fetch}
-use Rattle.ir_laws.proofs.rules.sources.Places.{IsEnd, term_there}
+use Rattle.rule_laws.proofs.rules.sources.Places.{IsEnd, term_there}
 
 -- an edge leads from a place to a label
 pub branch_there : (f : Function) (block at label : ℕ) → BranchesTo label (fetch f block at) → (t : Terminator) × (IsEnd f block at t × BranchesTo label (AtTerm t))

@@ -26,15 +26,15 @@ use Rattle.ir_paths.specs.Paths.{targets}
 use Rattle.ir_paths.specs.Slots.{has_name}
 use Rattle.ir_paths.specs.Windows.{call_result, is_call_of, label_at, label_of_term}
 use Rattle.ir_paths.specs.declared.point.Point.{Point}
-use Rattle.ir_laws.proofs.rules.sources.Places.{IsEnd, instr_there, point, term_there}
+use Rattle.rule_laws.proofs.rules.sources.Places.{IsEnd, instr_there, point, term_there}
 use Rattle.pass_kept_proof.proofs.Read.{read_here}
 use Rattle.pass_kept_proof.proofs.Rules.{not_behind}
 use Rattle.pass_kept_proof.specs.Needed.{IsNeededBehind, given_by, phis_at, phis_read, reads_at}
 use Rattle.pass_kept_proof.specs.SuspendRules.{IsCallAt, IsSwitched}
-use Rattle.ir_laws.proofs.rules.uses.Switched.{IsSwitched as IsSuspendSwitched, not_in_instr, not_in_phi, not_switched_on, switched as suspend_switched}
+use Rattle.rule_laws.proofs.rules.uses.Switched.{IsSwitched as IsSuspendSwitched, not_in_instr, not_in_phi, not_switched_on, switched as suspend_switched}
 use Rattle.run_step.specs.Step.{AtInstr, AtTerm, Fetched, Nowhere, fetch, fetch_in, fetch_or, incoming_from, phis_of}
 use Rattle.flow_facts.proofs.Chained.{listed-name}
-use Rattle.ir_laws.proofs.rules.known_labels.Rules.{is_switch as switch_is}
+use Rattle.rule_laws.proofs.rules.known_labels.Rules.{is_switch as switch_is}
 
 past : (xs : List Instr) (n : ℕ) → n ≡ length xs → slice_get xs n ≡ None
 past [] n e = refl

@@ -8,11 +8,11 @@ use Rattle.run_source.specs.Source.{SourceAt}
 use Rattle.rule_shape.specs.OneOfEach.{wrong_call}
 use Rattle.pass_early.specs.Early.{early_module}
 use Rattle.pass_edges.specs.EdgeBlocks.{with_edge_blocks}
-use Rattle.pass_early_proof.proofs.path_rules.RenamedOperands.{map_was}
+use Rattle.pass_proofs.proofs.early.path_rules.RenamedOperands.{map_was}
 use Rattle.pass_proofs.proofs.edges.rules.Modules.{modules_kept}
 use Rattle.pass_proofs.proofs.edges.sources.Accepted.{accepted_agree_split, accepted_kept}
 use Rattle.pass_proofs.specs.edges.states.MovedState.{Keeps, edge_function, edges_split}
-use Rattle.ir_laws.specs.rules.function_rules.Kept.{AllKeepFunctionRules}
+use Rattle.rule_laws.specs.rules.function_rules.Kept.{AllKeepFunctionRules}
 use Rattle.rule_all.specs.Refused.{IsRefused}
 use Rattle.text_grammar.specs.Text.{StandsFor}
 use Rattle.ir_model.specs.Names.{function_at, no_function}

@@ -4,16 +4,16 @@ use Rattle.std.specs.Prelude.{slice_get, map, ◌==◌, ◌||◌}
 use Rattle.rule_shape.specs.OneOfEach.{wrong_call}
 use Rattle.rule_shape.specs.Switches.{wrong_switch}
 use Rattle.ir_laws.proofs.facts.Truth.{equal_numbers}
-use Rattle.ir_laws.proofs.rules.renamed.Outside.{none_breaks}
-use Rattle.ir_laws.proofs.rules.renamed.Uses.{result_spelt}
+use Rattle.rule_laws.proofs.rules.renamed.Outside.{none_breaks}
+use Rattle.rule_laws.proofs.rules.renamed.Uses.{result_spelt}
 use Rattle.ir_laws.proofs.paths.renamed.Uses.{stands_in}
-use Rattle.ir_laws.proofs.rules.path_rules.Holding.{of_parts}
-use Rattle.ir_laws.proofs.rules.source_rules.Ends.{end_first}
-use Rattle.ir_laws.proofs.rules.source_rules.Locals.{no_phi, own_label, same_instr}
-use Rattle.ir_laws.specs.rules.path_rules.Paths.{KeepsPaths}
-use Rattle.ir_laws.specs.rules.path_rules.Shape.{KeepsShape}
+use Rattle.rule_laws.proofs.rules.path_rules.Holding.{of_parts}
+use Rattle.rule_laws.proofs.rules.source_rules.Ends.{end_first}
+use Rattle.rule_laws.proofs.rules.source_rules.Locals.{no_phi, own_label, same_instr}
+use Rattle.rule_laws.specs.rules.path_rules.Paths.{KeepsPaths}
+use Rattle.rule_laws.specs.rules.path_rules.Shape.{KeepsShape}
 use Rattle.flow_solver.specs.Paths.{IsListed}
-use Rattle.ir_laws.specs.rules.function_rules.Kept.{KeepsFunctionRules}
+use Rattle.rule_laws.specs.rules.function_rules.Kept.{KeepsFunctionRules}
 use Rattle.ir_parts.specs.Locals.{locals_of}
 use Rattle.ir_parts.specs.Parts.{parts_of}
 use Rattle.ir_model.specs.declared.instr.Instr.{Instr}
@@ -29,7 +29,7 @@ use Rattle.ir_paths.specs.declared.point.Point.{Point}
 use Rattle.pass_proofs.proofs.kept.sources.Behind.{used_behind}
 use Rattle.ir_laws.proofs.paths.source_rules.Windows.{only_one}
 use Rattle.ir_laws.proofs.paths.sources.Listed.{pair_listed, point_listed}
-use Rattle.ir_laws.proofs.rules.sources.Places.{instr_there, point}
+use Rattle.rule_laws.proofs.rules.sources.Places.{instr_there, point}
 use Rattle.pass_proofs.proofs.kept.sources.Suspends.{is_switched, is_unread}
 use Rattle.pass_kept_proof.proofs.Read.{given_result}
 use Rattle.pass_kept_proof.proofs.Rules.{suspend_is_suspend}
@@ -42,7 +42,7 @@ use Rattle.rule_windows.specs.Points.{place_of}
 use Rattle.rule_windows.specs.Windows.{Between, BreaksSave, BreaksWindow, Call, IsFirstWindow, IsWrong, NoPath, NotOne, ends_window, passes as window_passes, suspends_of}
 use Rattle.rule_window_values.specs.Kept.{AtSuspend, BreaksValue, ByInstr, ByPhi, Inside, IsFirstKept, IsMadeIn, IsUsedBehind, front, phi_results, phis_in}
 use Rattle.ir_laws.proofs.paths.replaced.Known.{of_listed as each_at}
-use Rattle.ir_laws.proofs.rules.source_rules.Windows.{end_ends}
+use Rattle.rule_laws.proofs.rules.source_rules.Windows.{end_ends}
 
 -- a path that avoids points is a path
 none_avoided : (f : Function) (avoided : List Point) (between : List Point) (p q : Point) → IsPath f avoided p between q → IsPath f [] p between q

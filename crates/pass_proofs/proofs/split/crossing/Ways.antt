@@ -20,15 +20,15 @@ use Rattle.ir_model.specs.declared.operand.Operand.{Operand}
 use Rattle.ir_paths.specs.Paths.{targets}
 use Rattle.ir_paths.specs.Windows.{end_block, is_call_of}
 use Rattle.pass_proofs.specs.split.rules.Reached.{Edge, Entry, IsLedTo}
-use Rattle.ir_laws.specs.frames.replaced.Splittable.{Across, Here, LeadsToReturn, is_return}
+use Rattle.rule_laws.specs.frames.replaced.Splittable.{Across, Here, LeadsToReturn, is_return}
 use Rattle.frame_crossing.specs.Paths.{IsOutside}
-use Rattle.ir_laws.specs.rules.woven_rules.Blocks.{AreWovenBlocks, IsWoven, NoBlock, OneBlock}
+use Rattle.rule_laws.specs.rules.woven_rules.Blocks.{AreWovenBlocks, IsWoven, NoBlock, OneBlock}
 use Rattle.ir_laws.specs.facts.woven_rules.Pairs.{Empty, Pair, Pairwise}
 use Rattle.ir_laws.specs.facts.woven_rules.Parts.{Branch, Jump, Return, ReturnVoid, Switch, TermStays, Unreachable}
-use Rattle.ir_laws.specs.rules.woven_rules.Weaving.{IsInPlace, Weaving}
-use Rattle.ir_laws.proofs.frames.woven_shape.Shaped.{suspends_kept}
-use Rattle.ir_laws.specs.rules.woven_shape.Calls.{ShapingCall, call_at, calls_in, calls_of_block, is_shaping, shaping_call}
-use Rattle.ir_laws.specs.frames.woven_shape.Shaped.{KeepsCalls}
+use Rattle.rule_laws.specs.rules.woven_rules.Weaving.{IsInPlace, Weaving}
+use Rattle.rule_laws.proofs.frames.woven_shape.Shaped.{suspends_kept}
+use Rattle.rule_laws.specs.rules.woven_shape.Calls.{ShapingCall, call_at, calls_in, calls_of_block, is_shaping, shaping_call}
+use Rattle.rule_laws.specs.frames.woven_shape.Shaped.{KeepsCalls}
 
 -- ---- the end among the calls of a block
 

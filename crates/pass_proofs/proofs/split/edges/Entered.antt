@@ -2,9 +2,9 @@
 use Rattle.std.proofs.Common.{List, [], ap, false, inl, inr, subst, sym, true, ℕ, ⊎_elim, ◌∙◌, ◌∷◌, ◌≡◌, ◌⊎◌}
 use Rattle.std.specs.List.{list_all, list_any}
 use Rattle.std.specs.Prelude.{Option, Some, filter, not, slice_get, ◌&&◌}
-use Rattle.ir_laws.proofs.rules.renamed.Switches.{none_part}
+use Rattle.rule_laws.proofs.rules.renamed.Switches.{none_part}
 use Rattle.ir_laws.proofs.facts.Truth.{and_first, and_second, holds}
-use Rattle.ir_laws.proofs.rules.path_rules.Holding.{of_parts}
+use Rattle.rule_laws.proofs.rules.path_rules.Holding.{of_parts}
 use Rattle.rule_phis.specs.Edges.{breaks_edges, differs, fits_edges, has, incoming_labels, into_block, is_empty, leads, predecessors}
 use Rattle.flow_solver.specs.Paths.{IsListed}
 use Rattle.frame_layout.specs.declared.layout.Layout.{Layout}
@@ -24,14 +24,14 @@ use Rattle.pass_proofs.proofs.split.edges.Pieces.{HasNoSuspend}
 use Rattle.ir_laws.proofs.facts.Numbers.{label_of}
 use Rattle.pass_proofs.proofs.split.edges.Rules.{begins_with_end, end_is, labels_different, stopped, stopped_targets, the_end}
 use Rattle.ir_laws.proofs.paths.counted.PartFacts.{all_listed as all_there}
-use Rattle.ir_laws.proofs.frames.edges.Shaped.{has_point_of, point_home}
-use Rattle.ir_laws.proofs.rules.known_labels.Rules.{labels_spelt as targets_are}
+use Rattle.rule_laws.proofs.frames.edges.Shaped.{has_point_of, point_home}
+use Rattle.rule_laws.proofs.rules.known_labels.Rules.{labels_spelt as targets_are}
 use Rattle.ir_laws.proofs.paths.replaced.Known.{listed_mapped, of_listed}
-use Rattle.ir_laws.specs.frames.replaced.Splittable.{HasOwnEdges}
+use Rattle.rule_laws.specs.frames.replaced.Splittable.{HasOwnEdges}
 use Rattle.pass_proofs.specs.split.rules.Splittable.{IsSplittable}
 use Rattle.ir_laws.specs.paths.woven_rules.Pairs.{AreDifferent}
 use Rattle.ir_laws.proofs.paths.edges.Entered.{IsPredecessor}
-use Rattle.ir_laws.proofs.rules.edges.Entered.{from_predecessors, has_listed, listed_has}
+use Rattle.rule_laws.proofs.rules.edges.Entered.{from_predecessors, has_listed, listed_has}
 
 pub leads_to : (label : ℕ) (d : Block) → IsListed label (targets d.term) → leads label d ≡ true
 leads_to label d l = ap (λ (ns : List ℕ). has ns label) (targets_are d.term) ∙ has_listed (targets d.term) label l

@@ -34,13 +34,13 @@ use Rattle.ir_laws.proofs.paths.edges.Lists.{listed_at, one_numbered}
 use Rattle.pass_proofs.proofs.split.edges.Pieces.{EndsAs, HasHead, Never, Return, Stop, ToMark, Whole, block_marks, head_is, labels}
 use Rattle.ir_laws.proofs.facts.Numbers.{label_of}
 use Rattle.pass_proofs.proofs.split.edges.Rules.{begins_with_end, end_is, labels_different, returned_target, stopped, the_end}
-use Rattle.ir_laws.proofs.frames.edges.Shaped.{point_home}
+use Rattle.rule_laws.proofs.frames.edges.Shaped.{point_home}
 use Rattle.pass_proofs.proofs.split.edges.Sources.{cuttable}
 use Rattle.pass_proofs.proofs.split.edges.Targets.{goes_on_label, index_target, part_tabled, piece_ends, redirected_target}
 use Rattle.pass_proofs.proofs.split.rules.Reached.{led_is_flagged}
 use Rattle.pass_proofs.specs.split.rules.Pieced.{ArePiecesOf, NoBlock, OneBlock}
 use Rattle.pass_proofs.specs.split.rules.Reached.{Entry}
-use Rattle.ir_laws.specs.rules.replaced.Splittable.{AreBegun, AreBlocksBegun}
+use Rattle.rule_laws.specs.rules.replaced.Splittable.{AreBegun, AreBlocksBegun}
 use Rattle.pass_proofs.specs.split.rules.Splittable.{IsSplittable}
 use Rattle.ir_laws.specs.facts.replaced.Splittable.{asks_begin}
 

@@ -8,7 +8,7 @@ use Rattle.pass_split.specs.Reached.{is_flagged, kept_block, kept_phi, pruned, r
 use Rattle.pass_split.specs.declared.origin.Origin.{Origin}
 use Rattle.ir_laws.proofs.facts.Truth.{itself, and_both}
 use Rattle.ir_laws.proofs.facts.local_rules.Woven.{other_number}
-use Rattle.ir_laws.proofs.rules.path_rules.Holding.{part_none, to_parts}
+use Rattle.rule_laws.proofs.rules.path_rules.Holding.{part_none, to_parts}
 use Rattle.rule_phis.proofs.SameOperands.{decided}
 use Rattle.rule_phis.specs.Edges.{breaks_edges, differs, first_wrong_edge, fits_edges, has, incoming_labels, into_block, is_empty, predecessors}
 use Rattle.rule_phis.specs.Operands.{same_operand}
@@ -26,7 +26,7 @@ use Rattle.ir_model.specs.declared.module.Module.{Module}
 use Rattle.ir_paths.specs.Paths.{targets}
 use Rattle.pass_proofs.proofs.split.edges.Cuttable.{IsCuttable, IsPiece}
 use Rattle.pass_proofs.proofs.split.edges.Entered.{IsEntered, entered, to_predecessors}
-use Rattle.ir_laws.proofs.rules.edges.Entered.{from_predecessors, has_listed}
+use Rattle.rule_laws.proofs.rules.edges.Entered.{from_predecessors, has_listed}
 use Rattle.pass_proofs.proofs.split.edges.Entries.{entry_flagged, entry_unled, first_block, first_kept}
 use Rattle.pass_proofs.proofs.split.edges.Labels.{IsPartBlock, OfBack, OfDone, OfEntry, OfNone, OfPiece, one_home, part_home, phis_of_piece, whole}
 use Rattle.pass_proofs.proofs.split.edges.Led.{led_is_named, named_is_led}

@@ -22,7 +22,7 @@ use Rattle.ir_laws.proofs.facts.Numbers.{label_of}
 use Rattle.pass_proofs.proofs.split.rules.Cutting.{cut_blocks}
 use Rattle.ir_laws.proofs.paths.replaced.Known.{listed_mapped}
 use Rattle.pass_proofs.specs.split.rules.Pieced.{ArePieces, ArePiecesOf, NoBlock, OneBlock}
-use Rattle.ir_laws.proofs.rules.woven_rules.Once.{apart_once, once_apart}
+use Rattle.rule_laws.proofs.rules.woven_rules.Once.{apart_once, once_apart}
 use Rattle.ir_laws.proofs.paths.woven_rules.Once.{times_listed}
 use Rattle.ir_laws.specs.paths.woven_rules.Pairs.{AreDifferent}
 use Rattle.ir_laws.specs.facts.woven_rules.Pairs.{times}

@@ -5,7 +5,7 @@ use Rattle.ir_base.specs.declared.outcome.Place.{Place}
 use Rattle.pass_split.specs.Parts.{origins_for, part_names}
 use Rattle.pass_front.specs.Front.{is_alloca}
 use Rattle.pass_split.specs.Reached.{is_flagged, kept_block, kept_blocks, pruned, reached}
-use Rattle.ir_laws.proofs.rules.path_rules.Holding.{part_none, to_parts}
+use Rattle.rule_laws.proofs.rules.path_rules.Holding.{part_none, to_parts}
 use Rattle.flow_solver.specs.Paths.{IsListed}
 use Rattle.frame_layout.specs.declared.layout.Layout.{Layout}
 use Rattle.ir_parts.specs.Parts.{instr_place, parts_of}

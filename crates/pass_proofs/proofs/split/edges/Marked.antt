@@ -2,8 +2,8 @@
 use Rattle.std.proofs.Common.{Bool, List, [], ap, append-nil, append_assoc, arith, false, inl, inr, length, refl, subst, suc, sym, true, zero, ℕ, ⊎_elim, ◌++◌, ◌+◌, ◌∙◌, ◌∷◌, ◌≡◌, ◌⊎◌}
 use Rattle.std.specs.Prelude.{None, Option, Some, flat_map, if◌then◌else◌, option_to_list, replicate, slice_get}
 use Rattle.ir_laws.proofs.facts.Lists.{row_of, set_at}
-use Rattle.ir_laws.proofs.rules.source_rules.Locals.{same_result}
-use Rattle.ir_laws.proofs.rules.source_rules.Once.{one_begin}
+use Rattle.rule_laws.proofs.rules.source_rules.Locals.{same_result}
+use Rattle.rule_laws.proofs.rules.source_rules.Once.{one_begin}
 use Rattle.flow_solver.specs.Paths.{IsListed}
 use Rattle.frame_layout.specs.declared.layout.Layout.{Layout}
 use Rattle.pass_intrinsics.specs.Cuts.{cut_at, goes_on, marks_save, next_suspend, token_in, transfers}
@@ -24,9 +24,9 @@ use Rattle.ir_paths.specs.declared.point.Point.{Point}
 use Rattle.pass_proofs.proofs.split.edges.Cuttable.{Begun as BegunMark, IsMark, Passed as PassedMark, Saved as SavedMark}
 use Rattle.ir_laws.proofs.paths.edges.Lists.{different_rows, different_there, from_row, listed_at, same_place, to_row}
 use Rattle.pass_proofs.proofs.split.edges.Pieces.{block_marks, mark_of, site_marks, sites}
-use Rattle.ir_laws.proofs.frames.replaced.Saves.{all_one, saves_below}
+use Rattle.rule_laws.proofs.frames.replaced.Saves.{all_one, saves_below}
 use Rattle.pass_proofs.specs.split.rules.Splittable.{IsSplittable}
-use Rattle.ir_laws.specs.frames.replaced.Splittable.{token_taken, tokens_taken}
+use Rattle.rule_laws.specs.frames.replaced.Splittable.{token_taken, tokens_taken}
 use Rattle.run_laws.specs.changed.Changed.{result_of}
 use Rattle.ir_laws.specs.paths.woven_rules.Pairs.{AreDifferent}
 

@@ -7,7 +7,7 @@ use Rattle.pass_front.specs.Front.{allocas_first, allocas_of, is_alloca, is_no_a
 use Rattle.pass_split.specs.Pieces.{pieced_phi}
 use Rattle.pass_split.specs.declared.origin.Origin.{Origin}
 use Rattle.pass_split.specs.Reached.{is_flagged, kept_block, kept_blocks, pruned, reached}
-use Rattle.ir_laws.proofs.rules.local_rules.Fitting.{either, no_either}
+use Rattle.rule_laws.proofs.rules.local_rules.Fitting.{either, no_either}
 use Rattle.ir_laws.proofs.facts.Truth.{holds}
 use Rattle.flow_solver.specs.Paths.{IsListed}
 use Rattle.frame_layout.specs.declared.layout.Layout.{Layout}
@@ -31,14 +31,14 @@ use Rattle.pass_proofs.proofs.split.edges.Entries.{entry_flagged}
 use Rattle.pass_proofs.proofs.split.edges.Fronts.{own_allocas, own_front}
 use Rattle.pass_proofs.proofs.split.edges.Labels.{are_cut, done_there, whole}
 use Rattle.pass_proofs.proofs.split.edges.Sources.{pruned_part}
-use Rattle.ir_laws.specs.frames.same_names.Parts.{HasPartsOf}
+use Rattle.rule_laws.specs.frames.same_names.Parts.{HasPartsOf}
 use Rattle.pass_proofs.proofs.split.rules.Carried.{index_instrs, part_carried}
 use Rattle.pass_proofs.proofs.split.rules.Local.{instr_carried}
-use Rattle.ir_laws.proofs.frames.replaced.Modules.{size_there}
-use Rattle.ir_laws.proofs.frames.replaced.Saves.{saves_below}
+use Rattle.rule_laws.proofs.frames.replaced.Modules.{size_there}
+use Rattle.rule_laws.proofs.frames.replaced.Saves.{saves_below}
 use Rattle.pass_proofs.specs.split.rules.Parted.{IsPartOf}
 use Rattle.pass_proofs.specs.split.rules.Pieced.{ArePiecesOf, NoBlock, OneBlock}
-use Rattle.ir_laws.specs.frames.replaced.Replaced.{Address, Calls, Loads, Number, Replaces, StoresDestroy, StoresIndex, StoresNull, StoresResume, Tests, Truth}
+use Rattle.rule_laws.specs.frames.replaced.Replaced.{Address, Calls, Loads, Number, Replaces, StoresDestroy, StoresIndex, StoresNull, StoresResume, Tests, Truth}
 use Rattle.pass_proofs.specs.split.rules.Splittable.{IsSplittable}
 use Rattle.run_laws.specs.changed.Changed.{Each}
 use Rattle.rule_types.specs.Signatures.{calls_otherwise}

@@ -5,8 +5,8 @@ use Rattle.ir_base.specs.declared.outcome.Place.{Place}
 use Rattle.pass_split.specs.Parts.{goes_on_at, is_entered, or_zero, origins_for, part_names}
 use Rattle.pass_split.specs.Pieces.{begins_again, going_on, pieced_phi, redirected, redirected_term, stop_label}
 use Rattle.pass_split.specs.Reached.{entry_of, is_flagged, pruned, reached}
-use Rattle.ir_laws.proofs.rules.path_rules.Holding.{part_none, to_parts}
-use Rattle.ir_laws.proofs.rules.source_rules.Locals.{own_label}
+use Rattle.rule_laws.proofs.rules.path_rules.Holding.{part_none, to_parts}
+use Rattle.rule_laws.proofs.rules.source_rules.Locals.{own_label}
 use Rattle.flow_solver.specs.Paths.{IsListed}
 use Rattle.frame_layout.specs.declared.layout.Layout.{Layout}
 use Rattle.ir_parts.specs.Parts.{Ending, instr_place, parts_of}
@@ -38,15 +38,15 @@ use Rattle.ir_laws.proofs.paths.uses.Paths.{place_of}
 use Rattle.pass_proofs.proofs.split.edges.Pieces.{EndsAs, Never, Return, Stop, ToMark, Whole, block_marks, labels}
 use Rattle.ir_laws.proofs.facts.Numbers.{label_of}
 use Rattle.pass_proofs.proofs.split.edges.Rules.{begins_with_end, end_is, the_end}
-use Rattle.ir_laws.proofs.frames.edges.Shaped.{ends_here, has_end_any, same_end}
+use Rattle.rule_laws.proofs.frames.edges.Shaped.{ends_here, has_end_any, same_end}
 use Rattle.pass_proofs.proofs.split.edges.Sources.{cuttable, pruned_part}
 use Rattle.pass_proofs.proofs.split.edges.Targets.{goes_on_label, index_target, not_redirected, piece_ends, redirected_target}
 use Rattle.pass_proofs.proofs.split.rules.Reached.{flagged_is_led}
 use Rattle.pass_proofs.specs.split.rules.Parted.{IsPartOf}
 use Rattle.pass_proofs.specs.split.rules.Pieced.{ArePieces, BeginsAgain, Ends, Marks, Returns, Stays, Suspends, Transfers}
 use Rattle.pass_proofs.specs.split.rules.Reached.{Edge, Entry, IsLedTo}
-use Rattle.ir_laws.specs.rules.replaced.Returns.{ReturnsNothing, gives_value}
-use Rattle.ir_laws.specs.frames.replaced.Splittable.{Across, Here, LeadsToReturn, is_return}
+use Rattle.rule_laws.specs.rules.replaced.Returns.{ReturnsNothing, gives_value}
+use Rattle.rule_laws.specs.frames.replaced.Splittable.{Across, Here, LeadsToReturn, is_return}
 use Rattle.pass_proofs.specs.split.rules.Splittable.{IsSplittable}
 use Rattle.frame_crossing.specs.Paths.{IsOutside}
 

@@ -8,14 +8,14 @@ use Rattle.rule_shape.specs.Suspends.{is_suspend}
 use Rattle.rule_shape.specs.Switches.{are_both, breaks_switch, end_label as switch_end, is_last, is_switch_on, is_switched, is_switched_in}
 use Rattle.rule_uses.specs.Undefined.{params_of}
 use Rattle.ir_laws.proofs.facts.Truth.{equal_numbers, and_first, and_second, holds, second_no as or_second_out}
-use Rattle.ir_laws.proofs.rules.renamed.Switches.{none_part}
+use Rattle.rule_laws.proofs.rules.renamed.Switches.{none_part}
 use Rattle.ir_laws.proofs.paths.renamed.Uses.{stands_in}
-use Rattle.ir_laws.proofs.rules.local_rules.Defined.{label_defined}
-use Rattle.ir_laws.proofs.rules.path_rules.Holding.{of_parts}
-use Rattle.ir_laws.proofs.rules.source_rules.Locals.{block_names, own_label}
+use Rattle.rule_laws.proofs.rules.local_rules.Defined.{label_defined}
+use Rattle.rule_laws.proofs.rules.path_rules.Holding.{of_parts}
+use Rattle.rule_laws.proofs.rules.source_rules.Locals.{block_names, own_label}
 use Rattle.ir_laws.proofs.paths.source_rules.Locals.{listed_right}
 use Rattle.ir_laws.proofs.facts.Lists.{row_of}
-use Rattle.ir_laws.proofs.rules.source_rules.Once.{first_call_at, none_missing, right_call, there_is}
+use Rattle.rule_laws.proofs.rules.source_rules.Once.{first_call_at, none_missing, right_call, there_is}
 use Rattle.flow_solver.specs.Paths.{IsListed}
 use Rattle.frame_layout.specs.declared.layout.Layout.{Layout}
 use Rattle.ir_parts.specs.Contents.{ending_labels, part_labels, part_operands, part_types}
@@ -40,14 +40,14 @@ use Rattle.ir_laws.proofs.paths.edges.Lists.{listed_at, numbers_different, to_ro
 use Rattle.ir_laws.proofs.paths.uses.Paths.{place_of}
 use Rattle.ir_laws.proofs.facts.Numbers.{label_of}
 use Rattle.pass_proofs.proofs.split.edges.Pieces.{labels}
-use Rattle.ir_laws.proofs.frames.edges.Shaped.{BeginsWithEnd, IsEndIn, begins_with, case_targets, end_at, end_is_call, first_end, has_end_at, is_there, label_in_targets, no_phi, point_home, right_end, same_end}
+use Rattle.rule_laws.proofs.frames.edges.Shaped.{BeginsWithEnd, IsEndIn, begins_with, case_targets, end_at, end_is_call, first_end, has_end_at, is_there, label_in_targets, no_phi, point_home, right_end, same_end}
 use Rattle.ir_laws.proofs.paths.counted.PartFacts.{all_listed as all_there}
 use Rattle.ir_laws.proofs.paths.edges.Shaped.{any_there}
-use Rattle.ir_laws.proofs.rules.known_labels.Rules.{labels_spelt as targets_are}
-use Rattle.ir_laws.specs.rules.function_rules.Kept.{KeepsFunctionRules}
+use Rattle.rule_laws.proofs.rules.known_labels.Rules.{labels_spelt as targets_are}
+use Rattle.rule_laws.specs.rules.function_rules.Kept.{KeepsFunctionRules}
 use Rattle.pass_proofs.specs.split.rules.Splittable.{IsSplittable}
 use Rattle.rule_windows.specs.Points.{phi_count, phis_in}
-use Rattle.ir_laws.proofs.rules.woven_rules.Once.{names_below}
+use Rattle.rule_laws.proofs.rules.woven_rules.Once.{names_below}
 use Rattle.ir_laws.specs.paths.woven_rules.Pairs.{AreDifferent}
 
 -- a block that ends with the switch of a suspend, whose default is the end
@@ -61,22 +61,28 @@ pub record IsStopped (b : Block) (end : ℕ) : Type 0 where
 
 module _ (m : Module) (k : ℕ) (f : Function) (x : KeepsFunctionRules m k f) where
   pub own_labels_different : AreDifferent (labels f.blocks)
-  own_labels_different = numbers_different label_of f.blocks (λ j n b c d e same. sym (own_label k f x.definitions j b d) ∙ ap (position_of f) same ∙ own_label k f x.definitions n c e)
+  own_labels_different
+      = numbers_different label_of f.blocks (λ j n b c d e same. sym (own_label k f x.definitions j b d)
+      ∙ ap (position_of f) same ∙ own_label k f x.definitions n c e)
 
   pub own_label_low : (b : Block) → IsListed b f.blocks → b.label < length f.names
-  own_label_low b l = names_below k f x.tabled b.label (listed_right b.label (params_of f) (row_of block_names f.blocks) (to_row block_names f.blocks b b.label l (inl refl)))
+  own_label_low b l
+      = names_below k f x.tabled b.label (listed_right b.label (params_of f) (row_of block_names f.blocks)
+      (to_row block_names f.blocks b b.label l (inl refl)))
 
   labels_known : (b : Block) → IsListed b f.blocks → list_all (is_label k f) (ending_labels b.term) ≡ true
   labels_known b l =
       let p = place_of f.blocks b l in
-      let parts = of_parts (λ y. names_unknown m (is_value k f) (is_label k f) y.0 y.1 ≡ false) k f (none_part (names_unknown m (is_value k f) (is_label k f)) (parts_of k f) x.known) in
+      let parts = of_parts (λ y. names_unknown m (is_value k f) (is_label k f) y.0 y.1 ≡ false) k f
+      (none_part (names_unknown m (is_value k f) (is_label k f)) (parts_of k f) x.known) in
       let all = holds _ (parts.blocks p.0 b p.1).ending in
       let later = and_second (list_all (knows_type m) (part_types (Ending b.term))) _ all in
       let last = and_second (list_all (knows_operand m (is_value k f)) (part_operands (Ending b.term))) _ later in
       and_first (list_all (is_label k f) (part_labels (Ending b.term))) (knows_called m (Ending b.term)) last
 
   -- an edge leads to a block
-  pub own_target_known : (b : Block) (label : ℕ) → IsListed b f.blocks → IsListed label (targets b.term) → HasBlock f label
+  pub own_target_known : (b : Block) (label : ℕ) → IsListed b f.blocks → IsListed label (targets b.term)
+      → HasBlock f label
   own_target_known b label l t =
       let known : is_label k f label ≡ true = all_there (is_label k f) (targets b.term) (ap (list_all (is_label k f)) (sym (targets_are b.term)) ∙ labels_known b l) label t in
       let c = any_there (λ (c : Block). c.label == label) f.blocks (sym (label_defined label k f) ∙ known) in

@@ -1,6 +1,6 @@
 -- Lemmas on exited.
 use Rattle.std.proofs.Common.{ℕ}
-use Rattle.ir_laws.proofs.rules.function_rules.Signatures.{go_by_signatures}
+use Rattle.rule_laws.proofs.rules.function_rules.Signatures.{go_by_signatures}
 use Rattle.ir_model.specs.declared.module.Function.{Function}
 use Rattle.ir_model.specs.declared.module.Module.{Module}
 use Rattle.pass_proofs.specs.split.rules.Splittable.{IsSplittable}

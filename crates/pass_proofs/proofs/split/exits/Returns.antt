@@ -9,10 +9,10 @@ use Rattle.ir_model.specs.declared.module.Block.{Block}
 use Rattle.ir_model.specs.declared.module.Function.{Function}
 use Rattle.ir_paths.specs.Paths.{targets}
 use Rattle.pass_proofs.specs.split.rules.Reached.{Edge, Entry, IsLedTo}
-use Rattle.ir_laws.specs.frames.replaced.Splittable.{Across, Here, LeadsToReturn, is_return}
+use Rattle.rule_laws.specs.frames.replaced.Splittable.{Across, Here, LeadsToReturn, is_return}
 use Rattle.frame_crossing.specs.Paths.{IsOutside}
 use Rattle.ir_laws.proofs.paths.threaded.Threads.{IsBlockOver, IsMovedBlock, IsOver, LeadsBack, Moves, between, ended}
-use Rattle.ir_laws.proofs.rules.threaded.Threads.{IsThreaded}
+use Rattle.rule_laws.proofs.rules.threaded.Threads.{IsThreaded}
 
 same_block : (f : Function) (k : ℕ) (b c : Block) → slice_get f.blocks k ≡ Some b → slice_get f.blocks k ≡ Some c → b ≡ c
 same_block f k b c e d = let both : Some b ≡ Some c = sym e ∙ d in cc

@@ -6,7 +6,7 @@ use Rattle.rule_shape.specs.Switches.{wrong_switch}
 use Rattle.pass_split.specs.Reached.{entry_of}
 use Rattle.ir_laws.proofs.paths.renamed.Outside.{where_pass}
 use Rattle.ir_laws.specs.facts.renamed.Regular.{passes}
-use Rattle.ir_laws.proofs.rules.source_rules.Locals.{own_label}
+use Rattle.rule_laws.proofs.rules.source_rules.Locals.{own_label}
 use Rattle.pass_proofs.proofs.edges.rules.CaseLabels.{switch_target}
 use Rattle.pass_proofs.proofs.edges.rules.Switched.{switched}
 use Rattle.pass_proofs.specs.edges.rules.Phis.{ArePhisEnteredByJumps}
@@ -14,7 +14,7 @@ use Rattle.pass_proofs.specs.edges.rules.Returns.{AreSwitched}
 use Rattle.pass_edges.specs.Edges.{ends_in_suspend}
 use Rattle.ir_laws.specs.facts.branches.MovedState.{IsSwitch}
 use Rattle.flow_solver.specs.Paths.{IsListed}
-use Rattle.ir_laws.specs.rules.function_rules.Kept.{KeepsFunctionRules}
+use Rattle.rule_laws.specs.rules.function_rules.Kept.{KeepsFunctionRules}
 use Rattle.pass_intrinsics.specs.Shapes.{suspends_of}
 use Rattle.pass_intrinsics.specs.declared.shape.SuspendPoint.{SuspendPoint}
 use Rattle.ir_model.specs.Names.{position_of}
@@ -30,7 +30,7 @@ use Rattle.ir_paths.specs.Windows.{instr_at, instr_in, is_call_of, label_at, lab
 use Rattle.ir_paths.specs.declared.point.Point.{Point}
 use Rattle.frame_slots.proofs.Points.{where_complete}
 use Rattle.pass_proofs.specs.split.rules.Reached.{IsLedTo}
-use Rattle.ir_laws.specs.frames.replaced.Splittable.{IsEndedFirst, is_return, may_cross, token_taken}
+use Rattle.rule_laws.specs.frames.replaced.Splittable.{IsEndedFirst, is_return, may_cross, token_taken}
 use Rattle.pass_proofs.specs.split.rules.Splittable.{IsSplittable}
 use Rattle.frame_crossing.specs.Crossing.{suspends_of as suspend_points}
 use Rattle.frame_crossing.specs.Paths.{IsDefinedBefore, IsNeededBehind, IsNeededFrom, IsOutside}
@@ -39,7 +39,7 @@ use Rattle.pass_exits.specs.ExitBlocks.{blocks_by, exit_blocks, exit_term, with_
 use Rattle.pass_exits.specs.Exits.{block_exits}
 use Rattle.pass_front.specs.Front.{allocas_first, with_allocas_first}
 use Rattle.ir_laws.specs.paths.woven_rules.Pairs.{AreDifferent}
-use Rattle.ir_laws.proofs.frames.threaded.Crossing.{defined_home, needed_from_home}
+use Rattle.rule_laws.proofs.frames.threaded.Crossing.{defined_home, needed_from_home}
 use Rattle.pass_proofs.proofs.exits.rules.Ends.{end_moved}
 use Rattle.pass_proofs.proofs.exits.rules.Kept.{all_begun, incoming_once, phis_moved, rules_kept}
 use Rattle.pass_proofs.proofs.exits.rules.Noted.{kinds_same, sizes_same}
@@ -50,7 +50,7 @@ use Rattle.pass_proofs.proofs.exits.rules.Shape.{suspend_term}
 use Rattle.pass_proofs.proofs.exits.rules.Suspends.{HasOrigin, edges_stay, label_listed, origin, same_suspends, suspend_ends}
 use Rattle.pass_proofs.proofs.exits.rules.Threaded.{moves, own_position, threaded}
 use Rattle.ir_laws.proofs.paths.threaded.Threads.{IsBlockOver, IsMovedBlock, ended}
-use Rattle.ir_laws.proofs.rules.threaded.Threads.{IsThreaded}
+use Rattle.rule_laws.proofs.rules.threaded.Threads.{IsThreaded}
 use Rattle.ir_laws.proofs.paths.threaded.Whole.{has_listed, listed_has}
 use Rattle.pass_proofs.proofs.exits.rules.Whole.{calls_kept, same_begin, switches_kept}
 

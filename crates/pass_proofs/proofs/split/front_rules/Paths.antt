@@ -11,11 +11,11 @@ use Rattle.ir_model.specs.declared.module.Function.{Function}
 use Rattle.ir_paths.specs.Paths.{targets}
 use Rattle.ir_laws.proofs.facts.Numbers.{same_term}
 use Rattle.ir_laws.proofs.facts.Lists.{source_of}
-use Rattle.ir_laws.proofs.frames.front_rules.Shape.{same_suspends}
-use Rattle.ir_laws.proofs.rules.front_rules.Uses.{same_position}
+use Rattle.rule_laws.proofs.frames.front_rules.Shape.{same_suspends}
+use Rattle.rule_laws.proofs.rules.front_rules.Uses.{same_position}
 use Rattle.pass_proofs.specs.split.crossing.Ended.{AreEndedFirst}
 use Rattle.pass_proofs.specs.split.rules.Reached.{Edge as LedOn, Entry as LedFirst, IsLedTo}
-use Rattle.ir_laws.specs.frames.replaced.Splittable.{Across as ReturnsAcross, Here as ReturnsHere, IsEndedFirst, LeadsToReturn, is_return}
+use Rattle.rule_laws.specs.frames.replaced.Splittable.{Across as ReturnsAcross, Here as ReturnsHere, IsEndedFirst, LeadsToReturn, is_return}
 use Rattle.pass_proofs.proofs.edges.front_rules.Paths.{same_end}
 
 targets_by : (bs : List Block) (k : ℕ) → targets_in (slice_get (with_allocas_first bs) k) ≡ targets_in (slice_get bs k)

@@ -8,15 +8,15 @@ use Rattle.ir_model.specs.Names.{declaration_named, function_named, global_named
 use Rattle.ir_model.specs.declared.module.Module.{Module}
 use Rattle.rule_names.specs.Reserved.{is_part, is_reserved}
 use Rattle.rule_names.specs.declared.stage.Stage.{Stage}
-use Rattle.ir_laws.proofs.rules.plain_rules.Once.{is_once}
-use Rattle.ir_laws.specs.rules.plain_rules.Items.{AreNamesFree, KeepsItemRules}
-use Rattle.ir_laws.proofs.frames.same_names.Kept.{knows_name_kept}
+use Rattle.rule_laws.proofs.rules.plain_rules.Once.{is_once}
+use Rattle.rule_laws.specs.rules.plain_rules.Items.{AreNamesFree, KeepsItemRules}
+use Rattle.rule_laws.proofs.frames.same_names.Kept.{knows_name_kept}
 use Rattle.pass_proofs.proofs.split.names.Parts.{has_parts, made_is_new, name_is_made, stands_named}
 use Rattle.ir_laws.specs.facts.same_names.Short.{HaveShortNames}
 use Rattle.rule_types.specs.Limits.{all_fit, is_past}
 use Rattle.rule_types.specs.Depth.{is_shallow}
 use Rattle.ir_laws.proofs.facts.Truth.{out_of_both}
-use Rattle.ir_laws.proofs.rules.same_names.Items.{items_kept, new}
+use Rattle.rule_laws.proofs.rules.same_names.Items.{items_kept, new}
 
 module _ (ls : Layouts) (m : Module) (h : KeepsItemRules Stage.Source m) (short : HaveShortNames m) where
   abbrev split : Module

@@ -6,7 +6,7 @@ use Rattle.pass_split.specs.Parts.{first_layout, layouts_after, marked_parts, pl
 use Rattle.frame_layout.specs.declared.layout.Layout.{Layout}
 use Rattle.ir_model.specs.declared.module.Function.{Function}
 use Rattle.pass_exits.specs.ExitBlocks.{with_exit_blocks}
-use Rattle.ir_laws.proofs.rules.same_names.Made.{all_names, destroy_of, made_names, resume_of}
+use Rattle.rule_laws.proofs.rules.same_names.Made.{all_names, destroy_of, made_names, resume_of}
 
 names_split : (l : Layout) (f : Function) → map (λ g. g.name) (split_function l f) ≡ made_names f
 names_split l f = on f.coroutine

@@ -15,15 +15,15 @@ use Rattle.ir_model.specs.declared.module.Module.{Module}
 use Rattle.ir_tables.proofs.Tables.{same_name-same}
 use Rattle.rule_names.specs.Reserved.{is_part, is_reserved}
 use Rattle.rule_names.specs.declared.stage.Stage.{Stage}
-use Rattle.ir_laws.proofs.rules.plain_rules.Once.{once_at}
-use Rattle.ir_laws.specs.rules.plain_rules.Items.{KeepsItemRules}
+use Rattle.rule_laws.proofs.rules.plain_rules.Once.{once_at}
+use Rattle.rule_laws.specs.rules.plain_rules.Items.{KeepsItemRules}
 use Rattle.ir_laws.proofs.facts.same_names.Lists.{found, what_is_found}
-use Rattle.ir_laws.proofs.rules.same_names.Made.{Destroy, IsMade, IsMadeIn, Own, Resume, all_distinct, all_names, destroy_of, free_name, made_in, not_part, resume_of}
+use Rattle.rule_laws.proofs.rules.same_names.Made.{Destroy, IsMade, IsMadeIn, Own, Resume, all_distinct, all_names, destroy_of, free_name, made_in, not_part, resume_of}
 use Rattle.pass_proofs.proofs.split.names.Made.{all_names_split}
 use Rattle.ir_laws.proofs.facts.Truth.{differ}
-use Rattle.ir_laws.proofs.rules.same_names.Spellings.{never_same}
-use Rattle.ir_laws.proofs.rules.same_names.Unreserved.{part_is_free}
-use Rattle.ir_laws.specs.frames.same_names.Parts.{HasPart, HasPartsOf, HasSignature}
+use Rattle.rule_laws.proofs.rules.same_names.Spellings.{never_same}
+use Rattle.rule_laws.proofs.rules.same_names.Unreserved.{part_is_free}
+use Rattle.rule_laws.specs.frames.same_names.Parts.{HasPart, HasPartsOf, HasSignature}
 use Rattle.ir_laws.specs.facts.same_names.Short.{HaveShortNames}
 use Rattle.pass_exits.specs.ExitBlocks.{with_exit_blocks}
 

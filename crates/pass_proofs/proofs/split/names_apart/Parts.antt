@@ -10,9 +10,9 @@ use Rattle.ir_laws.proofs.facts.Members.{each_behind, each_turns, different_behi
 use Rattle.run_laws.specs.changed.Changed.{Each}
 use Rattle.ir_laws.proofs.facts.Lists.{AreDifferent, tested, row, rows}
 use Rattle.pass_proofs.proofs.exits.names.Exits.{IsExitName, are_exit_names, exit_is_no_back, exits_new}
-use Rattle.ir_laws.proofs.rules.names_apart.Numbered.{digit_words, numbers_new, rows_new}
-use Rattle.ir_laws.proofs.rules.names_apart.Words.{AreNew, are_all_unlike, are_own, is_other, more_words, new_behind, own_begins, table_behind, table_different, table_words, words_never_both}
-use Rattle.ir_laws.specs.rules.names_apart.Words.{IsOfWords, IsTableOf, begins_with_one, framed_words}
+use Rattle.rule_laws.proofs.rules.names_apart.Numbered.{digit_words, numbers_new, rows_new}
+use Rattle.rule_laws.proofs.rules.names_apart.Words.{AreNew, are_all_unlike, are_own, is_other, more_words, new_behind, own_begins, table_behind, table_different, table_words, words_never_both}
+use Rattle.rule_laws.specs.rules.names_apart.Words.{IsOfWords, IsTableOf, begins_with_one, framed_words}
 
 -- ---- the names of marks, of suspends and of instructions
 

@@ -14,7 +14,7 @@ use Rattle.ir_laws.proofs.facts.Members.{at_each, each_behind}
 use Rattle.run_laws.specs.changed.Changed.{Each}
 use Rattle.pass_proofs.proofs.split.names_apart.Steps.{part_apart, part_longer, plain_apart}
 use Rattle.ir_laws.specs.facts.names_apart.Apart.{AreApart}
-use Rattle.ir_laws.specs.rules.names_apart.Words.{AreFew, IsSplitTable, IsTableOf, framed_words}
+use Rattle.rule_laws.specs.rules.names_apart.Words.{AreFew, IsSplitTable, IsTableOf, framed_words}
 
 -- the names of the function are different, where they are few
 abbrev pub IsApart : Function → Type 0

@@ -13,12 +13,12 @@ use Rattle.pass_exits.specs.ExitBlocks.{exit_names}
 use Rattle.pass_exits.specs.declared.exit.Exit.{Exit}
 use Rattle.ir_laws.proofs.facts.Lists.{AreDifferent, row, rows, rows_longer}
 use Rattle.ir_laws.proofs.facts.Members.{apart_from}
-use Rattle.ir_laws.proofs.rules.names_apart.Numbered.{are_right, digit_words, numbers_new, rows_new}
+use Rattle.rule_laws.proofs.rules.names_apart.Numbered.{are_right, digit_words, numbers_new, rows_new}
 use Rattle.pass_proofs.proofs.split.names_apart.Parts.{numbers_are, parts_different, suspends_are}
-use Rattle.ir_laws.proofs.rules.names_apart.Words.{AreNew, are_all_unlike, are_own}
+use Rattle.rule_laws.proofs.rules.names_apart.Words.{AreNew, are_all_unlike, are_own}
 use Rattle.ir_laws.specs.facts.names_apart.Apart.{AreApart}
-use Rattle.ir_laws.specs.rules.names_apart.Words.{AreFew, IsTableOf, cell_words, copy_words, early_words, edge_words, framed_words}
-use Rattle.ir_laws.proofs.rules.names_apart.Steps.{IsStep, append_step, then_step, word_new}
+use Rattle.rule_laws.specs.rules.names_apart.Words.{AreFew, IsTableOf, cell_words, copy_words, early_words, edge_words, framed_words}
+use Rattle.rule_laws.proofs.rules.names_apart.Steps.{IsStep, append_step, then_step, word_new}
 use Rattle.pass_proofs.proofs.exits.rules.Names.{names_length as exits_length}
 
 numbered_are : (w : List ℕ) (n : ℕ) → numbered_names w n ≡ rows (w ∷ []) n

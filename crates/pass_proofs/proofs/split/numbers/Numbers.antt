@@ -2,7 +2,7 @@
 use Rattle.std.proofs.Common.{List, [], ◌∷◌, refl, inl, inr}
 use Rattle.pass_split.specs.Parts.{first_layout}
 use Rattle.frame_layout.specs.declared.layout.Layout.{Layout}
-use Rattle.ir_laws.specs.frames.suspend_counts.Given.{IsGiven}
+use Rattle.rule_laws.specs.frames.suspend_counts.Given.{IsGiven}
 
 pub first_given : (layouts : List Layout) → IsGiven layouts (first_layout layouts)
 first_given [] = inr refl

@@ -20,9 +20,14 @@ module _ (m : Module) (env : Env) where
 
   by_entering : (label : ℕ) (ps : List Phi) → phi_values m env label ps ≡ map valued (entering label ps)
   by_entering label [] = refl
-  by_entering label (p ∷ ps) = ap (λ (xs : List (ℕ × Value)). valued (p.result, (p.ty, incoming_from p.incoming label)) ∷ xs) (by_entering label ps)
+  by_entering label (p ∷ ps)
+      = ap (λ (xs : List (ℕ × Value)). valued (p.result, (p.ty, incoming_from p.incoming label)) ∷ xs)
+      (by_entering label ps)
 
-  pub same_values : (s : Shape) (part : Part) (f g : Function) (block from label : ℕ) → Enters s part f g block from label → values_in m (slice_get g.blocks (position_of g label)) (label_of (slice_get g.blocks from)) env ≡ values_in m (slice_get f.blocks (position_of f label)) (label_of (slice_get f.blocks block)) env
+  pub same_values : (s : Shape) (part : Part) (f g : Function) (block from label : ℕ)
+      → Enters s part f g block from label → values_in m (slice_get g.blocks (position_of g label))
+      (label_of (slice_get g.blocks from)) env ≡ values_in m (slice_get f.blocks (position_of f label))
+      (label_of (slice_get f.blocks block)) env
   same_values s part f g block from label e =
       ap (with_all env)
       (by_entering (label_of (slice_get g.blocks from)) (phis_of (slice_get g.blocks (position_of g label)))

@@ -19,8 +19,8 @@ use Rattle.ir_model.specs.declared.operand.Callee.{Callee}
 use Rattle.ir_model.specs.declared.operand.Intrinsic.{Intrinsic}
 use Rattle.pass_proofs.specs.split.rules.Pieced.{ArePieces, ArePiecesOf, BeginsAgain, Ends, Marks, NoBlock, OneBlock, Returns, Stays, Suspends, Transfers, block_with, in_front}
 use Rattle.run_laws.specs.changed.Changed.{Each}
-use Rattle.ir_laws.proofs.frames.turned.Turned.{AreTurned, IsTurned, NoneTurned, OneTurned, names_behind, turned}
-use Rattle.ir_laws.proofs.rules.turned.Turned.{IsOuter}
+use Rattle.rule_laws.proofs.frames.turned.Turned.{AreTurned, IsTurned, NoneTurned, OneTurned, names_behind, turned}
+use Rattle.rule_laws.proofs.rules.turned.Turned.{IsOuter}
 
 pub stays : (s : Shape) (i : Instr) (after : List Instr) → IsOuter i → cut_at s Part.Ramp i after ≡ Cut.Stays
 stays s (Instr.Call r must_tail ty (Callee.Intrinsic Intrinsic.CoroBegin) args) after o = let bad : false ≡ true = o.0 in absurd (cc)

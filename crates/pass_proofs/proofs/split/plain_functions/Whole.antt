@@ -5,14 +5,14 @@ use Rattle.std.specs.Prelude.{None, Option, Some, is_none, not, slice_get, ◌&&
 use Rattle.ir_base.specs.declared.outcome.Place.{Place}
 use Rattle.pass_split.specs.Parts.{plain_of, plain_shape}
 use Rattle.pass_split.specs.Pieces.{next_after, pieces_of}
-use Rattle.ir_laws.proofs.rules.local_rules.Fitting.{either, no_either}
+use Rattle.rule_laws.proofs.rules.local_rules.Fitting.{either, no_either}
 use Rattle.ir_laws.proofs.facts.Truth.{and_first, and_second, holds, is_void, first_no, second_no}
 use Rattle.ir_laws.proofs.facts.local_rules.Woven.{other_number}
-use Rattle.ir_laws.specs.rules.source_rules.Named.{HasTabledLocals}
+use Rattle.rule_laws.specs.rules.source_rules.Named.{HasTabledLocals}
 use Rattle.ir_parts.specs.Contents.{ending_labels}
 use Rattle.ir_parts.specs.Locals.{locals_of}
 use Rattle.ir_parts.specs.Parts.{Ending, OfInstr, parts_of}
-use Rattle.ir_laws.specs.rules.function_rules.Kept.{KeepsFunctionRules}
+use Rattle.rule_laws.specs.rules.function_rules.Kept.{KeepsFunctionRules}
 use Rattle.pass_intrinsics.specs.declared.shape.Part.{Part}
 use Rattle.pass_intrinsics.specs.declared.shape.Shape.{Shape}
 use Rattle.ir_model.specs.Ty.{Ty}
@@ -26,17 +26,17 @@ use Rattle.ir_model.specs.declared.operand.Intrinsic.{Intrinsic}
 use Rattle.rule_locals.specs.Instrs.{on_instr}
 use Rattle.rule_locals.specs.Intrinsics.{calls_inner, is_inner}
 use Rattle.rule_names.specs.Known.{is_label, is_value, names_unknown}
-use Rattle.ir_laws.proofs.rules.turned.Defined.{defined_low}
-use Rattle.ir_laws.proofs.frames.turned.Edges.{edges_turned}
-use Rattle.ir_laws.proofs.frames.turned.Known.{locals_known, term_labels}
-use Rattle.ir_laws.proofs.frames.turned.Local.{late_turned, marks_turned}
-use Rattle.ir_laws.proofs.frames.turned.Once.{once_turned}
+use Rattle.rule_laws.proofs.rules.turned.Defined.{defined_low}
+use Rattle.rule_laws.proofs.frames.turned.Edges.{edges_turned}
+use Rattle.rule_laws.proofs.frames.turned.Known.{locals_known, term_labels}
+use Rattle.rule_laws.proofs.frames.turned.Local.{late_turned, marks_turned}
+use Rattle.rule_laws.proofs.frames.turned.Once.{once_turned}
 use Rattle.pass_proofs.proofs.split.plain_functions.Turned.{AreNoEnds, all_turned}
-use Rattle.ir_laws.proofs.frames.turned.Turned.{AreTurned}
-use Rattle.ir_laws.proofs.rules.turned.Turned.{IsOuter, is_outer}
-use Rattle.ir_laws.proofs.frames.turned.Uses.{uses_turned}
-use Rattle.ir_laws.specs.rules.plain_rules.Kept.{KeepsPlainRules}
-use Rattle.ir_laws.specs.frames.same_names.Parts.{HasPartsOf}
+use Rattle.rule_laws.proofs.frames.turned.Turned.{AreTurned}
+use Rattle.rule_laws.proofs.rules.turned.Turned.{IsOuter, is_outer}
+use Rattle.rule_laws.proofs.frames.turned.Uses.{uses_turned}
+use Rattle.rule_laws.specs.rules.plain_rules.Kept.{KeepsPlainRules}
+use Rattle.rule_laws.specs.frames.same_names.Parts.{HasPartsOf}
 use Rattle.pass_proofs.proofs.split.rules.Cutting.{cut_blocks}
 use Rattle.pass_proofs.proofs.split.rules.Instructions.{plain_kept}
 use Rattle.pass_proofs.proofs.split.rules.Laws.{plain_named}
@@ -47,7 +47,7 @@ use Rattle.rule_types.specs.declared.wants.Basic.{Basic}
 use Rattle.rule_values.specs.Instrs.{fits_called, fits_result, passes}
 use Rattle.rule_values.specs.Kinds.{value_kind}
 use Rattle.rule_values.specs.Values.{breaks_values}
-use Rattle.ir_laws.proofs.rules.woven_rules.Unbroken.{Passes, PassesIn, all_pass}
+use Rattle.rule_laws.proofs.rules.woven_rules.Unbroken.{Passes, PassesIn, all_pass}
 use Rattle.ir_parts.specs.Parts as parts
 
 -- ---- no inner call, and no result of a resume or a destroy

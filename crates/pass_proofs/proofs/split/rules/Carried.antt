@@ -9,7 +9,7 @@ use Rattle.pass_split.specs.Pieces.{begins_again, comes_from, incoming_from, pie
 use Rattle.pass_split.specs.Reached.{is_flagged, kept_phi, pruned, reached}
 use Rattle.pass_split.specs.declared.origin.Origin.{Origin}
 use Rattle.ir_laws.proofs.facts.Members.{each_joined, each_turns}
-use Rattle.ir_laws.proofs.rules.local_rules.Carried.{none_of, passing}
+use Rattle.rule_laws.proofs.rules.local_rules.Carried.{none_of, passing}
 use Rattle.ir_laws.proofs.facts.Truth.{and_both, and_first, and_second}
 use Rattle.ir_parts.specs.Parts.{Ending, Head, OfInstr, OfPhi, Part as FunctionPart, Signature, first_part, function_place, parts_of}
 use Rattle.pass_intrinsics.specs.Cuts.{goes_on}
@@ -28,7 +28,7 @@ use Rattle.ir_model.specs.declared.module.Function.{Function}
 use Rattle.ir_model.specs.declared.operand.Operand.{Operand}
 use Rattle.pass_proofs.proofs.split.rules.Cutting.{cut_blocks}
 use Rattle.pass_proofs.proofs.split.rules.Parted.{AreEnds, blocks_all as pieces_of_all, done_all, head_all, kept_all}
-use Rattle.ir_laws.proofs.rules.replaced.Passed.{AllPassingBlock, IsAll, Passes, PassesAll, PassingBlock, blocks_all, blocks_pass}
+use Rattle.rule_laws.proofs.rules.replaced.Passed.{AllPassingBlock, IsAll, Passes, PassesAll, PassingBlock, blocks_all, blocks_pass}
 use Rattle.pass_proofs.specs.split.rules.Parted.{IsDestroy, IsPartOf, IsRamp, IsResume}
 use Rattle.run_laws.specs.changed.Changed.{Each}
 

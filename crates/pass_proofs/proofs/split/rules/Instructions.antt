@@ -5,13 +5,13 @@ use Rattle.std.specs.Prelude.{None, Option, Some, is_some, not, slice_get, ◌||
 use Rattle.ir_base.specs.declared.name.Name.{Name}
 use Rattle.ir_base.specs.declared.outcome.Place.{Place}
 use Rattle.pass_split.specs.Parts.{plain_of, plain_shape}
-use Rattle.ir_laws.proofs.rules.local_rules.Carried.{none_of, passing}
-use Rattle.ir_laws.proofs.rules.local_rules.Fitting.{either, no_either}
+use Rattle.rule_laws.proofs.rules.local_rules.Carried.{none_of, passing}
+use Rattle.rule_laws.proofs.rules.local_rules.Fitting.{either, no_either}
 use Rattle.ir_laws.proofs.facts.Truth.{and_both, first_no}
 use Rattle.frame_layout.specs.declared.layout.Layout.{Layout}
 use Rattle.ir_parts.specs.Contents.{part_types}
 use Rattle.ir_parts.specs.Parts.{OfInstr, Part as FunctionPart, Signature, first_part, parts_of}
-use Rattle.ir_laws.specs.rules.function_rules.Kept.{KeepsFunctionRules}
+use Rattle.rule_laws.specs.rules.function_rules.Kept.{KeepsFunctionRules}
 use Rattle.pass_intrinsics.specs.Lowered.{number_of_save}
 use Rattle.pass_intrinsics.specs.Shapes.{shape_of}
 use Rattle.pass_intrinsics.specs.declared.shape.Part.{Part}
@@ -31,15 +31,15 @@ use Rattle.rule_locals.specs.Intrinsics.{calls_inner, is_inner, misplaces}
 use Rattle.rule_locals.specs.Transfers.{breaks_transfers}
 use Rattle.rule_names.specs.Known.{is_label, is_value, knows_name, knows_type, names_unknown}
 use Rattle.rule_names.specs.declared.stage.Stage.{Stage}
-use Rattle.ir_laws.specs.frames.same_names.Parts.{HasPart, HasPartsOf}
+use Rattle.rule_laws.specs.frames.same_names.Parts.{HasPart, HasPartsOf}
 use Rattle.pass_proofs.proofs.split.rules.Carried.{Carries, part_carried, plain_carried}
-use Rattle.ir_laws.proofs.rules.replaced.Known.{called_before, types_before}
+use Rattle.rule_laws.proofs.rules.replaced.Known.{called_before, types_before}
 use Rattle.pass_proofs.proofs.split.rules.Known.{known_carried, now_known}
 use Rattle.pass_proofs.proofs.split.rules.Local.{calls_carried, closed_before, closed_carried, deep, deep_again, depths_carried, extents_carried, transfers_carried}
-use Rattle.ir_laws.proofs.rules.fetching_rules.Puts.{ptr_shallow as shallow_ptr}
-use Rattle.ir_laws.proofs.frames.replaced.Modules.{all_known}
-use Rattle.ir_laws.proofs.frames.replaced.Saves.{saves_below}
-use Rattle.ir_laws.specs.rules.replaced.Instructions.{KeepsRulesOfInstructions, names_strange}
+use Rattle.rule_laws.proofs.rules.fetching_rules.Puts.{ptr_shallow as shallow_ptr}
+use Rattle.rule_laws.proofs.frames.replaced.Modules.{all_known}
+use Rattle.rule_laws.proofs.frames.replaced.Saves.{saves_below}
+use Rattle.rule_laws.specs.rules.replaced.Instructions.{KeepsRulesOfInstructions, names_strange}
 use Rattle.pass_proofs.specs.split.rules.Parted.{IsDestroy, IsPartOf, IsRamp, IsResume}
 use Rattle.run_laws.specs.changed.Changed.{Each}
 use Rattle.rule_types.specs.Depth.{is_shallow}

@@ -6,7 +6,7 @@ use Rattle.ir_base.specs.declared.ops.BinOp.{BinOp}
 use Rattle.ir_base.specs.declared.outcome.Place.{Place}
 use Rattle.pass_split.specs.Parts.{case_of, cases_from, entry_term, is_entered}
 use Rattle.pass_split.specs.Pieces.{redirected_term}
-use Rattle.ir_laws.proofs.rules.local_rules.Fitting.{either}
+use Rattle.rule_laws.proofs.rules.local_rules.Fitting.{either}
 use Rattle.ir_laws.proofs.facts.Truth.{and_both, first_no, second_no}
 use Rattle.ir_parts.specs.Contents.{arg_operands, ending_operands, ending_types, instr_operands, instr_types, part_labels, part_operands, part_types}
 use Rattle.ir_parts.specs.Parts.{Ending, OfInstr, OfPhi, Part as FunctionPart}
@@ -27,17 +27,17 @@ use Rattle.ir_model.specs.declared.operand.Intrinsic.{Intrinsic}
 use Rattle.ir_model.specs.declared.operand.Operand.{Operand}
 use Rattle.rule_locals.specs.Intrinsics.{is_inner}
 use Rattle.rule_names.specs.Known.{knows_address, knows_called, knows_name, knows_operand, knows_type, names_unknown}
-use Rattle.ir_laws.specs.frames.same_names.Parts.{HasPartsOf}
+use Rattle.rule_laws.specs.frames.same_names.Parts.{HasPartsOf}
 use Rattle.pass_proofs.proofs.split.rules.Carried.{Carries}
 use Rattle.pass_proofs.proofs.split.rules.Local.{Lowers, Replaced, Same, lowers, same_term_operands, same_term_types}
-use Rattle.ir_laws.proofs.frames.replaced.Modules.{address_known, all_known, callee_known}
-use Rattle.ir_laws.specs.rules.replaced.Instructions.{names_strange}
-use Rattle.ir_laws.specs.frames.replaced.Replaced.{Address, Calls, First, Frame, Given, IsPointer, Loads, Number, Replaces, Second, StoresDestroy, StoresIndex, StoresNull, StoresResume, Tests, Truth}
+use Rattle.rule_laws.proofs.frames.replaced.Modules.{address_known, all_known, callee_known}
+use Rattle.rule_laws.specs.rules.replaced.Instructions.{names_strange}
+use Rattle.rule_laws.specs.frames.replaced.Replaced.{Address, Calls, First, Frame, Given, IsPointer, Loads, Number, Replaces, Second, StoresDestroy, StoresIndex, StoresNull, StoresResume, Tests, Truth}
 use Rattle.run_laws.specs.changed.Changed.{Each}
 use Rattle.rule_types.specs.Signatures.{calls_otherwise}
 use Rattle.ir_laws.proofs.facts.Members.{all_pass, each_passes, each_turns}
 use Rattle.ir_laws.proofs.paths.replaced.Known.{listed_mapped, of_listed}
-use Rattle.ir_laws.proofs.rules.replaced.Known.{called_before, operands_before, types_before}
+use Rattle.rule_laws.proofs.rules.replaced.Known.{called_before, operands_before, types_before}
 
 -- ---- lists
 

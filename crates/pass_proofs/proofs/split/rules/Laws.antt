@@ -3,21 +3,21 @@ use Rattle.std.proofs.Common.{◌≡◌, ℕ, true, false}
 use Rattle.std.specs.Prelude.{None, Some, slice_get}
 use Rattle.pass_split.specs.Parts.{plain_of, plain_shape}
 use Rattle.frame_layout.specs.declared.layout.Layout.{Layout}
-use Rattle.ir_laws.specs.rules.function_rules.Kept.{KeepsFunctionRules}
+use Rattle.rule_laws.specs.rules.function_rules.Kept.{KeepsFunctionRules}
 use Rattle.pass_intrinsics.specs.Cuts.{goes_on}
 use Rattle.pass_intrinsics.specs.Shapes.{shape_of}
 use Rattle.pass_intrinsics.specs.declared.shape.Part.{Part}
 use Rattle.ir_model.specs.declared.module.Function.{Function}
 use Rattle.ir_model.specs.declared.module.Module.{Module}
 use Rattle.rule_names.specs.Known.{first_unknown}
-use Rattle.ir_laws.specs.frames.same_names.Parts.{HasPartsOf}
+use Rattle.rule_laws.specs.frames.same_names.Parts.{HasPartsOf}
 use Rattle.pass_proofs.proofs.split.rules.Instructions.{parts_kept, plain_kept}
-use Rattle.ir_laws.proofs.rules.replaced.Locals.{all_names_known}
+use Rattle.rule_laws.proofs.rules.replaced.Locals.{all_names_known}
 use Rattle.pass_proofs.proofs.split.rules.ValueLaws.{parts_values, plain_values}
-use Rattle.ir_laws.specs.rules.replaced.Instructions.{KnowsItsLocals}
+use Rattle.rule_laws.specs.rules.replaced.Instructions.{KnowsItsLocals}
 use Rattle.pass_proofs.specs.split.rules.Parted.{IsPartOf}
-use Rattle.ir_laws.specs.frames.replaced.Parted.{IsSmall}
-use Rattle.ir_laws.specs.rules.replaced.Returns.{ReturnsNothing}
+use Rattle.rule_laws.specs.frames.replaced.Parted.{IsSmall}
+use Rattle.rule_laws.specs.rules.replaced.Returns.{ReturnsNothing}
 use Rattle.pass_proofs.specs.split.rules.Splittable.{IsSplittable}
 use Rattle.rule_values.specs.Values.{first_wrong_value}
 

@@ -5,7 +5,7 @@ use Rattle.std.specs.Prelude.{None, Option, Some, map, nat_le, not, if◌then◌
 use Rattle.ir_base.specs.declared.outcome.Place.{Place}
 use Rattle.pass_split.specs.Parts.{case_of, cases_from, entry_term, is_entered}
 use Rattle.pass_split.specs.Pieces.{redirected_case, redirected_term}
-use Rattle.ir_laws.proofs.rules.local_rules.Fitting.{either}
+use Rattle.rule_laws.proofs.rules.local_rules.Fitting.{either}
 use Rattle.ir_laws.proofs.facts.Truth.{and_both, and_first, and_second, holds, first_no, second_no}
 use Rattle.ir_parts.specs.Contents.{ending_operands, ending_types, instr_types}
 use Rattle.ir_parts.specs.Parts.{Ending, OfInstr, OfPhi}
@@ -33,17 +33,17 @@ use Rattle.rule_locals.specs.Instrs.{on_instr}
 use Rattle.rule_locals.specs.Transfers.{breaks_transfers, may_transfer}
 use Rattle.rule_names.specs.Known.{knows_callee}
 use Rattle.rule_names.specs.declared.stage.Stage.{Stage}
-use Rattle.ir_laws.specs.frames.same_names.Parts.{HasPartsOf}
+use Rattle.rule_laws.specs.frames.same_names.Parts.{HasPartsOf}
 use Rattle.pass_proofs.proofs.split.rules.Carried.{Carries, index_instrs}
-use Rattle.ir_laws.proofs.frames.replaced.Modules.{callee_fits, closed_there, depths_there, extents_there}
-use Rattle.ir_laws.proofs.frames.replaced.Replaced.{IsKeptOne, replaced}
-use Rattle.ir_laws.specs.frames.replaced.Replaced.{Address, Calls, Loads, Number, Replaces, StoresDestroy, StoresIndex, StoresNull, StoresResume, Tests, Truth}
+use Rattle.rule_laws.proofs.frames.replaced.Modules.{callee_fits, closed_there, depths_there, extents_there}
+use Rattle.rule_laws.proofs.frames.replaced.Replaced.{IsKeptOne, replaced}
+use Rattle.rule_laws.specs.frames.replaced.Replaced.{Address, Calls, Loads, Number, Replaces, StoresDestroy, StoresIndex, StoresNull, StoresResume, Tests, Truth}
 use Rattle.run_laws.specs.changed.Changed.{Each}
 use Rattle.rule_types.specs.Depth.{is_shallow}
 use Rattle.rule_types.specs.Limits.{all_fit, breaks_limits, is_block_past}
 use Rattle.rule_types.specs.Signatures.{calls_otherwise}
 use Rattle.ir_laws.proofs.facts.Members.{each_turns}
-use Rattle.ir_laws.proofs.rules.fetching_rules.Puts.{int_shallow as shallow_int, ptr_shallow as shallow_ptr}
+use Rattle.rule_laws.proofs.rules.fetching_rules.Puts.{int_shallow as shallow_int, ptr_shallow as shallow_ptr}
 
 -- ---- what is lowered in the place of an instruction that is of the types of its callee
 

@@ -8,14 +8,14 @@ use Rattle.ir_base.specs.declared.outcome.Place.{Place}
 use Rattle.pass_split.specs.Parts.{case_of, cases_from, entry_term, is_entered, plain_shape}
 use Rattle.ir_laws.proofs.facts.Members.{at_each}
 use Rattle.ir_laws.proofs.facts.Truth.{itself, and_both}
-use Rattle.pass_early_proof.proofs.renaming.Rules.{begin_by}
+use Rattle.pass_proofs.proofs.early.renaming.Rules.{begin_by}
 use Rattle.ir_laws.proofs.paths.renamed.Uses.{stands_in}
-use Rattle.ir_laws.proofs.rules.local_rules.Names.{numbers}
-use Rattle.pass_early_proof.proofs.local_rules.ValueKinds.{kind_made}
-use Rattle.ir_laws.proofs.rules.local_rules.ValueKinds.{kind_none}
+use Rattle.rule_laws.proofs.rules.local_rules.Names.{numbers}
+use Rattle.pass_proofs.proofs.early.local_rules.ValueKinds.{kind_made}
+use Rattle.rule_laws.proofs.rules.local_rules.ValueKinds.{kind_none}
 use Rattle.ir_laws.proofs.facts.local_rules.Woven.{other_number}
 use Rattle.ir_laws.proofs.paths.source_rules.Locals.{Apart}
-use Rattle.ir_laws.specs.rules.source_rules.Named.{HasTabledLocals}
+use Rattle.rule_laws.specs.rules.source_rules.Named.{HasTabledLocals}
 use Rattle.frame_layout.specs.declared.layout.Layout.{Layout}
 use Rattle.ir_parts.specs.Parts.{OfInstr, Part as FunctionPart}
 use Rattle.pass_intrinsics.specs.Shapes.{first_name, index_name, index_width, shape_of, slot_name, suspends_of}
@@ -35,9 +35,9 @@ use Rattle.rule_locals.specs.Instrs.{on_instr}
 use Rattle.rule_locals.specs.Intrinsics.{calls_inner}
 use Rattle.ir_locals.specs.Tables.{or_first}
 use Rattle.pass_proofs.proofs.split.rules.PartKinds.{AreNewKinds}
-use Rattle.ir_laws.proofs.rules.replaced.Passed.{Passes, PassingBlock}
-use Rattle.ir_laws.specs.frames.replaced.Kinds.{kinds_with, part_kind, plain_kind}
-use Rattle.ir_laws.specs.frames.replaced.Parted.{IsSmall}
+use Rattle.rule_laws.proofs.rules.replaced.Passed.{Passes, PassingBlock}
+use Rattle.rule_laws.specs.frames.replaced.Kinds.{kinds_with, part_kind, plain_kind}
+use Rattle.rule_laws.specs.frames.replaced.Parted.{IsSmall}
 use Rattle.run_laws.specs.changed.Changed.{Each}
 use Rattle.rule_types.specs.Signatures.{calls_otherwise}
 use Rattle.rule_values.specs.Fits.{fits_kind, is_literal}
@@ -45,8 +45,8 @@ use Rattle.rule_values.specs.Kinds.{value_kind}
 use Rattle.rule_values.specs.Switches.{any_twice, case_word, fits_case, has_word}
 use Rattle.rule_values.specs.Values.{fits_ending}
 use Rattle.rule_values.specs.declared.kinds.Kind.{Kind}
-use Rattle.ir_laws.proofs.rules.local_rules.Followed.{begin_ptr as begin_makes}
-use Rattle.ir_laws.proofs.rules.woven_rules.Once.{names_below as numbers_below}
+use Rattle.rule_laws.proofs.rules.local_rules.Followed.{begin_ptr as begin_makes}
+use Rattle.rule_laws.proofs.rules.woven_rules.Once.{names_below as numbers_below}
 
 -- a new name has no value in the function
 pub new_none : (k : ℕ) (f : Function) → HasTabledLocals k f → (v : ℕ) → length f.names ≤ v → value_kind f v ≡ None

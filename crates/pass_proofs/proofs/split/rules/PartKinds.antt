@@ -2,7 +2,7 @@
 use Rattle.std.proofs.Common.{◌≡◌, ◌⊎◌, inl, inr, ℕ, ◌+◌, ◌<◌, ◌≤◌, Bool, true, false, List, [], ◌∷◌, length, refl, sym, ap, ◌∙◌, subst, arith}
 use Rattle.std.specs.Prelude.{Option, Some}
 use Rattle.ir_base.specs.declared.outcome.Place.{Place}
-use Rattle.ir_laws.proofs.rules.local_rules.Fitting.{either}
+use Rattle.rule_laws.proofs.rules.local_rules.Fitting.{either}
 use Rattle.ir_parts.specs.Parts.{OfInstr, Part as FunctionPart}
 use Rattle.pass_intrinsics.specs.Cuts.{goes_on}
 use Rattle.pass_intrinsics.specs.Lowered.{lowered, number_of_save}
@@ -22,12 +22,12 @@ use Rattle.ir_model.specs.declared.operand.Callee.{Callee}
 use Rattle.ir_model.specs.declared.operand.Intrinsic.{Intrinsic}
 use Rattle.rule_locals.specs.Intrinsics.{is_inner}
 use Rattle.pass_proofs.proofs.split.rules.Carried.{Becomes}
-use Rattle.ir_laws.proofs.rules.replaced.OwnKinds.{MakesIn, PhiMakesIn, kind_made_by, or_some}
+use Rattle.rule_laws.proofs.rules.replaced.OwnKinds.{MakesIn, PhiMakesIn, kind_made_by, or_some}
 use Rattle.pass_proofs.proofs.split.rules.Local.{Lowers, Replaced, Same, lowers}
 use Rattle.ir_laws.proofs.facts.Truth.{first_no, second_no}
-use Rattle.ir_laws.proofs.rules.replaced.Passed.{IsAll, Passes}
-use Rattle.ir_laws.specs.frames.replaced.Kinds.{kinds_with}
-use Rattle.ir_laws.specs.frames.replaced.Replaced.{Address, Calls, Loads, New, Number, OfFrame, OfResult, Replaces, StoresDestroy, StoresIndex, StoresNull, StoresResume, Tests, Truth}
+use Rattle.rule_laws.proofs.rules.replaced.Passed.{IsAll, Passes}
+use Rattle.rule_laws.specs.frames.replaced.Kinds.{kinds_with}
+use Rattle.rule_laws.specs.frames.replaced.Replaced.{Address, Calls, Loads, New, Number, OfFrame, OfResult, Replaces, StoresDestroy, StoresIndex, StoresNull, StoresResume, Tests, Truth}
 use Rattle.run_laws.specs.changed.Changed.{Each}
 use Rattle.rule_types.specs.Signatures.{calls_otherwise}
 use Rattle.rule_values.specs.Kinds.{kind_of, result_kind, value_kind}

@@ -6,8 +6,8 @@ use Rattle.std.specs.Prelude.{ℤ, None, Option, Some, is_some, map, nat_lt, not
 use Rattle.ir_base.specs.declared.outcome.Place.{Place}
 use Rattle.pass_split.specs.Parts.{entry_term}
 use Rattle.pass_split.specs.Pieces.{redirected_case, redirected_term}
-use Rattle.ir_laws.proofs.rules.local_rules.Defined.{value_defined}
-use Rattle.ir_laws.proofs.rules.local_rules.Fitting.{either}
+use Rattle.rule_laws.proofs.rules.local_rules.Defined.{value_defined}
+use Rattle.rule_laws.proofs.rules.local_rules.Fitting.{either}
 use Rattle.ir_laws.proofs.facts.Truth.{and_both, and_first, and_second, holds, first_no, second_no}
 use Rattle.flow_solver.specs.Paths.{IsListed}
 use Rattle.ir_parts.specs.Contents.{arg_operands, ending_operands, instr_operands, part_operands}
@@ -32,16 +32,16 @@ use Rattle.ir_model.specs.declared.operand.Intrinsic.{Intrinsic}
 use Rattle.ir_model.specs.declared.operand.Operand.{Operand}
 use Rattle.ir_locals.specs.Tables.{or_first}
 use Rattle.rule_names.specs.Known.{is_label, is_value, knows_operand, names_unknown}
-use Rattle.ir_laws.specs.frames.same_names.Parts.{HasPartsOf}
+use Rattle.rule_laws.specs.frames.same_names.Parts.{HasPartsOf}
 use Rattle.pass_proofs.proofs.split.rules.Carried.{Carries, IsPhiOf}
 use Rattle.ir_laws.proofs.paths.replaced.Known.{listed_mapped, of_listed}
-use Rattle.ir_laws.proofs.rules.replaced.Known.{operands_before}
+use Rattle.rule_laws.proofs.rules.replaced.Known.{operands_before}
 use Rattle.pass_proofs.proofs.split.rules.Local.{Lowers, Replaced, Same, lowers}
-use Rattle.ir_laws.proofs.frames.replaced.Modules.{instr_there}
+use Rattle.rule_laws.proofs.frames.replaced.Modules.{instr_there}
 use Rattle.pass_proofs.proofs.split.rules.PartKinds.{AreNewKinds}
-use Rattle.ir_laws.specs.frames.replaced.Kinds.{kinds_with}
-use Rattle.ir_laws.specs.frames.replaced.Parted.{IsSmall}
-use Rattle.ir_laws.specs.frames.replaced.Replaced.{Address, BackToFrame, Calls, First, Frame, Given, IsDistance, IsPointer, Loads, Nothing, Number, OfDestroy, OfIndex, OfPromise, Replaces, Second, StoresDestroy, StoresIndex, StoresNull, StoresResume, Tests, Truth}
+use Rattle.rule_laws.specs.frames.replaced.Kinds.{kinds_with}
+use Rattle.rule_laws.specs.frames.replaced.Parted.{IsSmall}
+use Rattle.rule_laws.specs.frames.replaced.Replaced.{Address, BackToFrame, Calls, First, Frame, Given, IsDistance, IsPointer, Loads, Nothing, Number, OfDestroy, OfIndex, OfPromise, Replaces, Second, StoresDestroy, StoresIndex, StoresNull, StoresResume, Tests, Truth}
 use Rattle.run_laws.specs.changed.Changed.{Each}
 use Rattle.rule_types.specs.Signatures.{calls_otherwise}
 use Rattle.rule_values.specs.Fits.{fits, fits_arg, fits_integer, fits_kind, is_literal, is_scalar}
@@ -50,10 +50,10 @@ use Rattle.rule_values.specs.Kinds.{value_kind}
 use Rattle.rule_values.specs.Switches.{any_twice, bits_in, case_word, fits_case}
 use Rattle.rule_values.specs.Values.{breaks_values, fits_ending, fits_part, fits_phi, takes}
 use Rattle.rule_values.specs.declared.kinds.Kind.{Kind}
-use Rattle.ir_laws.proofs.rules.woven_rules.Alike.{IsAlike, Local as AlikeLocal, Other as AlikeOther, fits_alike, instr_alike, term_alike}
+use Rattle.rule_laws.proofs.rules.woven_rules.Alike.{IsAlike, Local as AlikeLocal, Other as AlikeOther, fits_alike, instr_alike, term_alike}
 use Rattle.ir_laws.proofs.facts.Members.{each_passes, each_turns}
-use Rattle.ir_laws.proofs.rules.woven_rules.Operands.{instr_itself, term_itself}
-use Rattle.ir_laws.proofs.rules.replaced.PartValues.{is_return, misfits}
+use Rattle.rule_laws.proofs.rules.woven_rules.Operands.{instr_itself, term_itself}
+use Rattle.rule_laws.proofs.rules.replaced.PartValues.{is_return, misfits}
 
 -- ---- terminators with other labels
 

@@ -19,7 +19,7 @@ use Rattle.ir_model.specs.declared.module.Block.{Block}
 use Rattle.ir_model.specs.declared.module.Function.{Function}
 use Rattle.ir_model.specs.declared.operand.Callee.{Callee}
 use Rattle.ir_model.specs.declared.operand.Intrinsic.{Intrinsic}
-use Rattle.ir_laws.proofs.rules.replaced.Passed.{IsAll}
+use Rattle.rule_laws.proofs.rules.replaced.Passed.{IsAll}
 use Rattle.pass_proofs.specs.split.rules.Pieced.{ArePieces, ArePiecesOf, BeginsAgain, Ends, Marks, NoBlock, OneBlock, Returns, Stays, Suspends, Transfers}
 use Rattle.run_laws.specs.changed.Changed.{Each}
 

@@ -3,17 +3,17 @@ use Rattle.std.proofs.Common.{◌≡◌, ◌⊎◌, inl, inr, ℕ, Bool, true, f
 use Rattle.std.specs.Prelude.{None, Option, Some, is_some, not, ◌&&◌, ◌||◌}
 use Rattle.ir_base.specs.declared.outcome.Place.{Place}
 use Rattle.pass_split.specs.Parts.{plain_of, plain_shape}
-use Rattle.ir_laws.proofs.rules.local_rules.Carried.{passing}
-use Rattle.ir_laws.proofs.rules.local_rules.Fitting.{either, no_either}
-use Rattle.ir_laws.proofs.rules.local_rules.Names.{numbers}
+use Rattle.rule_laws.proofs.rules.local_rules.Carried.{passing}
+use Rattle.rule_laws.proofs.rules.local_rules.Fitting.{either, no_either}
+use Rattle.rule_laws.proofs.rules.local_rules.Names.{numbers}
 use Rattle.ir_laws.proofs.facts.Truth.{holds, first_no}
-use Rattle.ir_laws.proofs.rules.local_rules.Woven.{apart_names}
+use Rattle.rule_laws.proofs.rules.local_rules.Woven.{apart_names}
 use Rattle.ir_laws.proofs.paths.source_rules.Locals.{Apart}
-use Rattle.ir_laws.proofs.rules.source_rules.Locals.{names_are}
+use Rattle.rule_laws.proofs.rules.source_rules.Locals.{names_are}
 use Rattle.frame_layout.specs.declared.layout.Layout.{Layout}
 use Rattle.ir_parts.specs.Locals.{locals_of}
 use Rattle.ir_parts.specs.Parts.{Ending, OfInstr, OfPhi, Part as FunctionPart, Signature, first_part, function_place, parts_of}
-use Rattle.ir_laws.specs.rules.function_rules.Kept.{KeepsFunctionRules}
+use Rattle.rule_laws.specs.rules.function_rules.Kept.{KeepsFunctionRules}
 use Rattle.pass_intrinsics.specs.Cuts.{goes_on}
 use Rattle.pass_intrinsics.specs.Shapes.{first_name, shape_of}
 use Rattle.pass_intrinsics.specs.declared.shape.Part.{Part}
@@ -31,21 +31,21 @@ use Rattle.rule_locals.specs.Instrs.{on_instr}
 use Rattle.rule_locals.specs.Intrinsics.{calls_inner, misplaces}
 use Rattle.rule_names.specs.Known.{first_unknown, is_label, is_value, names_unknown}
 use Rattle.rule_names.specs.declared.stage.Stage.{Stage}
-use Rattle.ir_laws.specs.frames.same_names.Parts.{HasPartsOf}
+use Rattle.rule_laws.specs.frames.same_names.Parts.{HasPartsOf}
 use Rattle.pass_proofs.proofs.split.rules.Carried.{part_all, part_carried, plain_all, plain_carried}
 use Rattle.pass_proofs.proofs.split.rules.Instructions.{no_saves}
 use Rattle.pass_proofs.proofs.split.rules.NewKinds.{index_below, index_literal, nothing_more, part_kinds, plain_kinds, plain_small, switch_fits}
-use Rattle.ir_laws.proofs.rules.replaced.OwnKinds.{MakesIn, PhiMakesIn, own_kinds, own_params, value_is}
+use Rattle.rule_laws.proofs.rules.replaced.OwnKinds.{MakesIn, PhiMakesIn, own_kinds, own_params, value_is}
 use Rattle.pass_proofs.proofs.split.rules.PartKinds.{AreNewKinds, both_all, kinds_become, old_same}
-use Rattle.ir_laws.proofs.rules.replaced.PartValues.{misfits}
+use Rattle.rule_laws.proofs.rules.replaced.PartValues.{misfits}
 use Rattle.pass_proofs.proofs.split.rules.PartValues.{values_carried}
-use Rattle.ir_laws.proofs.rules.replaced.Passed.{IsAll, Passes, PassingBlock, blocks_pass}
-use Rattle.ir_laws.proofs.frames.replaced.Saves.{saves_below}
-use Rattle.ir_laws.proofs.rules.replaced.Values.{values_now}
-use Rattle.ir_laws.specs.frames.replaced.Kinds.{kinds_with, part_kind, plain_kind}
+use Rattle.rule_laws.proofs.rules.replaced.Passed.{IsAll, Passes, PassingBlock, blocks_pass}
+use Rattle.rule_laws.proofs.frames.replaced.Saves.{saves_below}
+use Rattle.rule_laws.proofs.rules.replaced.Values.{values_now}
+use Rattle.rule_laws.specs.frames.replaced.Kinds.{kinds_with, part_kind, plain_kind}
 use Rattle.pass_proofs.specs.split.rules.Parted.{IsDestroy, IsPartOf, IsRamp, IsResume}
-use Rattle.ir_laws.specs.frames.replaced.Parted.{IsSmall}
-use Rattle.ir_laws.specs.rules.replaced.Returns.{ReturnsNothing}
+use Rattle.rule_laws.specs.frames.replaced.Parted.{IsSmall}
+use Rattle.rule_laws.specs.rules.replaced.Returns.{ReturnsNothing}
 use Rattle.run_laws.specs.changed.Changed.{Each}
 use Rattle.rule_types.specs.Signatures.{calls_otherwise}
 use Rattle.rule_values.specs.Kinds.{kind_of, value_kind}

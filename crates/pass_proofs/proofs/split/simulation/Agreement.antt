@@ -22,10 +22,14 @@ price_within false Nowhere = omega arith
 price_within false (AtInstr i) = omega arith
 price_within false (AtTerm t) = omega arith
 
-pub parts_agree : (ls : Layouts) (m : Module) → PartsKeepStates ls m → (entry other : ℕ) (args : List Word) (answers : List ℤ) → IsEntryOfParts ls m entry other → AgreesWithin 4 (at (framed_machine m ls entry args answers)) (at (plain_machine (parted_module ls m) other args answers))
+pub parts_agree : (ls : Layouts) (m : Module) → PartsKeepStates ls m
+    → (entry other : ℕ) (args : List Word) (answers : List ℤ) → IsEntryOfParts ls m entry other
+    → AgreesWithin 4 (at (framed_machine m ls entry args answers))
+    (at (plain_machine (parted_module ls m) other args answers))
 parts_agree ls m keeps entry other args answers is = agrees_within_by_steps
     (Follows (framed_given m ls.coroutines answers) (parts_given ls m answers))
-    (IsNear (plain_machine (parted_module ls m) other args answers) 9 (AreRelated (framed_given m ls.coroutines answers) (parts_given ls m answers)))
+    (IsNear (plain_machine (parted_module ls m) other args answers) 9
+    (AreRelated (framed_given m ls.coroutines answers) (parts_given ls m answers)))
     (framed_machine m ls entry args answers) (part_price (framed_given m ls.coroutines answers))
     (plain_machine (parted_module ls m) other args answers) (λ t. 1) 4
     (λ s. price_within _ _) (λ t. omega arith) (keeps entry other args answers is)

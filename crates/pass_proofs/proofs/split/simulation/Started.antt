@@ -41,14 +41,16 @@ module _ (g : FramedGiven) (h : PlainGiven) (entry other : ℕ) (args : List Wor
   q = function_at h.code other
 
   -- the entry is no coroutine, and the other function is what becomes of it
-  pub starts_related : f.coroutine ≡ false → IsCodeOf f q (plain_shape f) Part.Ramp → IsPlace (plain_shape f) Part.Ramp f q 0 0 0 0
+  pub starts_related : f.coroutine ≡ false → IsCodeOf f q (plain_shape f) Part.Ramp
+      → IsPlace (plain_shape f) Part.Ramp f q 0 0 0 0
       → q.params ≡ f.params → length f.names ≤ length q.names → other ≡ part_position g entry Part.Ramp
       → first_world h.code ≡ first_world g.given.code → AreContents g.given.code
       → AreRelated g h (first_state g.given.code entry args) (plain_first h.code other args)
   starts_related plain code place params names moves globals contents = record {
     outcome = refl;
     globals = let l = length_mapped (global_block g.given.code) g.given.code.globals in omega arith;
-    world = subst (λ (w : World). AreWorldsBeside g [] (first_world g.given.code) w) (sym globals) (worlds_start g g.given.code contents);
+    world = subst (λ (w : World). AreWorldsBeside g [] (first_world g.given.code) w) (sym globals)
+        (worlds_start g g.given.code contents);
     frames = frames_start g (first_world g.given.code).memory (first_world h.code).memory;
     top = record {
       shape = plain_shape f;
@@ -58,7 +60,8 @@ module _ (g : FramedGiven) (h : PlainGiven) (entry other : ℕ) (args : List Wor
       runs = refl;
       func = moves;
       place = Inside Mode.Plain refl place;
-      values = entries_stand f q (homes_of (first_world g.given.code).memory) (map Value.Int args) (map Value.Int args) params names (words_stand (homes_of (first_world g.given.code).memory) args);
+      values = entries_stand f q (homes_of (first_world g.given.code).memory) (map Value.Int args)
+          (map Value.Int args) params names (words_stand (homes_of (first_world g.given.code).memory) args);
       room = entry_length q (map Value.Int args);
       frame = λ i own. absurd (cc);
       result = refl;

@@ -26,13 +26,13 @@ use Rattle.ir_model.specs.declared.operand.Callee.{Callee}
 use Rattle.ir_model.specs.declared.operand.Intrinsic.{Intrinsic}
 use Rattle.ir_model.specs.declared.operand.Operand.{Operand}
 use Rattle.ir_laws.proofs.facts.Lists.{numbered_named}
-use Rattle.ir_laws.proofs.frames.spelled.Names.{part_named}
-use Rattle.ir_laws.proofs.texts.spelled.Types.{byte_spelled, ptr_spelled, short_spelled, truth_spelled, width_spelled, word_spelled}
+use Rattle.rule_laws.proofs.frames.spelled.Names.{part_named}
+use Rattle.rule_laws.proofs.texts.spelled.Types.{byte_spelled, ptr_spelled, short_spelled, truth_spelled, width_spelled, word_spelled}
 use Rattle.pass_proofs.proofs.split.rules.Carried.{Becomes, part_all, plain_all}
 use Rattle.pass_proofs.proofs.split.rules.Local.{same_term_types}
-use Rattle.ir_laws.proofs.rules.replaced.Passed.{IsAll}
-use Rattle.ir_laws.specs.texts.spelled.Spelled.{IsSpelled}
-use Rattle.ir_laws.specs.rules.spelled.Spelled.{IsSpelledBlock, IsSpelledFunction, IsSpelledInstr}
+use Rattle.rule_laws.proofs.rules.replaced.Passed.{IsAll}
+use Rattle.rule_laws.specs.texts.spelled.Spelled.{IsSpelled}
+use Rattle.rule_laws.specs.rules.spelled.Spelled.{IsSpelledBlock, IsSpelledFunction, IsSpelledInstr}
 use Rattle.pass_proofs.specs.split.rules.Parted.{IsDestroy, IsPartOf, IsRamp, IsResume}
 use Rattle.run_laws.specs.changed.Changed.{Each}
 

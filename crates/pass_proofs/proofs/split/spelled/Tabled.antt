@@ -9,15 +9,15 @@ use Rattle.pass_split.specs.Reached.{is_flagged, kept_block, kept_blocks, kept_p
 use Rattle.pass_split.specs.declared.origin.Origin.{Origin}
 use Rattle.rule_uses.specs.Undefined.{params_of}
 use Rattle.ir_laws.proofs.facts.Members.{each_joined, each_filtered}
-use Rattle.ir_laws.proofs.rules.local_rules.Names.{numbers}
-use Rattle.ir_laws.proofs.rules.source_rules.Locals.{block_names, made_by}
+use Rattle.rule_laws.proofs.rules.local_rules.Names.{numbers}
+use Rattle.rule_laws.proofs.rules.source_rules.Locals.{block_names, made_by}
 use Rattle.ir_laws.proofs.paths.source_rules.Locals.{listed_either, listed_left, listed_right}
 use Rattle.ir_laws.proofs.facts.Lists.{phi_names, row_of}
-use Rattle.ir_laws.specs.rules.source_rules.Named.{HasTabledLocals}
+use Rattle.rule_laws.specs.rules.source_rules.Named.{HasTabledLocals}
 use Rattle.flow_solver.specs.Paths.{IsListed}
 use Rattle.frame_layout.specs.declared.layout.Layout.{Layout}
-use Rattle.ir_laws.proofs.rules.function_rules.Tabled.{tabled_by}
-use Rattle.ir_laws.proofs.rules.woven_rules.Once.{names_below}
+use Rattle.rule_laws.proofs.rules.function_rules.Tabled.{tabled_by}
+use Rattle.rule_laws.proofs.rules.woven_rules.Once.{names_below}
 use Rattle.pass_intrinsics.specs.Cuts.{goes_on}
 use Rattle.pass_intrinsics.specs.Lowered.{lowered, names_for, names_taken, number_of_save, save_or_none}
 use Rattle.pass_intrinsics.specs.Shapes.{first_name, index_name, shape_of, slot_name}
@@ -38,9 +38,9 @@ use Rattle.ir_laws.proofs.paths.edges.Lists.{listed_at}
 use Rattle.pass_proofs.proofs.split.edges.Targets.{instr_names_long, names_are_long, tabled_label}
 use Rattle.pass_proofs.proofs.split.uses.Assembled.{ok}
 use Rattle.pass_proofs.proofs.split.uses.Rules.{begin_named, begin_there}
-use Rattle.ir_laws.proofs.rules.short_names.Sources.{results_below}
-use Rattle.ir_laws.proofs.frames.turned.Turned.{AreTurned, NoneTurned, OneTurned}
-use Rattle.ir_laws.proofs.rules.turned.Turned.{IsOuter}
+use Rattle.rule_laws.proofs.rules.short_names.Sources.{results_below}
+use Rattle.rule_laws.proofs.frames.turned.Turned.{AreTurned, NoneTurned, OneTurned}
+use Rattle.rule_laws.proofs.rules.turned.Turned.{IsOuter}
 use Rattle.pass_proofs.proofs.split.rules.Cutting.{cut_blocks}
 use Rattle.pass_proofs.proofs.split.rules.Parted.{rises}
 use Rattle.pass_proofs.specs.split.rules.Parted.{IsDestroy, IsPartOf, IsRamp, IsResume}

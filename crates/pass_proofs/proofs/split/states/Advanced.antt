@@ -28,14 +28,17 @@ use Rattle.run_step.specs.Values.{value_in}
 
 -- each instance has its frame where it had it
 pub record KeepsFrames (xs ys : List Instance) : Type 0 where
-  pub each : (i : ℕ) (x : Instance) → slice_get xs i ≡ Some x → (y : Instance) × (slice_get ys i ≡ Some y × (y.coroutine ≡ x.coroutine) × (frame_address_of y ≡ frame_address_of x))
+  pub each : (i : ℕ) (x : Instance) → slice_get xs i ≡ Some x → (y : Instance) × (slice_get ys i ≡ Some y
+      × (y.coroutine ≡ x.coroutine) × (frame_address_of y ≡ frame_address_of x))
 
-pub frame_on : (xs ys : List Instance) (func i : ℕ) (v u : Value) → KeepsFrames xs ys → u ≡ v → HasFrame xs func v i → HasFrame ys func u i
+pub frame_on : (xs ys : List Instance) (func i : ℕ) (v u : Value) → KeepsFrames xs ys → u ≡ v → HasFrame xs func v i
+    → HasFrame ys func u i
 frame_on xs ys func i v u keeps same h =
     let y = keeps.each i h.instance h.there in
     record { instance = y.0; there = y.1.0; coroutine = y.1.1 ∙ h.coroutine; is = same ∙ h.is ∙ sym y.1.2 }
 
-module _ (g : FramedGiven) (h : Module) (xs ys : List Instance) (homes more : List Home) (ext : Extends homes more) (keeps : KeepsFrames xs ys) where
+module _ (g : FramedGiven) (h : Module) (xs ys : List Instance) (homes more : List Home) (ext : Extends homes more)
+    (keeps : KeepsFrames xs ys) where
   abbrev pub beside_on : (a : Activation) (b : PlainActivation) → IsBeside g h xs homes a b → IsBeside g h ys more a b
   beside_on a b x = record {
     shape = x.shape;
@@ -53,18 +56,24 @@ module _ (g : FramedGiven) (h : Module) (xs ys : List Instance) (homes more : Li
     own = x.own;
   }
 
-  pub all_beside_on : (result : Option ℕ) (rest : List Activation) (bs : List PlainActivation) → AreAllWaiting g h xs homes result rest bs → AreAllWaiting g h ys more result rest bs
+  pub all_beside_on : (result : Option ℕ) (rest : List Activation) (bs : List PlainActivation)
+      → AreAllWaiting g h xs homes result rest bs → AreAllWaiting g h ys more result rest bs
   all_beside_on result [] [] x = x
   all_beside_on result [] (b ∷ bs) x = x
   all_beside_on result (a ∷ rest) [] x = x
-  all_beside_on result (a ∷ rest) (b ∷ bs) x = (record { beside = beside_on a b x.0.beside; behind = x.0.behind; settled = x.0.settled; others = x.0.others }, all_beside_on a.result rest bs x.1)
+  all_beside_on result (a ∷ rest) (b ∷ bs) x
+      = (
+        record { beside = beside_on a b x.0.beside; behind = x.0.behind; settled = x.0.settled; others = x.0.others },
+        all_beside_on a.result rest bs x.1,
+      )
 
 pub same_frames : (xs : List Instance) → KeepsFrames xs xs
 same_frames xs = record { each = λ i x e. (x, (e, refl, refl)) }
 
 -- ---- the topmost activation
 
-module _ (g : FramedGiven) (h : PlainGiven) (s : State) (t : PlainState) (r : AreRelated g h s t) (v y : Work) (ys : List Instance) (block at piece offset : ℕ) (left : Bool) where
+module _ (g : FramedGiven) (h : PlainGiven) (s : State) (t : PlainState) (r : AreRelated g h s t) (v y : Work)
+    (ys : List Instance) (block at piece offset : ℕ) (left : Bool) where
   pub advanced : is_entering s.top.mode ≡ false → AreWorldsBeside g ys v.world y.world
       → AreFrames g ys v.world.memory y.world.memory → KeepsFrames s.instances ys
       → length s.world.memory ≤ length v.world.memory
@@ -72,7 +81,8 @@ module _ (g : FramedGiven) (h : PlainGiven) (s : State) (t : PlainState) (r : Ar
       → AreValuesOf (function_at g.given.code s.top.func) (homes_of v.world.memory) v.values y.values
       → length y.values ≡ length t.top.values
       → value_in y.values r.top.shape.begin ≡ value_in t.top.values r.top.shape.begin
-      → IsPlaced r.top.shape r.top.part (function_at g.given.code s.top.func) (function_at h.code t.top.func) (moved_to s.top block at v.values left) (placed_at t.top piece offset y.values) s.top.mode
+      → IsPlaced r.top.shape r.top.part (function_at g.given.code s.top.func) (function_at h.code t.top.func)
+      (moved_to s.top block at v.values left) (placed_at t.top piece offset y.values) s.top.mode
       → AreRelated g h (goes_to s v.world ys block at v.values left) (stands_at t piece offset y)
   advanced mode world frames keeps long ext values room begin place = record {
     outcome = r.outcome;
@@ -94,7 +104,8 @@ module _ (g : FramedGiven) (h : PlainGiven) (s : State) (t : PlainState) (r : Ar
       slots = r.top.slots;
       own = r.top.own;
     };
-    below = all_beside_on g h.code s.instances ys (homes_of s.world.memory) (homes_of v.world.memory) ext keeps s.top.result s.below t.below r.below;
+    below = all_beside_on g h.code s.instances ys (homes_of s.world.memory) (homes_of v.world.memory) ext keeps
+        s.top.result s.below t.below r.below;
     making = λ from label e. absurd (false≢true (sym mode ∙ ap is_entering e));
   }
     where

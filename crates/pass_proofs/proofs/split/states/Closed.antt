@@ -28,14 +28,17 @@ use Rattle.run_source.specs.declared.state.Instance.{Instance}
 -- ---- what is free
 
 -- a byte that is closed to the framed run is the home of nothing that it may touch
-pub closed_free : (g : FramedGiven) (instances : List Instance) (m : List MemoryBlock) (block at : ℕ) → ((y : MemoryBlock) → (frame_rights g instances).is_closed block y at 1 ≡ true) → IsFree (frame_rights g instances) (homes_of m) m block at
+pub closed_free : (g : FramedGiven) (instances : List Instance) (m : List MemoryBlock) (block at : ℕ)
+    → ((y : MemoryBlock) → (frame_rights g instances).is_closed block y at 1 ≡ true)
+    → IsFree (frame_rights g instances) (homes_of m) m block at
 closed_free g instances m block at closed = record {
   each = λ b j z e live lt opened here there.
       let h = own_home (length m) b (slice_get_within m b z e) in
       let is_block : b ≡ block = sym (ap (λ (q : Home). q.block) h) ∙ here in
       let at_start : 0 + j ≡ at = ap (λ (q : Home). q.offset + j) (sym h) ∙ there in
       let is_at : j ≡ at = omega arith in
-      false≢true (sym opened ∙ ap (λ (p : ℕ × ℕ). (frame_rights g instances).is_closed p.0 z p.1 1) (λ i. (is_block i, is_at i)) ∙ closed z);
+      false≢true (sym opened ∙ ap (λ (p : ℕ × ℕ). (frame_rights g instances).is_closed p.0 z p.1 1)
+      (λ i. (is_block i, is_at i)) ∙ closed z);
 }
 
 -- ---- the control bytes of one frame
@@ -49,14 +52,21 @@ index_some IntWidth.I64 = omega arith
 
 -- what stands in them is held in another memory too
 abbrev pub MovesControl : FramedGiven → (n l : List MemoryBlock) → Instance → Type 0
-MovesControl g n l x = (o most : ℕ) (bytes : List Byte) → 0 < length bytes → ((i : ℕ) → i < length bytes → IsControl g x x.block (o + i)) → Holds owner_rights n x.block o most bytes → Holds owner_rights l x.block o most bytes
+MovesControl g n l x = (o most : ℕ) (bytes : List Byte) → 0 < length bytes → ((i : ℕ) → i < length bytes
+    → IsControl g x x.block (o + i)) → Holds owner_rights n x.block o most bytes
+    → Holds owner_rights l x.block o most bytes
 
 module _ (g : FramedGiven) (n l : List MemoryBlock) (x : Instance) (move : MovesControl g n l x) where
   pub index_held : (number : ℕ) → IsIndexed g n x number → IsIndexed g l x number
   index_held number h = record {
-    holds = move (x.start + (layout_of g.layouts x.coroutine).index) (index_length g x.coroutine) (digits (index_length g x.coroutine) number)
+    holds = move (x.start + (layout_of g.layouts x.coroutine).index) (index_length g x.coroutine)
+        (digits (index_length g x.coroutine) number)
         (subst (λ k. 0 < k) (sym long) (index_some (shape_at g x.coroutine).width))
-        (λ i lt. (refl, inr (inside (x.start + (layout_of g.layouts x.coroutine).index) i (index_length g x.coroutine) (subst (λ k. i < k) long lt)))) h.holds;
+        (λ i lt. (
+          refl,
+          inr (inside (x.start + (layout_of g.layouts x.coroutine).index) i (index_length g x.coroutine)
+              (subst (λ k. i < k) long lt)),
+        )) h.holds;
   }
     where
       long : length (digits (index_length g x.coroutine) number) ≡ index_length g x.coroutine
@@ -65,8 +75,10 @@ module _ (g : FramedGiven) (n l : List MemoryBlock) (x : Instance) (move : Moves
       inside : (o i k : ℕ) → i < k → (o ≤ o + i) × (o + i < o + k)
       inside o i k lt = (omega arith, omega arith)
 
-  pub pointer_held : (o : ℕ) (v : Value) → x.start ≤ o → o + 8 ≤ x.start + 16 → Holds owner_rights n x.block o 8 (encode 8 v) → Holds owner_rights l x.block o 8 (encode 8 v)
-  pointer_held o v from to h = move o 8 (encode 8 v) (subst (λ k. 0 < k) (sym (length-encode 8 v)) (omega arith)) (λ i lt. (refl, inl (inside x.start o i (subst (λ k. i < k) (length-encode 8 v) lt) from to))) h
+  pub pointer_held : (o : ℕ) (v : Value) → x.start ≤ o → o + 8 ≤ x.start + 16
+      → Holds owner_rights n x.block o 8 (encode 8 v) → Holds owner_rights l x.block o 8 (encode 8 v)
+  pointer_held o v from to h = move o 8 (encode 8 v) (subst (λ k. 0 < k) (sym (length-encode 8 v)) (omega arith))
+      (λ i lt. (refl, inl (inside x.start o i (subst (λ k. i < k) (length-encode 8 v) lt) from to))) h
     where
       inside : (s o i : ℕ) → i < 8 → s ≤ o → o + 8 ≤ s + 16 → (s ≤ o + i) × (o + i < s + 16)
       inside s o i lt from to = (omega arith, omega arith)
@@ -84,13 +96,15 @@ module _ (g : FramedGiven) (n l : List MemoryBlock) (x : Instance) (move : Moves
   headed_held h = record {
     destroyer = h.destroyer;
     is = h.is;
-    destroys = pointer_held (x.start + 8) (address_of_part g x.coroutine h.destroyer) (omega arith) (omega arith) h.destroys;
+    destroys = pointer_held (x.start + 8) (address_of_part g x.coroutine h.destroyer) (omega arith)
+        (omega arith) h.destroys;
     saved = λ suspend values e. saved_held suspend (h.saved suspend values e);
   }
 
 -- what is closed to the framed run stays, and so do they
 pub closed_moves : (g : FramedGiven) (instances : List Instance) (m n l : List MemoryBlock) (x : Instance)
-    → ((y : MemoryBlock) (at : ℕ) → IsControl g x x.block at → (frame_rights g instances).is_closed x.block y at 1 ≡ true)
+    → ((y : MemoryBlock) (at : ℕ) → IsControl g x x.block at
+    → (frame_rights g instances).is_closed x.block y at 1 ≡ true)
     → KeepsFree (frame_rights g instances) (homes_of m) m n l → MovesControl g n l x
 closed_moves g instances m n l x closed free o most bytes some control h =
     free_held (frame_rights g instances) owner_rights (homes_of m) m n l x.block o most bytes owner_rights_fit free h
@@ -98,7 +112,8 @@ closed_moves g instances m n l x closed free o most bytes some control h =
 
 -- ---- all frames
 
-pub lies_by : (g : FramedGiven) (x : Instance) (y z : MemoryBlock) → z.align ≡ y.align → z.size ≡ y.size → LiesAligned g x y → LiesAligned g x z
+pub lies_by : (g : FramedGiven) (x : Instance) (y z : MemoryBlock) → z.align ≡ y.align → z.size ≡ y.size
+    → LiesAligned g x y → LiesAligned g x z
 lies_by g x y z align size h = record {
   alignment = h.alignment;
   block = subst (λ (a : ℕ). (layout_of g.layouts x.coroutine).align ≤ a) (sym align) h.block;
@@ -122,10 +137,12 @@ was : (a b : Option MemoryBlock) (y : MemoryBlock) → IsRefilled a b → b ≡ 
 was None None y r e = absurd (cc)
 was None (Some z) y r e = absurd r
 was (Some x) None y r e = absurd r
-was (Some x) (Some z) y r e = let is : z ≡ y = cc in record { block = x; there = refl; same = subst (λ (u : MemoryBlock). u ≡ record x { bytes = u.bytes }) is r }
+was (Some x) (Some z) y r e = let is : z ≡ y = cc
+    in record { block = x; there = refl; same = subst (λ (u : MemoryBlock). u ≡ record x { bytes = u.bytes }) is r }
 
 -- frames stay laid where bytes of the framed run change
-module _ (g : FramedGiven) (instances : List Instance) (m k : List MemoryBlock) (frames : AreLaidFrames g instances m) (refilled : AreRefilled m k) where
+module _ (g : FramedGiven) (instances : List Instance) (m k : List MemoryBlock) (frames : AreLaidFrames g instances m)
+    (refilled : AreRefilled m k) where
   held_same : (x : Instance) → is_held k x ≡ is_held m x
   held_same x = held_refilled x (slice_get m x.block) (slice_get k x.block) (refilled.each x.block)
 
@@ -135,14 +152,21 @@ module _ (g : FramedGiven) (instances : List Instance) (m k : List MemoryBlock) 
   before : (x : Instance) (y : MemoryBlock) → slice_get k x.block ≡ Some y → Was (slice_get m x.block) y
   before x y there = was (slice_get m x.block) (slice_get k x.block) y (refilled.each x.block) there
 
-  owning : (i : ℕ) (x : Instance) (y : MemoryBlock) → slice_get instances i ≡ Some x → x.freed ≡ false → is_live y.life ≡ true → y.kind ≡ Kind.Allocator → Was (slice_get m x.block) y → is_some y.owned ≡ true
-  owning i x y e fresh live kind w = ap (λ (z : MemoryBlock). is_some z.owned) w.same ∙ frames.owned i x w.block e fresh w.there (sym (ap (λ (z : MemoryBlock). is_live z.life) w.same) ∙ live) (sym (ap (λ (z : MemoryBlock). z.kind) w.same) ∙ kind)
+  owning : (i : ℕ) (x : Instance) (y : MemoryBlock) → slice_get instances i ≡ Some x → x.freed ≡ false
+      → is_live y.life ≡ true → y.kind ≡ Kind.Allocator → Was (slice_get m x.block) y → is_some y.owned ≡ true
+  owning i x y e fresh live kind w = ap (λ (z : MemoryBlock). is_some z.owned) w.same
+      ∙ frames.owned i x w.block e fresh w.there (sym (ap (λ (z : MemoryBlock). is_live z.life) w.same)
+      ∙ live) (sym (ap (λ (z : MemoryBlock). z.kind) w.same) ∙ kind)
 
-  lost : (i : ℕ) (x : Instance) (y : MemoryBlock) → slice_get instances i ≡ Some x → x.freed ≡ true → y.kind ≡ Kind.Allocator → Was (slice_get m x.block) y → is_live y.life ≡ false
-  lost i x y e freed kind w = ap (λ (z : MemoryBlock). is_live z.life) w.same ∙ frames.gone i x w.block e freed w.there (sym (ap (λ (z : MemoryBlock). z.kind) w.same) ∙ kind)
+  lost : (i : ℕ) (x : Instance) (y : MemoryBlock) → slice_get instances i ≡ Some x → x.freed ≡ true
+      → y.kind ≡ Kind.Allocator → Was (slice_get m x.block) y → is_live y.life ≡ false
+  lost i x y e freed kind w = ap (λ (z : MemoryBlock). is_live z.life) w.same
+      ∙ frames.gone i x w.block e freed w.there (sym (ap (λ (z : MemoryBlock). z.kind) w.same) ∙ kind)
 
-  lain : (i : ℕ) (x : Instance) (y : MemoryBlock) → slice_get instances i ≡ Some x → Was (slice_get m x.block) y → LiesAligned g x y
-  lain i x y e w = lies_by g x w.block y (ap (λ (z : MemoryBlock). z.align) w.same) (ap (λ (z : MemoryBlock). z.size) w.same) (frames.lies i x w.block e w.there)
+  lain : (i : ℕ) (x : Instance) (y : MemoryBlock) → slice_get instances i ≡ Some x → Was (slice_get m x.block) y
+      → LiesAligned g x y
+  lain i x y e w = lies_by g x w.block y (ap (λ (z : MemoryBlock). z.align) w.same)
+      (ap (λ (z : MemoryBlock). z.size) w.same) (frames.lies i x w.block e w.there)
 
   pub laid_stay : AreLaidFrames g instances k
   laid_stay = record {
@@ -156,10 +180,13 @@ module _ (g : FramedGiven) (instances : List Instance) (m k : List MemoryBlock) 
   }
 
 -- and their control bytes stay where what is closed to it does
-pub frames_stay : (g : FramedGiven) (instances : List Instance) (m n k l : List MemoryBlock) → AreFrames g instances m n → AreRefilled m k → KeepsFree (frame_rights g instances) (homes_of m) m n l → AreFrames g instances k l
+pub frames_stay : (g : FramedGiven) (instances : List Instance) (m n k l : List MemoryBlock)
+    → AreFrames g instances m n → AreRefilled m k → KeepsFree (frame_rights g instances) (homes_of m) m n l
+    → AreFrames g instances k l
 frames_stay g instances m n k l frames refilled free = record {
   laid = laid_stay g instances m k frames.laid refilled;
   headed = λ i x e held.
       let was = was_held g instances m k frames.laid refilled x held in
-      headed_held g n l x (closed_moves g instances m n l x (λ y at. frames.laid.closed i x y at e was) free) (frames.headed i x e was);
+      headed_held g n l x (closed_moves g instances m n l x (λ y at. frames.laid.closed i x y at e was) free)
+      (frames.headed i x e was);
 }

@@ -31,15 +31,21 @@ use Rattle.run_source.specs.declared.state.Status.{Status}
 
 -- 8 is met up to 8, from the start and from 8 on
 small_alignments : (a k : ℕ) → IsAlignment a → a ≤ 8 → k ≡ 16 → (0 % a ≡ 0) × ((8 % a ≡ 0) × (a ≤ k))
-small_alignments a k (inl e) le big = subst (λ (c : ℕ). (0 % c ≡ 0) × ((8 % c ≡ 0) × (c ≤ k))) (sym e) (refl, (refl, omega arith))
-small_alignments a k (inr (inl e)) le big = subst (λ (c : ℕ). (0 % c ≡ 0) × ((8 % c ≡ 0) × (c ≤ k))) (sym e) (refl, (refl, omega arith))
-small_alignments a k (inr (inr (inl e))) le big = subst (λ (c : ℕ). (0 % c ≡ 0) × ((8 % c ≡ 0) × (c ≤ k))) (sym e) (refl, (refl, omega arith))
-small_alignments a k (inr (inr (inr (inl e)))) le big = subst (λ (c : ℕ). (0 % c ≡ 0) × ((8 % c ≡ 0) × (c ≤ k))) (sym e) (refl, (refl, omega arith))
+small_alignments a k (inl e) le big = subst (λ (c : ℕ). (0 % c ≡ 0) × ((8 % c ≡ 0) × (c ≤ k))) (sym e)
+    (refl, (refl, omega arith))
+small_alignments a k (inr (inl e)) le big = subst (λ (c : ℕ). (0 % c ≡ 0) × ((8 % c ≡ 0) × (c ≤ k))) (sym e)
+    (refl, (refl, omega arith))
+small_alignments a k (inr (inr (inl e))) le big = subst (λ (c : ℕ). (0 % c ≡ 0) × ((8 % c ≡ 0) × (c ≤ k))) (sym e)
+    (refl, (refl, omega arith))
+small_alignments a k (inr (inr (inr (inl e)))) le big = subst (λ (c : ℕ). (0 % c ≡ 0) × ((8 % c ≡ 0) × (c ≤ k)))
+    (sym e) (refl, (refl, omega arith))
 small_alignments a k (inr (inr (inr (inr e)))) le big = absurd (omega arith)
 
 module _ (g : FramedGiven) (xs : List Instance) (x : Instance) (m n : List MemoryBlock) (u : MemoryBlock) (size : ℕ)
-    (there : slice_get m x.block ≡ Some u) (fresh : IsFreshBlock size u) (frames : AreFrames g xs m n) (beside : AreBeside g xs m n)
-    (laid : IsLaidOut g x.coroutine) (sized : (layout_of g.layouts x.coroutine).size ≡ size) (new : IsNewInstance x) (roomy : 16 ≤ u.size) (resumes : Value) (destroyer : Part) (is : is_destroyer destroyer ≡ true) where
+    (there : slice_get m x.block ≡ Some u) (fresh : IsFreshBlock size u) (frames : AreFrames g xs m n)
+    (beside : AreBeside g xs m n)
+    (laid : IsLaidOut g x.coroutine) (sized : (layout_of g.layouts x.coroutine).size ≡ size) (new : IsNewInstance x)
+    (roomy : 16 ≤ u.size) (resumes : Value) (destroyer : Part) (is : is_destroyer destroyer ≡ true) where
   abbrev more : List Instance
   more = xs ++ x ∷ []
 
@@ -65,7 +71,8 @@ module _ (g : FramedGiven) (xs : List Instance) (x : Instance) (m n : List Memor
   owned_there = changed_here m x.block (owned_to size) u there
 
   held : is_held source x ≡ true
-  held = and_from _ _ (ap not new.unfreed) (and_from _ _ (ap not (and_right _ _ (ap is_finished new.runs))) (ap lives_in owned_there ∙ fresh.live))
+  held = and_from _ _ (ap not new.unfreed) (and_from _ _ (ap not (and_right _ _ (ap is_finished new.runs)))
+      (ap lives_in owned_there ∙ fresh.live))
 
   sixteen : u.align ≡ 16
   sixteen = (twin_at m n beside.twins x.block u there).is.sixteen fresh.kind
@@ -75,7 +82,8 @@ module _ (g : FramedGiven) (xs : List Instance) (x : Instance) (m n : List Memor
 
   -- the first pointer
   room_one : (bytes : List Byte) × (Holds owner_rights n x.block 0 8 bytes × (length bytes ≡ 8))
-  room_one = range_holds source n before.twins x.block (owned_to size u) owned_there fresh.live changes 0 8 8 (low u.size roomy) (λ a is le. let h = small_alignments a u.align is le sixteen in (h.0, h.1.1))
+  room_one = range_holds source n before.twins x.block (owned_to size u) owned_there fresh.live changes 0 8 8
+      (low u.size roomy) (λ a is le. let h = small_alignments a u.align is le sixteen in (h.0, h.1.1))
     where
       low : (k : ℕ) → 16 ≤ k → 0 + 8 ≤ k
       low k le = omega arith
@@ -97,40 +105,59 @@ module _ (g : FramedGiven) (xs : List Instance) (x : Instance) (m n : List Memor
   below bytes e k lt = omega arith
 
   beside_one : AreBeside g more source one
-  beside_one = control_beside g more source n before lies (length xs) x (get_new xs x) held 0 8 room_one.0 (encode 8 resumes) room_one.1.0
-      (length-encode 8 resumes ∙ sym room_one.1.1) (some_of room_one.0 room_one.1.1) (λ k lt. in_header 0 (inl refl) k (below room_one.0 room_one.1.1 k lt))
+  beside_one = control_beside g more source n before lies (length xs) x (get_new xs x) held 0 8 room_one.0
+      (encode 8 resumes) room_one.1.0
+      (length-encode 8 resumes ∙ sym room_one.1.1) (some_of room_one.0 room_one.1.1) (λ k lt. in_header 0 (inl refl) k
+      (below room_one.0 room_one.1.1 k lt))
 
   -- and the second
   room_two : (bytes : List Byte) × (Holds owner_rights one x.block 8 8 bytes × (length bytes ≡ 8))
-  room_two = range_holds source one beside_one.twins x.block (owned_to size u) owned_there fresh.live changes 8 8 8 (high u.size roomy) (λ a is le. let h = small_alignments a u.align is le sixteen in (h.1.0, h.1.1))
+  room_two = range_holds source one beside_one.twins x.block (owned_to size u) owned_there fresh.live changes 8 8 8
+      (high u.size roomy) (λ a is le. let h = small_alignments a u.align is le sixteen in (h.1.0, h.1.1))
     where
       high : (k : ℕ) → 16 ≤ k → 8 + 8 ≤ k
       high k le = omega arith
 
   beside_two : AreBeside g more source two
-  beside_two = control_beside g more source one beside_one lies (length xs) x (get_new xs x) held 8 8 room_two.0 (encode 8 destroys) room_two.1.0
-      (length-encode 8 destroys ∙ sym room_two.1.1) (some_of room_two.0 room_two.1.1) (λ k lt. in_header 8 (inr refl) k (below room_two.0 room_two.1.1 k lt))
+  beside_two = control_beside g more source one beside_one lies (length xs) x (get_new xs x) held 8 8 room_two.0
+      (encode 8 destroys) room_two.1.0
+      (length-encode 8 destroys ∙ sym room_two.1.1) (some_of room_two.0 room_two.1.1) (λ k lt. in_header 8 (inr refl) k
+      (below room_two.0 room_two.1.1 k lt))
 
   stored : Holds owner_rights two x.block (x.start + 8) 8 (encode 8 destroys)
   stored = subst (λ (o : ℕ). Holds owner_rights two x.block o 8 (encode 8 destroys)) (start x.start new.start)
-      (write_held owner_rights one x.block 8 8 room_two.0 room_two.1.0 owner_rights_fit (encode 8 destroys) (length-encode 8 destroys ∙ sym room_two.1.1))
+      (write_held owner_rights one x.block 8 8 room_two.0 room_two.1.0 owner_rights_fit (encode 8 destroys)
+      (length-encode 8 destroys ∙ sym room_two.1.1))
     where
       start : (s : ℕ) → s ≡ 0 → 8 ≡ s + 8
       start s e = omega arith
 
   new_headed : IsHeaded g two x
-  new_headed = record { destroyer = destroyer; is = is; destroys = stored; saved = λ suspend values e. absurd (runs (sym new.runs ∙ e)) }
+  new_headed = record {
+    destroyer = destroyer;
+    is = is;
+    destroys = stored;
+    saved = λ suspend values e. absurd
+        (runs (sym new.runs ∙ e));
+  }
     where
       runs : {suspend : Point} {values : List (Option Value)} → Status.Running ≡ Status.Suspended suspend values → ⊥
       runs e = cc
 
-  old_headed : (i : ℕ) (z : Instance) → i < length xs → slice_get xs i ≡ Some z → slice_get more i ≡ Some z → is_held source z ≡ true → IsHeaded g two z
+  old_headed : (i : ℕ) (z : Instance) → i < length xs → slice_get xs i ≡ Some z → slice_get more i ≡ Some z
+      → is_held source z ≡ true → IsHeaded g two z
   old_headed i z lt e e' held' =
-      let was = frames.headed i z e (sym (old_held g xs x m n u size there fresh frames.laid beside laid sized new.start new.slots new.unfreed i z e) ∙ held') in
-      let first = headed_held g n one z (others_move g more source n before lies (length xs) x (get_new xs x) held 0 8 room_one.0 (encode 8 resumes) room_one.1.0
-      (length-encode 8 resumes ∙ sym room_one.1.1) (some_of room_one.0 room_one.1.1) (λ k lt. in_header 0 (inl refl) k (below room_one.0 room_one.1.1 k lt)) i z (other i (length xs) lt) e' held') was in
-      headed_held g one two z (others_move g more source one beside_one lies (length xs) x (get_new xs x) held 8 8 room_two.0 (encode 8 destroys) room_two.1.0
-      (length-encode 8 destroys ∙ sym room_two.1.1) (some_of room_two.0 room_two.1.1) (λ k lt. in_header 8 (inr refl) k (below room_two.0 room_two.1.1 k lt)) i z (other i (length xs) lt) e' held') first
+      let was = frames.headed i z e
+      (sym (old_held g xs x m n u size there fresh frames.laid beside laid sized new.start new.slots new.unfreed i
+      z e) ∙ held') in
+      let first = headed_held g n one z (others_move g more source n before lies (length xs) x (get_new xs x) held 0 8
+      room_one.0 (encode 8 resumes) room_one.1.0
+      (length-encode 8 resumes ∙ sym room_one.1.1) (some_of room_one.0 room_one.1.1) (λ k lt. in_header 0 (inl refl) k
+      (below room_one.0 room_one.1.1 k lt)) i z (other i (length xs) lt) e' held') was in
+      headed_held g one two z (others_move g more source one beside_one lies (length xs) x (get_new xs x) held 8 8
+      room_two.0 (encode 8 destroys) room_two.1.0
+      (length-encode 8 destroys ∙ sym room_two.1.1) (some_of room_two.0 room_two.1.1) (λ k lt. in_header 8 (inr refl) k
+      (below room_two.0 room_two.1.1 k lt)) i z (other i (length xs) lt) e' held') first
     where
       other : (i k : ℕ) → i < k → i ≢ k
       other i k lt e = omega arith
@@ -147,7 +174,8 @@ module _ (g : FramedGiven) (xs : List Instance) (x : Instance) (m n : List Memor
     beside = beside_two;
     frames = record {
       laid = lies;
-      headed = λ i z e held'. parted g xs x m n u size there fresh frames.laid beside laid sized new.start new.slots new.unfreed (λ (w : Instance). is_held source w ≡ true → IsHeaded g two w) i z e
+      headed = λ i z e held'. parted g xs x m n u size there fresh frames.laid beside laid sized new.start new.slots
+          new.unfreed (λ (w : Instance). is_held source w ≡ true → IsHeaded g two w) i z e
           (λ lt f h. old_headed i z lt f e h)
           (λ at f h. subst (IsHeaded g two) (sym f) new_headed) held';
     };

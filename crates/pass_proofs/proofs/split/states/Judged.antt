@@ -13,9 +13,12 @@ use Rattle.run_source.specs.declared.state.Instance.{Instance}
 
 -- ---- the last instance has the byte
 
-last_new : (test : Instance → Bool) (x : Instance) → test x ≡ true → (i : ℕ) (xs : List Instance) → last_from test i (xs ++ x ∷ []) ≡ Some (i + length xs)
+last_new : (test : Instance → Bool) (x : Instance) → test x ≡ true → (i : ℕ) (xs : List Instance)
+    → last_from test i (xs ++ x ∷ []) ≡ Some (i + length xs)
 last_new test x holds i [] = (λ j. if holds j then Some i else None) ∙ (let e : i ≡ i + 0 = omega arith in ap Some e)
-last_new test x holds i (y ∷ xs) = (λ j. or_else (last_new test x holds (suc i) xs j) (if test y then Some i else None)) ∙ (let e : suc i + length xs ≡ i + suc (length xs) = omega arith in ap Some e)
+last_new test x holds i (y ∷ xs)
+    = (λ j. or_else (last_new test x holds (suc i) xs j) (if test y then Some i else None))
+    ∙ (let e : suc i + length xs ≡ i + suc (length xs) = omega arith in ap Some e)
 
 pub get_new : (xs : List Instance) (x : Instance) → slice_get (xs ++ x ∷ []) (length xs) ≡ Some x
 get_new [] x = refl
@@ -25,7 +28,8 @@ get_new (y ∷ xs) x = get_new xs x
 abbrev pub numbering : ℕ → Instance → ℕ × Instance
 numbering i x = (i, x)
 
-pub judge_new : (g : FramedGiven) (xs : List Instance) (x : Instance) (b k : ℕ) → covers g b k x ≡ true → judge_of g (xs ++ x ∷ []) b k ≡ Some (length xs, x)
+pub judge_new : (g : FramedGiven) (xs : List Instance) (x : Instance) (b k : ℕ) → covers g b k x ≡ true
+    → judge_of g (xs ++ x ∷ []) b k ≡ Some (length xs, x)
 judge_new g xs x b k holds =
     ap (option_and_then (numbered (xs ++ x ∷ []))) (last_new (covers g b k) x holds 0 xs)
     ∙ ap (numbered (xs ++ x ∷ [])) start
@@ -36,11 +40,13 @@ judge_new g xs x b k holds =
 
 -- ---- no open field has a control byte
 
-no_field : (test : PlacedField → Bool) (fields : List PlacedField) → ((a : ℕ) (y : PlacedField) → slice_get fields a ≡ Some y → test y ≡ false) → list_any test fields ≡ false
+no_field : (test : PlacedField → Bool) (fields : List PlacedField) → ((a : ℕ) (y : PlacedField)
+    → slice_get fields a ≡ Some y → test y ≡ false) → list_any test fields ≡ false
 no_field test [] none = refl
 no_field test (y ∷ fields) none = λ j. none 0 y refl j || no_field test fields (λ a z e. none (suc a) z e) j
 
-closed_field : (k : ℕ) (y : PlacedField) (opened : Bool) → is_open_kind y.kind ≡ opened → (opened ≡ true → (k < y.offset) ⊎ (y.offset + y.size ≤ k)) → field_opens k y ≡ false
+closed_field : (k : ℕ) (y : PlacedField) (opened : Bool) → is_open_kind y.kind ≡ opened
+    → (opened ≡ true → (k < y.offset) ⊎ (y.offset + y.size ≤ k)) → field_opens k y ≡ false
 closed_field k y false kind away = and_left _ _ (and_left _ _ kind)
 closed_field k y true kind away = ⊎_elim
     (λ lt. and_left _ _ (and_right _ _ (lt-leb y.offset k lt)))
@@ -48,12 +54,15 @@ closed_field k y true kind away = ⊎_elim
     (away refl)
 
 module _ (g : FramedGiven) (xs : List Instance) (x : Instance) (laid : IsLaidOut g x.coroutine) where
-  from_field : (at : ℕ) → IsControl g x x.block at → (a : ℕ) (y : PlacedField) → slice_get (layout_of g.layouts x.coroutine).fields a ≡ Some y → is_open_kind y.kind ≡ true → (at - x.start < y.offset) ⊎ (y.offset + y.size ≤ at - x.start)
+  from_field : (at : ℕ) → IsControl g x x.block at → (a : ℕ) (y : PlacedField)
+      → slice_get (layout_of g.layouts x.coroutine).fields a ≡ Some y → is_open_kind y.kind ≡ true
+      → (at - x.start < y.offset) ⊎ (y.offset + y.size ≤ at - x.start)
   from_field at control a y e opened = let h = laid.fields a y e opened in ⊎_elim
       (λ head. inl (below x.start at y.offset head h.0))
       (λ index. ⊎_elim
       (λ before. inr (above x.start at (layout_of g.layouts x.coroutine).index (y.offset + y.size) index.0 before))
-      (λ behind. inl (under x.start at ((layout_of g.layouts x.coroutine).index) (index_length g x.coroutine) y.offset index behind))
+      (λ behind. inl (under x.start at ((layout_of g.layouts x.coroutine).index) (index_length g x.coroutine) y.offset
+      index behind))
       h.1)
       control.1
     where
@@ -69,8 +78,11 @@ module _ (g : FramedGiven) (xs : List Instance) (x : Instance) (laid : IsLaidOut
   -- the frame has its control bytes
   control_covered : (at : ℕ) → IsControl g x x.block at → covers g x.block at x ≡ true
   control_covered at control = ⊎_elim
-      (λ head. cover at head.0 (reach x.start at (layout_of g.layouts x.coroutine).size 16 (head.1) (let b = laid.behind in let i = laid.index in omega arith)))
-      (λ index. cover at (from x.start at (layout_of g.layouts x.coroutine).index index.0) (reach' x.start at (layout_of g.layouts x.coroutine).index (index_length g x.coroutine) (layout_of g.layouts x.coroutine).size index.1 laid.index))
+      (λ head. cover at head.0 (reach x.start at (layout_of g.layouts x.coroutine).size 16 (head.1)
+      (let b = laid.behind in let i = laid.index in omega arith)))
+      (λ index. cover at (from x.start at (layout_of g.layouts x.coroutine).index index.0)
+      (reach' x.start at (layout_of g.layouts x.coroutine).index (index_length g x.coroutine)
+      (layout_of g.layouts x.coroutine).size index.1 laid.index))
       control.1
     where
       reach : (s at n k : ℕ) → at < s + k → k ≤ n → at < s + n
@@ -85,14 +97,20 @@ module _ (g : FramedGiven) (xs : List Instance) (x : Instance) (laid : IsLaidOut
       same : (x.block == x.block) ≡ true
       same = grind arith
 
-      cover : (at : ℕ) → x.start ≤ at → at < x.start + (layout_of g.layouts x.coroutine).size → covers g x.block at x ≡ true
-      cover at le lt = and_from _ _ (and_from _ _ same (le-leb x.start at le)) (lt-ltb at (x.start + (layout_of g.layouts x.coroutine).size) lt)
+      cover : (at : ℕ) → x.start ≤ at → at < x.start + (layout_of g.layouts x.coroutine).size
+          → covers g x.block at x ≡ true
+      cover at le lt = and_from _ _ (and_from _ _ same (le-leb x.start at le))
+          (lt-ltb at (x.start + (layout_of g.layouts x.coroutine).size) lt)
 
   -- so they are closed from its begin on
-  pub control_closed : (y : MemoryBlock) (at : ℕ) → IsControl g x x.block at → (frame_rights g (xs ++ x ∷ [])).is_closed x.block y at 1 ≡ true
+  pub control_closed : (y : MemoryBlock) (at : ℕ) → IsControl g x x.block at
+      → (frame_rights g (xs ++ x ∷ [])).is_closed x.block y at 1 ≡ true
   control_closed y at control =
-      ap (λ (j : Option (ℕ × Instance)). not (is_open_byte g at j && true)) (judge_new g xs x x.block at (control_covered at control))
-      ∙ ap (λ (t : Bool). not (t && true)) (no_field (field_opens (at - x.start)) (layout_of g.layouts x.coroutine).fields (λ a z e. closed_field (at - x.start) z (is_open_kind z.kind) refl (from_field at control a z e)))
+      ap (λ (j : Option (ℕ × Instance)). not (is_open_byte g at j && true)) (judge_new g xs x x.block at
+      (control_covered at control))
+      ∙ ap (λ (t : Bool). not (t && true)) (no_field (field_opens (at - x.start))
+      (layout_of g.layouts x.coroutine).fields (λ a z e. closed_field (at - x.start) z (is_open_kind z.kind) refl
+      (from_field at control a z e)))
 
 -- ---- the frame by which a byte is judged
 
@@ -103,13 +121,18 @@ record Passes (test : Instance → Bool) (xs : List Instance) (i k : ℕ) : Type
   there : slice_get xs at ≡ Some instance
   passes : test instance ≡ true
 
-last_passes : (test : Instance → Bool) (i k : ℕ) (xs : List Instance) → last_from test i xs ≡ Some k → Passes test xs i k
+last_passes : (test : Instance → Bool) (i k : ℕ) (xs : List Instance) → last_from test i xs ≡ Some k
+    → Passes test xs i k
 last_passes test i k [] e = absurd (cc)
-last_passes test i k (y ∷ xs) e = on (last_from test (suc i) xs) refl (test y) refl e (λ a f. last_passes test (suc i) a xs f)
+last_passes test i k (y ∷ xs) e = on (last_from test (suc i) xs) refl (test y) refl e
+    (λ a f. last_passes test (suc i) a xs f)
   where
-    on : (o : Option ℕ) → last_from test (suc i) xs ≡ o → (t : Bool) → test y ≡ t → or_else o (if t then Some i else None) ≡ Some k → ((a : ℕ) → last_from test (suc i) xs ≡ Some a → Passes test xs (suc i) a) → Passes test (y ∷ xs) i k
+    on : (o : Option ℕ) → last_from test (suc i) xs ≡ o → (t : Bool) → test y ≡ t
+        → or_else o (if t then Some i else None) ≡ Some k → ((a : ℕ) → last_from test (suc i) xs ≡ Some a
+        → Passes test xs (suc i) a) → Passes test (y ∷ xs) i k
     on None f false holds e later = absurd (cc)
-    on None f true holds e later = let is : i ≡ k = same_some i k e in record { at = 0; is = omega arith; instance = y; there = refl; passes = holds }
+    on None f true holds e later = let is : i ≡ k = same_some i k e
+        in record { at = 0; is = omega arith; instance = y; there = refl; passes = holds }
     on (Some a) f t holds e later =
         let is : a ≡ k = same_some a k e in
         let p = later a f in
@@ -120,15 +143,18 @@ pub record IsJudge (g : FramedGiven) (xs : List Instance) (b k i : ℕ) (x : Ins
   pub there : slice_get xs i ≡ Some x
   pub covered : covers g b k x ≡ true
 
-pub judge_is : (g : FramedGiven) (xs : List Instance) (b k i : ℕ) (x : Instance) → judge_of g xs b k ≡ Some (i, x) → IsJudge g xs b k i x
+pub judge_is : (g : FramedGiven) (xs : List Instance) (b k i : ℕ) (x : Instance) → judge_of g xs b k ≡ Some (i, x)
+    → IsJudge g xs b k i x
 judge_is g xs b k i x e = on (last_from (covers g b k) 0 xs) refl
   where
-    at : (a : ℕ) → Passes (covers g b k) xs 0 a → option_map (numbering a) (slice_get xs a) ≡ Some (i, x) → IsJudge g xs b k i x
+    at : (a : ℕ) → Passes (covers g b k) xs 0 a → option_map (numbering a) (slice_get xs a) ≡ Some (i, x)
+        → IsJudge g xs b k i x
     at a p f =
         let at_start = p.is in
         let is : a ≡ p.at = omega arith in
         let there : slice_get xs a ≡ Some p.instance = ap (slice_get xs) is ∙ p.there in
-        let pair : numbering a p.instance ≡ numbering i x = same_some (numbering a p.instance) (numbering i x) (sym (ap (option_map (numbering a)) there) ∙ f) in
+        let pair : numbering a p.instance ≡ numbering i x = same_some (numbering a p.instance) (numbering i x)
+        (sym (ap (option_map (numbering a)) there) ∙ f) in
         let number : a ≡ i = ap (λ (q : ℕ × Instance). q.0) pair in
         let one : p.instance ≡ x = ap (λ (q : ℕ × Instance). q.1) pair in
         record {

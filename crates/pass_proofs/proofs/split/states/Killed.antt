@@ -24,7 +24,8 @@ use Rattle.run_step.specs.declared.world.Slot.{Slot}
 -- ---- both change a block
 
 module _ (f h : MemoryBlock → MemoryBlock) (keeps : (x y : MemoryBlock) → IsTwin x y → IsTwin (f x) (h y)) where
-  changed_at : (m n : List MemoryBlock) (b : ℕ) → ((c : ℕ) → AreTwinsAt (slice_get m c) (slice_get n c)) → (c : ℕ) → AreTwinsAt (slice_get (with_block m b f) c) (slice_get (with_block n b h) c)
+  changed_at : (m n : List MemoryBlock) (b : ℕ) → ((c : ℕ) → AreTwinsAt (slice_get m c) (slice_get n c)) → (c : ℕ)
+      → AreTwinsAt (slice_get (with_block m b f) c) (slice_get (with_block n b h) c)
   changed_at [] [] b t c = tt
   changed_at [] (v ∷ n) b t c = absurd (t 0)
   changed_at (u ∷ m) [] b t c = absurd (t 0)
@@ -70,7 +71,8 @@ ended_size x Life.Live e = ap (λ (z : MemoryBlock). z.size) (is_ended x (ap is_
 ended_size x Life.Ended e = ap (λ (z : MemoryBlock). z.size) (is_ended x (ap is_killed e))
 ended_size x Life.Killed e = ap (λ (z : MemoryBlock). z.size) (stays_killed x (ap is_killed e))
 
-ended_twins : (x y : MemoryBlock) → IsTwin x y → IsTwin (record x { life = Life.Ended }) (record y { life = Life.Ended })
+ended_twins : (x y : MemoryBlock) → IsTwin x y
+    → IsTwin (record x { life = Life.Ended }) (record y { life = Life.Ended })
 ended_twins x y t = record {
   is = ap (λ (z : MemoryBlock). record z { life = Life.Ended }) t.is;
   long = t.long;
@@ -86,10 +88,12 @@ ended_twin x y t l e = on l e
     life = ap (λ (z : MemoryBlock). z.life) t.is
 
     both : is_killed x.life ≡ false → IsTwin (ended x) (ended y)
-    both f = subst (λ (p : MemoryBlock × MemoryBlock). IsTwin p.0 p.1) (λ i. (sym (is_ended x f) i, sym (is_ended y (ap is_killed life ∙ f)) i)) (ended_twins x y t)
+    both f = subst (λ (p : MemoryBlock × MemoryBlock). IsTwin p.0 p.1)
+        (λ i. (sym (is_ended x f) i, sym (is_ended y (ap is_killed life ∙ f)) i)) (ended_twins x y t)
 
     neither : is_killed x.life ≡ true → IsTwin (ended x) (ended y)
-    neither f = subst (λ (p : MemoryBlock × MemoryBlock). IsTwin p.0 p.1) (λ i. (sym (stays_killed x f) i, sym (stays_killed y (ap is_killed life ∙ f)) i)) t
+    neither f = subst (λ (p : MemoryBlock × MemoryBlock). IsTwin p.0 p.1)
+        (λ i. (sym (stays_killed x f) i, sym (stays_killed y (ap is_killed life ∙ f)) i)) t
 
     on : (l : Life) → x.life ≡ l → IsTwin (ended x) (ended y)
     on Life.Live e = both (ap is_killed e)
@@ -109,30 +113,49 @@ pub kills : IsDeath killed_block
 kills = record { dead = λ x. refl; twin = killed_twin; align = λ x. refl; size = λ x. refl }
 
 pub ends : IsDeath ended
-ends = record { dead = λ x. ended_dead x x.life refl; twin = λ x y t. ended_twin x y t x.life refl; align = λ x. ended_align x x.life refl; size = λ x. ended_size x x.life refl }
+ends = record {
+  dead = λ x. ended_dead x x.life refl;
+  twin = λ x y t. ended_twin x y t x.life refl;
+  align = λ x. ended_align x x.life refl;
+  size = λ x. ended_size x x.life refl;
+}
 
-module _ (f : MemoryBlock → MemoryBlock) (death : IsDeath f) (g : FramedGiven) (xs : List Instance) (m n : List MemoryBlock) (b : ℕ) where
+module _ (f : MemoryBlock → MemoryBlock) (death : IsDeath f) (g : FramedGiven) (xs : List Instance)
+    (m n : List MemoryBlock) (b : ℕ) where
   none_there : (m : List MemoryBlock) (b : ℕ) → slice_get m b ≡ None → slice_get (with_block m b f) b ≡ None
   none_there [] b e = refl
   none_there (u ∷ m) zero e = absurd (cc)
   none_there (u ∷ m) (suc b) e = none_there m b e
 
-  dead_at : (o : Option MemoryBlock) → slice_get m b ≡ o → option_map_or (λ (x : MemoryBlock). is_live x.life) (slice_get (with_block m b f) b) false ≡ false
-  dead_at None e = ap (λ (p : Option MemoryBlock). option_map_or (λ (x : MemoryBlock). is_live x.life) p false) (none_there m b e)
-  dead_at (Some u) e = ap (λ (p : Option MemoryBlock). option_map_or (λ (x : MemoryBlock). is_live x.life) p false) (changed_here m b f u e) ∙ death.dead u
+  dead_at : (o : Option MemoryBlock) → slice_get m b ≡ o → option_map_or (λ (x : MemoryBlock). is_live x.life)
+      (slice_get (with_block m b f) b) false ≡ false
+  dead_at None e = ap (λ (p : Option MemoryBlock). option_map_or (λ (x : MemoryBlock). is_live x.life) p false)
+      (none_there m b e)
+  dead_at (Some u) e = ap (λ (p : Option MemoryBlock). option_map_or (λ (x : MemoryBlock). is_live x.life) p false)
+      (changed_here m b f u e) ∙ death.dead u
 
   -- what lives is another block
-  lives_elsewhere : (c : ℕ) → option_map_or (λ (x : MemoryBlock). is_live x.life) (slice_get (with_block m b f) c) false ≡ true → c ≢ b
-  lives_elsewhere c live e = false≢true (sym (dead_at (slice_get m b) refl) ∙ ap (λ (k : ℕ). option_map_or (λ (x : MemoryBlock). is_live x.life) (slice_get (with_block m b f) k) false) (sym e) ∙ live)
+  lives_elsewhere : (c : ℕ) → option_map_or (λ (x : MemoryBlock). is_live x.life) (slice_get (with_block m b f) c)
+      false ≡ true → c ≢ b
+  lives_elsewhere c live e = false≢true (sym (dead_at (slice_get m b) refl)
+      ∙ ap (λ (k : ℕ). option_map_or (λ (x : MemoryBlock). is_live x.life) (slice_get (with_block m b f) k) false)
+      (sym e) ∙ live)
 
   held_elsewhere : (z : Instance) → is_held (with_block m b f) z ≡ true → z.block ≢ b
   held_elsewhere z held = lives_elsewhere z.block (and_parts _ _ (and_parts _ _ held).1).1
 
   was_held : (z : Instance) → is_held (with_block m b f) z ≡ true → is_held m z ≡ true
-  was_held z held = ap (λ (o : Option MemoryBlock). is_held_in o z) (sym (changed_elsewhere m b z.block f (held_elsewhere z held))) ∙ held
+  was_held z held
+      = ap (λ (o : Option MemoryBlock). is_held_in o z) (sym (changed_elsewhere m b z.block f (held_elsewhere z held)))
+      ∙ held
 
-  live_block : (c : ℕ) (y : MemoryBlock) → slice_get (with_block m b f) c ≡ Some y → is_live y.life ≡ true → slice_get m c ≡ Some y
-  live_block c y e live = sym (changed_elsewhere m b c f (lives_elsewhere c (ap (λ (o : Option MemoryBlock). option_map_or (λ (x : MemoryBlock). is_live x.life) o false) e ∙ live))) ∙ e
+  live_block : (c : ℕ) (y : MemoryBlock) → slice_get (with_block m b f) c ≡ Some y → is_live y.life ≡ true
+      → slice_get m c ≡ Some y
+  live_block c y e live
+      = sym
+      (changed_elsewhere m b c f
+      (lives_elsewhere c (ap (λ (o : Option MemoryBlock). option_map_or (λ (x : MemoryBlock). is_live x.life) o false)
+      e ∙ live))) ∙ e
 
   -- a block was there before, and is dead or the same
   record Once (c : ℕ) (y : MemoryBlock) : Type 0 where
@@ -141,25 +164,37 @@ module _ (f : MemoryBlock → MemoryBlock) (death : IsDeath f) (g : FramedGiven)
     same : (y ≡ block) ⊎ (y ≡ f block)
 
   once : (c : ℕ) (y : MemoryBlock) → slice_get (with_block m b f) c ≡ Some y → Once c y
-  once c y e = ⊎_elim (λ is. here is (slice_get m b) refl) (λ ne. record { block = y; there = sym (changed_elsewhere m b c f ne) ∙ e; same = inl refl }) (cases_eq c b)
+  once c y e =
+      ⊎_elim (λ is. here is (slice_get m b) refl)
+      (λ ne. record { block = y; there = sym (changed_elsewhere m b c f ne) ∙ e; same = inl refl }) (cases_eq c b)
     where
       here : c ≡ b → (o : Option MemoryBlock) → slice_get m b ≡ o → Once c y
-      here is (Some u) at = record { block = u; there = ap (slice_get m) is ∙ at; same = inr (same_some y (f u) (sym e ∙ ap (slice_get (with_block m b f)) is ∙ changed_here m b f u at)) }
+      here is (Some u) at
+          = record {
+            block = u;
+            there = ap (slice_get m) is ∙ at;
+            same = inr (same_some y (f u) (sym e ∙ ap (slice_get (with_block m b f)) is ∙ changed_here m b f u at));
+          }
       here is None at = absurd (nothing (sym (none_there m b at) ∙ ap (slice_get (with_block m b f)) (sym is) ∙ e))
         where
           nothing : None ≡ Some y → ⊥
           nothing h = cc
 
-  gone_now : (i : ℕ) (z : Instance) (y : MemoryBlock) → AreLaidFrames g xs m → slice_get xs i ≡ Some z → z.freed ≡ true → y.kind ≡ Kind.Allocator → Once z.block y → is_live y.life ≡ false
+  gone_now : (i : ℕ) (z : Instance) (y : MemoryBlock) → AreLaidFrames g xs m → slice_get xs i ≡ Some z → z.freed ≡ true
+      → y.kind ≡ Kind.Allocator → Once z.block y → is_live y.life ≡ false
   gone_now i z y frames e freed kind w = ⊎_elim
-      (λ same. ap (λ (q : MemoryBlock). is_live q.life) same ∙ frames.gone i z w.block e freed w.there (sym (ap (λ (q : MemoryBlock). q.kind) same) ∙ kind))
+      (λ same. ap (λ (q : MemoryBlock). is_live q.life) same
+      ∙ frames.gone i z w.block e freed w.there (sym (ap (λ (q : MemoryBlock). q.kind) same) ∙ kind))
       (λ same. ap (λ (q : MemoryBlock). is_live q.life) same ∙ death.dead w.block)
       w.same
 
-  lies_now : (i : ℕ) (z : Instance) (y : MemoryBlock) → AreLaidFrames g xs m → slice_get xs i ≡ Some z → Once z.block y → LiesAligned g z y
+  lies_now : (i : ℕ) (z : Instance) (y : MemoryBlock) → AreLaidFrames g xs m → slice_get xs i ≡ Some z → Once z.block y
+      → LiesAligned g z y
   lies_now i z y frames e w =
-      let align : y.align ≡ w.block.align = ⊎_elim (λ same. ap (λ (q : MemoryBlock). q.align) same) (λ same. ap (λ (q : MemoryBlock). q.align) same ∙ death.align w.block) w.same in
-      let size : y.size ≡ w.block.size = ⊎_elim (λ same. ap (λ (q : MemoryBlock). q.size) same) (λ same. ap (λ (q : MemoryBlock). q.size) same ∙ death.size w.block) w.same in
+      let align : y.align ≡ w.block.align = ⊎_elim (λ same. ap (λ (q : MemoryBlock). q.align) same)
+      (λ same. ap (λ (q : MemoryBlock). q.align) same ∙ death.align w.block) w.same in
+      let size : y.size ≡ w.block.size = ⊎_elim (λ same. ap (λ (q : MemoryBlock). q.size) same)
+      (λ same. ap (λ (q : MemoryBlock). q.size) same ∙ death.size w.block) w.same in
       lies_by g z w.block y align size (frames.lies i z w.block e w.there)
 
   pub dead_laid : AreLaidFrames g xs m → AreLaidFrames g xs (with_block m b f)
@@ -177,7 +212,8 @@ module _ (f : MemoryBlock → MemoryBlock) (death : IsDeath f) (g : FramedGiven)
   dead_frames frames = record {
     laid = dead_laid frames.laid;
     headed = λ i z e held. headed_held g n (with_block n b f) z
-        (λ o most bytes some control h. same_held owner_rights n (with_block n b f) z.block o most bytes (changed_elsewhere n b z.block f (held_elsewhere z held)) h)
+        (λ o most bytes some control h. same_held owner_rights n (with_block n b f) z.block o most bytes
+        (changed_elsewhere n b z.block f (held_elsewhere z held)) h)
         (frames.headed i z e (was_held z held));
   }
 
@@ -185,10 +221,13 @@ module _ (f : MemoryBlock → MemoryBlock) (death : IsDeath f) (g : FramedGiven)
   pub dead_beside : AreLaidFrames g xs m → AreBeside g xs m n → AreBeside g xs (with_block m b f) (with_block n b f)
   dead_beside frames beside = record {
     twins = twins;
-    stands = twins_stand g xs (with_block m b f) (with_block n b f) twins (dead_laid frames).lies (λ c i u v e at live lt opened.
-        let other = lives_elsewhere c (ap (λ (o : Option MemoryBlock). option_map_or (λ (x : MemoryBlock). is_live x.life) o false) e ∙ live) in
+    stands = twins_stand g xs (with_block m b f) (with_block n b f) twins (dead_laid frames).lies
+        (λ c i u v e at live lt opened.
+        let other = lives_elsewhere c
+        (ap (λ (o : Option MemoryBlock). option_map_or (λ (x : MemoryBlock). is_live x.life) o false) e ∙ live) in
         subst (λ (k : ℕ). IsByte (own_homes 0 k) (byte_of u i) (byte_of v i)) (sym (length-changed m b f))
-        (open_bytes g xs m n beside.stands c i u v (live_block c u e live) (sym (changed_elsewhere n b c f other) ∙ at) live lt opened));
+        (open_bytes g xs m n beside.stands c i u v (live_block c u e live) (sym (changed_elsewhere n b c f other)
+        ∙ at) live lt opened));
   }
     where
       twins : AreTwins (with_block m b f) (with_block n b f)
@@ -197,10 +236,15 @@ module _ (f : MemoryBlock → MemoryBlock) (death : IsDeath f) (g : FramedGiven)
 -- ---- the slots of an activation
 
 module _ (g : FramedGiven) (xs : List Instance) where
-  pub returned_frames : (slots : List Slot) (m n : List MemoryBlock) → AreFrames g xs m n → AreFrames g xs (without_slots m slots) (without_slots n slots)
+  pub returned_frames : (slots : List Slot) (m n : List MemoryBlock) → AreFrames g xs m n
+      → AreFrames g xs (without_slots m slots) (without_slots n slots)
   returned_frames [] m n frames = frames
-  returned_frames (s ∷ slots) m n frames = returned_frames slots (killed m s.block) (killed n s.block) (dead_frames killed_block kills g xs m n s.block frames)
+  returned_frames (s ∷ slots) m n frames = returned_frames slots (killed m s.block) (killed n s.block)
+      (dead_frames killed_block kills g xs m n s.block frames)
 
-  pub returned_beside : (slots : List Slot) (m n : List MemoryBlock) → AreLaidFrames g xs m → AreBeside g xs m n → AreBeside g xs (without_slots m slots) (without_slots n slots)
+  pub returned_beside : (slots : List Slot) (m n : List MemoryBlock) → AreLaidFrames g xs m → AreBeside g xs m n
+      → AreBeside g xs (without_slots m slots) (without_slots n slots)
   returned_beside [] m n frames beside = beside
-  returned_beside (s ∷ slots) m n frames beside = returned_beside slots (killed m s.block) (killed n s.block) (dead_laid killed_block kills g xs m n s.block frames) (dead_beside killed_block kills g xs m n s.block frames beside)
+  returned_beside (s ∷ slots) m n frames beside = returned_beside slots (killed m s.block) (killed n s.block)
+      (dead_laid killed_block kills g xs m n s.block frames) (dead_beside killed_block kills g xs m n s.block frames
+      beside)

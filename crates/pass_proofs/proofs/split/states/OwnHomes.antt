@@ -43,7 +43,8 @@ pub own_seen : (n b : ℕ) → (home_of (own_homes 0 n) b).is_seen ≡ true → 
 own_seen n b e = let lt = seen_within (own_homes 0 n) b e in let l = own_length n in omega arith
 
 -- a pointer into a block leads to the same place of the same block
-pub own_pointer : (n b : ℕ) (o : Offset) → b < n → o.bits < 2 ^ 64 → moved_pointer (own_homes 0 n) (Pointer.At b o) ≡ Pointer.At b o
+pub own_pointer : (n b : ℕ) (o : Offset) → b < n → o.bits < 2 ^ 64
+    → moved_pointer (own_homes 0 n) (Pointer.At b o) ≡ Pointer.At b o
 own_pointer n b o lt le =
     let e : (o.bits + 0) % 2 ^ 64 ≡ o.bits = omega arith in
     ap (λ (q : Home). Pointer.At q.block (record { bits = (o.bits + q.offset) % 2 ^ 64 })) (own_home n b lt)

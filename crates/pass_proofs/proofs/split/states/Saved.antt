@@ -1,4 +1,5 @@
--- A save stores the index and what a resume calls, and the memories stand beside each other with the instance Suspended.
+-- A save stores the index and what a resume calls, and the memories stand beside each other with the instance
+-- Suspended.
 use Rattle.std.proofs.Common.{◌≡◌, ◌≢◌, ℕ, ◌+◌, ◌-◌, ◌%◌, ◌<◌, ◌≤◌, ◌⊎◌, inl, inr, ⊎_elim, Bool, true, false, List, length, Option, Some, None, refl, sym, ap, ◌∙◌, subst, arith}
 use Rattle.std.specs.Prelude.{slice_get}
 use Rattle.std.proofs.lemmas.Bool.{and_parts, false≢true}
@@ -59,7 +60,8 @@ plain_changes Kind.Constant e = e
 -- ---- alignments of the index
 
 -- it takes a byte or two, and is aligned so
-index_meets : (w : IntWidth) (a index : ℕ) → IsAlignment a → a ≤ index_bytes w → index % index_bytes w ≡ 0 → index % a ≡ 0
+index_meets : (w : IntWidth) (a index : ℕ) → IsAlignment a → a ≤ index_bytes w → index % index_bytes w ≡ 0
+    → index % a ≡ 0
 index_meets w a index (inl e) le h = subst (λ (k : ℕ). index % k ≡ 0) (sym e) (omega arith)
 index_meets IntWidth.I16 a index (inr (inl e)) le h = subst (λ (k : ℕ). index % k ≡ 0) (sym e) h
 index_meets IntWidth.I1 a index (inr (inl e)) le h = absurd (omega arith)
@@ -90,9 +92,12 @@ index_small IntWidth.I64 = omega arith
 same_suspend : (p q : Point) (vs us : List (Option Value)) → Status.Suspended p vs ≡ Status.Suspended q us → p ≡ q
 same_suspend p q vs us e = cc
 
-module _ (g : FramedGiven) (xs : List Instance) (i : ℕ) (x : Instance) (m n : List MemoryBlock) (e : slice_get xs i ≡ Some x) (held : is_held m x ≡ true)
-    (frames : AreFrames g xs m n) (beside : AreBeside g xs m n) (laid : IsLaidOut g x.coroutine) (suspend : Point) (values : List (Option Value))
-    (saved : Option Saved) (released : Bool) (number : ℕ) (numbered : IsNumbered (function_at g.given.code x.coroutine) suspend number)
+module _ (g : FramedGiven) (xs : List Instance) (i : ℕ) (x : Instance) (m n : List MemoryBlock)
+    (e : slice_get xs i ≡ Some x) (held : is_held m x ≡ true)
+    (frames : AreFrames g xs m n) (beside : AreBeside g xs m n) (laid : IsLaidOut g x.coroutine) (suspend : Point)
+    (values : List (Option Value))
+    (saved : Option Saved) (released : Bool) (number : ℕ) (numbered : IsNumbered (function_at g.given.code x.coroutine)
+    suspend number)
     (led : IsLedTo (function_at g.given.code x.coroutine) numbered.suspend.block) where
   abbrev resumes : Value
   resumes = resumer_of g x.coroutine numbered.suspend
@@ -121,8 +126,10 @@ module _ (g : FramedGiven) (xs : List Instance) (i : ℕ) (x : Instance) (m n : 
   changes : same_kind here.block.kind Kind.Constant ≡ false
   changes =
       let y = twin_at m n beside.twins x.block here.block here.there in
-      let is : header.destroys.block ≡ y.twin = same_some header.destroys.block y.twin (sym header.destroys.there ∙ y.there) in
-      plain_changes here.block.kind (sym (ap (λ (z : MemoryBlock). same_kind z.kind Kind.Constant) (is ∙ y.is.is)) ∙ header.destroys.writable)
+      let is : header.destroys.block ≡ y.twin = same_some header.destroys.block y.twin (sym header.destroys.there
+      ∙ y.there) in
+      plain_changes here.block.kind (sym (ap (λ (z : MemoryBlock). same_kind z.kind Kind.Constant) (is ∙ y.is.is))
+      ∙ header.destroys.writable)
 
   frame_align : 8 ≤ (layout_of g.layouts x.coroutine).align
   frame_align = eight (layout_of g.layouts x.coroutine).align lies.alignment
@@ -141,12 +148,18 @@ module _ (g : FramedGiven) (xs : List Instance) (i : ℕ) (x : Instance) (m n : 
 
   room_one : (bytes : List Byte) × (Holds owner_rights n x.block (index_at g x) len bytes × (length bytes ≡ len))
   room_one = range_holds m n beside.twins x.block here.block here.there here.live changes (index_at g x) len len
-      (fits x.start (layout_of g.layouts x.coroutine).index len (layout_of g.layouts x.coroutine).size here.block.size laid.index lies.inside)
+      (fits x.start (layout_of g.layouts x.coroutine).index len (layout_of g.layouts x.coroutine).size here.block.size
+      laid.index lies.inside)
       (λ a is le.
-      let small = chain a len 8 (layout_of g.layouts x.coroutine).align le (index_small (shape_at g x.coroutine).width) frame_align in (
-        divides (index_at g x) x.start a (layout_of g.layouts x.coroutine).align is lies.alignment small (from x.start (layout_of g.layouts x.coroutine).index) lies.start
-            (subst (λ (k : ℕ). k % a ≡ 0) (back x.start (layout_of g.layouts x.coroutine).index) (index_meets (shape_at g x.coroutine).width a (layout_of g.layouts x.coroutine).index is le laid.index_aligned)),
-        chain a len 8 here.block.align le (index_small (shape_at g x.coroutine).width) (both 8 (layout_of g.layouts x.coroutine).align here.block.align frame_align lies.block),
+      let small = chain a len 8 (layout_of g.layouts x.coroutine).align le (index_small (shape_at g x.coroutine).width)
+      frame_align in (
+        divides (index_at g x) x.start a (layout_of g.layouts x.coroutine).align is lies.alignment small
+            (from x.start (layout_of g.layouts x.coroutine).index) lies.start
+            (subst (λ (k : ℕ). k % a ≡ 0) (back x.start (layout_of g.layouts x.coroutine).index)
+            (index_meets (shape_at g x.coroutine).width a (layout_of g.layouts x.coroutine).index is le
+            laid.index_aligned)),
+        chain a len 8 here.block.align le (index_small (shape_at g x.coroutine).width)
+            (both 8 (layout_of g.layouts x.coroutine).align here.block.align frame_align lies.block),
       ))
     where
       fits : (s i l n k : ℕ) → i + l ≤ n → s + n ≤ k → s + i + l ≤ k
@@ -174,17 +187,21 @@ module _ (g : FramedGiven) (xs : List Instance) (i : ℕ) (x : Instance) (m n : 
   some_of bytes k e lt = omega arith
 
   beside_one : AreBeside g xs m one
-  beside_one = control_beside g xs m n beside frames.laid i x e held (index_at g x) len room_one.0 (digits len number) room_one.1.0
-      (long_digits ∙ sym room_one.1.1) (some_of room_one.0 len room_one.1.1 (index_some (shape_at g x.coroutine).width)) index_control
+  beside_one = control_beside g xs m n beside frames.laid i x e held (index_at g x) len room_one.0
+      (digits len number) room_one.1.0
+      (long_digits ∙ sym room_one.1.1) (some_of room_one.0 len room_one.1.1
+      (index_some (shape_at g x.coroutine).width)) index_control
 
   -- ---- the pointer
 
   room_two : (bytes : List Byte) × (Holds owner_rights one x.block x.start 8 bytes × (length bytes ≡ 8))
   room_two = range_holds m one beside_one.twins x.block here.block here.there here.live changes x.start 8 8
-      (fits x.start (layout_of g.layouts x.coroutine).index len (layout_of g.layouts x.coroutine).size here.block.size laid.behind laid.index lies.inside)
+      (fits x.start (layout_of g.layouts x.coroutine).index len (layout_of g.layouts x.coroutine).size here.block.size
+      laid.behind laid.index lies.inside)
       (λ a is le.
       let small = both a 8 (layout_of g.layouts x.coroutine).align le frame_align in (
-        divides x.start x.start a (layout_of g.layouts x.coroutine).align is lies.alignment small (omega arith) lies.start (zero_divides x.start a is),
+        divides x.start x.start a (layout_of g.layouts x.coroutine).align is lies.alignment small
+            (omega arith) lies.start (zero_divides x.start a is),
         chain a 8 (layout_of g.layouts x.coroutine).align here.block.align le frame_align lies.block,
       ))
     where
@@ -220,23 +237,33 @@ module _ (g : FramedGiven) (xs : List Instance) (i : ℕ) (x : Instance) (m n : 
   long_pointer = length-encode 8 resumes ∙ sym room_two.1.1
 
   beside_two : AreBeside g xs m two
-  beside_two = control_beside g xs m one beside_one frames.laid i x e held x.start 8 room_two.0 (encode 8 resumes) room_two.1.0
+  beside_two = control_beside g xs m one beside_one frames.laid i x e held x.start 8 room_two.0
+      (encode 8 resumes) room_two.1.0
       long_pointer (some_of room_two.0 8 room_two.1.1 (omega arith)) pointer_control
 
   -- ---- what the frame holds then
 
   index_stored : Holds owner_rights two x.block (index_at g x) len (digits len number)
-  index_stored = other_held owner_rights one x.block (index_at g x) len x.block x.start 8 (digits len number) room_two.0 (encode 8 resumes) owner_rights_fit
-      (write_held owner_rights n x.block (index_at g x) len room_one.0 room_one.1.0 owner_rights_fit (digits len number) (long_digits ∙ sym room_one.1.1))
-      room_two.1.0 long_pointer (inr (inr (behind x.start (layout_of g.layouts x.coroutine).index (length (encode 8 resumes)) laid.behind (length-encode 8 resumes))))
+  index_stored = other_held owner_rights one x.block (index_at g x) len x.block x.start 8
+      (digits len number) room_two.0 (encode 8 resumes) owner_rights_fit
+      (write_held owner_rights n x.block (index_at g x) len room_one.0 room_one.1.0 owner_rights_fit
+      (digits len number) (long_digits ∙ sym room_one.1.1))
+      room_two.1.0 long_pointer
+      (inr (inr (behind x.start (layout_of g.layouts x.coroutine).index (length (encode 8 resumes)) laid.behind
+      (length-encode 8 resumes))))
     where
       behind : (s i l : ℕ) → 16 ≤ i → l ≡ 8 → s + l ≤ s + i
       behind s i l p e = omega arith
 
-  destroys_stored : Holds owner_rights two x.block (x.start + 8) 8 (encode 8 (address_of_part g x.coroutine header.destroyer))
-  destroys_stored = other_held owner_rights one x.block (x.start + 8) 8 x.block x.start 8 _ room_two.0 (encode 8 resumes) owner_rights_fit
-      (other_held owner_rights n x.block (x.start + 8) 8 x.block (index_at g x) len _ room_one.0 (digits len number) owner_rights_fit header.destroys room_one.1.0 (long_digits ∙ sym room_one.1.1)
-      (inr (inl (before x.start (layout_of g.layouts x.coroutine).index (length (encode 8 (address_of_part g x.coroutine header.destroyer))) laid.behind (length-encode 8 (address_of_part g x.coroutine header.destroyer))))))
+  destroys_stored : Holds owner_rights two x.block (x.start + 8) 8
+      (encode 8 (address_of_part g x.coroutine header.destroyer))
+  destroys_stored = other_held owner_rights one x.block (x.start + 8) 8 x.block x.start 8 _ room_two.0
+      (encode 8 resumes) owner_rights_fit
+      (other_held owner_rights n x.block (x.start + 8) 8 x.block (index_at g x) len _ room_one.0
+      (digits len number) owner_rights_fit header.destroys room_one.1.0 (long_digits ∙ sym room_one.1.1)
+      (inr (inl (before x.start (layout_of g.layouts x.coroutine).index
+      (length (encode 8 (address_of_part g x.coroutine header.destroyer))) laid.behind
+      (length-encode 8 (address_of_part g x.coroutine header.destroyer))))))
       room_two.1.0 long_pointer (inr (inr (next x.start (length (encode 8 resumes)) (length-encode 8 resumes))))
     where
       before : (s i l : ℕ) → 16 ≤ i → l ≡ 8 → s + 8 + l ≤ s + i
@@ -250,7 +277,8 @@ module _ (g : FramedGiven) (xs : List Instance) (i : ℕ) (x : Instance) (m n : 
     number = number;
     numbered = numbered;
     led = led;
-    resumes = write_held owner_rights one x.block x.start 8 room_two.0 room_two.1.0 owner_rights_fit (encode 8 resumes) long_pointer;
+    resumes = write_held owner_rights one x.block x.start 8 room_two.0 room_two.1.0 owner_rights_fit
+        (encode 8 resumes) long_pointer;
     index = record { holds = index_stored };
   }
 
@@ -264,9 +292,12 @@ module _ (g : FramedGiven) (xs : List Instance) (i : ℕ) (x : Instance) (m n : 
 
   others_headed : (j : ℕ) (z : Instance) → slice_get xs j ≡ Some z → j ≢ i → is_held m z ≡ true → IsHeaded g two z
   others_headed j z f ne h = headed_held g one two z
-      (others_move g xs m one beside_one frames.laid i x e held x.start 8 room_two.0 (encode 8 resumes) room_two.1.0 long_pointer (some_of room_two.0 8 room_two.1.1 (omega arith)) pointer_control j z ne f h)
+      (others_move g xs m one beside_one frames.laid i x e held x.start 8 room_two.0 (encode 8 resumes) room_two.1.0
+      long_pointer (some_of room_two.0 8 room_two.1.1 (omega arith)) pointer_control j z ne f h)
       (headed_held g n one z
-      (others_move g xs m n beside frames.laid i x e held (index_at g x) len room_one.0 (digits len number) room_one.1.0 (long_digits ∙ sym room_one.1.1) (some_of room_one.0 len room_one.1.1 (index_some (shape_at g x.coroutine).width)) index_control j z ne f h)
+      (others_move g xs m n beside frames.laid i x e held (index_at g x) len room_one.0
+      (digits len number) room_one.1.0 (long_digits ∙ sym room_one.1.1) (some_of room_one.0 len room_one.1.1
+      (index_some (shape_at g x.coroutine).width)) index_control j z ne f h)
       (frames.headed j z f h))
 
   -- the instance is Suspended, and its frame says where

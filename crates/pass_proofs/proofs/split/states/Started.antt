@@ -27,7 +27,12 @@ byte_itself n Byte.Undefined h = tt
 byte_itself n (Byte.Number k) h = refl
 byte_itself n (Byte.Part Pointer.Null k) h = (tt, refl)
 byte_itself n (Byte.Part (Pointer.Func f) k) h = (tt, refl)
-byte_itself n (Byte.Part (Pointer.At b o) k) h = (ap (λ (q : Home). q.is_seen) (own_home n b h.0), ap (λ (p : Pointer). Byte.Part p k) (sym (own_pointer n b o h.0 h.1)))
+byte_itself n (Byte.Part (Pointer.At b o) k) h
+    = (
+      ap (λ (q : Home). q.is_seen) (own_home n b h.0),
+      ap (λ (p : Pointer). Byte.Part p k)
+          (sym (own_pointer n b o h.0 h.1)),
+    )
 
 abbrev kind_of : Bool → Kind
 kind_of constant = if constant then Kind.Constant else Kind.Global
@@ -40,16 +45,20 @@ no_allocator : (constant : Bool) → kind_of constant ≡ Kind.Allocator → ⊥
 no_allocator true e = cc
 no_allocator false e = cc
 
-twin_global : (m : Module) (x : GlobalItem) → (global_block m x).size < 2 ^ 64 → IsTwin (global_block m x) (global_block m x)
+twin_global : (m : Module) (x : GlobalItem) → (global_block m x).size < 2 ^ 64
+    → IsTwin (global_block m x) (global_block m x)
 twin_global m x small = record {
   is = ap (λ (k : Kind). record (global_block m x) { kind = k }) (sym (plain_global x.constant));
   long = refl;
-  full = λ live. length-encode (access_bytes (access_of x.ty)) (stored (access_of x.ty) (operand_value m [] x.ty x.init));
+  full = λ live. length-encode (access_bytes (access_of x.ty))
+      (stored (access_of x.ty) (operand_value m [] x.ty x.init));
   small = small;
   sixteen = λ e. absurd (no_allocator x.constant e);
 }
 
-twins_from : (m : Module) (xs : List GlobalItem) → ((b : ℕ) (x : MemoryBlock) → slice_get (map (global_block m) xs) b ≡ Some x → x.size < 2 ^ 64) → (b : ℕ) → AreTwinsAt (slice_get (map (global_block m) xs) b) (slice_get (map (global_block m) xs) b)
+twins_from : (m : Module) (xs : List GlobalItem) → ((b : ℕ) (x : MemoryBlock)
+    → slice_get (map (global_block m) xs) b ≡ Some x → x.size < 2 ^ 64) → (b : ℕ)
+    → AreTwinsAt (slice_get (map (global_block m) xs) b) (slice_get (map (global_block m) xs) b)
 twins_from m [] small b = tt
 twins_from m (x ∷ xs) small zero = twin_global m x (small 0 (global_block m x) refl)
 twins_from m (x ∷ xs) small (suc b) = twins_from m xs (λ c y e. small (suc c) y e) b
@@ -69,7 +78,9 @@ module _ (g : FramedGiven) (m : Module) (contents : AreContents m) where
     memory = record {
       twins = twins;
       stands = twins_stand g [] memory memory twins (λ i x y e there. none_in i x e)
-          (λ b i u v e f live lt opened. subst (λ (z : MemoryBlock). IsByte (own_homes 0 (length memory)) (byte_of u i) (byte_of z i)) (same_some u v (sym e ∙ f)) (byte_itself (length memory) (byte_of u i) (contents.known b i u e)));
+          (λ b i u v e f live lt opened. subst (λ (z : MemoryBlock). IsByte (own_homes 0 (length memory)) (byte_of u i)
+          (byte_of z i)) (same_some u v (sym e ∙ f)) (byte_itself (length memory) (byte_of u i)
+          (contents.known b i u e)));
     };
     events = refl;
     answers = refl;

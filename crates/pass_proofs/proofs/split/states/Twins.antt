@@ -29,11 +29,13 @@ pub record IsTwinOf (m : List MemoryBlock) (b : ℕ) (y : MemoryBlock) : Type 0 
   pub there : slice_get m b ≡ Some source
   pub is : IsTwin source y
 
-twin_of : (n : List MemoryBlock) (b : ℕ) (x : MemoryBlock) (o : Option MemoryBlock) → slice_get n b ≡ o → AreTwinsAt (Some x) o → HasTwin n b x
+twin_of : (n : List MemoryBlock) (b : ℕ) (x : MemoryBlock) (o : Option MemoryBlock) → slice_get n b ≡ o
+    → AreTwinsAt (Some x) o → HasTwin n b x
 twin_of n b x None e t = absurd t
 twin_of n b x (Some y) e t = record { twin = y; there = e; is = t }
 
-source_of : (m : List MemoryBlock) (b : ℕ) (y : MemoryBlock) (o : Option MemoryBlock) → slice_get m b ≡ o → AreTwinsAt o (Some y) → IsTwinOf m b y
+source_of : (m : List MemoryBlock) (b : ℕ) (y : MemoryBlock) (o : Option MemoryBlock) → slice_get m b ≡ o
+    → AreTwinsAt o (Some y) → IsTwinOf m b y
 source_of m b y None e t = absurd t
 source_of m b y (Some x) e t = record { source = x; there = e; is = t }
 
@@ -55,17 +57,21 @@ or_true true b = refl
 or_true false true = refl
 or_true false false = refl
 
-pub free_compares : (b : ℕ) (y : Option MemoryBlock) (o : Offset) → ((z : MemoryBlock) → y ≡ Some z → z.owned ≡ None) → may_compare_at owner_rights b y o ≡ true
+pub free_compares : (b : ℕ) (y : Option MemoryBlock) (o : Offset) → ((z : MemoryBlock) → y ≡ Some z → z.owned ≡ None)
+    → may_compare_at owner_rights b y o ≡ true
 free_compares b None o free = refl
 free_compares b (Some y) o free = compares y.owned (free y refl)
   where
-    compares : (owner : Option ℕ) → owner ≡ None → may_compare_at owner_rights b (Some (record y { owned = owner })) o ≡ true
-    compares owner e = subst (λ (w : Option ℕ). may_compare_at owner_rights b (Some (record y { owned = w })) o ≡ true) (sym e) (or_true (not (is_live y.life)) (o.bits == 0))
+    compares : (owner : Option ℕ) → owner ≡ None
+        → may_compare_at owner_rights b (Some (record y { owned = owner })) o ≡ true
+    compares owner e = subst (λ (w : Option ℕ). may_compare_at owner_rights b (Some (record y { owned = w })) o ≡ true)
+        (sym e) (or_true (not (is_live y.life)) (o.bits == 0))
 
 module _ (m n : List MemoryBlock) (t : AreTwins m n) where
   pub twin_nulls : (rights : Rights) → AreNullsKept rights owner_rights (homes_of m) m n
   twin_nulls rights = record {
-    each = λ b o seen ok. free_compares (home_of (homes_of m) b).block (slice_get n (home_of (homes_of m) b).block) (moved o (home_of (homes_of m) b).offset) (λ z e. unowned m n t _ z e);
+    each = λ b o seen ok. free_compares (home_of (homes_of m) b).block (slice_get n (home_of (homes_of m) b).block)
+        (moved o (home_of (homes_of m) b).offset) (λ z e. unowned m n t _ z e);
   }
 
   pub twin_bounds : AreBoundsKept (homes_of m) m n
@@ -76,7 +82,12 @@ module _ (m n : List MemoryBlock) (t : AreTwins m n) where
         let y = twin_at m n t b x e in
         let size : y.twin.size ≡ x.size = ap (λ (z : MemoryBlock). z.size) y.is.is in
         let small = y.is.small in
-        subst (λ (q : Home). HasBounds n q x.size) (sym h) (record { block = y.twin; there = y.there; fits = omega (arith, size); small = subst (λ (k : ℕ). k < 2 ^ 64) (sym size) small });
+        subst (λ (q : Home). HasBounds n q x.size) (sym h) (record {
+          block = y.twin;
+          there = y.there;
+          fits = omega (arith, size);
+          small = subst (λ (k : ℕ). k < 2 ^ 64) (sym size) small;
+        });
   }
 
 -- ---- worlds
@@ -86,7 +97,8 @@ same_events [] = refl
 same_events (e ∷ es) = ap (λ rest. e ∷ rest) (same_events es)
 
 module _ (g : FramedGiven) (instances : List Instance) (s t : World) where
-  pub worlds_of : AreWorldsBeside g instances s t → AreWorlds (frame_rights g instances) owner_rights (homes_of s.memory) (λ d. d) s t
+  pub worlds_of : AreWorldsBeside g instances s t → AreWorlds (frame_rights g instances) owner_rights
+      (homes_of s.memory) (λ d. d) s t
   worlds_of w = record {
     memory = w.memory.stands;
     nulls = twin_nulls s.memory t.memory w.memory.twins (frame_rights g instances);
@@ -96,12 +108,16 @@ module _ (g : FramedGiven) (instances : List Instance) (s t : World) where
     allocs = w.allocs;
   }
 
-  pub over_of : AreWorldsBeside g instances s t → AreOver (frame_rights g instances) owner_rights (homes_of s.memory) (λ b. false) (λ d. d) s t
-  over_of w = subst (λ (m : List MemoryBlock). AreWorlds (frame_rights g instances) owner_rights (homes_of s.memory) (λ d. d) (record s { memory = m }) t) (sym (muted_none s.memory)) (worlds_of w)
+  pub over_of : AreWorldsBeside g instances s t → AreOver (frame_rights g instances) owner_rights (homes_of s.memory)
+      (λ b. false) (λ d. d) s t
+  over_of w = subst (λ (m : List MemoryBlock). AreWorlds (frame_rights g instances) owner_rights (homes_of s.memory)
+      (λ d. d) (record s { memory = m }) t) (sym (muted_none s.memory)) (worlds_of w)
 
-  pub beside_of : AreTwins s.memory t.memory → AreOver (frame_rights g instances) owner_rights (homes_of s.memory) (λ b. false) (λ d. d) s t → AreWorldsBeside g instances s t
+  pub beside_of : AreTwins s.memory t.memory → AreOver (frame_rights g instances) owner_rights (homes_of s.memory)
+      (λ b. false) (λ d. d) s t → AreWorldsBeside g instances s t
   beside_of twins over =
-      let w = subst (λ (m : List MemoryBlock). AreWorlds (frame_rights g instances) owner_rights (homes_of s.memory) (λ d. d) (record s { memory = m }) t) (muted_none s.memory) over in
+      let w = subst (λ (m : List MemoryBlock). AreWorlds (frame_rights g instances) owner_rights (homes_of s.memory)
+      (λ d. d) (record s { memory = m }) t) (muted_none s.memory) over in
       record {
         memory = record { twins = twins; stands = w.memory };
         events = w.events ∙ same_events s.events;

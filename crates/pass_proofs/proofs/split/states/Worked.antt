@@ -54,14 +54,17 @@ module _ (given : Given) where
     stands = twins_stand (frame_given given) [] memory memory twins (λ i x y e there. none_in i x e)
         (λ b i u v e at live lt opened.
         let is = only_one b u e in
-        blank_byte (own_homes 0 1) u 48 i (byte_of v i) (ap (λ (z : MemoryBlock). z.bytes) is) (subst (λ (k : ℕ). i < k) (ap (λ (z : MemoryBlock). z.size) is) lt));
+        blank_byte (own_homes 0 1) u 48 i (byte_of v i) (ap (λ (z : MemoryBlock). z.bytes) is)
+        (subst (λ (k : ℕ). i < k) (ap (λ (z : MemoryBlock). z.size) is) lt));
   }
 
   -- its index takes a byte or two
-  index_is : (n : ℕ) → (index_bytes (if nat_le n 256 then IntWidth.I8 else IntWidth.I16) ≡ 1) ⊎ (index_bytes (if nat_le n 256 then IntWidth.I8 else IntWidth.I16) ≡ 2)
+  index_is : (n : ℕ) → (index_bytes (if nat_le n 256 then IntWidth.I8 else IntWidth.I16) ≡ 1)
+      ⊎ (index_bytes (if nat_le n 256 then IntWidth.I8 else IntWidth.I16) ≡ 2)
   index_is n = on (nat_le n 256)
     where
-      on : (t : Bool) → (index_bytes (if t then IntWidth.I8 else IntWidth.I16) ≡ 1) ⊎ (index_bytes (if t then IntWidth.I8 else IntWidth.I16) ≡ 2)
+      on : (t : Bool) → (index_bytes (if t then IntWidth.I8 else IntWidth.I16) ≡ 1)
+          ⊎ (index_bytes (if t then IntWidth.I8 else IntWidth.I16) ≡ 2)
       on true = inl refl
       on false = inr refl
 
@@ -86,7 +89,8 @@ module _ (given : Given) where
     fields = field;
   }
     where
-      field : (a : ℕ) (x : PlacedField) → slice_get worked_layout.fields a ≡ Some x → is_open_kind x.kind ≡ true → (16 ≤ x.offset) × ((x.offset + x.size ≤ 16) ⊎ (16 + index_length (frame_given given) 0 ≤ x.offset))
+      field : (a : ℕ) (x : PlacedField) → slice_get worked_layout.fields a ≡ Some x → is_open_kind x.kind ≡ true
+          → (16 ≤ x.offset) × ((x.offset + x.size ≤ 16) ⊎ (16 + index_length (frame_given given) 0 ≤ x.offset))
       field zero x e o = absurd (shut (same_some _ x e))
         where
           shut : record { kind = FieldKind.Index; name = None; offset = 16; size = 1 } ≡ x → ⊥
@@ -97,6 +101,13 @@ module _ (given : Given) where
           (omega arith, inr (omega arith))
       field (suc (suc a)) x e o = absurd (cc)
 
-  pub after : (resumes : Value) → BeginsIn (frame_given given) [] an_instance (owned_block 48 16 32 ∷ []) memory resumes Part.Destroy
-  after resumes = begins (frame_given given) [] an_instance memory memory block 32 refl (record { live = refl; kind = refl; unowned = refl; room = omega arith })
-      (frames_start (frame_given given) memory memory) before laid refl (record { start = refl; slots = refl; runs = refl; unfreed = refl }) (omega arith) resumes Part.Destroy refl
+  pub after : (resumes : Value) → BeginsIn (frame_given given) [] an_instance (owned_block 48 16 32 ∷ []) memory
+      resumes Part.Destroy
+  after resumes = begins (frame_given given) [] an_instance memory memory block 32 refl
+      (record { live = refl; kind = refl; unowned = refl; room = omega arith })
+      (frames_start (frame_given given) memory memory) before laid refl (record {
+        start = refl;
+        slots = refl;
+        runs = refl;
+        unfreed = refl;
+      }) (omega arith) resumes Part.Destroy refl

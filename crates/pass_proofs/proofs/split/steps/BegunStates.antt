@@ -54,9 +54,12 @@ got_within xs i x e = slice_get_within xs i x e
 more_frames : (xs : List Instance) (x : Instance) → KeepsFrames xs (xs ++ x ∷ [])
 more_frames xs x = record { each = λ i z e. (z, (get_more xs x i (got_within xs i z e) ∙ e, refl, refl)) }
 
-module _ (g : FramedGiven) (h : PlainGiven) (s : State) (t : PlainState) (r : AreRelated g h s t) (p : Operand) (code : HasBeginCode g h s t r p)
-    (x : Instance) (u : MemoryBlock) (size : ℕ) (mine : x.coroutine ≡ s.top.func) (there : slice_get s.world.memory x.block ≡ Some u) (fresh : IsFreshBlock size u)
-    (laid : IsLaidOut g x.coroutine) (sized : (layout_of g.layouts x.coroutine).size ≡ size) (new : IsNewInstance x) (roomy : 16 ≤ u.size)
+module _ (g : FramedGiven) (h : PlainGiven) (s : State) (t : PlainState) (r : AreRelated g h s t) (p : Operand)
+    (code : HasBeginCode g h s t r p)
+    (x : Instance) (u : MemoryBlock) (size : ℕ) (mine : x.coroutine ≡ s.top.func)
+    (there : slice_get s.world.memory x.block ≡ Some u) (fresh : IsFreshBlock size u)
+    (laid : IsLaidOut g x.coroutine) (sized : (layout_of g.layouts x.coroutine).size ≡ size) (new : IsNewInstance x)
+    (roomy : 16 ≤ u.size)
     (leads : value_at (plain_context h t) (plain_work t) ptr p ≡ pointer_at x.block 0) where
   abbrev shape : Shape
   shape = shape_at g s.top.func
@@ -68,7 +71,8 @@ module _ (g : FramedGiven) (h : PlainGiven) (s : State) (t : PlainState) (r : Ar
   source = with_block s.world.memory x.block (owned_to size)
 
   stored : BeginsIn g s.instances x source t.world.memory resumes Part.Destroy
-  stored = begins g s.instances x s.world.memory t.world.memory u size there fresh r.frames r.world.memory laid sized new roomy resumes Part.Destroy refl
+  stored = begins g s.instances x s.world.memory t.world.memory u size there fresh r.frames r.world.memory laid sized
+      new roomy resumes Part.Destroy refl
 
   abbrev memory_after : List MemoryBlock
   memory_after = with_header t.world.memory x.block resumes (address_of_part g x.coroutine Part.Destroy)
@@ -78,7 +82,11 @@ module _ (g : FramedGiven) (h : PlainGiven) (s : State) (t : PlainState) (r : Ar
   with_frame = with_value t.top.values shape.begin (pointer_at x.block 0)
 
   abbrev after : Work
-  after = record { world = record t.world { memory = memory_after }; values = with_value with_frame code.name (pointer_at x.block 8) }
+  after = record {
+    world = record t.world { memory = memory_after };
+    values = with_value with_frame code.name
+        (pointer_at x.block 8);
+  }
 
   other_name : code.name ≡ shape.begin → ⊥
   other_name k = let a = code.new in let b = code.begin in omega arith
@@ -108,17 +116,23 @@ module _ (g : FramedGiven) (h : PlainGiven) (s : State) (t : PlainState) (r : Ar
       (
         two,
         (
-          pointer_stored (plain_context h t) one x.block 0 8 (Operand.Global shape.resume_name) (Operand.Local shape.begin) (Pointer.Func (part_position g s.top.func Part.Resume)) stored.old
-              (set_there t.top.values shape.begin (pointer_at x.block 0) room_for) code.resumes stored.first stored.long (omega arith),
+          pointer_stored (plain_context h t) one x.block 0 8 (Operand.Global shape.resume_name)
+              (Operand.Local shape.begin) (Pointer.Func (part_position g s.top.func Part.Resume)) stored.old
+              (set_there t.top.values shape.begin (pointer_at x.block 0) room_for) code.resumes stored.first
+              stored.long (omega arith),
           (
             three,
             (
-              address_done (plain_context h t) two code.name x.block 0 8 (Operand.Local shape.begin) (set_there t.top.values shape.begin (pointer_at x.block 0) room_for) (omega arith),
+              address_done (plain_context h t) two code.name x.block 0 8 (Operand.Local shape.begin)
+                  (set_there t.top.values shape.begin (pointer_at x.block 0) room_for) (omega arith),
               (
                 four,
                 (
-                  pointer_stored (plain_context h t) three x.block 8 8 (Operand.Global shape.destroy_name) (Operand.Local code.name) (Pointer.Func (part_position g s.top.func Part.Destroy)) stored.older
-                      (set_there with_frame code.name (pointer_at x.block 8) (subst (λ (k : ℕ). code.name < k) (sym (set_length t.top.values shape.begin (pointer_at x.block 0))) code.room)) code.destroys stored.second stored.longer (omega arith),
+                  pointer_stored (plain_context h t) three x.block 8 8 (Operand.Global shape.destroy_name)
+                      (Operand.Local code.name) (Pointer.Func (part_position g s.top.func Part.Destroy)) stored.older
+                      (set_there with_frame code.name (pointer_at x.block 8) (subst (λ (k : ℕ). code.name < k)
+                      (sym (set_length t.top.values shape.begin (pointer_at x.block 0))) code.room)) code.destroys
+                      stored.second stored.longer (omega arith),
                   refl,
                 ),
               ),
@@ -130,9 +144,19 @@ module _ (g : FramedGiven) (h : PlainGiven) (s : State) (t : PlainState) (r : Ar
   )
 
   -- it takes five steps
-  pub begin_steps : t.outcome ≡ Outcome.Running → iterate (plain_step h) 5 t ≡ stands_at t (position_of (plain_function h t) code.mark) 0 after
-  begin_steps running = line_marked h t running (begin_stores shape code.name p) code.mark four code.stands code.bare runs
-      ∙ ap (λ (f : ℕ). stands_at t (position_of (plain_function h t) code.mark) 0 (record { world = record t.world { memory = with_header t.world.memory x.block resumes (address_of_part g f Part.Destroy) }; values = with_value with_frame code.name (pointer_at x.block 8) })) (sym mine)
+  pub begin_steps : t.outcome ≡ Outcome.Running
+      → iterate (plain_step h) 5 t ≡ stands_at t (position_of (plain_function h t) code.mark) 0 after
+  begin_steps running = line_marked h t running (begin_stores shape code.name p) code.mark four code.stands code.bare
+      runs
+      ∙ ap (λ (f : ℕ). stands_at t (position_of (plain_function h t) code.mark) 0
+      (record {
+        world = record t.world {
+          memory = with_header t.world.memory x.block resumes
+              (address_of_part g f Part.Destroy);
+        };
+        values = with_value with_frame code.name (pointer_at x.block 8);
+      }))
+      (sym mine)
 
   -- ---- the states behind it
 
@@ -145,12 +169,17 @@ module _ (g : FramedGiven) (h : PlainGiven) (s : State) (t : PlainState) (r : Ar
   ext : Extends (homes_of s.world.memory) (homes_of source)
   ext = subst (Extends (homes_of s.world.memory)) homes_stay (record { each = λ b e. refl })
 
-  stand : AreValuesOf (function_at g.given.code s.top.func) (homes_of source) (with_value s.top.values shape.begin (pointer_at x.block 0)) after.values
-  stand = subst (λ (hs : List Home). AreValuesOf (function_at g.given.code s.top.func) hs (with_value s.top.values shape.begin (pointer_at x.block 0)) after.values) homes_stay
-      (values_extra (function_at g.given.code s.top.func) (homes_of s.world.memory) (with_value s.top.values shape.begin (pointer_at x.block 0)) with_frame code.name (pointer_at x.block 8)
+  stand : AreValuesOf (function_at g.given.code s.top.func) (homes_of source) (with_value s.top.values shape.begin
+      (pointer_at x.block 0)) after.values
+  stand = subst (λ (hs : List Home). AreValuesOf (function_at g.given.code s.top.func) hs
+      (with_value s.top.values shape.begin (pointer_at x.block 0)) after.values) homes_stay
+      (values_extra (function_at g.given.code s.top.func) (homes_of s.world.memory)
+      (with_value s.top.values shape.begin (pointer_at x.block 0)) with_frame code.name (pointer_at x.block 8)
       (subst (λ (k : ℕ). k ≤ code.name) (sym (set_length s.top.values shape.begin (pointer_at x.block 0))) code.new)
-      (values_set (function_at g.given.code s.top.func) (homes_of s.world.memory) (Some shape.begin) s.top.values t.top.values (with_value s.top.values shape.begin (pointer_at x.block 0)) with_frame r.top.values
-      (sets_name (homes_of s.world.memory) s.top.values t.top.values r.top.values.room shape.begin (pointer_at x.block 0) (pointer_at x.block 0)
+      (values_set (function_at g.given.code s.top.func) (homes_of s.world.memory) (Some shape.begin) s.top.values
+      t.top.values (with_value s.top.values shape.begin (pointer_at x.block 0)) with_frame r.top.values
+      (sets_name (homes_of s.world.memory) s.top.values t.top.values r.top.values.room shape.begin
+      (pointer_at x.block 0) (pointer_at x.block 0)
       (block_itself (length s.world.memory) x.block (slice_get_within s.world.memory x.block u there)))))
 
   frame_is : value_in after.values r.top.shape.begin ≡ frame_address_of x
@@ -160,11 +189,17 @@ module _ (g : FramedGiven) (h : PlainGiven) (s : State) (t : PlainState) (r : Ar
       ∙ ap (pointer_at x.block) (sym new.start)
 
   pub begin_related : is_entering s.top.mode ≡ false
-      → AreRelated g h (begun_to s x source (with_value s.top.values shape.begin (pointer_at x.block 0))) (stands_at t (position_of (plain_function h t) code.mark) 0 after)
+      → AreRelated g h (begun_to s x source (with_value s.top.values shape.begin (pointer_at x.block 0)))
+      (stands_at t (position_of (plain_function h t) code.mark) 0 after)
   begin_related mode = record {
     outcome = r.outcome;
     globals = subst (λ (k : ℕ). length g.given.code.globals ≤ k) (sym same_length) r.globals;
-    world = record { memory = stored.beside; events = r.world.events; answers = r.world.answers; allocs = r.world.allocs };
+    world = record {
+      memory = stored.beside;
+      events = r.world.events;
+      answers = r.world.answers;
+      allocs = r.world.allocs;
+    };
     frames = stored.frames;
     top = record {
       shape = r.top.shape;
@@ -175,13 +210,21 @@ module _ (g : FramedGiven) (h : PlainGiven) (s : State) (t : PlainState) (r : Ar
       func = r.top.func;
       place = Inside s.top.mode mode code.place;
       values = stand;
-      room = set_length with_frame code.name (pointer_at x.block 8) ∙ set_length t.top.values shape.begin (pointer_at x.block 0) ∙ r.top.room;
-      frame = λ i own. record { instance = x; there = ap (slice_get (s.instances ++ x ∷ [])) (sym (number i own)) ∙ get_new s.instances x; coroutine = mine; is = frame_is };
+      room = set_length with_frame code.name (pointer_at x.block 8)
+          ∙ set_length t.top.values shape.begin (pointer_at x.block 0) ∙ r.top.room;
+      frame = λ i own. record {
+        instance = x;
+        there = ap (slice_get (s.instances ++ x ∷ []))
+            (sym (number i own)) ∙ get_new s.instances x;
+        coroutine = mine;
+        is = frame_is;
+      };
       result = r.top.result;
       slots = r.top.slots;
       own = r.top.own;
     };
-    below = all_beside_on g h.code s.instances (s.instances ++ x ∷ []) (homes_of s.world.memory) (homes_of source) ext (more_frames s.instances x) s.top.result s.below t.below r.below;
+    below = all_beside_on g h.code s.instances (s.instances ++ x ∷ []) (homes_of s.world.memory) (homes_of source) ext
+        (more_frames s.instances x) s.top.result s.below t.below r.below;
     making = λ from label e. absurd (false≢true (sym mode ∙ ap is_entering e));
   }
     where

@@ -41,7 +41,9 @@ use Rattle.run_step.specs.Values.{Env, value_in, with_result}
 
 -- what stands before a place is one instruction
 one_before : (f : Function) (a : Activation) → IsBehind f true a → IsBehind f false a → ⊥
-one_before f a x y = false≢true (sym y.is ∙ ap is_suspend (same_instr x.instr y.instr (sym x.there ∙ ap (fetch f a.block) at ∙ y.there)) ∙ x.is)
+one_before f a x y
+    = false≢true (sym y.is ∙ ap is_suspend (same_instr x.instr y.instr (sym x.there ∙ ap (fetch f a.block) at
+    ∙ y.there)) ∙ x.is)
   where
     at : x.before ≡ y.before
     at = let e = x.at in let h = y.at in omega arith
@@ -50,16 +52,22 @@ one_before f a x y = false≢true (sym y.is ∙ ap is_suspend (same_instr x.inst
     same_instr i j e = cc
 
 -- so its place doesn't hang on its values
-placed_on : (s : Shape) (part : Part) (f q : Function) (a : Activation) (b : PlainActivation) (values others : Env) (mode : Mode) → IsBehind f false a → is_entering mode ≡ false
-    → IsPlaced s part f q a b mode → IsPlaced s part f q (record a { values = values }) (record b { values = others }) mode
+placed_on : (s : Shape) (part : Part) (f q : Function) (a : Activation) (b : PlainActivation) (values others : Env)
+    (mode : Mode) → IsBehind f false a → is_entering mode ≡ false
+    → IsPlaced s part f q a b mode → IsPlaced s part f q (record a { values = values }) (record b { values = others })
+    mode
 placed_on s part f q a b values others _ behind settled (Inside mode e place) = Inside mode e place
-placed_on s part f q a b values others _ behind settled (Stopping mode m arg cases e before there both is jump enters) = absurd (one_before f a before behind)
+placed_on s part f q a b values others _ behind settled (Stopping mode m arg cases e before there both is jump enters)
+    = absurd (one_before f a before behind)
 placed_on s part f q a b values others _ behind settled (Making from label x y z lt) = absurd (false≢true (sym settled))
-placed_on s part f q a b values others _ behind settled (Passed there (AtSuspend i here is stop)) = Passed there (AtSuspend i here is stop)
-placed_on s part f q a b values others _ behind settled (Passed there (AtSwitch m arg cases before here both is)) = absurd (one_before f a before behind)
+placed_on s part f q a b values others _ behind settled (Passed there (AtSuspend i here is stop))
+    = Passed there (AtSuspend i here is stop)
+placed_on s part f q a b values others _ behind settled (Passed there (AtSwitch m arg cases before here both is))
+    = absurd (one_before f a before behind)
 placed_on s part f q a b values others _ behind settled (Passed there (AtEnd here at)) = Passed there (AtEnd here at)
 
-pub result_elsewhere : (env : Env) (result : Option ℕ) (v : Value) (at : ℕ) → (result ≡ Some at → ⊥) → value_in (with_result env result v) at ≡ value_in env at
+pub result_elsewhere : (env : Env) (result : Option ℕ) (v : Value) (at : ℕ) → (result ≡ Some at → ⊥)
+    → value_in (with_result env result v) at ≡ value_in env at
 result_elsewhere env None v at ne = refl
 result_elsewhere env (Some name) v at ne = set_elsewhere env name at v (λ e. ne (ap Some e))
 
@@ -73,7 +81,8 @@ length_gone : (slots : List Slot) (m : List MemoryBlock) → length (without_slo
 length_gone [] m = refl
 length_gone (x ∷ slots) m = length_gone slots (killed m x.block) ∙ length-changed m x.block killed_block
 
-module _ (g : FramedGiven) (h : PlainGiven) (s : State) (t : PlainState) (r : AreRelated g h s t) (v u : Option Value) where
+module _ (g : FramedGiven) (h : PlainGiven) (s : State) (t : PlainState) (r : AreRelated g h s t)
+    (v u : Option Value) where
   abbrev gone : List MemoryBlock
   gone = without_slots s.world.memory s.top.slots
 
@@ -92,27 +101,42 @@ module _ (g : FramedGiven) (h : PlainGiven) (s : State) (t : PlainState) (r : Ar
   -- the world, without the slots of the activation that returns
   world_gone : AreWorldsBeside g s.instances (record s.world { memory = gone }) (record t.world { memory = gone_too })
   world_gone = record {
-    memory = subst (AreBeside g s.instances gone) same_gone (returned_beside g s.instances s.top.slots s.world.memory t.world.memory r.frames.laid r.world.memory);
+    memory = subst (AreBeside g s.instances gone) same_gone (returned_beside g s.instances s.top.slots s.world.memory
+        t.world.memory r.frames.laid r.world.memory);
     events = r.world.events;
     answers = r.world.answers;
     allocs = r.world.allocs;
   }
 
   frames_gone : AreFrames g s.instances gone gone_too
-  frames_gone = subst (AreFrames g s.instances gone) same_gone (returned_frames g s.instances s.top.slots s.world.memory t.world.memory r.frames)
+  frames_gone
+      = subst (AreFrames g s.instances gone) same_gone (returned_frames g s.instances s.top.slots s.world.memory
+      t.world.memory r.frames)
 
-  module _ (a : Activation) (b : PlainActivation) (w : IsWaiting g h.code s.instances (homes_of s.world.memory) s.top.result a b)
+  module _ (a : Activation) (b : PlainActivation) (w : IsWaiting g h.code s.instances (homes_of s.world.memory)
+      s.top.result a b)
       (stands : IsValue (homes_of s.world.memory) (unwrap_or v Value.Poison) (unwrap_or u Value.Poison)) where
-    given : AreValuesOf (function_at g.given.code a.func) (homes_of gone) (with_result a.values s.top.result (unwrap_or v Value.Poison)) (with_result b.values t.top.result (unwrap_or u Value.Poison))
-    given = subst (λ (hs : List Home). AreValuesOf (function_at g.given.code a.func) hs (with_result a.values s.top.result (unwrap_or v Value.Poison)) (with_result b.values t.top.result (unwrap_or u Value.Poison))) homes_stay
-        (subst (λ (o : Option ℕ). AreValuesOf (function_at g.given.code a.func) (homes_of s.world.memory) (with_result a.values s.top.result (unwrap_or v Value.Poison)) (with_result b.values o (unwrap_or u Value.Poison))) (sym r.top.result)
-        (values_set (function_at g.given.code a.func) (homes_of s.world.memory) s.top.result a.values b.values (with_result a.values s.top.result (unwrap_or v Value.Poison)) (with_result b.values s.top.result (unwrap_or u Value.Poison)) w.beside.values
-        (sets_result (homes_of s.world.memory) a.values b.values w.beside.values.room s.top.result (unwrap_or v Value.Poison) (unwrap_or u Value.Poison) stands)))
+    given : AreValuesOf (function_at g.given.code a.func) (homes_of gone) (with_result a.values s.top.result
+        (unwrap_or v Value.Poison)) (with_result b.values t.top.result (unwrap_or u Value.Poison))
+    given = subst (λ (hs : List Home). AreValuesOf (function_at g.given.code a.func) hs
+        (with_result a.values s.top.result (unwrap_or v Value.Poison)) (with_result b.values t.top.result
+        (unwrap_or u Value.Poison))) homes_stay
+        (subst (λ (o : Option ℕ). AreValuesOf (function_at g.given.code a.func) (homes_of s.world.memory)
+        (with_result a.values s.top.result (unwrap_or v Value.Poison))
+        (with_result b.values o (unwrap_or u Value.Poison))) (sym r.top.result)
+        (values_set (function_at g.given.code a.func) (homes_of s.world.memory) s.top.result a.values b.values
+        (with_result a.values s.top.result (unwrap_or v Value.Poison)) (with_result b.values s.top.result
+        (unwrap_or u Value.Poison)) w.beside.values
+        (sets_result (homes_of s.world.memory) a.values b.values w.beside.values.room s.top.result
+        (unwrap_or v Value.Poison) (unwrap_or u Value.Poison) stands)))
 
-    begin_stays : value_in (with_result b.values t.top.result (unwrap_or u Value.Poison)) w.beside.shape.begin ≡ value_in b.values w.beside.shape.begin
-    begin_stays = result_elsewhere b.values t.top.result (unwrap_or u Value.Poison) w.beside.shape.begin (λ e. w.others (sym r.top.result ∙ e))
+    begin_stays : value_in (with_result b.values t.top.result (unwrap_or u Value.Poison)) w.beside.shape.begin ≡
+        value_in b.values w.beside.shape.begin
+    begin_stays = result_elsewhere b.values t.top.result (unwrap_or u Value.Poison) w.beside.shape.begin
+        (λ e. w.others (sym r.top.result ∙ e))
 
-    back : IsBeside g h.code s.instances (homes_of gone) (given_back a s.top.result v) (plain_given_back b t.top.result u)
+    back : IsBeside g h.code s.instances (homes_of gone) (given_back a s.top.result v)
+        (plain_given_back b t.top.result u)
     back = record {
       shape = w.beside.shape;
       part = w.beside.part;
@@ -120,46 +144,65 @@ module _ (g : FramedGiven) (h : PlainGiven) (s : State) (t : PlainState) (r : Ar
       shaped = w.beside.shaped;
       runs = w.beside.runs;
       func = w.beside.func;
-      place = placed_on w.beside.shape w.beside.part (function_at g.given.code a.func) (function_at h.code b.func) a b (with_result a.values s.top.result (unwrap_or v Value.Poison)) (with_result b.values t.top.result (unwrap_or u Value.Poison)) a.mode w.behind w.settled w.beside.place;
+      place = placed_on w.beside.shape w.beside.part (function_at g.given.code a.func) (function_at h.code b.func) a b
+          (with_result a.values s.top.result (unwrap_or v Value.Poison)) (with_result b.values t.top.result
+          (unwrap_or u Value.Poison)) a.mode w.behind w.settled w.beside.place;
       values = given;
       room = result_length b.values t.top.result (unwrap_or u Value.Poison) ∙ w.beside.room;
-      frame = λ i own. frame_on s.instances s.instances a.func i _ _ (same_frames s.instances) begin_stays (w.beside.frame i own);
+      frame = λ i own. frame_on s.instances s.instances a.func i _ _ (same_frames s.instances) begin_stays
+          (w.beside.frame i own);
       result = w.beside.result;
       slots = w.beside.slots;
       own = w.beside.own;
     }
 
     -- the run goes on in the activation below
-    pub returns_related : (rest : List Activation) (bs : List PlainActivation) → AreAllWaiting g h.code s.instances (homes_of s.world.memory) a.result rest bs
-        → AreRelated g h (record s { world = record s.world { memory = gone }; top = given_back a s.top.result v; below = rest })
+    pub returns_related : (rest : List Activation) (bs : List PlainActivation)
+        → AreAllWaiting g h.code s.instances (homes_of s.world.memory) a.result rest bs
+        → AreRelated g h (record s {
+          world = record s.world { memory = gone };
+          top = given_back a s.top.result v;
+          below = rest;
+        })
         (record t { world = record t.world { memory = gone_too }; top = plain_given_back b t.top.result u; below = bs })
     returns_related rest bs ws = record {
       outcome = r.outcome;
-      globals = subst (λ (k : ℕ). length g.given.code.globals ≤ k) (sym (length_gone s.top.slots s.world.memory)) r.globals;
+      globals = subst (λ (k : ℕ). length g.given.code.globals ≤ k) (sym (length_gone s.top.slots s.world.memory))
+          r.globals;
       world = world_gone;
       frames = frames_gone;
       top = back;
-      below = all_beside_on g h.code s.instances s.instances (homes_of s.world.memory) (homes_of gone) ext (same_frames s.instances) a.result rest bs ws;
+      below = all_beside_on g h.code s.instances s.instances (homes_of s.world.memory) (homes_of gone) ext
+          (same_frames s.instances) a.result rest bs ws;
       making = λ from label e. absurd (false≢true (sym w.settled ∙ ap is_entering e));
     }
 
 -- ---- an activation more
 
-module _ (g : FramedGiven) (h : PlainGiven) (s : State) (t : PlainState) (r : AreRelated g h s t) (ys : List Instance) (n : List MemoryBlock) (a : Activation) (b : PlainActivation)
+module _ (g : FramedGiven) (h : PlainGiven) (s : State) (t : PlainState) (r : AreRelated g h s t) (ys : List Instance)
+    (n : List MemoryBlock) (a : Activation) (b : PlainActivation)
     (piece offset : ℕ) (values : Env) where
   -- what waits below it
   abbrev waiting : Activation
   waiting = record s.top { at = s.top.at + 1 }
 
-  pub pushes_related : is_entering s.top.mode ≡ false → AreBeside g ys s.world.memory n → AreFrames g ys s.world.memory n → KeepsFrames s.instances ys
+  pub pushes_related : is_entering s.top.mode ≡ false → AreBeside g ys s.world.memory n
+      → AreFrames g ys s.world.memory n → KeepsFrames s.instances ys
       → (beside : IsBeside g h.code ys (homes_of s.world.memory) a b)
-      → ((from label : ℕ) → a.mode ≡ Mode.Entering from label → IsReturning g beside.shape beside.part (function_at g.given.code a.func) ys n a.instance from label)
+      → ((from label : ℕ) → a.mode ≡ Mode.Entering from label
+      → IsReturning g beside.shape beside.part (function_at g.given.code a.func) ys n a.instance from label)
       → AreValuesOf (function_at g.given.code s.top.func) (homes_of s.world.memory) s.top.values values
-      → length values ≡ length t.top.values → value_in values r.top.shape.begin ≡ value_in t.top.values r.top.shape.begin
-      → IsPlaced r.top.shape r.top.part (function_at g.given.code s.top.func) (function_at h.code t.top.func) waiting (placed_at t.top piece offset values) s.top.mode
+      → length values ≡ length t.top.values
+      → value_in values r.top.shape.begin ≡ value_in t.top.values r.top.shape.begin
+      → IsPlaced r.top.shape r.top.part (function_at g.given.code s.top.func) (function_at h.code t.top.func) waiting
+      (placed_at t.top piece offset values) s.top.mode
       → IsBehind (function_at g.given.code s.top.func) false waiting → (a.result ≡ Some r.top.shape.begin → ⊥)
       → AreRelated g h (record s { instances = ys; top = a; below = waiting ∷ s.below })
-      (record t { world = record t.world { memory = n }; top = b; below = placed_at t.top piece offset values ∷ t.below })
+      (record t {
+        world = record t.world { memory = n };
+        top = b;
+        below = placed_at t.top piece offset values ∷ t.below;
+      })
   pushes_related mode memory frames keeps beside making stand room begin place behind others = record {
     outcome = r.outcome;
     globals = r.globals;
@@ -187,7 +230,8 @@ module _ (g : FramedGiven) (h : PlainGiven) (s : State) (t : PlainState) (r : Ar
         settled = mode;
         others = others;
       },
-      all_beside_on g h.code s.instances ys (homes_of s.world.memory) (homes_of s.world.memory) (record { each = λ b e. refl }) keeps s.top.result s.below t.below r.below,
+      all_beside_on g h.code s.instances ys (homes_of s.world.memory) (homes_of s.world.memory)
+          (record { each = λ b e. refl }) keeps s.top.result s.below t.below r.below,
     );
     making = making;
   }

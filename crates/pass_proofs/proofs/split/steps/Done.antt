@@ -45,7 +45,8 @@ module _ (m n : List MemoryBlock) (t : AreTwins m n) where
 
 -- ---- the step
 
-module _ (g : FramedGiven) (instances : List Instance) (m n : Module) (answers : List ℤ) (f q : Function) (functions labels : ℕ → ℕ)
+module _ (g : FramedGiven) (instances : List Instance) (m n : Module) (answers : List ℤ) (f q : Function)
+    (functions labels : ℕ → ℕ)
     (w x : Work) (beside : AreWorldsBeside g instances w.world x.world) (room : length w.values ≤ length x.values) where
   abbrev c : Context
   c = ours g instances m answers f
@@ -60,32 +61,51 @@ module _ (g : FramedGiven) (instances : List Instance) (m n : Module) (answers :
   maps = part_maps functions labels
 
   pub joined : AreJoined homes (λ b. false) maps c d w x
-  joined = record { over = over_of g instances w.world x.world beside; hidden = λ b e. absurd (cc); answers = refl; room = room }
+  joined = record {
+    over = over_of g instances w.world x.world beside;
+    hidden = λ b e. absurd (cc);
+    answers = refl;
+    room = room;
+  }
 
   module _ (here there : Fetched) (k : IsTransferred (IsValue homes) maps c d w.values x.values here there)
       (touch : AreTouches homes (touch_of c w here) (touch_of d x there)) (no_slot : HasNoSlot there) where
-    goes : GoesOver c.rights d.rights homes (λ b. false) maps (given_at here) (args_at here) (args_at there) w x (action_of c w here) (action_of d x there)
+    goes : GoesOver c.rights d.rights homes (λ b. false) maps (given_at here) (args_at here) (args_at there) w x
+        (action_of c w here) (action_of d x there)
     goes = step_over homes (λ b. false) maps c d w x here there (frame_rights_fit g instances) owner_rights_fit joined k
 
     module _ (v : Work) (is : action_of c w here ≡ Done v) where
-      done : GoesOver c.rights d.rights homes (λ b. false) maps (given_at here) (args_at here) (args_at there) w x (Done v) (action_of d x there)
-      done = subst (λ (a : Action). GoesOver c.rights d.rights homes (λ b. false) maps (given_at here) (args_at here) (args_at there) w x a (action_of d x there)) is goes
+      done : GoesOver c.rights d.rights homes (λ b. false) maps (given_at here) (args_at here) (args_at there) w x
+          (Done v) (action_of d x there)
+      done = subst (λ (a : Action). GoesOver c.rights d.rights homes (λ b. false) maps (given_at here) (args_at here)
+          (args_at there) w x a (action_of d x there)) is goes
 
       source_writes : WritesOnly (writes c w here) w.world.memory v.world.memory
-      source_writes = subst (λ (a : Action). LeavesBytes (writes c w here) w.world.memory a) is (bytes_left c w here k.no_slot (each_of _ (λ (s : Span). source_full w.world.memory x.world.memory beside.memory.twins s.block) (writes c w here)))
+      source_writes = subst (λ (a : Action). LeavesBytes (writes c w here) w.world.memory a) is
+          (bytes_left c w here k.no_slot
+          (each_of _ (λ (s : Span). source_full w.world.memory x.world.memory beside.memory.twins s.block)
+          (writes c w here)))
 
       module _ (y : Work) (does : action_of d x there ≡ Done y) where
         target_writes : WritesOnly (writes d x there) x.world.memory y.world.memory
-        target_writes = subst (λ (a : Action). LeavesBytes (writes d x there) x.world.memory a) does (bytes_left d x there no_slot (each_of _ (λ (s : Span). target_full w.world.memory x.world.memory beside.memory.twins s.block) (writes d x there)))
+        target_writes = subst (λ (a : Action). LeavesBytes (writes d x there) x.world.memory a) does
+            (bytes_left d x there no_slot
+            (each_of _ (λ (s : Span). target_full w.world.memory x.world.memory beside.memory.twins s.block)
+            (writes d x there)))
 
         leaves : KeepsFree (frame_rights g instances) homes w.world.memory x.world.memory y.world.memory
-        leaves = subst (λ (a : Action). LeavesFree (frame_rights g instances) homes w.world.memory x.world.memory a) does
-            (free_untouched homes c d w x here there (frame_rights_fit g instances) beside.memory.stands k.no_slot no_slot touch (subst IsDefined (sym is) tt))
+        leaves = subst (λ (a : Action). LeavesFree (frame_rights g instances) homes w.world.memory x.world.memory a)
+            does
+            (free_untouched homes c d w x here there (frame_rights_fit g instances) beside.memory.stands k.no_slot
+            no_slot touch (subst IsDefined (sym is) tt))
 
-        stays : AreOver c.rights d.rights homes (λ b. false) (λ k. k) v.world y.world → AreWorldsBeside g instances v.world y.world
+        stays : AreOver c.rights d.rights homes (λ b. false) (λ k. k) v.world y.world
+            → AreWorldsBeside g instances v.world y.world
         stays over = beside_of g instances v.world y.world
-            (written_twins w.world.memory x.world.memory v.world.memory y.world.memory (writes c w here) (writes d x there) beside.memory.twins source_writes target_writes)
-            (subst (λ (l : ℕ). AreOver c.rights d.rights (own_homes 0 l) (λ b. false) (λ k. k) v.world y.world) (sym (as_many w.world.memory v.world.memory source_writes.refilled)) over)
+            (written_twins w.world.memory x.world.memory v.world.memory y.world.memory (writes c w here)
+            (writes d x there) beside.memory.twins source_writes target_writes)
+            (subst (λ (l : ℕ). AreOver c.rights d.rights (own_homes 0 l) (λ b. false) (λ k. k) v.world y.world)
+            (sym (as_many w.world.memory v.world.memory source_writes.refilled)) over)
 
       pub done_too : IsDoneToo g instances d w x here there v
       done_too = record {

@@ -31,10 +31,13 @@ pub mode_settled : (coroutine : Bool) → is_entering (if coroutine then Mode.Ra
 mode_settled true = refl
 mode_settled false = refl
 
-module _ (g : FramedGiven) (h : PlainGiven) (instances : List Instance) (homes : List Home) (func : ℕ) (args others : List Value) (result : Option ℕ) where
+module _ (g : FramedGiven) (h : PlainGiven) (instances : List Instance) (homes : List Home) (func : ℕ)
+    (args others : List Value) (result : Option ℕ) where
   -- the activation of a function that begins
   pub callee_beside : IsCallee g h.code func → AreValues homes args others
-      → IsBeside g h.code instances homes (called g.given.code func args result (mode_of (function_at g.given.code func))) (plain_called h.code (part_position g func Part.Ramp) others result)
+      → IsBeside g h.code instances homes (called g.given.code func args result
+      (mode_of (function_at g.given.code func))) (plain_called h.code (part_position g func Part.Ramp) others
+      result)
   callee_beside c stand = record {
     shape = c.shape;
     part = Part.Ramp;
@@ -42,8 +45,10 @@ module _ (g : FramedGiven) (h : PlainGiven) (instances : List Instance) (homes :
     shaped = c.shaped;
     runs = kind_of_mode (function_at g.given.code func).coroutine;
     func = refl;
-    place = Inside (mode_of (function_at g.given.code func)) (mode_settled (function_at g.given.code func).coroutine) c.place;
-    values = entries_stand (function_at g.given.code func) (function_at h.code (part_position g func Part.Ramp)) homes args others c.params c.names stand;
+    place = Inside (mode_of (function_at g.given.code func)) (mode_settled (function_at g.given.code func).coroutine)
+        c.place;
+    values = entries_stand (function_at g.given.code func) (function_at h.code (part_position g func Part.Ramp)) homes
+        args others c.params c.names stand;
     room = entry_length (function_at h.code (part_position g func Part.Ramp)) others;
     frame = λ i own. absurd (cc);
     result = refl;
@@ -51,14 +56,21 @@ module _ (g : FramedGiven) (h : PlainGiven) (instances : List Instance) (homes :
     own = λ coroutine. tt;
   }
 
-module _ (g : FramedGiven) (h : PlainGiven) (s : State) (t : PlainState) (r : AreRelated g h s t) (func : ℕ) (args others : List Value) (result : Option ℕ) where
-  pub calls_related : IsCallee g h.code func → AreValues (homes_of s.world.memory) args others → is_entering s.top.mode ≡ false
-      → IsPlaced r.top.shape r.top.part (function_at g.given.code s.top.func) (function_at h.code t.top.func) (record s.top { at = s.top.at + 1 }) (placed_at t.top t.top.block (t.top.at + 1) t.top.values) s.top.mode
-      → IsBehind (function_at g.given.code s.top.func) false (record s.top { at = s.top.at + 1 }) → (result ≡ Some r.top.shape.begin → ⊥)
-      → AreRelated g h (enter g.given s func args result) (plain_call h t (part_position g func Part.Ramp) others result false)
+module _ (g : FramedGiven) (h : PlainGiven) (s : State) (t : PlainState) (r : AreRelated g h s t) (func : ℕ)
+    (args others : List Value) (result : Option ℕ) where
+  pub calls_related : IsCallee g h.code func → AreValues (homes_of s.world.memory) args others
+      → is_entering s.top.mode ≡ false
+      → IsPlaced r.top.shape r.top.part (function_at g.given.code s.top.func) (function_at h.code t.top.func)
+      (record s.top { at = s.top.at + 1 }) (placed_at t.top t.top.block (t.top.at + 1) t.top.values) s.top.mode
+      → IsBehind (function_at g.given.code s.top.func) false (record s.top { at = s.top.at + 1 })
+      → (result ≡ Some r.top.shape.begin → ⊥)
+      → AreRelated g h (enter g.given s func args result) (plain_call h t (part_position g func Part.Ramp) others
+      result false)
   calls_related callee stand mode place behind free = pushes_related g h s t r s.instances t.world.memory
-      (called g.given.code func args result (mode_of (function_at g.given.code func))) (plain_called h.code (part_position g func Part.Ramp) others result)
+      (called g.given.code func args result (mode_of (function_at g.given.code func)))
+      (plain_called h.code (part_position g func Part.Ramp) others result)
       t.top.block (t.top.at + 1) t.top.values mode r.world.memory r.frames (same_frames s.instances)
       (callee_beside g h s.instances (homes_of s.world.memory) func args others result callee stand)
-      (λ from label e. absurd (false≢true (sym (mode_settled (function_at g.given.code func).coroutine) ∙ ap is_entering e)))
+      (λ from label e. absurd (false≢true (sym (mode_settled (function_at g.given.code func).coroutine)
+      ∙ ap is_entering e)))
       r.top.values refl refl place behind free

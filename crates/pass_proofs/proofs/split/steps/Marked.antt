@@ -18,7 +18,8 @@ use Rattle.run_plain.specs.declared.state.PlainState.{PlainState}
 use Rattle.run_step.specs.Runs.{iterate}
 use Rattle.run_step.specs.Step.{AtTerm, GoTo, Work, label_of, phi_values, phis_of, with_all}
 
-module _ (h : PlainGiven) (t : PlainState) (running : t.outcome ≡ Outcome.Running) (line : List Instr) (mark : ℕ) (x : Work)
+module _ (h : PlainGiven) (t : PlainState) (running : t.outcome ≡ Outcome.Running) (line : List Instr) (mark : ℕ)
+    (x : Work)
     (remain : Remain (plain_function h t) t.top.block t.top.at line (Terminator.Jump mark))
     (bare : phis_of (slice_get (plain_function h t).blocks (position_of (plain_function h t) mark)) ≡ [])
     (runs : Runs (plain_context h t) line (plain_work t) x) where
@@ -29,7 +30,12 @@ module _ (h : PlainGiven) (t : PlainState) (running : t.outcome ≡ Outcome.Runn
   jumps = plain_does h behind (AtTerm (Terminator.Jump mark)) (GoTo mark) running remain.ends refl
 
   no_phis : plain_go_to h behind mark ≡ stands_at t (position_of (plain_function h t) mark) 0 x
-  no_phis = ap (λ (ps : List Phi). stands_at t (position_of (plain_function h t) mark) 0 (record { world = x.world; values = with_all x.values (phi_values h.code x.values (label_of (slice_get (plain_function h t).blocks t.top.block)) ps) })) bare
+  no_phis = ap (λ (ps : List Phi). stands_at t (position_of (plain_function h t) mark) 0
+      (record {
+        world = x.world;
+        values = with_all x.values (phi_values h.code x.values
+            (label_of (slice_get (plain_function h t).blocks t.top.block)) ps);
+      })) bare
 
   pub line_marked : iterate (plain_step h) (length line + 1) t ≡ stands_at t (position_of (plain_function h t) mark) 0 x
   line_marked = iterate-add (plain_step h) (length line) 1 t

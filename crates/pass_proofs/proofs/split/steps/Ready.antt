@@ -21,8 +21,10 @@ use Rattle.run_laws.specs.transfer.Transfer.{IsTransferred, StandsFor, looks_at}
 use Rattle.run_source.specs.declared.state.Instance.{Instance}
 use Rattle.run_step.specs.Step.{AtInstr, Context, Done, Work, action_of}
 
-module _ (g : FramedGiven) (instances : List Instance) (m n : Module) (answers : List ℤ) (f q : Function) (functions : ℕ → ℕ)
-    (w x : Work) (globals : length m.globals ≤ length w.world.memory) (values : AreValuesOf f (homes_of w.world.memory) w.values x.values) where
+module _ (g : FramedGiven) (instances : List Instance) (m n : Module) (answers : List ℤ) (f q : Function)
+    (functions : ℕ → ℕ)
+    (w x : Work) (globals : length m.globals ≤ length w.world.memory)
+    (values : AreValuesOf f (homes_of w.world.memory) w.values x.values) where
   abbrev c : Context
   c = ours g instances m answers f
 
@@ -37,12 +39,14 @@ module _ (g : FramedGiven) (instances : List Instance) (m n : Module) (answers :
   itself true a h = operand_stands m n f (length w.world.memory) w.values x.values globals values a h
   itself false a h = tt
 
-  all_itself : (t : Bool) (xs : List Operand) → Each (IsReadable m n f) xs → Each (λ a. StandsFor t (IsValue homes) c d w.values x.values a a) xs
+  all_itself : (t : Bool) (xs : List Operand) → Each (IsReadable m n f) xs
+      → Each (λ a. StandsFor t (IsValue homes) c d w.values x.values a a) xs
   all_itself t [] h = tt
   all_itself t (a ∷ xs) h = (itself t a h.0, all_itself t xs h.1)
 
   module _ (i : Instr) (k : IsReadyInPart functions f c d w.values x.values i) where
-    pub transferred : IsTransferred (IsValue homes) (moved_functions functions) c d w.values x.values (AtInstr i) (AtInstr i)
+    pub transferred : IsTransferred (IsValue homes) (moved_functions functions) c d w.values x.values (AtInstr i)
+        (AtInstr i)
     transferred = record {
       shape = here_itself (StandsFor (looks_at (AtInstr i)) (IsValue homes) c d w.values x.values) (AtInstr i)
           (all_itself (looks_at (AtInstr i)) (operands_of i) k.operands);
@@ -54,7 +58,10 @@ module _ (g : FramedGiven) (instances : List Instance) (m n : Module) (answers :
       bytes = k.bytes;
     }
 
-    pub done : AreWorldsBeside g instances w.world x.world → (v : Work) → action_of c w (AtInstr i) ≡ Done v → IsDoneToo g instances d w x (AtInstr i) (AtInstr i) v
-    done beside v is = done_too g instances m n answers f q functions (λ label. label) w x beside values.room (AtInstr i) (AtInstr i) transferred
-        (same_touches homes c d w x (AtInstr i) (operands_are m n f (length w.world.memory) w.values x.values globals values c d refl refl (operands_of i) k.operands))
+    pub done : AreWorldsBeside g instances w.world x.world → (v : Work) → action_of c w (AtInstr i) ≡ Done v
+        → IsDoneToo g instances d w x (AtInstr i) (AtInstr i) v
+    done beside v is = done_too g instances m n answers f q functions (λ label. label) w x beside values.room
+        (AtInstr i) (AtInstr i) transferred
+        (same_touches homes c d w x (AtInstr i) (operands_are m n f (length w.world.memory) w.values x.values globals
+        values c d refl refl (operands_of i) k.operands))
         k.no_slot v is

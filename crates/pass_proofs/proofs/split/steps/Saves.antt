@@ -41,11 +41,14 @@ past_poison (v ∷ env) zero le = absurd (omega arith)
 past_poison (v ∷ env) (suc n) le = past_poison env n (omega arith)
 
 -- a name more of the part's
-pub values_extra : (f : Function) (homes : List Home) (env other : Env) (n : ℕ) (v : Value) → length env ≤ n → AreValuesOf f homes env other → AreValuesOf f homes env (with_value other n v)
+pub values_extra : (f : Function) (homes : List Home) (env other : Env) (n : ℕ) (v : Value) → length env ≤ n
+    → AreValuesOf f homes env other → AreValuesOf f homes env (with_value other n v)
 values_extra f homes env other n v past values = record {
   each = λ a no_stop. ⊎_elim
-      (λ e. subst (λ (u : Value). IsValue homes u (value_in (with_value other n v) a)) (sym (past_poison env a (from a n e past))) tt)
-      (λ ne. subst (λ (u : Value). IsValue homes (value_in env a) u) (sym (set_elsewhere other n a v (λ e. ne (sym e)))) (values.each a no_stop))
+      (λ e. subst (λ (u : Value). IsValue homes u (value_in (with_value other n v) a))
+      (sym (past_poison env a (from a n e past))) tt)
+      (λ ne. subst (λ (u : Value). IsValue homes (value_in env a) u)
+      (sym (set_elsewhere other n a v (λ e. ne (sym e)))) (values.each a no_stop))
       (cases_eq a n);
   room = let l = set_length other n v in let r = values.room in omega arith;
 }
@@ -61,11 +64,20 @@ set_there (u ∷ env) (suc n) v lt = set_there env n v (omega arith)
 
 -- ---- an instance that is saved has its frame where it had it
 
-pub state_frames : (xs : List Instance) (i : ℕ) (x : Instance) (status : Status) (saved : Option Saved) (released : Bool) → slice_get xs i ≡ Some x → KeepsFrames xs (slice_set xs i (in_state x status saved released))
+pub state_frames : (xs : List Instance) (i : ℕ) (x : Instance) (status : Status) (saved : Option Saved)
+    (released : Bool) → slice_get xs i ≡ Some x → KeepsFrames xs (slice_set xs i (in_state x status saved released))
 state_frames xs i x status saved released e = record {
   each = λ j z f. ⊎_elim
-      (λ is. let same : x ≡ z = one x z (sym e ∙ ap (slice_get xs) (sym is) ∙ f) in
-      (in_state x status saved released, (ap (slice_get (slice_set xs i (in_state x status saved released))) is ∙ set_here xs i (in_state x status saved released) (slice_get_within xs i x e), ap (λ (w : Instance). w.coroutine) same, ap frame_address_of same)))
+      (λ is. let same : x ≡ z = one x z (sym e ∙ ap (slice_get xs) (sym is) ∙ f) in (
+        in_state x status saved released,
+        (
+          ap (slice_get (slice_set xs i (in_state x status saved released))) is
+              ∙ set_here xs i (in_state x status saved released) (slice_get_within xs i x e),
+          ap
+              (λ (w : Instance). w.coroutine) same,
+          ap frame_address_of same,
+        ),
+      ))
       (λ ne. (z, (set_other xs i j (in_state x status saved released) ne ∙ f, refl, refl)))
       (cases_eq j i);
 }
@@ -94,7 +106,8 @@ module _ (c : Context) (w : Work) (s : Shape) (n j b o : ℕ) (x : Operand) (q :
   abbrev three : Work
   three = set_memory one (refilled_at indexed b o (encode 8 (Value.Ptr q)))
 
-  pub save_runs : value_in w.values s.begin ≡ pointer_at b o → o + s.index < 2 ^ 64 → (n ≡ s.begin → ⊥) → n < length w.values
+  pub save_runs : value_in w.values s.begin ≡ pointer_at b o → o + s.index < 2 ^ 64 → (n ≡ s.begin → ⊥)
+      → n < length w.values
       → IsIndexWidth s.width → (s.width ≡ IntWidth.I8 → j < 2 ^ 8) → (s.width ≡ IntWidth.I16 → j < 2 ^ 16)
       → Holds c.rights w.world.memory b (o + s.index) (index_bytes s.width) old → length old ≡ index_bytes s.width
       → Holds c.rights indexed b o 8 older → length older ≡ 8
@@ -106,11 +119,13 @@ module _ (c : Context) (w : Work) (s : Shape) (n j b o : ℕ) (x : Operand) (q :
       (
         two,
         (
-          index_stored c one s.width b (o + s.index) j (Operand.Local n) old eight sixteen (set_there w.values n (pointer_at b (o + s.index)) room) first long width,
+          index_stored c one s.width b (o + s.index) j (Operand.Local n) old eight sixteen
+              (set_there w.values n (pointer_at b (o + s.index)) room) first long width,
           (
             three,
             (
-              pointer_stored c two b o 8 x (Operand.Local s.begin) q older (set_elsewhere w.values n s.begin (pointer_at b (o + s.index)) other ∙ begin) is second longer (omega arith),
+              pointer_stored c two b o 8 x (Operand.Local s.begin) q older (set_elsewhere w.values n s.begin
+                  (pointer_at b (o + s.index)) other ∙ begin) is second longer (omega arith),
               refl,
             ),
           ),

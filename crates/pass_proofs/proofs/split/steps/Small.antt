@@ -1,4 +1,5 @@
--- What the small instructions do that stand for coro intrinsics: addresses, pointers that are stored and loaded, and the index.
+-- What the small instructions do that stand for coro intrinsics: addresses, pointers that are stored and loaded, and
+-- the index.
 use Rattle.std.proofs.Common.{◌≡◌, ℕ, ◌+◌, ◌*◌, ◌%◌, ◌^◌, ◌<◌, ◌≤◌, Bool, false, List, [], ◌∷◌, length, Option, Some, refl, ap, ◌∙◌, arith, if◌then◌else◌, ◌==◌, ◌&&◌}
 use Rattle.std.specs.Prelude.{pos}
 use Rattle.std.proofs.lemmas.Bool.{lt-ltb}
@@ -28,17 +29,21 @@ use Rattle.run_step.specs.Values.{distance, index_of, indices_of, integer, numbe
 -- ---- numbers
 
 number_is : (d : ℕ) → d < 2 ^ 64 → index_of (number_of_width 64 (Value.Int (record { width = 64; bits = d }))) ≡ Some d
-number_is d lt = ap (λ (t : Bool). index_of (if (64 == 64) && t then Num.Is (record { width = 64; bits = d }) else Num.Poison)) (lt-ltb d (2 ^ 64) lt) ∙ ap Some (bits_of-signed 64 d lt)
+number_is d lt
+    = ap (λ (t : Bool). index_of (if (64 == 64) && t then Num.Is (record { width = 64; bits = d }) else Num.Poison))
+    (lt-ltb d (2 ^ 64) lt) ∙ ap Some (bits_of-signed 64 d lt)
 
 -- a literal is the index that it says
 index_64 : (d : ℕ) → d < 2 ^ 64 → index_of (number_of_width 64 (integer 64 (pos d))) ≡ Some d
-index_64 d lt = ap (λ (b : ℕ). index_of (number_of_width 64 (Value.Int (record { width = 64; bits = b })))) small ∙ number_is d lt
+index_64 d lt = ap (λ (b : ℕ). index_of (number_of_width 64 (Value.Int (record { width = 64; bits = b })))) small
+    ∙ number_is d lt
   where
     small : d % 2 ^ 64 ≡ d
     small = omega arith
 
 module _ (c : Context) (w : Work) where
-  bytes_far : (d : ℕ) → d < 2 ^ 64 → distance c.code (int 8) (indices_of c.code w.values (number_arg 64 (pos d) ∷ [])) ≡ Some d
+  bytes_far : (d : ℕ) → d < 2 ^ 64 → distance c.code (int 8) (indices_of c.code w.values (number_arg 64 (pos d) ∷ []))
+      ≡ Some d
   bytes_far d lt = ap (λ (i : Option ℕ). times 1 i) (index_64 d lt) ∙ ap Some one
     where
       one : (1 * d) % 2 ^ 64 ≡ d
@@ -46,9 +51,11 @@ module _ (c : Context) (w : Work) where
 
   -- ---- addresses
 
-  pub address_done : (r b o d : ℕ) (p : Operand) → value_at c w ptr p ≡ pointer_at b o → o + d < 2 ^ 64 → instr_action c w (address r p (pos d)) ≡ Done (set_value w r (pointer_at b (o + d)))
+  pub address_done : (r b o d : ℕ) (p : Operand) → value_at c w ptr p ≡ pointer_at b o → o + d < 2 ^ 64
+      → instr_action c w (address r p (pos d)) ≡ Done (set_value w r (pointer_at b (o + d)))
   address_done r b o d p leads small =
-      gep_done c w r b d (offset_of o) false (int 8) p (number_arg 64 (pos d) ∷ []) leads (bytes_far d (omega arith)) (λ e. absurd (cc))
+      gep_done c w r b d (offset_of o) false (int 8) p (number_arg 64 (pos d) ∷ []) leads (bytes_far d (omega arith))
+      (λ e. absurd (cc))
       ∙ ap (λ (k : ℕ). Done (set_value w r (pointer_at b k))) wraps
     where
       wraps : (o + d) % 2 ^ 64 ≡ o + d
@@ -56,14 +63,17 @@ module _ (c : Context) (w : Work) where
 
   -- ---- pointers
 
-  pub pointer_stored : (b o most : ℕ) (x p : Operand) (q : Pointer) (old : List Byte) → value_at c w ptr p ≡ pointer_at b o → value_at c w ptr x ≡ Value.Ptr q
+  pub pointer_stored : (b o most : ℕ) (x p : Operand) (q : Pointer) (old : List Byte)
+      → value_at c w ptr p ≡ pointer_at b o → value_at c w ptr x ≡ Value.Ptr q
       → Holds c.rights w.world.memory b o most old → length old ≡ 8 → 8 ≤ most
-      → instr_action c w (store_pointer x p) ≡ Done (set_memory w (refilled_at w.world.memory b o (encode 8 (Value.Ptr q))))
+      → instr_action c w (store_pointer x p) ≡ Done
+      (set_memory w (refilled_at w.world.memory b o (encode 8 (Value.Ptr q))))
   pointer_stored b o most x p q old leads is holds long le =
       store_done c w 8 b o most (pointer_arg x) p old leads holds long refl le
       ∙ ap (λ (v : Value). Done (set_memory w (refilled_at w.world.memory b o (encode 8 (stored Access.Ptr v))))) is
 
-  pub pointer_loaded : (r b o most : ℕ) (p : Operand) (q : Pointer) → value_at c w ptr p ≡ pointer_at b o → Holds c.rights w.world.memory b o most (encode 8 (Value.Ptr q)) → 8 ≤ most
+  pub pointer_loaded : (r b o most : ℕ) (p : Operand) (q : Pointer) → value_at c w ptr p ≡ pointer_at b o
+      → Holds c.rights w.world.memory b o most (encode 8 (Value.Ptr q)) → 8 ≤ most
       → instr_action c w (load_pointer r p) ≡ Done (set_value w r (Value.Ptr q))
   pointer_loaded r b o most p q leads holds le =
       load_done c w r 8 b o most ptr p (encode 8 (Value.Ptr q)) leads holds (length-encode 8 (Value.Ptr q)) refl le
@@ -71,16 +81,22 @@ module _ (c : Context) (w : Work) where
 
   -- ---- the index, which takes a byte or two
 
-  pub index_stored : (width : IntWidth) (b o j : ℕ) (p : Operand) (old : List Byte) → (width ≡ IntWidth.I8 → j < 2 ^ 8) → (width ≡ IntWidth.I16 → j < 2 ^ 16)
-      → value_at c w ptr p ≡ pointer_at b o → Holds c.rights w.world.memory b o (index_bytes width) old → length old ≡ index_bytes width
+  pub index_stored : (width : IntWidth) (b o j : ℕ) (p : Operand) (old : List Byte) → (width ≡ IntWidth.I8 → j < 2 ^ 8)
+      → (width ≡ IntWidth.I16 → j < 2 ^ 16)
+      → value_at c w ptr p ≡ pointer_at b o → Holds c.rights w.world.memory b o (index_bytes width) old
+      → length old ≡ index_bytes width
       → IsIndexWidth width
-      → instr_action c w (Instr.Store (number_arg (bits_of width) (pos j)) p (index_bytes width)) ≡ Done (set_memory w (refilled_at w.world.memory b o (digits (index_bytes width) j)))
+      → instr_action c w (Instr.Store (number_arg (bits_of width) (pos j)) p (index_bytes width)) ≡ Done
+      (set_memory w (refilled_at w.world.memory b o (digits (index_bytes width) j)))
   index_stored IntWidth.I8 b o j p old eight sixteen leads holds long is =
       store_done c w 1 b o 1 (number_arg 8 (pos j)) p old leads holds long refl (omega arith)
       ∙ ap (λ (v : Value). Done (set_memory w (refilled_at w.world.memory b o (encode 1 v)))) (byte_is j (eight refl))
     where
-      byte_is : (j : ℕ) → j < 2 ^ 8 → stored (Access.Int 8) (integer 8 (pos j)) ≡ Value.Int (record { width = 8; bits = j })
-      byte_is j lt = ap (λ (k : ℕ). stored (Access.Int 8) (Value.Int (record { width = 8; bits = k }))) small ∙ ap (λ (t : Bool). value_of (if (8 == 8) && t then Num.Is (record { width = 8; bits = j }) else Num.Poison)) (lt-ltb j (2 ^ 8) lt)
+      byte_is : (j : ℕ) → j < 2 ^ 8 → stored (Access.Int 8) (integer 8 (pos j)) ≡ Value.Int
+          (record { width = 8; bits = j })
+      byte_is j lt = ap (λ (k : ℕ). stored (Access.Int 8) (Value.Int (record { width = 8; bits = k }))) small
+          ∙ ap (λ (t : Bool). value_of (if (8 == 8) && t then Num.Is (record { width = 8; bits = j }) else Num.Poison))
+          (lt-ltb j (2 ^ 8) lt)
         where
           small : j % 2 ^ 8 ≡ j
           small = omega arith
@@ -88,8 +104,11 @@ module _ (c : Context) (w : Work) where
       store_done c w 2 b o 2 (number_arg 16 (pos j)) p old leads holds long refl (omega arith)
       ∙ ap (λ (v : Value). Done (set_memory w (refilled_at w.world.memory b o (encode 2 v)))) (word_is j (sixteen refl))
     where
-      word_is : (j : ℕ) → j < 2 ^ 16 → stored (Access.Int 16) (integer 16 (pos j)) ≡ Value.Int (record { width = 16; bits = j })
-      word_is j lt = ap (λ (k : ℕ). stored (Access.Int 16) (Value.Int (record { width = 16; bits = k }))) small ∙ ap (λ (t : Bool). value_of (if (16 == 16) && t then Num.Is (record { width = 16; bits = j }) else Num.Poison)) (lt-ltb j (2 ^ 16) lt)
+      word_is : (j : ℕ) → j < 2 ^ 16 → stored (Access.Int 16) (integer 16 (pos j)) ≡ Value.Int
+          (record { width = 16; bits = j })
+      word_is j lt = ap (λ (k : ℕ). stored (Access.Int 16) (Value.Int (record { width = 16; bits = k }))) small
+          ∙ ap (λ (t : Bool). value_of (if (16 == 16) && t then Num.Is (record { width = 16; bits = j }) else
+          Num.Poison)) (lt-ltb j (2 ^ 16) lt)
         where
           small : j % 2 ^ 16 ≡ j
           small = omega arith

@@ -6,7 +6,7 @@ use Rattle.pass_split.specs.Pieces.{comes_from, going_on, origin_in}
 use Rattle.pass_split.specs.Reached.{is_flagged, kept_block, kept_blocks, reached}
 use Rattle.pass_split.specs.declared.origin.Origin.{Origin}
 use Rattle.ir_laws.proofs.paths.source_rules.Locals.{Apart, in_row, listed_right}
-use Rattle.ir_laws.proofs.rules.source_rules.Locals.{block_names, own_label}
+use Rattle.rule_laws.proofs.rules.source_rules.Locals.{block_names, own_label}
 use Rattle.ir_laws.proofs.facts.Lists.{row_of, label_found}
 use Rattle.rule_uses.specs.Undefined.{params_of}
 use Rattle.flow_solver.specs.Paths.{IsListed}
@@ -30,15 +30,15 @@ use Rattle.ir_laws.proofs.paths.uses.Groups.{joined, one_source, pieces_apart, s
 use Rattle.pass_proofs.proofs.split.uses.Origins.{from_piece, no_suspends, suspend_there}
 use Rattle.pass_proofs.proofs.split.uses.Paths.{IsPieced, listed_found}
 use Rattle.ir_laws.proofs.paths.uses.Paths.{place_of, there_listed}
-use Rattle.ir_laws.proofs.frames.uses.PhiEdges.{phi_source}
+use Rattle.rule_laws.proofs.frames.uses.PhiEdges.{phi_source}
 use Rattle.pass_proofs.proofs.split.uses.Rules.{phi_plain, told}
 use Rattle.pass_proofs.proofs.split.uses.Sources.{NoSuspends}
 use Rattle.ir_laws.proofs.facts.uses.Sources.{label_of}
 use Rattle.pass_proofs.proofs.split.uses.Walk.{IsCutUp}
 use Rattle.ir_laws.proofs.paths.replaced.Known.{of_listed}
-use Rattle.ir_laws.specs.frames.replaced.Splittable.{HasOwnEdges}
+use Rattle.rule_laws.specs.frames.replaced.Splittable.{HasOwnEdges}
 use Rattle.pass_proofs.specs.split.rules.Splittable.{IsSplittable}
-use Rattle.ir_laws.proofs.rules.woven_rules.Once.{names_below}
+use Rattle.rule_laws.proofs.rules.woven_rules.Once.{names_below}
 
 module _ (m : Module) (k : ℕ) (f : Function) (begin : ℕ) (split : IsSplittable m k f begin) (layout : Layout) where
   abbrev pub s : Shape

@@ -9,7 +9,7 @@ use Rattle.pass_split.specs.Reached.{is_flagged, kept_block, kept_blocks, pruned
 use Rattle.pass_split.specs.declared.origin.Origin.{Origin}
 use Rattle.rule_uses.specs.Undefined.{params_of}
 use Rattle.rule_uses.specs.Uses.{locals_in, made_by_instrs}
-use Rattle.ir_laws.proofs.rules.source_rules.Locals.{made_by}
+use Rattle.rule_laws.proofs.rules.source_rules.Locals.{made_by}
 use Rattle.ir_laws.proofs.facts.Lists.{row_of, label_found}
 use Rattle.flow_solver.specs.Paths.{IsListed}
 use Rattle.frame_layout.specs.declared.layout.Layout.{Layout}
@@ -31,20 +31,20 @@ use Rattle.ir_model.specs.declared.operand.Operand.{Operand}
 use Rattle.pass_proofs.proofs.split.edges.Cuttable.{HasBlock, IsCuttable}
 use Rattle.pass_proofs.proofs.split.edges.Targets.{goes_on_label, index_target}
 use Rattle.pass_proofs.proofs.split.uses.Assembled.{first_kept}
-use Rattle.ir_laws.proofs.rules.uses.Fine.{IsUnusedIn}
+use Rattle.rule_laws.proofs.rules.uses.Fine.{IsUnusedIn}
 use Rattle.pass_proofs.proofs.split.uses.Groups.{groups}
-use Rattle.ir_laws.proofs.frames.uses.LaterQuiet.{IsQuietAt, IsQuietFrom, later_quiet}
-use Rattle.ir_laws.proofs.rules.uses.RampMade.{no_operands}
+use Rattle.rule_laws.proofs.frames.uses.LaterQuiet.{IsQuietAt, IsQuietFrom, later_quiet}
+use Rattle.rule_laws.proofs.rules.uses.RampMade.{no_operands}
 use Rattle.pass_proofs.proofs.split.uses.Paths.{Comes, IsPieced, end_unused, listed_found, phi_unused, unused}
 use Rattle.ir_laws.proofs.paths.uses.Paths.{there_listed}
-use Rattle.ir_laws.proofs.rules.uses.Plain.{IsPlain}
-use Rattle.ir_laws.proofs.frames.uses.Quiet.{IsQuiet}
+use Rattle.rule_laws.proofs.rules.uses.Plain.{IsPlain}
+use Rattle.rule_laws.proofs.frames.uses.Quiet.{IsQuiet}
 use Rattle.pass_proofs.proofs.split.uses.Rules.{begin_named}
 use Rattle.ir_laws.proofs.paths.uses.Sources.{IsIn}
 use Rattle.ir_laws.proofs.facts.Numbers.{Source}
 use Rattle.pass_proofs.proofs.split.uses.Started.{none_needed}
-use Rattle.ir_laws.proofs.rules.uses.Unused.{IsUnused}
-use Rattle.ir_laws.proofs.frames.uses.Unused.{joined_made, row_made, still_made, unused_joined}
+use Rattle.rule_laws.proofs.rules.uses.Unused.{IsUnused}
+use Rattle.rule_laws.proofs.frames.uses.Unused.{joined_made, row_made, still_made, unused_joined}
 use Rattle.pass_proofs.proofs.split.uses.Walk.{Arrives, AtBack, AtStop, IsLeft, IsWalked, no_piece}
 use Rattle.pass_proofs.proofs.split.rules.Reached.{flagged_is_led}
 use Rattle.pass_proofs.specs.split.rules.Reached.{IsLedTo}

@@ -20,7 +20,7 @@ use Rattle.rule_names.specs.Definitions.{first_twice}
 use Rattle.pass_proofs.proofs.split.edges.Entries.{first_unled}
 use Rattle.pass_proofs.proofs.split.edges.Targets.{part_own, part_tabled}
 use Rattle.pass_proofs.proofs.split.uses.Assembled.{ok, pieced}
-use Rattle.ir_laws.proofs.rules.uses.Fine.{IsUnusedIn, none_undefined_in}
+use Rattle.rule_laws.proofs.rules.uses.Fine.{IsUnusedIn, none_undefined_in}
 use Rattle.pass_proofs.proofs.split.uses.Known.{knows_locals}
 use Rattle.pass_proofs.proofs.split.uses.Later.{later_unused}
 use Rattle.pass_proofs.proofs.split.uses.Once.{frames, no_marks}
@@ -28,7 +28,7 @@ use Rattle.pass_proofs.proofs.split.uses.OnceLater.{later_once}
 use Rattle.pass_proofs.proofs.split.uses.OnceRamp.{ramp_once}
 use Rattle.pass_proofs.proofs.split.uses.Ramp.{ramp_unused}
 use Rattle.pass_proofs.proofs.split.rules.Reached.{led_is_flagged}
-use Rattle.ir_laws.specs.rules.replaced.Instructions.{KnowsItsLocals}
+use Rattle.rule_laws.specs.rules.replaced.Instructions.{KnowsItsLocals}
 use Rattle.pass_proofs.specs.split.rules.Parted.{IsDestroy, IsPartOf, IsRamp, IsResume}
 use Rattle.pass_proofs.specs.split.rules.Reached.{Entry}
 use Rattle.pass_proofs.specs.split.rules.Splittable.{IsSplittable}

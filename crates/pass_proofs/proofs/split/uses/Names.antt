@@ -5,7 +5,7 @@ use Rattle.pass_split.specs.Pieces.{begins_again, pass_block, pieced_phi, redire
 use Rattle.pass_split.specs.declared.origin.Origin.{Origin}
 use Rattle.ir_laws.proofs.facts.Truth.{itself, is_number}
 use Rattle.ir_laws.proofs.facts.local_rules.Woven.{other_number}
-use Rattle.ir_laws.proofs.rules.source_rules.Locals.{made_by}
+use Rattle.rule_laws.proofs.rules.source_rules.Locals.{made_by}
 use Rattle.ir_laws.proofs.facts.Lists.{phi_names, row_of, times_joined}
 use Rattle.ir_parts.specs.Contents.{result_of}
 use Rattle.pass_intrinsics.specs.Lowered.{lowered, names_taken, number_of_save, save_or_none}

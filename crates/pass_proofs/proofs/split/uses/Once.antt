@@ -4,10 +4,10 @@ use Rattle.std.specs.Prelude.{filter, map, if◌then◌else◌}
 use Rattle.pass_split.specs.Pieces.{begins_again}
 use Rattle.pass_split.specs.Reached.{is_flagged, kept_block, kept_blocks, kept_phi}
 use Rattle.rule_uses.specs.Undefined.{params_of}
-use Rattle.ir_laws.proofs.rules.local_rules.Names.{numbers}
-use Rattle.ir_laws.proofs.rules.local_rules.Woven.{apart_names}
+use Rattle.rule_laws.proofs.rules.local_rules.Names.{numbers}
+use Rattle.rule_laws.proofs.rules.local_rules.Woven.{apart_names}
 use Rattle.ir_laws.proofs.paths.source_rules.Locals.{Apart}
-use Rattle.ir_laws.proofs.rules.source_rules.Locals.{block_names, made_by, names_are}
+use Rattle.rule_laws.proofs.rules.source_rules.Locals.{block_names, made_by, names_are}
 use Rattle.ir_laws.proofs.facts.Lists.{phi_names, row_of, times_joined}
 use Rattle.flow_solver.specs.Paths.{IsListed}
 use Rattle.frame_layout.specs.declared.layout.Layout.{Layout}
@@ -30,7 +30,7 @@ use Rattle.pass_proofs.proofs.split.uses.Rules.{begin_result}
 use Rattle.ir_laws.proofs.facts.uses.Sources.{label_of}
 use Rattle.pass_proofs.specs.split.rules.Splittable.{IsSplittable}
 use Rattle.run_laws.specs.changed.Changed.{Each}
-use Rattle.ir_laws.proofs.rules.woven_rules.Once.{apart_once, names_below}
+use Rattle.rule_laws.proofs.rules.woven_rules.Once.{apart_once, names_below}
 use Rattle.ir_laws.proofs.paths.woven_rules.Once.{times_none}
 use Rattle.ir_laws.specs.facts.woven_rules.Pairs.{times}
 use Rattle.ir_laws.proofs.paths.woven_rules.Unbroken.{each_listed as each_of}

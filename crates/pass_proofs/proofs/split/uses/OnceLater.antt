@@ -10,8 +10,8 @@ use Rattle.pass_split.specs.Reached.{is_flagged, pruned, reached}
 use Rattle.pass_split.specs.declared.origin.Origin.{Origin}
 use Rattle.rule_uses.specs.Undefined.{params_of}
 use Rattle.ir_laws.proofs.facts.Truth.{equal_numbers, is_number}
-use Rattle.ir_laws.proofs.rules.local_rules.Names.{numbers}
-use Rattle.ir_laws.proofs.rules.source_rules.Locals.{block_names, made_by}
+use Rattle.rule_laws.proofs.rules.local_rules.Names.{numbers}
+use Rattle.rule_laws.proofs.rules.source_rules.Locals.{block_names, made_by}
 use Rattle.ir_laws.proofs.facts.Lists.{phi_names, row_of, times_joined}
 use Rattle.flow_solver.specs.Paths.{IsListed}
 use Rattle.frame_layout.specs.declared.layout.Layout.{Layout}
@@ -32,7 +32,7 @@ use Rattle.pass_proofs.proofs.split.edges.Labels.{is_mark, label_of_piece, one_h
 use Rattle.pass_proofs.proofs.split.edges.Pieces.{block_marks, blocks_times, piece_label}
 use Rattle.pass_proofs.proofs.split.uses.Names.{NamesFrame, blocks_within, fresh, fresh_low, fresh_once, kept_made, kept_values, one_more, rows_joined, values}
 use Rattle.pass_proofs.proofs.split.uses.Once.{blocks_kept, dropped, kept, kept_joined, kept_most, kept_none, labelled, labels_both, names_split, none_new, own_once}
-use Rattle.ir_laws.proofs.rules.uses.Once.{none_twice_by}
+use Rattle.rule_laws.proofs.rules.uses.Once.{none_twice_by}
 use Rattle.pass_proofs.proofs.split.uses.OnceFront.{allocas_kept, backs_empty, begin_again, dropped_there, no_back, not_it, one_most}
 use Rattle.pass_proofs.proofs.split.uses.Rules.{begin_named, begin_there}
 use Rattle.ir_laws.proofs.facts.uses.Sources.{label_of}
@@ -45,7 +45,7 @@ use Rattle.pass_proofs.specs.split.rules.Pieced.{ArePieces, ArePiecesOf}
 use Rattle.pass_proofs.specs.split.rules.Reached.{Edge, Entry, IsLedTo}
 use Rattle.pass_proofs.specs.split.rules.Splittable.{IsSplittable}
 use Rattle.run_laws.specs.changed.Changed.{Each}
-use Rattle.ir_laws.proofs.rules.woven_rules.Once.{apart_once}
+use Rattle.rule_laws.proofs.rules.woven_rules.Once.{apart_once}
 use Rattle.ir_laws.proofs.paths.woven_rules.Once.{times_listed, times_none}
 use Rattle.ir_laws.specs.facts.woven_rules.Pairs.{one_if, times}
 

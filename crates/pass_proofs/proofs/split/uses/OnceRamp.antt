@@ -7,9 +7,9 @@ use Rattle.pass_split.specs.Pieces.{next_after, pieces_of}
 use Rattle.pass_split.specs.Reached.{pruned, reached}
 use Rattle.pass_split.specs.declared.origin.Origin.{Origin}
 use Rattle.rule_uses.specs.Undefined.{params_of}
-use Rattle.ir_laws.proofs.rules.local_rules.Names.{numbers}
+use Rattle.rule_laws.proofs.rules.local_rules.Names.{numbers}
 use Rattle.ir_laws.proofs.facts.local_rules.Woven.{other_number}
-use Rattle.ir_laws.proofs.rules.source_rules.Locals.{block_names}
+use Rattle.rule_laws.proofs.rules.source_rules.Locals.{block_names}
 use Rattle.ir_laws.proofs.facts.Lists.{row_of, times_joined}
 use Rattle.frame_layout.specs.declared.layout.Layout.{Layout}
 use Rattle.ir_parts.specs.Locals.{locals_of}
@@ -25,12 +25,12 @@ use Rattle.pass_proofs.proofs.split.edges.Pieces.{block_marks, blocks_times}
 use Rattle.pass_proofs.proofs.split.uses.Assembled.{ok}
 use Rattle.pass_proofs.proofs.split.uses.Names.{blocks_within, fresh, fresh_low, fresh_once, one_more, values, values_joined}
 use Rattle.pass_proofs.proofs.split.uses.Once.{blocks_kept, frames, kept_most, labelled, labels_both, names_split, no_marks, none_new, own_once}
-use Rattle.ir_laws.proofs.rules.uses.Once.{none_twice_by}
+use Rattle.rule_laws.proofs.rules.uses.Once.{none_twice_by}
 use Rattle.ir_laws.proofs.facts.uses.Sources.{label_of}
 use Rattle.pass_proofs.proofs.split.rules.Cutting.{cut_blocks}
 use Rattle.pass_proofs.specs.split.rules.Pieced.{ArePiecesOf}
 use Rattle.pass_proofs.specs.split.rules.Splittable.{IsSplittable}
-use Rattle.ir_laws.proofs.rules.woven_rules.Once.{apart_once}
+use Rattle.rule_laws.proofs.rules.woven_rules.Once.{apart_once}
 use Rattle.ir_laws.specs.facts.woven_rules.Pairs.{one_if, times}
 
 module _ (m : Module) (k : ℕ) (f : Function) (begin : ℕ) (split : IsSplittable m k f begin) (layout : Layout) where

@@ -16,9 +16,9 @@ use Rattle.ir_model.specs.declared.module.Block.{Block}
 use Rattle.ir_model.specs.declared.module.Function.{Function}
 use Rattle.ir_model.specs.declared.operand.Callee.{Callee}
 use Rattle.ir_model.specs.declared.operand.Intrinsic.{Intrinsic}
-use Rattle.ir_laws.proofs.frames.uses.Quiet.{suspends}
+use Rattle.rule_laws.proofs.frames.uses.Quiet.{suspends}
 use Rattle.pass_proofs.proofs.split.uses.Sources.{NoSuspends}
-use Rattle.ir_laws.proofs.frames.replaced.Saves.{all_one}
+use Rattle.rule_laws.proofs.frames.replaced.Saves.{all_one}
 
 module _ (s : Shape) (part : Part) where
   abbrev origin_of : Block → Origin

@@ -2,7 +2,7 @@
 use Rattle.std.proofs.Common.{◌≡◌, inl, inr, ℕ, ◌+◌, Bool, true, List, [], ◌∷◌, length, refl, sym, ap, ◌∙◌, subst, arith}
 use Rattle.std.specs.List.{cons_option}
 use Rattle.std.specs.Prelude.{None, Option, Some, filter, filter_map, map, slice_get, unwrap_or, ◌==◌}
-use Rattle.ir_laws.proofs.frames.crossing.Paths.{edge_from}
+use Rattle.rule_laws.proofs.frames.crossing.Paths.{edge_from}
 use Rattle.pass_split.specs.Parts.{done_block}
 use Rattle.pass_split.specs.Pieces.{comes_from, incoming_from, origin_in, pieced_incoming, pieced_phi}
 use Rattle.pass_split.specs.Reached.{is_flagged, kept_block, kept_phi, pruned, reached}
@@ -10,7 +10,7 @@ use Rattle.pass_split.specs.declared.origin.Origin.{Origin}
 use Rattle.rule_uses.specs.Undefined.{Entry, Next, ReachesWithout}
 use Rattle.rule_uses.specs.Uses.{block_values, locals_in, made_by_instrs, made_by_phis, phi_values, values_at, values_in}
 use Rattle.ir_laws.proofs.facts.Truth.{itself}
-use Rattle.ir_laws.proofs.rules.source_rules.Locals.{found_in}
+use Rattle.rule_laws.proofs.rules.source_rules.Locals.{found_in}
 use Rattle.flow_solver.specs.Paths.{IsListed}
 use Rattle.ir_parts.specs.Contents.{ending_operands}
 use Rattle.pass_intrinsics.specs.declared.shape.Part.{Part}
@@ -24,12 +24,12 @@ use Rattle.ir_model.specs.declared.module.Block.{Block}
 use Rattle.ir_model.specs.declared.module.Function.{Function}
 use Rattle.ir_model.specs.declared.operand.Operand.{Operand}
 use Rattle.ir_paths.specs.Paths.{targets}
-use Rattle.ir_laws.proofs.rules.uses.Plain.{IsPlain}
-use Rattle.ir_laws.proofs.frames.uses.Quiet.{IsQuiet}
+use Rattle.rule_laws.proofs.rules.uses.Plain.{IsPlain}
+use Rattle.rule_laws.proofs.frames.uses.Quiet.{IsQuiet}
 use Rattle.ir_laws.proofs.paths.uses.Sources.{IsIn}
 use Rattle.pass_proofs.proofs.split.uses.Sources.{NoSuspends, piece_there}
 use Rattle.ir_laws.proofs.facts.Numbers.{Source}
-use Rattle.ir_laws.proofs.rules.uses.Unused.{IsUnused}
+use Rattle.rule_laws.proofs.rules.uses.Unused.{IsUnused}
 use Rattle.pass_proofs.proofs.split.uses.Walk.{IsCutUp, IsLeft, IsWalked, enter}
 use Rattle.ir_laws.proofs.paths.replaced.Known.{listed_mapped}
 use Rattle.pass_proofs.specs.split.rules.Pieced.{ArePieces, BeginsAgain, Ends, Marks, Returns, Stays, Suspends, Transfers}

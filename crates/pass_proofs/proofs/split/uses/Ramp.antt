@@ -14,15 +14,15 @@ use Rattle.ir_model.specs.declared.module.Function.{Function}
 use Rattle.ir_model.specs.declared.module.Module.{Module}
 use Rattle.pass_proofs.proofs.split.edges.Targets.{part_tabled}
 use Rattle.pass_proofs.proofs.split.uses.Assembled.{blocks_grouped, first_kept, ok, pieced}
-use Rattle.ir_laws.proofs.rules.uses.Fine.{IsUnusedIn}
+use Rattle.rule_laws.proofs.rules.uses.Fine.{IsUnusedIn}
 use Rattle.pass_proofs.proofs.split.uses.Groups.{groups}
 use Rattle.ir_laws.proofs.paths.uses.Groups.{joined}
-use Rattle.ir_laws.proofs.rules.uses.RampMade.{ramp_made}
+use Rattle.rule_laws.proofs.rules.uses.RampMade.{ramp_made}
 use Rattle.pass_proofs.proofs.split.uses.Paths.{Comes, end_unused, phi_unused, unused}
-use Rattle.ir_laws.proofs.rules.uses.Plain.{IsPlain}
-use Rattle.ir_laws.proofs.frames.uses.Quiet.{IsQuiet}
-use Rattle.ir_laws.proofs.rules.uses.RampQuiet.{IsMade}
-use Rattle.ir_laws.proofs.frames.uses.RampQuiet.{Without, ramp_quiet}
+use Rattle.rule_laws.proofs.rules.uses.Plain.{IsPlain}
+use Rattle.rule_laws.proofs.frames.uses.Quiet.{IsQuiet}
+use Rattle.rule_laws.proofs.rules.uses.RampQuiet.{IsMade}
+use Rattle.rule_laws.proofs.frames.uses.RampQuiet.{Without, ramp_quiet}
 use Rattle.pass_proofs.proofs.split.uses.Rules.{begin_named, begin_plain}
 use Rattle.ir_laws.proofs.facts.Numbers.{Source}
 use Rattle.pass_proofs.proofs.split.uses.Walk.{AtFront, enter}

@@ -2,18 +2,18 @@
 use Rattle.std.proofs.Common.{◌≡◌, ◌⊎◌, inl, inr, ℕ, suc, ◌+◌, Bool, true, false, List, [], ◌∷◌, ◌++◌, length, refl, sym, ap, ◌∙◌, subst, arith, append_assoc, length-append}
 use Rattle.std.specs.List.{list_all}
 use Rattle.std.specs.Prelude.{None, Option, Some, map, option_to_list, slice_get, unwrap_or, if◌then◌else◌}
-use Rattle.ir_laws.proofs.rules.counted.PartFacts.{InstrPasses, PhiPasses, block_passes}
+use Rattle.rule_laws.proofs.rules.counted.PartFacts.{InstrPasses, PhiPasses, block_passes}
 use Rattle.ir_laws.proofs.paths.counted.PartFacts.{all_listed}
 use Rattle.rule_shape.specs.Switches.{end_label}
 use Rattle.rule_shape.specs.Uses.{phi_operands}
 use Rattle.rule_uses.specs.Uses.{local_of, locals_in}
-use Rattle.ir_laws.proofs.rules.renamed.Uses.{result_spelt}
-use Rattle.ir_laws.proofs.rules.local_rules.Names.{numbers}
+use Rattle.rule_laws.proofs.rules.renamed.Uses.{result_spelt}
+use Rattle.rule_laws.proofs.rules.local_rules.Names.{numbers}
 use Rattle.ir_laws.proofs.facts.Truth.{and_first, and_second, holds, is_number}
-use Rattle.ir_laws.proofs.rules.local_rules.Woven.{apart_names}
+use Rattle.rule_laws.proofs.rules.local_rules.Woven.{apart_names}
 use Rattle.ir_laws.proofs.paths.source_rules.Locals.{Apart, listed_right}
-use Rattle.ir_laws.proofs.rules.source_rules.Locals.{names_are, same_instr}
-use Rattle.ir_laws.proofs.rules.source_rules.Once.{one_begin}
+use Rattle.rule_laws.proofs.rules.source_rules.Locals.{names_are, same_instr}
+use Rattle.rule_laws.proofs.rules.source_rules.Once.{one_begin}
 use Rattle.flow_solver.specs.Paths.{IsListed}
 use Rattle.frame_layout.specs.declared.layout.Layout.{Layout}
 use Rattle.ir_parts.specs.Contents.{ending_operands, instr_operands, result_of}
@@ -36,16 +36,16 @@ use Rattle.ir_model.specs.declared.operand.Intrinsic.{Intrinsic}
 use Rattle.ir_model.specs.declared.operand.Operand.{Operand}
 use Rattle.ir_paths.specs.Windows.{instr_at, instr_in, is_call_of}
 use Rattle.ir_paths.specs.declared.point.Point.{Point}
-use Rattle.ir_laws.proofs.frames.uses.Lowering.{IsRuled, ruled_lowered}
+use Rattle.rule_laws.proofs.frames.uses.Lowering.{IsRuled, ruled_lowered}
 use Rattle.ir_laws.proofs.paths.uses.Paths.{place_of, there_listed}
-use Rattle.ir_laws.proofs.rules.uses.Plain.{FitsScalar, IsPlain, ending_scalar, is_plain_kind, scalar_local}
-use Rattle.ir_laws.proofs.frames.uses.Quiet.{AreTold, suspends}
+use Rattle.rule_laws.proofs.rules.uses.Plain.{FitsScalar, IsPlain, ending_scalar, is_plain_kind, scalar_local}
+use Rattle.rule_laws.proofs.frames.uses.Quiet.{AreTold, suspends}
 use Rattle.pass_proofs.proofs.split.uses.Sources.{NoSuspends}
-use Rattle.ir_laws.proofs.rules.uses.Switched.{IsSwitched, is_switch_then, not_in_instr, not_in_phi, not_switched_on, suspend_result, switched}
+use Rattle.rule_laws.proofs.rules.uses.Switched.{IsSwitched, is_switch_then, not_in_instr, not_in_phi, not_switched_on, suspend_result, switched}
 use Rattle.ir_laws.proofs.paths.replaced.Known.{of_listed}
-use Rattle.ir_laws.proofs.rules.replaced.OwnKinds.{MakesIn, PhiMakesIn, kind_made_by, own_kinds}
-use Rattle.ir_laws.proofs.rules.replaced.Passed.{IsAll}
-use Rattle.ir_laws.proofs.rules.replaced.Replaced.{is_the_ptr}
+use Rattle.rule_laws.proofs.rules.replaced.OwnKinds.{MakesIn, PhiMakesIn, kind_made_by, own_kinds}
+use Rattle.rule_laws.proofs.rules.replaced.Passed.{IsAll}
+use Rattle.rule_laws.proofs.rules.replaced.Replaced.{is_the_ptr}
 use Rattle.pass_proofs.specs.split.rules.Splittable.{IsSplittable}
 use Rattle.rule_types.specs.Signatures.{are_wanted, calls_otherwise, is_result}
 use Rattle.rule_types.specs.Wants.{intrinsic_params}

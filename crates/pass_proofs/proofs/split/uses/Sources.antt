@@ -16,7 +16,7 @@ use Rattle.ir_model.specs.declared.instr.Terminator.{Terminator}
 use Rattle.ir_model.specs.declared.module.Block.{Block}
 use Rattle.ir_model.specs.declared.operand.Callee.{Callee}
 use Rattle.ir_model.specs.declared.operand.Intrinsic.{Intrinsic}
-use Rattle.ir_laws.proofs.frames.uses.Quiet.{suspends}
+use Rattle.rule_laws.proofs.frames.uses.Quiet.{suspends}
 use Rattle.pass_proofs.specs.split.rules.Pieced.{ArePieces, BeginsAgain, Ends, Marks, Returns, Stays, Suspends, Transfers}
 use Rattle.run_laws.specs.changed.Changed.{Each}
 use Rattle.ir_laws.proofs.facts.uses.Sources.{label_of}

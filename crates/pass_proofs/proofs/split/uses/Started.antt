@@ -2,21 +2,21 @@
 use Rattle.std.proofs.Common.{◌≡◌, ◌⊎◌, inl, inr, ℕ, suc, Bool, true, false, List, [], ◌∷◌, refl, sym, ap, ◌∙◌, subst}
 use Rattle.std.specs.Prelude.{None, Option, Some, filter, is_some, not, option_to_list, slice_get, ◌==◌, ◌||◌, if◌then◌else◌}
 use Rattle.flow_blocks.specs.Reach.{Edge as ReachEdge, IsReached, Start}
-use Rattle.ir_laws.proofs.frames.crossing.Defined.{defined_before}
-use Rattle.ir_laws.proofs.frames.crossing.Paths.{point_there}
-use Rattle.ir_laws.proofs.rules.counted.PartFacts.{InstrPasses, block_passes}
+use Rattle.rule_laws.proofs.frames.crossing.Defined.{defined_before}
+use Rattle.rule_laws.proofs.frames.crossing.Paths.{point_there}
+use Rattle.rule_laws.proofs.rules.counted.PartFacts.{InstrPasses, block_passes}
 use Rattle.ir_base.specs.declared.outcome.Place.{Place}
 use Rattle.rule_shape.specs.Places.{is_the}
 use Rattle.pass_front.specs.Front.{allocas_of, is_alloca}
 use Rattle.pass_split.specs.Reached.{entry_of}
 use Rattle.ir_laws.proofs.facts.Truth.{equal_numbers}
-use Rattle.ir_laws.proofs.rules.renamed.Uses.{block_edge}
+use Rattle.rule_laws.proofs.rules.renamed.Uses.{block_edge}
 use Rattle.ir_laws.proofs.paths.source_rules.Locals.{listed_left, listed_right}
-use Rattle.ir_laws.proofs.rules.source_rules.Locals.{made_by, own_label}
+use Rattle.rule_laws.proofs.rules.source_rules.Locals.{made_by, own_label}
 use Rattle.ir_laws.proofs.facts.Lists.{row_of}
 use Rattle.flow_solver.specs.Paths.{IsListed}
 use Rattle.ir_parts.specs.Contents.{result_of}
-use Rattle.ir_laws.specs.rules.function_rules.Kept.{KeepsFunctionRules}
+use Rattle.rule_laws.specs.rules.function_rules.Kept.{KeepsFunctionRules}
 use Rattle.pass_intrinsics.specs.Shapes.{suspends_of}
 use Rattle.pass_intrinsics.specs.declared.shape.SuspendPoint.{SuspendPoint}
 use Rattle.ir_model.specs.Calls.{first_result}
@@ -34,14 +34,14 @@ use Rattle.rule_locals.specs.Entries.{allocates_late, is_past_entry}
 use Rattle.rule_locals.specs.Instrs.{on_instr}
 use Rattle.rule_locals.specs.Markers.{block_size, made_size, slot_size}
 use Rattle.ir_locals.specs.Tables.{first_in, or_first}
-use Rattle.ir_laws.proofs.frames.edges.Shaped.{point_home}
-use Rattle.ir_laws.proofs.frames.uses.Apart.{suspend_apart}
+use Rattle.rule_laws.proofs.frames.edges.Shaped.{point_home}
+use Rattle.rule_laws.proofs.frames.uses.Apart.{suspend_apart}
 use Rattle.ir_laws.proofs.paths.uses.Paths.{place_of}
-use Rattle.ir_laws.proofs.rules.uses.Plain.{IsPlain, is_plain_kind}
-use Rattle.ir_laws.proofs.rules.uses.Switched.{switched}
+use Rattle.rule_laws.proofs.rules.uses.Plain.{IsPlain, is_plain_kind}
+use Rattle.rule_laws.proofs.rules.uses.Switched.{switched}
 use Rattle.ir_laws.proofs.paths.replaced.Known.{of_listed}
 use Rattle.pass_proofs.specs.split.rules.Reached.{Edge, Entry, IsLedTo}
-use Rattle.ir_laws.specs.frames.replaced.Splittable.{HasOwnEdges, may_cross}
+use Rattle.rule_laws.specs.frames.replaced.Splittable.{HasOwnEdges, may_cross}
 use Rattle.pass_proofs.specs.split.rules.Splittable.{IsSplittable}
 use Rattle.frame_crossing.specs.Crossing.{suspends_of as suspend_points}
 use Rattle.frame_crossing.specs.Paths.{IsDefinedBefore, IsNeeded, IsNeededBehind, phis_at}

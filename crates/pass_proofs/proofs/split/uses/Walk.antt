@@ -10,7 +10,7 @@ use Rattle.rule_uses.specs.Uses.{locals_in, made_by_instrs, made_by_phis, phi_va
 use Rattle.ir_laws.proofs.facts.Truth.{equal_numbers}
 use Rattle.ir_laws.proofs.facts.Members.{each_right}
 use Rattle.ir_laws.proofs.paths.source_rules.Locals.{Apart}
-use Rattle.ir_laws.proofs.rules.source_rules.Locals.{made_by}
+use Rattle.rule_laws.proofs.rules.source_rules.Locals.{made_by}
 use Rattle.ir_laws.proofs.facts.Lists.{row_of}
 use Rattle.flow_solver.specs.Paths.{IsListed}
 use Rattle.ir_parts.specs.Contents.{ending_operands}
@@ -32,15 +32,15 @@ use Rattle.ir_model.specs.declared.operand.Callee.{Callee}
 use Rattle.ir_model.specs.declared.operand.Intrinsic.{Intrinsic}
 use Rattle.ir_model.specs.declared.operand.Operand.{Operand}
 use Rattle.ir_paths.specs.Paths.{targets}
-use Rattle.ir_laws.proofs.frames.uses.Lowering.{ComesBy, IsLowered, OfBegin, OfOperand}
-use Rattle.ir_laws.proofs.rules.uses.Plain.{IsPlain}
-use Rattle.ir_laws.proofs.frames.uses.Quiet.{AreTold, IsQuiet, suspends}
+use Rattle.rule_laws.proofs.frames.uses.Lowering.{ComesBy, IsLowered, OfBegin, OfOperand}
+use Rattle.rule_laws.proofs.rules.uses.Plain.{IsPlain}
+use Rattle.rule_laws.proofs.frames.uses.Quiet.{AreTold, IsQuiet, suspends}
 use Rattle.pass_proofs.proofs.split.uses.Sources.{HasPieces, IsFirst, NoSuspends, ends_suspended, first_piece, origin_begins, origin_marks, origin_returns, origin_stays, passes_on, piece_there}
 use Rattle.ir_laws.proofs.paths.uses.Sources.{IsIn}
 use Rattle.ir_laws.proofs.facts.Numbers.{Source}
 use Rattle.ir_laws.proofs.facts.uses.Sources.{label_of}
-use Rattle.ir_laws.proofs.rules.uses.Unused.{IsUnused}
-use Rattle.ir_laws.proofs.frames.uses.Unused.{all_unused, joined_made, row_made, still_made, unused_joined, unused_made}
+use Rattle.rule_laws.proofs.rules.uses.Unused.{IsUnused}
+use Rattle.rule_laws.proofs.frames.uses.Unused.{all_unused, joined_made, row_made, still_made, unused_joined, unused_made}
 use Rattle.pass_proofs.proofs.split.rules.Local.{same_term_operands}
 use Rattle.pass_proofs.specs.split.rules.Pieced.{ArePieces, BeginsAgain, Ends, Marks, Returns, Stays, Suspends, Transfers}
 use Rattle.run_laws.specs.changed.Changed.{Each}

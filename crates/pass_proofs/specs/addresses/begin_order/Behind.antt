@@ -6,7 +6,7 @@ use Rattle.ir_model.specs.Names.{position_of}
 use Rattle.ir_model.specs.declared.instr.Incoming.{Incoming}
 use Rattle.ir_model.specs.declared.module.Function.{Function}
 use Rattle.ir_model.specs.declared.operand.Operand.{Operand}
-use Rattle.ir_laws.specs.rules.woven_rules.Weaving.{IsThere}
+use Rattle.rule_laws.specs.rules.woven_rules.Weaving.{IsThere}
 
 -- ---- uses
 

@@ -7,7 +7,7 @@ use Rattle.ir_model.specs.declared.module.Function.{Function}
 use Rattle.run_laws.specs.changed.Changed.{Each}
 use Rattle.rule_values.specs.Kinds.{value_kind}
 use Rattle.rule_values.specs.declared.kinds.Kind.{Kind}
-use Rattle.ir_laws.specs.rules.woven_rules.Weaving.{Weaving}
+use Rattle.rule_laws.specs.rules.woven_rules.Weaving.{Weaving}
 
 -- the name is that of a slot in the frame
 abbrev pub lies_in_frame : List (Option ℕ) → ℕ → Bool

@@ -10,7 +10,7 @@ use Rattle.pass_cells.specs.Plan.{plan_of}
 use Rattle.pass_cells.specs.Written.{kept_allocas, link_allocas}
 use Rattle.pass_cells.specs.declared.plan.Plan.{Plan}
 use Rattle.rule_values.specs.Kinds.{value_kind}
-use Rattle.ir_laws.specs.rules.woven_rules.Weaving.{Weaving}
+use Rattle.rule_laws.specs.rules.woven_rules.Weaving.{Weaving}
 
 -- the allocas at the front of the entry block
 abbrev pub front_allocas : Plan → List Instr

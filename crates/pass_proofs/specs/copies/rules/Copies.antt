@@ -12,7 +12,7 @@ use Rattle.ir_model.specs.declared.module.Function.{Function}
 use Rattle.ir_locals.specs.Tables.{first_in}
 use Rattle.run_laws.specs.changed.Changed.{Each}
 use Rattle.rule_values.specs.Kinds.{block_kind}
-use Rattle.ir_laws.specs.rules.woven_rules.Weaving.{IsThere, Weaving}
+use Rattle.rule_laws.specs.rules.woven_rules.Weaving.{IsThere, Weaving}
 
 -- the slots that get temporaries
 abbrev pub copied_slots : Function → List Bool → List Bool → List ℕ → List EarlySlot

@@ -4,7 +4,7 @@ use Rattle.run_agreement.specs.Costs.{IsNear, Through}
 use Rattle.ir_base.specs.declared.outcome.Word.{Word}
 use Rattle.run_source.specs.declared.state.State.{State}
 use Rattle.pass_early.specs.Early.{early_module}
-use Rattle.pass_early_proof.specs.early_states.Beside.{IsEarlyOf, IsNearlyEarlyOf, source_machine}
+use Rattle.pass_proofs.specs.early.early_states.Beside.{IsEarlyOf, IsNearlyEarlyOf, source_machine}
 use Rattle.run_states.specs.sound_states.Sound.{IsSound}
 use Rattle.pass_proofs.specs.edges.states.MovedState.{edges_split, moved_state}
 use Rattle.ir_model.specs.declared.module.Frame.{Frame}

@@ -2,7 +2,7 @@
 use Rattle.std.specs.Prelude.{◌≡◌, ℕ, true, None, Some, map, slice_get, if◌then◌else◌}
 use Rattle.rule_shape.specs.Switches.{wrong_switch}
 use Rattle.pass_proofs.specs.edges.rules.Phis.{ArePhisEnteredByJumps}
-use Rattle.ir_laws.specs.rules.function_rules.Kept.{KeepsFunctionRules}
+use Rattle.rule_laws.specs.rules.function_rules.Kept.{KeepsFunctionRules}
 use Rattle.ir_model.specs.declared.module.Function.{Function}
 use Rattle.ir_model.specs.declared.module.Module.{Module}
 use Rattle.pass_exits.specs.ExitBlocks.{with_exit_blocks}

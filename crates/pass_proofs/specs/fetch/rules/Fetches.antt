@@ -16,8 +16,8 @@ use Rattle.pass_fetch.specs.declared.fetch.Fetch.{Fetch}
 use Rattle.rule_values.specs.Fits.{is_scalar}
 use Rattle.rule_values.specs.Kinds.{block_kind, kind_of, value_kind}
 use Rattle.rule_values.specs.declared.kinds.Kind.{Kind}
-use Rattle.ir_laws.specs.rules.woven_rules.Blocks.{is_mark}
-use Rattle.ir_laws.specs.rules.woven_rules.Weaving.{Weaving}
+use Rattle.rule_laws.specs.rules.woven_rules.Blocks.{is_mark}
+use Rattle.rule_laws.specs.rules.woven_rules.Weaving.{Weaving}
 
 -- ---- a fetch
 

@@ -17,9 +17,9 @@ use Rattle.pass_frames.specs.Tables.{label_flags}
 use Rattle.run_laws.specs.changed.Changed.{Each}
 use Rattle.rule_values.specs.Kinds.{value_kind}
 use Rattle.rule_values.specs.declared.kinds.Kind.{Kind}
-use Rattle.ir_laws.specs.rules.woven_rules.Weaving.{IsThere}
-use Rattle.ir_laws.specs.frames.begin_order.Behind.{AreAgainBehind}
-use Rattle.ir_laws.specs.rules.begin_order.Behind.{access_operands, other_operands}
+use Rattle.rule_laws.specs.rules.woven_rules.Weaving.{IsThere}
+use Rattle.rule_laws.specs.frames.begin_order.Behind.{AreAgainBehind}
+use Rattle.rule_laws.specs.rules.begin_order.Behind.{access_operands, other_operands}
 use Rattle.pass_proofs.specs.addresses.begin_order.Behind.{IsBehind, IsIncomingBehind}
 
 -- the labels of begin's block and of the blocks before it

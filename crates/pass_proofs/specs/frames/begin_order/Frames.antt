@@ -9,7 +9,7 @@ use Rattle.ir_laws.specs.paths.threads.Labels.{HasNamedLabels}
 use Rattle.pass_proofs.specs.edges.paths.Phis.{AreLabelsOnce}
 use Rattle.pass_edges.specs.EdgeBlocks.{with_edge_blocks}
 use Rattle.frame_layout.specs.declared.layout.Layout.{Layout}
-use Rattle.ir_laws.specs.rules.function_rules.Kept.{KeepsFunctionRules}
+use Rattle.rule_laws.specs.rules.function_rules.Kept.{KeepsFunctionRules}
 use Rattle.pass_intrinsics.specs.Shapes.{suspends_of}
 use Rattle.ir_model.specs.Calls.{first_result}
 use Rattle.ir_model.specs.declared.module.Function.{Function}
@@ -18,10 +18,10 @@ use Rattle.ir_model.specs.declared.operand.Intrinsic.{Intrinsic}
 use Rattle.frame_classes.specs.declared.class.SlotClass.{SlotClass}
 use Rattle.pass_frames.specs.Framed.{celled}
 use Rattle.pass_frames.specs.Tables.{class_flags, offset_at, with_slot_offsets}
-use Rattle.ir_laws.specs.rules.replaced.Splittable.{AreBlocksBegun}
-use Rattle.ir_laws.specs.frames.replaced.Splittable.{HasOwnEdges}
+use Rattle.rule_laws.specs.rules.replaced.Splittable.{AreBlocksBegun}
+use Rattle.rule_laws.specs.frames.replaced.Splittable.{HasOwnEdges}
 use Rattle.run_laws.specs.changed.Changed.{Each}
-use Rattle.ir_laws.specs.rules.woven_rules.Pairs.{AreIncomingOnce}
+use Rattle.rule_laws.specs.rules.woven_rules.Pairs.{AreIncomingOnce}
 
 -- the offsets of slots alone, for so many names
 abbrev pub slot_offsets : Layout → Contents → ℕ → List (Option ℕ)

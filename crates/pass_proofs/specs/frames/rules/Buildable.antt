@@ -2,13 +2,13 @@
 use Rattle.std.specs.Prelude.{◌≡◌, ◌<◌, ◌^◌, ℕ, true, List, None, Some, length}
 use Rattle.pass_proofs.specs.frames.begin_order.Behind.{AreBlocksBehind}
 use Rattle.pass_proofs.specs.frames.begin_order.Frames.{slot_offsets}
-use Rattle.ir_laws.specs.rules.counted.Widths.{first_other_width}
+use Rattle.rule_laws.specs.rules.counted.Widths.{first_other_width}
 use Rattle.rule_shape.specs.OneOfEach.{wrong_call}
 use Rattle.rule_shape.specs.Switches.{wrong_switch}
 use Rattle.frame_contents.specs.Frames.{AreContents}
 use Rattle.frame_contents.specs.declared.contents.Contents.{Contents}
 use Rattle.frame_layout.specs.declared.layout.Layout.{Layout}
-use Rattle.ir_laws.specs.rules.function_rules.Kept.{KeepsFunctionRules}
+use Rattle.rule_laws.specs.rules.function_rules.Kept.{KeepsFunctionRules}
 use Rattle.ir_model.specs.Calls.{first_result}
 use Rattle.ir_model.specs.declared.module.Function.{Function}
 use Rattle.ir_model.specs.declared.module.Module.{Module}

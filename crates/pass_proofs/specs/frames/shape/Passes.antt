@@ -1,7 +1,7 @@
 -- Lemmas on passes.
 use Rattle.std.specs.Prelude.{◌≡◌, ℕ, List, None, length, ◌∷◌}
 use Rattle.pass_proofs.specs.addresses.rules.Addresses.{AddressesFit}
-use Rattle.ir_laws.specs.rules.counted.Widths.{first_other_width}
+use Rattle.rule_laws.specs.rules.counted.Widths.{first_other_width}
 use Rattle.pass_proofs.specs.copies.rules.Copies.{CopiesFit, copied_slots}
 use Rattle.frame_contents.specs.declared.contents.Contents.{Contents}
 use Rattle.frame_layout.specs.declared.layout.Layout.{Layout}

@@ -44,7 +44,8 @@ index_line s =
 -- where the part goes on at the suspend of a number: a block that jumps to the label of its edge
 pub record GoesBack (s : Shape) (part : Part) (f g : Function) (j : ℕ) (p : SuspendPoint) : Type 0 where
   pub back : JumpsOn g (position_of g (back_label s j)) (redirected s (or_zero (going_on part (Some p))))
-  pub leads : Leads s part f g (position_of f p.block) (position_of g (back_label s j)) (or_zero (going_on part (Some p)))
+  pub leads : Leads s part f g (position_of f p.block) (position_of g (back_label s j))
+      (or_zero (going_on part (Some p)))
 
 -- the part begins with the allocas and the index, whose switch leads back to each suspend at which it may go on
 pub record HasEntry (s : Shape) (part : Part) (f g : Function) : Type 0 where
@@ -53,4 +54,5 @@ pub record HasEntry (s : Shape) (part : Part) (f g : Function) : Type 0 where
   pub switch : fetch g 0 (length (allocas_of f.blocks) + 2) ≡ AtTerm (entry_term s (reached f) part)
   pub slot : slot_name s < length g.names
   pub index : index_name s < length g.names
-  pub entered : (j : ℕ) (p : SuspendPoint) → slice_get s.suspends j ≡ Some p → is_entered (reached f) part p ≡ true → GoesBack s part f g j p
+  pub entered : (j : ℕ) (p : SuspendPoint) → slice_get s.suspends j ≡ Some p → is_entered (reached f) part p ≡ true
+      → GoesBack s part f g j p

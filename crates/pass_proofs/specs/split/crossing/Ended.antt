@@ -4,7 +4,7 @@ use Rattle.pass_intrinsics.specs.Shapes.{suspends_of}
 use Rattle.pass_intrinsics.specs.declared.shape.SuspendPoint.{SuspendPoint}
 use Rattle.ir_model.specs.declared.module.Function.{Function}
 use Rattle.pass_proofs.specs.split.rules.Reached.{IsLedTo}
-use Rattle.ir_laws.specs.frames.replaced.Splittable.{IsEndedFirst}
+use Rattle.rule_laws.specs.frames.replaced.Splittable.{IsEndedFirst}
 
 -- from the edges of suspends that are reached no path leads to a return outside the end's block
 abbrev pub AreEndedFirst : Function → Type 0

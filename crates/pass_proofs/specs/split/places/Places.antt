@@ -2,7 +2,7 @@
 use Rattle.std.specs.Prelude.{◌≡◌, ℕ, true, false, List, [], map, length, slice_get, Some, None, ◌+◌, ◌∷◌, ◌++◌, ◌≤◌}
 use Rattle.frame_layout.specs.declared.layout.Layout.{Layout}
 use Rattle.flow_solver.specs.Paths.{IsListed}
-use Rattle.ir_laws.specs.rules.function_rules.Kept.{KeepsFunctionRules}
+use Rattle.rule_laws.specs.rules.function_rules.Kept.{KeepsFunctionRules}
 use Rattle.ir_model.specs.Names.{is_local, position_of}
 use Rattle.ir_model.specs.Ty.{Ty}
 use Rattle.ir_model.specs.declared.instr.Case.{Case}
@@ -36,8 +36,10 @@ use Rattle.run_step.specs.Step.{AtInstr, AtTerm, fetch, incoming_from, label_of,
 
 -- g is one of the functions that splitting makes of a function f that breaks no rule, by a shape and as a part
 pub data IsCodeOf (f g : Function) : Shape → Part → Type 0 where
-  OfCoroutine : (m : Module) (k : ℕ) (layout : Layout) (begin : ℕ) (part : Part) → IsSplittable m k f begin → IsPartOf (shape_of f layout) f part g → IsCodeOf f g (shape_of f layout) part
-  OfPlain : (m : Module) (k : ℕ) → f.coroutine ≡ false → KeepsFunctionRules m k f → g ≡ plain_of (plain_shape f) f → IsCodeOf f g (plain_shape f) Part.Ramp
+  OfCoroutine : (m : Module) (k : ℕ) (layout : Layout) (begin : ℕ) (part : Part) → IsSplittable m k f begin
+      → IsPartOf (shape_of f layout) f part g → IsCodeOf f g (shape_of f layout) part
+  OfPlain : (m : Module) (k : ℕ) → f.coroutine ≡ false → KeepsFunctionRules m k f → g ≡ plain_of (plain_shape f) f
+      → IsCodeOf f g (plain_shape f) Part.Ramp
 
 -- what phis take where their block is entered from a label: the name that is set, its type and the operand
 abbrev pub entering : ℕ → List Phi → List (ℕ × (Ty × Operand))
@@ -78,7 +80,8 @@ pub record IsPlace (s : Shape) (part : Part) (f g : Function) (block at piece of
   pub holds : target.instrs ≡ before ++ first.instrs
   pub far : length before ≡ offset
   pub term : target.term ≡ first.term
-  pub origin : origin_in s part (Origin.Piece source.label) source.instrs ≡ origin_in s part (Origin.Piece target.label) ahead
+  pub origin : origin_in s part (Origin.Piece source.label) source.instrs ≡ origin_in s part
+      (Origin.Piece target.label) ahead
   pub others : (c : Block) → IsListed c rest → IsNamed g c.label → HasLike g c
   pub low : length f.names ≤ new
   pub high : last ≤ length g.names
@@ -88,7 +91,8 @@ pub record IsPlace (s : Shape) (part : Part) (f g : Function) (block at piece of
 -- an edge from a block of f to a label is one of g, from the block at a position, and phis take the same
 pub record Enters (s : Shape) (part : Part) (f g : Function) (block from label : ℕ) : Type 0 where
   pub place : IsPlace s part f g (position_of f label) 0 (position_of g label) 0
-  pub phis : entering (label_of (slice_get g.blocks from)) (phis_of (slice_get g.blocks (position_of g label))) ≡ entering (label_of (slice_get f.blocks block)) (phis_of (slice_get f.blocks (position_of f label)))
+  pub phis : entering (label_of (slice_get g.blocks from)) (phis_of (slice_get g.blocks (position_of g label))) ≡
+      entering (label_of (slice_get f.blocks block)) (phis_of (slice_get f.blocks (position_of f label)))
 
 -- the block at a position has no phis and only jumps to a label
 pub record JumpsOn (g : Function) (at label : ℕ) : Type 0 where
@@ -98,7 +102,8 @@ pub record JumpsOn (g : Function) (at label : ℕ) : Type 0 where
 -- so does an edge that is redirected: straight, or through the mark of the end
 pub data Leads (s : Shape) (part : Part) (f g : Function) (block from label : ℕ) : Type 0 where
   Straight : redirected s label ≡ label → Enters s part f g block from label → Leads s part f g block from label
-  ThroughDone : label ≡ s.end → redirected s label ≡ done_label s → JumpsOn g (position_of g (done_label s)) label → Enters s part f g block (position_of g (done_label s)) label → Leads s part f g block from label
+  ThroughDone : label ≡ s.end → redirected s label ≡ done_label s → JumpsOn g (position_of g (done_label s)) label
+      → Enters s part f g block (position_of g (done_label s)) label → Leads s part f g block from label
 
 -- ---- instructions
 
@@ -113,13 +118,28 @@ pub record Remain (f : Function) (block at : ℕ) (is : List Instr) (t : Termina
   pub ends : fetch f block (at + length is) ≡ AtTerm t
 
 -- what stands in g for an instruction of f with others behind it in its block, and where the place behind it is
-pub data IsCode (s : Shape) (part : Part) (f g : Function) (block at piece offset : ℕ) (i : Instr) (after : List Instr) (t : Terminator) : Type 0 where
-  Stays : (n : ℕ) → begins_again part i ≡ false → cut_at s part i after ≡ Cut.Stays → AreNew f g n (names_taken i) → StandAt g piece offset (lowered s n i) → IsPlace s part f g block (at + 1) piece (offset + length (lowered s n i)) → IsCode s part f g block at piece offset i after t
-  Marks : (n mark : ℕ) → begins_again part i ≡ false → cut_at s part i after ≡ Cut.Marks mark → AreNew f g n (names_taken i) → Remain g piece offset (lowered s n i) (Terminator.Jump mark) → phis_of (slice_get g.blocks (position_of g mark)) ≡ [] → IsPlace s part f g block (at + 1) (position_of g mark) 0 → IsCode s part f g block at piece offset i after t
-  Suspends : begins_again part i ≡ false → cut_at s part i after ≡ Cut.Suspends → fetch g piece offset ≡ AtTerm (Terminator.Jump (stop_label t)) → IsCode s part f g block at piece offset i after t
-  Returns : begins_again part i ≡ false → cut_at s part i after ≡ Cut.Returns → fetch g piece offset ≡ AtTerm (Terminator.Ret None) → IsCode s part f g block at piece offset i after t
-  Transfers : (n j : ℕ) → begins_again part i ≡ false → cut_at s part i after ≡ Cut.Transfers j → AreNew f g n (names_taken i) → fetch g piece offset ≡ AtTerm (Terminator.Jump (pass_label s j)) → phis_of (slice_get g.blocks (position_of g (pass_label s j))) ≡ [] → Remain g (position_of g (pass_label s j)) 0 (lowered s n i) (Terminator.Ret None) → IsCode s part f g block at piece offset i after t
-  BeginsAgain : begins_again part i ≡ true → fetch g piece offset ≡ AtTerm Terminator.Unreachable → IsCode s part f g block at piece offset i after t
+pub data IsCode (s : Shape) (part : Part) (f g : Function) (block at piece offset : ℕ) (i : Instr) (after : List Instr)
+    (t : Terminator) : Type 0 where
+  Stays : (n : ℕ) → begins_again part i ≡ false → cut_at s part i after ≡ Cut.Stays → AreNew f g n (names_taken i)
+      → StandAt g piece offset (lowered s n i)
+      → IsPlace s part f g block (at + 1) piece (offset + length (lowered s n i))
+      → IsCode s part f g block at piece offset i after t
+  Marks : (n mark : ℕ) → begins_again part i ≡ false → cut_at s part i after ≡ Cut.Marks mark
+      → AreNew f g n (names_taken i) → Remain g piece offset (lowered s n i) (Terminator.Jump mark)
+      → phis_of (slice_get g.blocks (position_of g mark)) ≡ []
+      → IsPlace s part f g block (at + 1) (position_of g mark) 0 → IsCode s part f g block at piece offset i after t
+  Suspends : begins_again part i ≡ false → cut_at s part i after ≡ Cut.Suspends
+      → fetch g piece offset ≡ AtTerm (Terminator.Jump (stop_label t))
+      → IsCode s part f g block at piece offset i after t
+  Returns : begins_again part i ≡ false → cut_at s part i after ≡ Cut.Returns
+      → fetch g piece offset ≡ AtTerm (Terminator.Ret None) → IsCode s part f g block at piece offset i after t
+  Transfers : (n j : ℕ) → begins_again part i ≡ false → cut_at s part i after ≡ Cut.Transfers j
+      → AreNew f g n (names_taken i) → fetch g piece offset ≡ AtTerm (Terminator.Jump (pass_label s j))
+      → phis_of (slice_get g.blocks (position_of g (pass_label s j))) ≡ []
+      → Remain g (position_of g (pass_label s j)) 0 (lowered s n i) (Terminator.Ret None)
+      → IsCode s part f g block at piece offset i after t
+  BeginsAgain : begins_again part i ≡ true → fetch g piece offset ≡ AtTerm Terminator.Unreachable
+      → IsCode s part f g block at piece offset i after t
 
 -- the same, with what stands behind the instruction
 pub record HasCode (s : Shape) (part : Part) (f g : Function) (block at piece offset : ℕ) (i : Instr) : Type 0 where

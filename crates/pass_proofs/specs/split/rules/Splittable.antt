@@ -3,7 +3,7 @@ use Rattle.std.specs.Prelude.{◌≡◌, ℕ, true, None, Some, slice_get}
 use Rattle.rule_shape.specs.OneOfEach.{wrong_call}
 use Rattle.rule_shape.specs.Switches.{wrong_switch}
 use Rattle.flow_solver.specs.Paths.{IsListed}
-use Rattle.ir_laws.specs.rules.function_rules.Kept.{KeepsFunctionRules}
+use Rattle.rule_laws.specs.rules.function_rules.Kept.{KeepsFunctionRules}
 use Rattle.pass_front.specs.Front.{with_allocas_first}
 use Rattle.pass_intrinsics.specs.Shapes.{suspends_of}
 use Rattle.pass_intrinsics.specs.declared.shape.SuspendPoint.{SuspendPoint}
@@ -18,9 +18,9 @@ use Rattle.run_laws.specs.changed.Changed.{Each}
 use Rattle.frame_crossing.specs.Crossing.{suspends_of as suspend_points}
 use Rattle.frame_crossing.specs.Paths.{IsDefinedBefore, IsNeededBehind}
 use Rattle.ir_laws.specs.paths.woven_rules.Pairs.{AreDifferent}
-use Rattle.ir_laws.specs.rules.woven_rules.Pairs.{AreIncomingOnce}
-use Rattle.ir_laws.specs.frames.replaced.Splittable.{HasOwnEdges, IsEndedFirst, may_cross, tokens_taken}
-use Rattle.ir_laws.specs.rules.replaced.Splittable.{AreBlocksBegun}
+use Rattle.rule_laws.specs.rules.woven_rules.Pairs.{AreIncomingOnce}
+use Rattle.rule_laws.specs.frames.replaced.Splittable.{HasOwnEdges, IsEndedFirst, may_cross, tokens_taken}
+use Rattle.rule_laws.specs.rules.replaced.Splittable.{AreBlocksBegun}
 
 -- ---- the coroutine
 

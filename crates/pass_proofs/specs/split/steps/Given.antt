@@ -23,11 +23,13 @@ pub record IsAtFrame (g : FramedGiven) (h : PlainGiven) (s : State) (t : PlainSt
     (name : ℕ) : Type 0 where
   pub running : s.outcome ≡ Outcome.Running
   pub settled : is_entering s.top.mode ≡ false
-  pub place : IsPlace r.top.shape r.top.part (function_of g.given s) (function_at h.code t.top.func) s.top.block s.top.at t.top.block t.top.at
+  pub place : IsPlace r.top.shape r.top.part (function_of g.given s) (function_at h.code t.top.func) s.top.block
+      s.top.at t.top.block t.top.at
   pub must_tail : Bool
   pub ty : Option Ty
   pub args : List Arg
-  pub there : fetch (function_of g.given s) s.top.block s.top.at ≡ AtInstr (Instr.Call (Some name) must_tail ty (Callee.Intrinsic Intrinsic.CoroFrame) args)
+  pub there : fetch (function_of g.given s) s.top.block s.top.at ≡ AtInstr (Instr.Call (Some name) must_tail ty
+      (Callee.Intrinsic Intrinsic.CoroFrame) args)
   pub own : ℕ
   pub instance : Instance
   pub is_own : s.top.instance ≡ Some own

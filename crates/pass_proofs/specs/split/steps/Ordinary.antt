@@ -21,14 +21,16 @@ abbrev pub is_ordinary : Instr → Bool
 is_ordinary (Instr.Call r must_tail ty callee args) = is_kept_callee callee
 is_ordinary i = true
 
--- The framed run is at an ordinary instruction, and the part is at the same place. It may read the operands, and the name
+-- The framed run is at an ordinary instruction, and the part is at the same place. It may read the operands, and the
+-- name
 -- of the frame isn't set.
 pub record IsAtOrdinary (functions : ℕ → ℕ) (g : FramedGiven) (h : PlainGiven) (s : State) (t : PlainState)
     (r : AreRelated g h s t) (i : Instr) : Type 0 where
   pub running : t.outcome ≡ Outcome.Running
   pub answers : h.answers ≡ g.given.answers
   pub settled : is_entering s.top.mode ≡ false
-  pub place : IsPlace r.top.shape r.top.part (function_of g.given s) (function_at h.code t.top.func) s.top.block s.top.at t.top.block t.top.at
+  pub place : IsPlace r.top.shape r.top.part (function_of g.given s) (function_at h.code t.top.func) s.top.block
+      s.top.at t.top.block t.top.at
   pub there : fetch (function_of g.given s) s.top.block s.top.at ≡ AtInstr i
   pub ordinary : is_ordinary i ≡ true
   pub ready : IsReadyInPart functions (function_of g.given s) (framed_context g s) (plain_context h t) s.top.values

@@ -2,7 +2,7 @@
 use Rattle.pass_proofs.proofs.cells.rules.Whole.{is_woven}
 use Rattle.pass_proofs.specs.cells.rules.Weaving.{cells_weaving}
 use Rattle.pass_cells.specs.Cells.{with_cells}
-use Rattle.ir_laws.proofs.rules.woven_rules.Edges.{incoming_woven}
+use Rattle.rule_laws.proofs.rules.woven_rules.Edges.{incoming_woven}
 use Rattle.pass_proofs.proofs.cells.rules.cells_leave_each_label_once.Goals as goal
 
 pub returns : goal.returns

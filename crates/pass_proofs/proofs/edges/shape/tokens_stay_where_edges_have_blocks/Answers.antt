@@ -1,5 +1,5 @@
 use Rattle.pass_proofs.proofs.edges.shape.Kept.{same_calls}
-use Rattle.ir_laws.proofs.frames.spared.Tokens.{same_tokens}
+use Rattle.rule_laws.proofs.frames.spared.Tokens.{same_tokens}
 use Rattle.pass_edges.specs.EdgeBlocks.{with_edge_blocks}
 use Rattle.pass_proofs.proofs.edges.shape.tokens_stay_where_edges_have_blocks.Goals as goal
 

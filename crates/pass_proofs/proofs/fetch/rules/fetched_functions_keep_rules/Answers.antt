@@ -1,7 +1,7 @@
 use Rattle.pass_proofs.proofs.fetch.rules.Fetched.{fetches_woven}
 use Rattle.pass_proofs.specs.fetch.rules.Fetches.{fetch_weaving}
 use Rattle.pass_fetch.specs.Blocks.{with_fetches}
-use Rattle.ir_laws.proofs.rules.woven_rules.All.{rules_woven}
+use Rattle.rule_laws.proofs.rules.woven_rules.All.{rules_woven}
 use Rattle.pass_proofs.proofs.fetch.rules.fetched_functions_keep_rules.Goals as goal
 
 pub returns : goal.returns

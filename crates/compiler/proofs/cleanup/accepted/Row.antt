@@ -1,0 +1,130 @@
+-- The row of splitting and cleaning: no part breaks a rule, nor does a function that is no coroutine, and the last pass leaves it so.
+use Rattle.std.proofs.Common.{◌≡◌, ℕ, zero, suc, Bool, true, false, [], ◌∷◌, refl, subst}
+use Rattle.std.specs.List.{list_all}
+use Rattle.std.specs.Prelude.{None, Some, not, slice_get, if◌then◌else◌}
+use Rattle.compiler.proofs.cleanup.cleanable_names.Tokens.{nothing_gone}
+use Rattle.compiler.proofs.cleanup.rules.All.{all_clean}
+use Rattle.compiler.proofs.cleanup.rules.Items.{items_clean}
+use Rattle.compiler.proofs.cleanup.rules.NoCoroutine.{none_left}
+use Rattle.compiler.specs.cleanup.rules.Clean.{NameNothingGone}
+use Rattle.pass_cleanup.specs.Cleanup.{clean_module}
+use Rattle.pass_cleanup.specs.Free.{calls_id_alone}
+use Rattle.pass_split.specs.Parts.{later_part, marked_parts, parts_of, plain_of, plain_shape, ramp_of, split_module}
+use Rattle.pass_split.specs.Reached.{pruned}
+use Rattle.frame_layout.specs.declared.layout.Layout.{Layout}
+use Rattle.frame_layout.specs.declared.layout.Layouts.{Layouts}
+use Rattle.pass_intrinsics.specs.Shapes.{shape_of}
+use Rattle.pass_intrinsics.specs.declared.shape.Part.{Part}
+use Rattle.pass_intrinsics.specs.declared.shape.Shape.{Shape}
+use Rattle.rule_all.specs.Refused.{IsRefused}
+use Rattle.ir_model.specs.declared.module.Function.{Function}
+use Rattle.ir_model.specs.declared.module.Module.{Module}
+use Rattle.pass_proofs.proofs.exits.exited.Exited.{coroutine_stands, exited_module, parts_exited}
+use Rattle.pass_proofs.proofs.split.exited.Exited.{splittable_exited}
+use Rattle.pass_proofs.proofs.split.exited.Whence.{ComesBy, comes_by}
+use Rattle.compiler.specs.cleanup.accepted.Ready.{IsCoroutineReady, IsPlainReady, IsReady}
+use Rattle.rule_names.specs.declared.stage.Stage.{Stage}
+use Rattle.pass_proofs.proofs.split.edges.Kept.{part_edges_kept}
+use Rattle.pass_proofs.proofs.split.edges.Late.{part_allocas_kept}
+use Rattle.pass_proofs.proofs.split.edges.Marks.{part_marks_kept}
+use Rattle.pass_proofs.proofs.split.edges.Returns.{later_parts_return_nothing}
+use Rattle.pass_proofs.proofs.split.uses.Laws.{locals_known, locals_once, uses_made}
+use Rattle.pass_proofs.proofs.split.plain_functions.Whole.{turned_keeps}
+use Rattle.rule_laws.proofs.rules.plain_rules.Accepted.{accepted}
+use Rattle.rule_laws.specs.rules.plain_rules.Kept.{AllKeepPlainRules, KeepsPlainRules}
+use Rattle.pass_proofs.proofs.split.names.Items.{split_keeps_items}
+use Rattle.pass_proofs.proofs.split.names.Parts.{has_parts}
+use Rattle.rule_laws.specs.frames.same_names.Parts.{HasPartsOf}
+use Rattle.pass_proofs.proofs.split.rules.Instructions.{parts_kept}
+use Rattle.pass_proofs.proofs.split.rules.Laws.{parts_named}
+use Rattle.pass_proofs.specs.split.rules.Parted.{IsDestroy, IsPartOf, IsRamp, IsResume}
+use Rattle.rule_laws.specs.frames.replaced.Parted.{IsSmall}
+use Rattle.pass_proofs.specs.split.rules.Splittable.{IsSplittable}
+use Rattle.compiler.proofs.cleanup.unnamed_intrinsics.Parts.{parts_free, turned_free}
+use Rattle.compiler.specs.cleanup.unnamed_intrinsics.Unnamed.{NamesNoIntrinsic}
+use Rattle.pass_exits.specs.ExitBlocks.{with_exit_blocks}
+
+-- what a function of the split module keeps
+record IsKept (n : Module) (l : ℕ) (g : Function) : Type 0 where
+  pub rules : KeepsPlainRules n l g
+  pub names : NamesNoIntrinsic l g
+
+-- ---- a part of a coroutine
+
+part_rules : (m n : Module) (k l : ℕ) (layout : Layout) (part : Part) (begin : ℕ) (f g : Function) → HasPartsOf m n → slice_get m.functions k ≡ Some f → IsSplittable m k f begin → IsSmall (shape_of f layout) → IsPartOf (shape_of f layout) f part g → KeepsPlainRules n l g
+part_rules m n k l layout part begin f g h stands s small is =
+    let kept = parts_kept m n k l layout part f g h stands s.coroutine s.rules is in
+    let named = parts_named m n k l layout part begin f g h stands s small is (locals_known m k l layout part begin f g s is) (later_parts_return_nothing m k l layout part begin f g s is) in
+    record {
+      definitions = locals_once m k l layout part begin f g s is;
+      known = named.0;
+      depths = kept.depths;
+      calls = kept.calls;
+      values = named.1;
+      closed_calls = kept.closed_calls;
+      extents = kept.extents;
+      transfers = kept.transfers;
+      edges = part_edges_kept m k l layout part begin f g s is;
+      uses = uses_made m k l layout part begin f g s is;
+      allocas = part_allocas_kept m k l layout part begin f g s is;
+      marks = part_marks_kept m n k l layout part begin f g h s is;
+    }
+
+-- which part a function among a coroutine's parts is
+pub record IsSomePart (s : Shape) (f g : Function) : Type 0 where
+  pub part : Part
+  pub is : IsPartOf s f part g
+
+pub some_part : (s : Shape) (f g : Function) (number : ℕ) → slice_get (parts_of s f) number ≡ Some g → IsSomePart s f g
+some_part s f g zero e = let same : pruned (ramp_of s f) ≡ g = cc in record { part = Part.Ramp; is = subst (IsPartOf s f Part.Ramp) same IsRamp }
+some_part s f g (suc zero) e = let same : pruned (later_part s Part.Resume s.resume_name f) ≡ g = cc in record { part = Part.Resume; is = subst (IsPartOf s f Part.Resume) same IsResume }
+some_part s f g (suc (suc zero)) e = let same : pruned (later_part s Part.Destroy s.destroy_name f) ≡ g = cc in record { part = Part.Destroy; is = subst (IsPartOf s f Part.Destroy) same IsDestroy }
+some_part s f g (suc (suc (suc k))) e = absurd (cc)
+
+module _ (ls : Layouts) (m : Module) (ready : IsReady ls m) where
+  abbrev n : Module
+  n = split_module ls m
+
+  parts : HasPartsOf m n
+  parts = has_parts ls m ready.items ready.short
+
+  part_kept : (k l : ℕ) (f g : Function) (layout : Layout) (number : ℕ) → slice_get m.functions k ≡ Some f → f.coroutine ≡ true → IsSmall (shape_of (with_exit_blocks f) layout) → IsCoroutineReady m ls k f → slice_get (marked_parts layout (with_exit_blocks f)) number ≡ Some g → IsKept n l g
+  part_kept k l f g layout number stands c small r e =
+      let h : Function = with_exit_blocks f in
+      let p = some_part (shape_of h layout) h g number e in
+      let there : slice_get (exited_module m).functions k ≡ Some h = coroutine_stands m k f stands c in
+      let s : IsSplittable (exited_module m) k h r.begin = splittable_exited m k h r.begin r.splittable in
+      record {
+        rules = part_rules (exited_module m) n k l layout p.part r.begin h g (parts_exited m n parts) there s small p.is;
+        names = parts_free (exited_module m) n k l layout p.part h g (parts_exited m n parts) there s.coroutine p.is r.names;
+      }
+
+  plain_kept : (k l : ℕ) (f g : Function) (number : ℕ) → slice_get m.functions k ≡ Some f → f.coroutine ≡ false → IsPlainReady m k f → slice_get (plain_of (plain_shape f) f ∷ []) number ≡ Some g → IsKept n l g
+  plain_kept k l f g zero stands c r e =
+      let same : plain_of (plain_shape f) f ≡ g = cc in
+      subst (IsKept n l) same (record { rules = turned_keeps m n k l f parts stands c r.rules; names = turned_free m k l f c r.rules r.names })
+  plain_kept k l f g (suc number) stands c r e = absurd (cc)
+
+  function_kept : (l : ℕ) (g : Function) → slice_get n.functions l ≡ Some g → IsKept n l g
+  function_kept l g there = on r.source.coroutine refl r.is_one
+    where
+      r : ComesBy ls.coroutines m.functions g
+      r = comes_by ls.coroutines m.functions l g there
+
+      on : (b : Bool) → r.source.coroutine ≡ b → slice_get (if b then marked_parts r.layout (with_exit_blocks r.source) else plain_of (plain_shape r.source) r.source ∷ []) r.number ≡ Some g → IsKept n l g
+      on true c e =
+          let is_ready = ready.coroutines r.position r.source r.stands c in
+          part_kept r.position l r.source g r.layout r.number r.stands c (is_ready.small r.layout r.given) is_ready e
+      on false c e = plain_kept r.position l r.source g r.number r.stands c (ready.plain r.position r.source r.stands c) e
+
+  pub all_kept : AllKeepPlainRules (split_module ls m)
+  all_kept l g there = (function_kept l g there).rules
+
+  nothing : calls_id_alone n ≡ true → NameNothingGone n
+  nothing alone l g there = let h = function_kept l g there in nothing_gone n l g there alone h.rules h.names
+
+pub split_accepted : (ls : Layouts) (m : Module) → IsReady ls m → list_all (λ f. not f.coroutine) (split_module ls m).functions ≡ true → calls_id_alone (split_module ls m) ≡ true → IsRefused Stage.Plain (clean_module (split_module ls m)) None
+split_accepted ls m ready ordinary alone =
+    let n : Module = split_module ls m in
+    let gone = nothing ls m ready alone in
+    accepted (clean_module n) (items_clean n (split_keeps_items ls m ready.items ready.short)) (all_clean n (all_kept ls m ready) gone) (none_left n ordinary alone gone)

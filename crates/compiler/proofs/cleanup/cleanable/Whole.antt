@@ -1,0 +1,85 @@
+-- A module whose coroutines may be split is as the last pass asks, once it is split.
+use Rattle.std.proofs.Common.{◌≡◌, ℕ, zero, suc, Bool, true, false, [], ◌∷◌, refl, ap, subst}
+use Rattle.std.specs.Prelude.{None, Option, Some, is_some, slice_get, if◌then◌else◌, ◌||◌}
+use Rattle.ir_base.specs.declared.name.Name.{Name}
+use Rattle.pass_cleanup.specs.Cleanable.{IsCleanable, IsCleanableFunction, IsDefined}
+use Rattle.pass_split.specs.Parts.{marked_parts, plain_of, plain_shape, split_module}
+use Rattle.ir_laws.proofs.facts.Truth.{and_second, holds}
+use Rattle.frame_layout.specs.declared.layout.Layout.{Layout}
+use Rattle.frame_layout.specs.declared.layout.Layouts.{Layouts}
+use Rattle.pass_proofs.proofs.split.names.Parts.{has_parts}
+use Rattle.rule_laws.specs.frames.same_names.Parts.{HasPart, HasPartsOf}
+use Rattle.ir_parts.specs.Parts.{first_part, parts_of}
+use Rattle.pass_intrinsics.specs.Shapes.{shape_of}
+use Rattle.pass_intrinsics.specs.declared.shape.Shape.{Shape}
+use Rattle.ir_model.specs.Names.{function_named, global_named}
+use Rattle.ir_model.specs.Ty.{Ty}
+use Rattle.ir_model.specs.declared.module.Function.{Function}
+use Rattle.ir_model.specs.declared.module.GlobalItem.{GlobalItem}
+use Rattle.ir_model.specs.declared.module.Module.{Module}
+use Rattle.ir_model.specs.declared.operand.Operand.{Operand}
+use Rattle.ir_paths.proofs.Search.{or_right}
+use Rattle.rule_locals.specs.Intrinsics.{misplaces}
+use Rattle.compiler.proofs.cleanup.cleanable.Defined.{function_cleanable, function_there, is_there}
+use Rattle.compiler.proofs.cleanup.accepted.Row.{some_part}
+use Rattle.pass_proofs.proofs.split.exited.Whence.{ComesBy, comes_by}
+use Rattle.compiler.proofs.cleanup.outside.Outside.{parts_pass, turned_passes}
+use Rattle.compiler.specs.cleanup.accepted.Ready.{IsCoroutineReady, IsPlainReady, IsReady}
+use Rattle.rule_names.specs.declared.stage.Stage.{Stage}
+use Rattle.rule_values.specs.Initials.{fits_initial}
+use Rattle.rule_types.specs.Wants.{is_ptr}
+use Rattle.pass_exits.specs.ExitBlocks.{with_exit_blocks}
+use Rattle.ir_laws.proofs.facts.Members.{each_by as each_standing}
+
+-- ---- globals
+
+module _ (ls : Layouts) (m : Module) (ready : IsReady ls m) where
+  abbrev n : Module
+  n = split_module ls m
+
+  -- an initial value is no function's address (Y1), and the split module has the same globals
+  global_defined : (t : Ty) (x : Operand) → fits_initial m t x ≡ true → IsDefined n x
+  global_defined t (Operand.Global y) e = or_right (is_some (function_named n y)) (is_some (global_named n y)) (and_second (is_ptr t) (is_some (global_named m y)) e)
+  global_defined t _ e = tt
+
+  -- ---- functions
+
+  parts : HasPartsOf m n
+  parts = has_parts ls m ready.items ready.short
+
+  part_there : (x : Name) → HasPart n x → is_there n x ≡ true
+  part_there x h = ap (λ (o : Option ℕ). is_some o || is_some (global_named n x)) h.signature.is_named
+
+  coroutine_cleanable : (k : ℕ) (f g : Function) (layout : Layout) (number : ℕ) → slice_get m.functions k ≡ Some f → f.coroutine ≡ true → IsCoroutineReady m ls k f → slice_get (marked_parts layout (with_exit_blocks f)) number ≡ Some g → IsCleanableFunction n g
+  coroutine_cleanable k f g layout number stands c r e =
+      let h : Function = with_exit_blocks f in
+      let s : Shape = shape_of h layout in
+      let p = some_part s h g number e in
+      function_cleanable n 0 g
+      (parts_pass (is_there n) s p.part k 0 h g (part_there s.resume_name (parts.resumes k f stands c), part_there s.destroy_name (parts.destroys k f stands c)) p.is
+      (function_there m n refl k h r.splittable.rules.local.function_pointers r.names))
+
+  turned_cleanable : (k : ℕ) (f g : Function) (number : ℕ) → f.coroutine ≡ false → IsPlainReady m k f → slice_get (plain_of (plain_shape f) f ∷ []) number ≡ Some g → IsCleanableFunction n g
+  turned_cleanable k f g zero c r e =
+      let same : plain_of (plain_shape f) f ≡ g = cc in
+      subst (IsCleanableFunction n) same
+      (function_cleanable n 0 (plain_of (plain_shape f) f)
+      (turned_passes (is_there n) k 0 f (subst (λ (b : Bool). first_part (misplaces Stage.Source b) (parts_of k f) ≡ None) c r.rules.local.misplaced) (function_there m n refl k f r.rules.local.function_pointers r.names)))
+  turned_cleanable k f g (suc number) c r e = absurd (cc)
+
+  functions_cleanable : (l : ℕ) (g : Function) → slice_get n.functions l ≡ Some g → IsCleanableFunction n g
+  functions_cleanable l g there = on r.source.coroutine refl r.is_one
+    where
+      r : ComesBy ls.coroutines m.functions g
+      r = comes_by ls.coroutines m.functions l g there
+
+      on : (b : Bool) → r.source.coroutine ≡ b → slice_get (if b then marked_parts r.layout (with_exit_blocks r.source) else plain_of (plain_shape r.source) r.source ∷ []) r.number ≡ Some g → IsCleanableFunction n g
+      on true c e = coroutine_cleanable r.position r.source g r.layout r.number r.stands c (ready.coroutines r.position r.source r.stands c) e
+      on false c e = turned_cleanable r.position r.source g r.number c (ready.plain r.position r.source r.stands c) e
+
+  pub split_cleanable : IsCleanable (split_module ls m)
+  split_cleanable =
+      record {
+        globals = each_standing (λ (g : GlobalItem). IsDefined n g.init) m.globals (λ k g there. global_defined g.ty g.init (holds (fits_initial m g.ty g.init) (ready.items.initials.globals k g there)));
+        functions = each_standing (IsCleanableFunction n) n.functions functions_cleanable;
+      }

@@ -1,0 +1,35 @@
+-- What is asked of a module before its coroutines are split, so that the lowered module breaks no rule.
+use Rattle.std.specs.Prelude.{◌≡◌, ℕ, true, false, Some, slice_get}
+use Rattle.frame_layout.specs.declared.layout.Layout.{Layout}
+use Rattle.frame_layout.specs.declared.layout.Layouts.{Layouts}
+use Rattle.rule_laws.specs.frames.suspend_counts.Given.{IsGiven}
+use Rattle.rule_laws.specs.rules.function_rules.Kept.{KeepsFunctionRules}
+use Rattle.pass_intrinsics.specs.Shapes.{shape_of}
+use Rattle.ir_model.specs.declared.module.Function.{Function}
+use Rattle.ir_model.specs.declared.module.Module.{Module}
+use Rattle.rule_laws.specs.rules.plain_rules.Items.{KeepsItemRules}
+use Rattle.rule_names.specs.declared.stage.Stage.{Stage}
+use Rattle.ir_laws.specs.facts.same_names.Short.{HaveShortNames}
+use Rattle.rule_laws.specs.frames.replaced.Parted.{IsSmall}
+use Rattle.pass_proofs.specs.split.rules.Splittable.{IsSplittable}
+use Rattle.compiler.specs.cleanup.unnamed_intrinsics.Unnamed.{NamesNoIntrinsic}
+use Rattle.pass_exits.specs.ExitBlocks.{with_exit_blocks}
+
+-- a function that is no coroutine breaks no rule of functions, and names no coro intrinsic but where it calls it
+pub record IsPlainReady (m : Module) (k : ℕ) (f : Function) : Type 0 where
+  pub rules : KeepsFunctionRules m k f
+  pub names : NamesNoIntrinsic k f
+
+-- a coroutine, with blocks on the edges that leave its windows, may be split
+pub record IsCoroutineReady (m : Module) (ls : Layouts) (k : ℕ) (f : Function) : Type 0 where
+  pub begin : ℕ
+  pub splittable : IsSplittable m k (with_exit_blocks f) begin
+  pub names : NamesNoIntrinsic k (with_exit_blocks f)
+  pub small : (l : Layout) → IsGiven ls.coroutines l → IsSmall (shape_of (with_exit_blocks f) l)
+
+-- The items break no rule of sources, the numbers in names are short, and all functions are ready.
+pub record IsReady (ls : Layouts) (m : Module) : Type 0 where
+  pub items : KeepsItemRules Stage.Source m
+  pub short : HaveShortNames m
+  pub plain : (k : ℕ) (f : Function) → slice_get m.functions k ≡ Some f → f.coroutine ≡ false → IsPlainReady m k f
+  pub coroutines : (k : ℕ) (f : Function) → slice_get m.functions k ≡ Some f → f.coroutine ≡ true → IsCoroutineReady m ls k f

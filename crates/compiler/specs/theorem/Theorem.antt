@@ -1,0 +1,76 @@
+-- What is lowered of a source agrees with it: one row for each pass. Those that stand are cited in the proof, the
+-- others are premises here.
+use Rattle.std.specs.Prelude.{ℕ, ◌+◌, ◌*◌, ◌≤◌}
+use Rattle.run_agreement.specs.Agreements.{Agrees, AgreesWithin}
+use Rattle.run_agreement.specs.Costs.{AgreesBy, Through, cost_at}
+use Rattle.run_agreement.specs.Factor.{size_factor, step_factor}
+use Rattle.run_agreement.specs.Machines.{IsFine, at, state_at}
+use Rattle.text_canonical.specs.canonical.Items.{module_text}
+use Rattle.run_source.specs.declared.state.State.{State}
+use Rattle.compiler.specs.theorem.Anew.{Anew, IsAnewOf}
+use Rattle.compiler.specs.theorem.Entries.{IsCallable, IsEntry, Run}
+use Rattle.compiler.specs.theorem.GoodLayouts.{AreGoodLayouts}
+use Rattle.compiler.specs.theorem.Lowered.{AreAllocasFirst, IsAccepted, Lowered, early, edged, framed_run, kept_run, lowered_from, plain_run, price_kept, price_renewed, printed_from, renewed_run, sizes_of, source_run, split_from}
+use Rattle.pass_renewed_proof.specs.Prices.{Prices}
+use Rattle.compiler.specs.theorem.SharedBytes.{AreShown, LiveAreApart}
+use Rattle.ir_laws.specs.facts.sound_states.Named.{AreLocalsNamed}
+use Rattle.text_grammar.specs.Text.{StandsFor}
+use Rattle.pass_proofs.specs.kept.sources.Beside.{IsKeptOf}
+use Rattle.pass_kept_proof.specs.SuspendRules.{KeepsNeeded}
+use Rattle.compiler.specs.cleanup.accepted.Ready.{IsReady}
+use Rattle.pass_renewed_proof.specs.SlotRules.{KeepsAllSlots}
+use Rattle.pass_frames.specs.Framed.{IsFramedForm}
+
+-- | Pass | from | to | costs | |
+-- | saves written out, edges with blocks, what is needed handed on | Source | Kept | 4 | stands |
+-- | slots made anew, then frames built, by prices that fit | Kept | Framed | 4 * (1 + p + q), on average | premise |
+-- | functions split | Framed | Plain | 4 | premise |
+-- | calls of coro.id gone, then names in order | Plain | Plain | 1 | stands |
+pub record Steps (R V Q W : Lowered → Anew → Run → State → State → Type 0) (a : Anew) (p : Prices)
+    (l : Lowered) : Type 0 where
+  -- waits for: layouts of the analyses are good
+  pub good : AreGoodLayouts (early l) l.layouts.coroutines
+  -- waits for: the analyses' answers as tables
+  pub anew : IsAnewOf (early l) a
+  -- waits for: local slots stay local where edges have blocks, and the rules that slots ask
+  pub slots : KeepsAllSlots (edged l) a.keep a.flags a.roots
+  -- waits for: neither a ramp slot nor a token is needed behind a suspend
+  pub needed : KeepsNeeded (edged l) a.keep
+  -- waits for: the simulation of slots made anew
+  pub renewing : KeepsAllSlots (edged l) a.keep a.flags a.roots → AreLocalsNamed (edged l) → (r : Run)
+      → AgreesBy (R l a r) (V l a r) (kept_run l a r) (price_kept l a r p) (renewed_run l a r) (price_renewed l a r p)
+  -- waits for: the simulation of frames
+  pub framing : IsAccepted l → AreGoodLayouts (early l) l.layouts.coroutines
+      → IsFramedForm l.layouts (early l) l.framed → IsAnewOf (early l) a
+      → KeepsAllSlots (edged l) a.keep a.flags a.roots → (r : Run) → IsCallable l.source r.entry
+      → AgreesBy (Q l a r) (W l a r) (renewed_run l a r) (price_renewed l a r p) (framed_run l l.framed r) (λ t. 1)
+  -- waits for: prices counted by names and operands, a resume with the jump behind it
+  pub paid : (r : Run) (n : ℕ) → IsCallable l.source r.entry → IsFine (at (kept_run l a r) n).outcome
+      → cost_at (kept_run l a r) (price_kept l a r p) n ≤ (4 * size_factor l.source) * n
+  -- waits for: the simulation of parts
+  pub parting : AreGoodLayouts (early l) l.layouts.coroutines → IsReady l.layouts l.framed → AreAllocasFirst l.framed
+      → (r : Run) (other : ℕ) → IsEntry l.source (split_from l l.framed) r.entry other
+      → AgreesWithin 4 (at (framed_run l l.framed r)) (at (plain_run (split_from l l.framed) r other))
+  -- waits for: the relations of these two over those that stand, byte for byte
+  pub shown : (r : Run) (s t : State) → Through (IsKeptOf l.source (sizes_of l) r.answers)
+      (Through (R l a r) (Q l a r)) s t → AreShown l.source l.layouts.coroutines s t
+  -- waits for: who may be alive, over source states
+  pub apart : (r : Run) (n : ℕ) → IsCallable l.source r.entry → IsFine (at (source_run l r) n).outcome
+      → LiveAreApart l.source (state_at (source_run l r) n)
+
+-- a state of the framed run in which the slots and values of a state of the source stand
+pub record IsSomewhereShown (l : Lowered) (r : Run) (n : ℕ) : Type 0 where
+  pub steps : ℕ
+  pub shown : AreShown l.source l.layouts.coroutines (state_at (source_run l r) n)
+      (state_at (framed_run l l.framed r) steps)
+
+-- the printed text stands for a module whose runs agree with the source's within its step factor, with as many
+-- allocator calls; in frames slots and values stand where they lie by the layouts
+pub record KeepsMeaning (l : Lowered) (r : Run) (other : ℕ) : Type 0 where
+  pub stands : StandsFor (module_text (lowered_from l l.framed)) (printed_from l l.framed)
+  pub headline : Agrees (step_factor l.source 0) (step_factor l.source 0) (at (source_run l r))
+      (at (plain_run (printed_from l l.framed) r other))
+  pub agrees : AgreesWithin (step_factor l.source 0) (at (source_run l r))
+      (at (plain_run (printed_from l l.framed) r other))
+  pub shared : (n : ℕ) → IsFine (at (source_run l r) n).outcome → IsSomewhereShown l r n
+  pub apart : (n : ℕ) → IsFine (at (source_run l r) n).outcome → LiveAreApart l.source (state_at (source_run l r) n)

@@ -1,0 +1,42 @@
+//! Nothing but calls names a coro intrinsic, in a source and in what the passes make of it.
+//!
+//! That is `sources_name_no_intrinsic` and five more.
+
+ghost use Rattle.std.specs.Prelude.{◌≡◌, ℕ, None, Some, slice_get, true, false};
+ghost use Rattle.rule_all.specs.Refused.{IsRefused};
+ghost use Rattle.ir_model.specs.declared.module.Function.{Function};
+ghost use Rattle.ir_model.specs.declared.module.Module.{Module};
+ghost use Rattle.text_canonical.specs.order.Shape.{IsShaped};
+ghost use Rattle.rule_names.specs.declared.stage.Stage.{Stage};
+ghost use Rattle.rule_laws.specs.rules.plain_rules.Items.{KeepsItemRules};
+ghost use Rattle.compiler.specs.cleanup.unnamed_intrinsics.Unnamed.{NamesNoIntrinsic};
+ghost use Rattle.rule_laws.specs.rules.function_rules.Kept.{KeepsFunctionRules};
+ghost use Rattle.rule_laws.specs.rules.woven_rules.Blocks.{IsWoven};
+ghost use Rattle.rule_laws.specs.rules.woven_rules.Pairs.{AreIncomingOnce};
+ghost use Rattle.rule_laws.specs.rules.woven_rules.Weaving.{Weaving};
+ghost use Rattle.frame_layout.specs.declared.layout.Layout.{Layout};
+ghost use Rattle.pass_intrinsics.specs.Shapes.{shape_of};
+ghost use Rattle.pass_intrinsics.specs.declared.shape.Part.{Part};
+ghost use Rattle.rule_laws.specs.frames.same_names.Parts.{HasPartsOf};
+ghost use Rattle.pass_proofs.specs.split.rules.Parted.{IsPartOf};
+ghost use Rattle.pass_split.specs.Parts.{plain_of, plain_shape};
+
+/// The functions of a source that breaks no rule, and whose parts are parts of the grammar, name no coro intrinsic so.
+pub fn sources_name_no_intrinsic()
+    ensures { (m : Module) → IsShaped m → KeepsItemRules Stage.Source m → IsRefused Stage.Source m None → (k : ℕ) (f : Function) → slice_get m.functions k ≡ Some f → NamesNoIntrinsic k f }
+{}
+
+/// Nor where instructions are woven in.
+pub fn woven_functions_name_no_intrinsic()
+    ensures { (w : Weaving) (m : Module) (k : ℕ) (f g : Function) → IsWoven w m f g → KeepsFunctionRules m k f → AreIncomingOnce f → NamesNoIntrinsic k f → NamesNoIntrinsic k g }
+{}
+
+/// Nor do the parts of a coroutine.
+pub fn parts_name_no_intrinsic()
+    ensures { (m n : Module) (k l : ℕ) (layout : Layout) (part : Part) (f g : Function) → HasPartsOf m n → slice_get m.functions k ≡ Some f → f.coroutine ≡ true → IsPartOf (shape_of f layout) f part g → NamesNoIntrinsic k f → NamesNoIntrinsic l g }
+{}
+
+/// Nor does a function that is no coroutine, once it is turned.
+pub fn turned_functions_name_no_intrinsic()
+    ensures { (m : Module) (k l : ℕ) (f : Function) → f.coroutine ≡ false → KeepsFunctionRules m k f → NamesNoIntrinsic k f → NamesNoIntrinsic l (plain_of (plain_shape f) f) }
+{}

@@ -1,0 +1,55 @@
+//! What is lowered of a source agrees with it, within the source's step factor: the passes that are proved, in a row
+//! with those that are premises yet.
+
+ghost use Rattle.run_source.specs.declared.state.State.{State};
+ghost use Rattle.compiler.specs.theorem.Anew.{Anew};
+ghost use Rattle.compiler.specs.theorem.Entries.{Run, IsEntry};
+ghost use Rattle.compiler.specs.theorem.Lowered.{AreAllocasFirst, Lowered, IsLowered, printed_from};
+ghost use Rattle.ir_model.specs.declared.module.Module.{Module};
+ghost use Rattle.frame_layout.specs.declared.layout.Layouts.{Layouts};
+ghost use Rattle.pass_frames.specs.Framed.{IsFramedForm};
+ghost use Rattle.std.specs.Prelude.{ℕ};
+ghost use Rattle.pass_renewed_proof.specs.Prices.{Prices};
+ghost use Rattle.compiler.specs.theorem.Theorem.{KeepsMeaning, Steps};
+ghost use Rattle.compiler.specs.theorem.Elision.{ElidedSteps, ElidesCalls};
+
+/// Relations between states: of the run that makes slots anew with that which keeps them, and of the framed run with
+/// that; at corresponding steps, and in between.
+pub trait Relates {
+    ghost renewed: { Lowered → Anew → Run → State → State → Type 0 };
+
+    ghost renewing: { Lowered → Anew → Run → State → State → Type 0 };
+
+    ghost framed: { Lowered → Anew → Run → State → State → Type 0 };
+
+    ghost framing: { Lowered → Anew → Run → State → State → Type 0 };
+}
+
+/// Relations between states of the framed run and of that where calls are elided.
+pub trait RelatesElided {
+    ghost elided: { Lowered → Module → Run → State → State → Type 0 };
+
+    ghost eliding: { Lowered → Module → Run → State → State → Type 0 };
+}
+
+/// In a framed form the entry of each coroutine begins with its allocas.
+pub fn allocas_stand_first_in_framed_forms()
+    ensures { (layouts : Layouts) (m n : Module) → IsFramedForm layouts m n → AreAllocasFirst n }
+{}
+
+/// What is printed of a source that breaks no rule agrees with it within its step factor, with frames that share
+/// bytes and with plain ones, where no call is elided.
+pub fn lowering_keeps_meaning<P: Relates>()
+    ensures { (a : Anew) (p : Prices) (l : Lowered) → IsLowered l
+        → Steps P.renewed P.renewing P.framed P.framing a p l → (r : Run) (other : ℕ)
+        → IsEntry l.source (printed_from l l.framed) r.entry other → KeepsMeaning l r other }
+{}
+
+/// So it does where calls are elided, with the most sites of one function in the step factor; it makes as many
+/// allocator calls less.
+pub fn elision_keeps_meaning<P: Relates, Q: RelatesElided>()
+    ensures { (a : Anew) (p : Prices) (l : Lowered) → IsLowered l
+        → Steps P.renewed P.renewing P.framed P.framing a p l → (n : Module) (sites : ℕ)
+        → ElidedSteps Q.elided Q.eliding l n sites → (r : Run) (other : ℕ)
+        → IsEntry l.source (printed_from l n) r.entry other → ElidesCalls l n sites r other }
+{}

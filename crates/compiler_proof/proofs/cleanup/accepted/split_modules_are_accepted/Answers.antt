@@ -1,5 +1,0 @@
-use Rattle.compiler_proof.proofs.cleanup.accepted.Row.{split_accepted}
-use Rattle.compiler_proof.proofs.cleanup.accepted.split_modules_are_accepted.Goals as goal
-
-pub returns : goal.returns
-returns c = split_accepted

@@ -1,5 +1,0 @@
-use Rattle.compiler_proof.proofs.cleanup.cleanable.Whole.{split_cleanable}
-use Rattle.compiler_proof.proofs.cleanup.cleanable.split_modules_are_cleanable.Goals as goal
-
-pub returns : goal.returns
-returns c = split_cleanable

@@ -1,5 +1,0 @@
-use Rattle.compiler_proof.proofs.cleanup.front_rules.Whole.{unnamed_kept}
-use Rattle.compiler_proof.proofs.cleanup.front_rules.front_allocas_name_no_intrinsic.Goals as goal
-
-pub returns : goal.returns
-returns c = unnamed_kept

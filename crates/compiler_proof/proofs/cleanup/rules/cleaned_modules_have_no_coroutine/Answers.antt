@@ -1,5 +1,0 @@
-use Rattle.compiler_proof.proofs.cleanup.rules.NoCoroutine.{none_left}
-use Rattle.compiler_proof.proofs.cleanup.rules.cleaned_modules_have_no_coroutine.Goals as goal
-
-pub returns : goal.returns
-returns c = none_left

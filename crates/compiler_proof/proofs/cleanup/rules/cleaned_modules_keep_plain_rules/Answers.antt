@@ -1,5 +1,0 @@
-use Rattle.compiler_proof.proofs.cleanup.rules.All.{all_clean}
-use Rattle.compiler_proof.proofs.cleanup.rules.cleaned_modules_keep_plain_rules.Goals as goal
-
-pub returns : goal.returns
-returns c = all_clean

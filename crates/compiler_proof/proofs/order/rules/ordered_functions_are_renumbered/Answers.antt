@@ -1,5 +1,0 @@
-use Rattle.compiler_proof.proofs.order.rules.Ordered.{ordered}
-use Rattle.compiler_proof.proofs.order.rules.ordered_functions_are_renumbered.Goals as goal
-
-pub returns : goal.returns
-returns c = ordered

@@ -1,5 +1,0 @@
-use Rattle.compiler_proof.proofs.whole.exits.Unnamed.{names_none}
-use Rattle.compiler_proof.proofs.whole.exits.exit_blocks_name_no_intrinsic.Goals as goal
-
-pub returns : goal.returns
-returns c = names_none

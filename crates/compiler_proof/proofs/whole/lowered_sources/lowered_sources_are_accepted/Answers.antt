@@ -1,5 +1,0 @@
-use Rattle.compiler_proof.proofs.whole.lowered_sources.Row.{all_accepted}
-use Rattle.compiler_proof.proofs.whole.lowered_sources.lowered_sources_are_accepted.Goals as goal
-
-pub returns : goal.returns
-returns c = all_accepted

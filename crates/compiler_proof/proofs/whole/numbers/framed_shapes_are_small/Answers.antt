@@ -1,5 +1,0 @@
-use Rattle.compiler_proof.proofs.whole.numbers.Small.{framed_small}
-use Rattle.compiler_proof.proofs.whole.numbers.framed_shapes_are_small.Goals as goal
-
-pub returns : goal.returns
-returns c = framed_small

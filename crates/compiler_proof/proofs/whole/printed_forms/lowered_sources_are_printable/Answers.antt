@@ -1,5 +1,0 @@
-use Rattle.compiler_proof.proofs.whole.printed_forms.Lowered.{lowered_printable, lowered_shaped}
-use Rattle.compiler_proof.proofs.whole.printed_forms.lowered_sources_are_printable.Goals as goal
-
-pub returns : goal.returns
-returns c = record { shaped = lowered_shaped; printable = lowered_printable }

@@ -1,5 +1,0 @@
-use Rattle.compiler_proof.proofs.whole.printed_order.Main.{order_corresponds}
-use Rattle.compiler_proof.proofs.whole.printed_order.names_in_order_keep_states.Goals as goal
-
-pub returns : goal.returns
-returns c = order_corresponds

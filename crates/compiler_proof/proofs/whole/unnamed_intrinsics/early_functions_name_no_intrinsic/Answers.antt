@@ -1,5 +1,0 @@
-use Rattle.compiler_proof.proofs.whole.unnamed_intrinsics.Early.{early_free}
-use Rattle.compiler_proof.proofs.whole.unnamed_intrinsics.early_functions_name_no_intrinsic.Goals as goal
-
-pub returns : goal.returns
-returns c = early_free

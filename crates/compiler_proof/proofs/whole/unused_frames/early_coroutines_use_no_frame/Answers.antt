@@ -1,5 +1,0 @@
-use Rattle.compiler_proof.proofs.whole.lowered_sources.Sources.{early_unused}
-use Rattle.compiler_proof.proofs.whole.unused_frames.early_coroutines_use_no_frame.Goals as goal
-
-pub returns : goal.returns
-returns c = early_unused

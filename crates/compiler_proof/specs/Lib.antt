@@ -1,4 +1,0 @@
-pub mod cleanup
-pub mod order
-pub mod theorem
-pub mod whole

@@ -1,6 +1,0 @@
-pub mod Classes
-pub mod Conflicts
-pub mod SlotsAlike
-pub mod Spots
-pub mod Strands
-pub mod Windows

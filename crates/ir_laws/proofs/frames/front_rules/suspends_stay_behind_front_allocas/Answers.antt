@@ -1,5 +1,0 @@
-use Rattle.ir_laws.proofs.frames.front_rules.Shape.{same_suspends}
-use Rattle.ir_laws.proofs.frames.front_rules.suspends_stay_behind_front_allocas.Goals as goal
-
-pub returns : goal.returns
-returns c = same_suspends

@@ -1,5 +1,0 @@
-use Rattle.ir_laws.proofs.frames.suspend_counts.Small.{accepted_few}
-use Rattle.ir_laws.proofs.frames.suspend_counts.accepted_suspends_are_few.Goals as goal
-
-pub returns : goal.returns
-returns c = accepted_few

@@ -1,5 +1,0 @@
-use Rattle.ir_laws.proofs.frames.suspend_counts.Counted.{few}
-use Rattle.ir_laws.proofs.frames.suspend_counts.suspends_are_few.Goals as goal
-
-pub returns : goal.returns
-returns c = few

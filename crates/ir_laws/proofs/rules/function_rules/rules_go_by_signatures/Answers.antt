@@ -1,5 +1,0 @@
-use Rattle.ir_laws.proofs.rules.function_rules.Signatures.{go_by_signatures}
-use Rattle.ir_laws.proofs.rules.function_rules.rules_go_by_signatures.Goals as goal
-
-pub returns : goal.returns
-returns c = go_by_signatures

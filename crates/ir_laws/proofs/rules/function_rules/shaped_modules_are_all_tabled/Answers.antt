@@ -1,5 +1,0 @@
-use Rattle.ir_laws.proofs.rules.function_rules.Shaped.{all_shaped}
-use Rattle.ir_laws.proofs.rules.function_rules.shaped_modules_are_all_tabled.Goals as goal
-
-pub returns : goal.returns
-returns c = all_shaped

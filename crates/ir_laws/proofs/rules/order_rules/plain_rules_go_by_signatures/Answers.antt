@@ -1,5 +1,0 @@
-use Rattle.ir_laws.proofs.rules.function_rules.Signatures.{plain_rules_by_signatures}
-use Rattle.ir_laws.proofs.rules.order_rules.plain_rules_go_by_signatures.Goals as goal
-
-pub returns : goal.returns
-returns c = plain_rules_by_signatures

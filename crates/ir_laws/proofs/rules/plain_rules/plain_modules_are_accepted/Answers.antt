@@ -1,5 +1,0 @@
-use Rattle.ir_laws.proofs.rules.plain_rules.Accepted.{accepted}
-use Rattle.ir_laws.proofs.rules.plain_rules.plain_modules_are_accepted.Goals as goal
-
-pub returns : goal.returns
-returns c = accepted

@@ -1,5 +1,0 @@
-use Rattle.ir_laws.proofs.rules.sources.Tables.{all_tabled}
-use Rattle.ir_laws.proofs.rules.sources.texts_have_tables.Goals as goal
-
-pub returns : goal.returns
-returns c = all_tabled

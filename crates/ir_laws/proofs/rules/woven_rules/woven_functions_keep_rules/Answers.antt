@@ -1,5 +1,0 @@
-use Rattle.ir_laws.proofs.rules.woven_rules.All.{rules_woven}
-use Rattle.ir_laws.proofs.rules.woven_rules.woven_functions_keep_rules.Goals as goal
-
-pub returns : goal.returns
-returns c = rules_woven

@@ -1,5 +1,0 @@
-use Rattle.ir_laws.proofs.rules.woven_rules.Edges.{incoming_woven}
-use Rattle.ir_laws.proofs.rules.woven_rules.woven_phis_have_each_label_once.Goals as goal
-
-pub returns : goal.returns
-returns c = incoming_woven

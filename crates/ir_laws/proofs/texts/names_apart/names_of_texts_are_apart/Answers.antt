@@ -1,5 +1,0 @@
-use Rattle.ir_laws.proofs.texts.names_apart.Texts.{texts_apart}
-use Rattle.ir_laws.proofs.texts.names_apart.names_of_texts_are_apart.Goals as goal
-
-pub returns : goal.returns
-returns c = texts_apart

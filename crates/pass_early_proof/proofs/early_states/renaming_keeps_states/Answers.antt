@@ -1,6 +1,0 @@
-use Rattle.pass_early_proof.proofs.renaming.Rules.{all_regular}
-use Rattle.pass_early_proof.proofs.renaming.Simulation.{renamed_corresponds}
-use Rattle.pass_early_proof.proofs.early_states.renaming_keeps_states.Goals as goal
-
-pub returns : goal.returns
-returns c = λ m rules. renamed_corresponds m (all_regular m rules)

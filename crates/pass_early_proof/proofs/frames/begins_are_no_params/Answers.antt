@@ -1,5 +1,0 @@
-use Rattle.pass_early_proof.proofs.frames.NoParams.{accepted_apart}
-use Rattle.pass_early_proof.proofs.frames.begins_are_no_params.Goals as goal
-
-pub returns : goal.returns
-returns c = accepted_apart

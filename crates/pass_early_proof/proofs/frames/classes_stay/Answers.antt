@@ -1,5 +1,0 @@
-use Rattle.pass_early_proof.proofs.frames.Functions.{classes_early}
-use Rattle.pass_early_proof.proofs.frames.classes_stay.Goals as goal
-
-pub returns : goal.returns
-returns c = classes_early

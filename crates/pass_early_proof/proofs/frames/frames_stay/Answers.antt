@@ -1,5 +1,0 @@
-use Rattle.pass_early_proof.proofs.frames.Frames.{frames_early}
-use Rattle.pass_early_proof.proofs.frames.frames_stay.Goals as goal
-
-pub returns : goal.returns
-returns c = frames_early

@@ -1,5 +1,0 @@
-use Rattle.pass_early_proof.proofs.meaning.Composition.{early_agrees}
-use Rattle.pass_early_proof.proofs.meaning.early_keeps_meaning.Goals as goal
-
-pub returns : goal.returns
-returns c = early_agrees

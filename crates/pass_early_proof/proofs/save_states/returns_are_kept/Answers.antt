@@ -1,5 +1,0 @@
-use Rattle.pass_early_proof.proofs.save_states.Calls.{return_saved}
-use Rattle.pass_early_proof.proofs.save_states.returns_are_kept.Goals as goal
-
-pub returns : goal.returns
-returns c = return_saved

@@ -1,5 +1,0 @@
-use Rattle.pass_early_proof.proofs.slots.Laws.{alive_renamed}
-use Rattle.pass_early_proof.proofs.slots.alive_stay_renamed.Goals as goal
-
-pub returns : goal.returns
-returns c = alive_renamed

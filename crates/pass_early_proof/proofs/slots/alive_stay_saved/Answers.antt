@@ -1,5 +1,0 @@
-use Rattle.pass_early_proof.proofs.slots.Laws.{alive_saved}
-use Rattle.pass_early_proof.proofs.slots.alive_stay_saved.Goals as goal
-
-pub returns : goal.returns
-returns c = alive_saved

@@ -1,5 +1,0 @@
-use Rattle.pass_early_proof.proofs.slots.Laws.{conflicts_named}
-use Rattle.pass_early_proof.proofs.slots.conflicts_stay_named.Goals as goal
-
-pub returns : goal.returns
-returns c = conflicts_named

@@ -1,5 +1,0 @@
-use Rattle.pass_early_proof.proofs.slots.Laws.{conflicts_saved}
-use Rattle.pass_early_proof.proofs.slots.conflicts_stay_saved.Goals as goal
-
-pub returns : goal.returns
-returns c = conflicts_saved

@@ -1,5 +1,0 @@
-use Rattle.pass_early_proof.proofs.sources.Laid.{accepted_laid}
-use Rattle.pass_early_proof.proofs.sources.accepted_layouts_stay.Goals as goal
-
-pub returns : goal.returns
-returns c = accepted_laid

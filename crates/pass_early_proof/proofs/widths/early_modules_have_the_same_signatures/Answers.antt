@@ -1,5 +1,0 @@
-use Rattle.pass_early_proof.proofs.widths.Headings.{early_signatures}
-use Rattle.pass_early_proof.proofs.widths.early_modules_have_the_same_signatures.Goals as goal
-
-pub returns : goal.returns
-returns c = early_signatures

@@ -1,0 +1,11 @@
+pub mod Accepted
+pub mod Carried
+pub mod Defined
+pub mod Fitting
+pub mod Followed
+pub mod Names
+pub mod Rows
+pub mod Rules
+pub mod Sources
+pub mod ValueKinds
+pub mod Woven

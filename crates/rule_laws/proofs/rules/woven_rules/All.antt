@@ -1,0 +1,51 @@
+-- All the rules together.
+use Rattle.std.proofs.Common.{ℕ, ◌<◌}
+use Rattle.rule_laws.proofs.rules.local_rules.Names.{numbers}
+use Rattle.rule_laws.specs.rules.local_rules.Local.{BreaksNoLocalRuleIn}
+use Rattle.flow_solver.specs.Paths.{IsListed}
+use Rattle.rule_laws.specs.rules.function_rules.Kept.{KeepsFunctionRules}
+use Rattle.ir_model.specs.declared.module.Function.{Function}
+use Rattle.ir_model.specs.declared.module.Module.{Module}
+use Rattle.rule_laws.proofs.rules.woven_rules.Edges.{edges_woven, same_edges, same_position}
+use Rattle.rule_laws.proofs.rules.woven_rules.Instructions.{allocas_woven, closed_woven, extents_woven, misplaced_woven, pointers_woven, transfers_woven}
+use Rattle.rule_laws.proofs.rules.woven_rules.Laid.{AreLaidBlocks, laid}
+use Rattle.rule_laws.proofs.rules.woven_rules.Once.{below, definitions_woven, tabled_woven}
+use Rattle.rule_laws.proofs.rules.woven_rules.Rules.{calls_woven, depths_woven, known_woven}
+use Rattle.rule_laws.proofs.rules.woven_rules.Uses.{uses_woven}
+use Rattle.rule_laws.proofs.rules.woven_rules.Values.{marks_woven, values_woven}
+use Rattle.rule_laws.specs.rules.woven_rules.Blocks.{IsWoven}
+use Rattle.rule_laws.specs.rules.woven_rules.Pairs.{AreIncomingOnce}
+use Rattle.rule_laws.specs.rules.woven_rules.Weaving.{Weaving}
+
+module _ (w : Weaving) (m : Module) (k : ℕ) (f g : Function) (h : IsWoven w m f g) (keeps : KeepsFunctionRules m k f) (once : AreIncomingOnce f) where
+  old : (v : ℕ) → IsListed v (numbers f) → v < w.first
+  old = below w m k f g h keeps.tabled
+
+  blocks : AreLaidBlocks w m f g 0 f.blocks g.blocks
+  blocks = laid w m f g h old once
+
+  local : BreaksNoLocalRuleIn m k g
+  local =
+      record {
+        values = values_woven w m f g k h old blocks keeps.local.values keeps.calls keeps.known;
+        closed_calls = closed_woven w m f g k blocks keeps.local.closed_calls;
+        extents = extents_woven w m f g k blocks keeps.local.extents;
+        transfers = transfers_woven w m f g k blocks keeps.local.transfers;
+        allocas = allocas_woven w m f g k blocks keeps.local.allocas;
+        function_pointers = pointers_woven w m f g k blocks keeps.local.function_pointers;
+        misplaced = misplaced_woven w m f g k blocks h.coroutine keeps.local.misplaced;
+        marks = marks_woven w m f g k h old blocks keeps.local.marks keeps.known;
+      }
+
+  pub rules_woven : KeepsFunctionRules m k g
+  rules_woven =
+      record {
+        tabled = tabled_woven w m k f g h keeps.tabled;
+        definitions = definitions_woven w m k f g h keeps.tabled keeps.definitions;
+        known = known_woven w m f g k h old blocks keeps.known;
+        depths = depths_woven w m f g k h old blocks keeps.depths;
+        calls = calls_woven w m f g k h old blocks keeps.calls;
+        local = local;
+        edges = edges_woven w m f g blocks k keeps.edges;
+        uses = uses_woven w m f g h (same_edges w m f g blocks) (same_position w m f g blocks) k keeps.uses;
+      }

@@ -1,0 +1,32 @@
+//! Functions into which instructions are woven break no rule of functions, where those from which they come break
+//! none.
+//!
+//! In a woven function (`IsWoven`) some instructions are put in, some go, and the others stay with other operands in
+//! the place of theirs. It breaks none of the rules of functions where it broke none and its phis name each label
+//! once (`woven_functions_keep_rules`).
+
+ghost use Rattle.std.specs.Prelude.{ℕ, List};
+ghost use Rattle.rule_laws.specs.rules.function_rules.Kept.{KeepsFunctionRules};
+ghost use Rattle.ir_model.specs.declared.module.Function.{Function};
+ghost use Rattle.ir_model.specs.declared.module.Module.{Module};
+ghost use Rattle.rule_laws.specs.rules.woven_rules.Blocks.{IsWoven};
+ghost use Rattle.rule_laws.specs.rules.woven_rules.Pairs.{AreIncomingOnce};
+ghost use Rattle.rule_laws.specs.rules.woven_rules.Weaving.{Weaving};
+ghost use Rattle.ir_base.specs.declared.name.Name.{Name};
+ghost use Rattle.ir_model.specs.declared.instr.Instr.{Instr};
+ghost use Rattle.rule_laws.specs.rules.woven_rules.Fronts.{FrontFits, with_front};
+
+/// A function that breaks none of the rules of functions, and whose phis name each label once, breaks none with instructions woven in.
+pub fn woven_functions_keep_rules()
+    ensures { (w : Weaving) (m : Module) (k : ℕ) (f g : Function) → IsWoven w m f g → KeepsFunctionRules m k f → AreIncomingOnce f → KeepsFunctionRules m k g }
+{}
+
+/// Its phis name each label once, too.
+pub fn woven_phis_have_each_label_once()
+    ensures { (w : Weaving) (m : Module) (f g : Function) → IsWoven w m f g → AreIncomingOnce f → AreIncomingOnce g }
+{}
+
+/// Allocas of new names that are put in at the front of the entry block are such instructions.
+pub fn front_allocas_keep_rules()
+    ensures { (m : Module) (k : ℕ) (f : Function) (front : List Instr) (names : List Name) → KeepsFunctionRules m k f → AreIncomingOnce f → FrontFits m f front names → KeepsFunctionRules m k (with_front front names f) }
+{}
