@@ -2,3 +2,4 @@ pub mod Hooks
 pub mod Meanings
 pub mod Reached
 pub mod Left
+pub mod Away

@@ -1,0 +1,46 @@
+use Rattle.std.proofs.Common.{subst, sym}
+use Rattle.pass_kept_proof.specs.Kept.{continue_keeping}
+use Rattle.pass_renewed_proof.specs.Renewed.{renewed_step}
+use Rattle.run_framed.specs.Framed.{framed_step}
+use Rattle.run_hooks.proofs.Keeping.{framed_keeps, kept_keeps, renewed_keeps, source_keeps}
+use Rattle.run_hooks.proofs.PlacedKeeping.{framed_keeps_placed, kept_keeps_placed, renewed_keeps_placed}
+use Rattle.run_hooks.proofs.PlacedKeeping.{source_keeps_placed}
+use Rattle.run_hooks.proofs.PlacedSteps.{states_placed}
+use Rattle.run_hooks.proofs.Steps.{framed_steps, renewed_steps, same_runs, source_step}
+use Rattle.run_hooks.proofs.activations_of_runs_are_placed.Goals as goal
+use Rattle.run_hooks.specs.Hooks.{step_of}
+use Rattle.run_hooks.specs.Meanings.{framed_hooks, kept_hooks, renewed_hooks, source_hooks}
+use Rattle.run_hooks.specs.Away.{IsPlacedState}
+use Rattle.run_source.specs.Source.{continue, first_state, step, step_by}
+
+pub returns-clause-source : goal.returns-clause-source
+returns-clause-source c =
+    λ g entry args n ok rules.
+    let e = same_runs (step g) (step_of (source_hooks g)) (source_step g (continue g)) n
+    (first_state g.code entry args) in
+    subst (IsPlacedState (source_hooks g)) (sym e) (states_placed (source_hooks g) ok (source_keeps g) rules
+    (source_keeps_placed g) entry args n)
+
+pub returns-clause-kept : goal.returns-clause-kept
+returns-clause-kept c =
+    λ g keep entry args n ok rules.
+    let e = same_runs (step_by g (continue_keeping g keep)) (step_of (kept_hooks g keep))
+    (source_step g (continue_keeping g keep)) n (first_state g.code entry args) in
+    subst (IsPlacedState (kept_hooks g keep)) (sym e) (states_placed (kept_hooks g keep) ok (kept_keeps g keep) rules
+    (kept_keeps_placed g keep) entry args n)
+
+pub returns-clause-renewed : goal.returns-clause-renewed
+returns-clause-renewed c =
+    λ g entry args n ok rules.
+    let e = same_runs (renewed_step g) (step_of (renewed_hooks g)) (renewed_steps g) n
+    (first_state g.given.code entry args) in
+    subst (IsPlacedState (renewed_hooks g)) (sym e) (states_placed (renewed_hooks g) ok (renewed_keeps g) rules
+    (renewed_keeps_placed g) entry args n)
+
+pub returns-clause-framed : goal.returns-clause-framed
+returns-clause-framed c =
+    λ g entry args n ok rules.
+    let e = same_runs (framed_step g) (step_of (framed_hooks g)) (framed_steps g) n
+    (first_state g.given.code entry args) in
+    subst (IsPlacedState (framed_hooks g)) (sym e) (states_placed (framed_hooks g) ok (framed_keeps g) rules
+    (framed_keeps_placed g rules) entry args n)
