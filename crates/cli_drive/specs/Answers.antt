@@ -30,7 +30,9 @@ use Rattle.ir_model.specs.declared.module.Param.{Param}
 use Rattle.text_parser.specs.Parse.{read_module}
 use Rattle.text_parser.specs.declared.text.Parsed.{Parsed}
 use Rattle.text_printer.specs.Items.{module_text}
+use Rattle.compiler.specs.Elision.{IsElision}
 use Rattle.compiler.specs.Lowering.{IsLowering}
+use Rattle.compiler.specs.declared.elision.Elision.{Elision}
 use Rattle.compiler.specs.declared.whole.Lowered.{Lowered}
 use Rattle.compiler.specs.declared.whole.Lowering.{Lowering}
 use Rattle.rule_all.specs.Refused.{IsRefused}
@@ -210,16 +212,34 @@ abbrev pub source_form_answer : Module → RunWords → Acceptance → Answer
 source_form_answer m w (Acceptance.Refused r) = refused m r.rule r.place
 source_form_answer m w (Acceptance.Accepted layouts) = source_or m (sizes_of layouts) w (entry_call m w.entry w.args)
 
--- what is made of the acceptance of a module, by plain layouts or those that share bytes
-pub record IsMadeOfAcceptance (m : Module) (share : Bool) (make : Acceptance → Answer) (a : Answer) : Type 0 where
+-- with `--plain` no bytes are shared, no call is elided, and no transfer is made
+abbrev pub options_of : Bool → Options
+options_of plain = record { share = not plain; elide = not plain; transfer = not plain }
+
+-- the layouts have callees' frames in them
+pub record AreWithCallees (m : Module) (plain : Bool) (others layouts : Layouts) : Type 0 where
+  pub elision : Elision
+  pub elided : IsElision m (options_of plain) others elision
+  pub is : layouts ≡ elision.layouts
+
+-- the same acceptance, with these layouts
+abbrev pub IsWithCallees : Module → Bool → Acceptance → Acceptance → Type 0
+IsWithCallees m plain (Acceptance.Refused r) a = a ≡ Acceptance.Refused r
+IsWithCallees m plain (Acceptance.Accepted others) (Acceptance.Accepted layouts) = AreWithCallees m plain others layouts
+IsWithCallees m plain (Acceptance.Accepted others) (Acceptance.Refused r) = ⊥
+
+-- what is made of the acceptance of a module, by plain layouts or those that share bytes and have callees' frames in them
+pub record IsMadeOfAcceptance (m : Module) (plain : Bool) (make : Acceptance → Answer) (a : Answer) : Type 0 where
   pub acceptance : Acceptance
-  pub accepted : IsAcceptance m share acceptance
-  pub is : a ≡ make acceptance
+  pub accepted : IsAcceptance m (not plain) acceptance
+  pub with_callees : Acceptance
+  pub are_with_callees : IsWithCallees m plain acceptance with_callees
+  pub is : a ≡ make with_callees
 
 -- a source is looked at for all rules and run, with the sizes of the frames that lowering it by these words gives
 abbrev pub IsSourceAnswer : Parsed → RunWords → Answer → Type 0
 IsSourceAnswer (Parsed.Syntax items) w a = a ≡ syntax_fault items
-IsSourceAnswer (Parsed.Module m) w a = IsMadeOfAcceptance m (not w.plain) (source_form_answer m w) a
+IsSourceAnswer (Parsed.Module m) w a = IsMadeOfAcceptance m w.plain (source_form_answer m w) a
 
 -- ---- run of a framed module
 
@@ -257,7 +277,7 @@ layout_answer m (Acceptance.Accepted layouts) = shown Verdict.Done (layout_text 
 
 abbrev pub IsLayoutAnswer : Bool → Parsed → Answer → Type 0
 IsLayoutAnswer plain (Parsed.Syntax items) a = a ≡ syntax_fault items
-IsLayoutAnswer plain (Parsed.Module m) a = IsMadeOfAcceptance m (not plain) (layout_answer m) a
+IsLayoutAnswer plain (Parsed.Module m) a = IsMadeOfAcceptance m plain (layout_answer m) a
 
 -- ---- check
 
@@ -278,10 +298,6 @@ IsCheckAnswer true (Parsed.Module m) a = IsMadeOfRules Stage.Plain m (check_answ
 IsCheckAnswer false (Parsed.Module m) a = IsMadeOfRefusal m (check_answer m) a
 
 -- ---- the commands
-
--- with `--plain` no bytes are shared, no call is elided, and no transfer is made
-abbrev pub options_of : Bool → Options
-options_of plain = record { share = not plain; elide = not plain; transfer = not plain }
 
 -- what is made of the lowering of the bytes
 pub record IsMadeOf (plain : Bool) (bytes : List ℕ) (make : Lowering → Answer) (a : Answer) : Type 0 where

@@ -1,8 +1,8 @@
 //! What the commands answer to the bytes of their input.
 
-ghost use Rattle.std.specs.Prelude.{◌≡◌, ◌≤◌, IfOk, not};
+ghost use Rattle.std.specs.Prelude.{◌≡◌, ◌≤◌, IfOk};
 ghost use Rattle.cli_words.specs.declared.words.Form.{Form};
-ghost use Rattle.cli_drive.specs.Answers.{lower_answer, checked_run, check_answer, IsTextAnswer, IsCheckAnswer, IsLayoutAnswer, IsMadeOfAcceptance, IsMadeOfRefusal, IsMadeOfRules, IsSourceAnswer, layout_answer, gen_answer, options_of, within, run_lowered, lowered_answer, run_laid_out, framed_form_answer, source_form_answer, IsRunAnswer, IsMadeOf, IsAnswer};
+ghost use Rattle.cli_drive.specs.Answers.{lower_answer, checked_run, check_answer, IsTextAnswer, IsCheckAnswer, IsLayoutAnswer, IsMadeOfAcceptance, IsMadeOfRefusal, IsMadeOfRules, IsSourceAnswer, layout_answer, gen_answer, options_of, within, run_lowered, lowered_answer, run_laid_out, framed_form_answer, source_form_answer, IsRunAnswer, IsMadeOf, IsAnswer, IsWithCallees};
 ghost use Rattle.text_parser.specs.Parse.{read_module};
 
 use crate::entry::entry_call;
@@ -11,7 +11,7 @@ use crate::texts::{refused, shown, syntax_fault};
 use crate::verdict::{Answer, Verdict};
 use cli_gen::generate;
 use cli_words::{Form, RunWords, Words};
-use compiler::{Lowered, Lowering, lower};
+use compiler::{Elision, Lowered, Lowering, elision_of, lower};
 use frame_acceptance::{Acceptance, accept, refused_for};
 use frame_contents::layout_text;
 use ir_base::{Items, Options};
@@ -147,6 +147,25 @@ fn run_framed_form(alloc: Global, bytes: &[u8], words: &RunWords) -> Result<Answ
     framed_form_answer(alloc, lowering, words)
 }
 
+/// What is accepted, with callees' frames in the layouts where calls are elided.
+fn with_callees(
+    alloc: Global,
+    source: &Module,
+    acceptance: Acceptance,
+    plain: bool,
+) -> Result<Acceptance, AllocError>
+    ensures { IfOk result (IsWithCallees source.now plain acceptance) }
+{
+    match acceptance {
+        Acceptance::Refused(refusal) => Ok(Acceptance::Refused(refusal)),
+        Acceptance::Accepted(layouts) => {
+            let elision = elision_of(alloc, source, layouts, options_of(plain))?;
+            let Elision { layouts, .. } = elision;
+            Ok(Acceptance::Accepted(layouts))
+        }
+    }
+}
+
 /// Runs a source that is looked at for all rules.
 fn source_form_answer(
     alloc: Global,
@@ -164,9 +183,10 @@ fn source_form_answer(
 
 #[tactic(auto, using(crate::proofs::Chosen::accepted_by))]
 fn accepted_run(alloc: Global, source: Module, words: &RunWords) -> Result<Answer, AllocError>
-    ensures { IfOk result (λ a. IsMadeOfAcceptance source (not words.now.plain) (source_form_answer source words.now) a) }
+    ensures { IfOk result (λ a. IsMadeOfAcceptance source words.now.plain (source_form_answer source words.now) a) }
 {
-    let acceptance = accept(alloc, &source, !words.plain)?;
+    let accepted = accept(alloc, &source, !words.plain)?;
+    let acceptance = with_callees(alloc, &source, accepted, words.plain)?;
     source_form_answer(alloc, source, acceptance, words)
 }
 
@@ -271,9 +291,10 @@ fn layout_answer(
 
 #[tactic(auto, using(crate::proofs::Chosen::accepted_by))]
 fn layout_module(alloc: Global, source: &Module, plain: bool) -> Result<Answer, AllocError>
-    ensures { IfOk result (λ a. IsMadeOfAcceptance source.now (not plain) (layout_answer source.now) a) }
+    ensures { IfOk result (λ a. IsMadeOfAcceptance source.now plain (layout_answer source.now) a) }
 {
-    let acceptance = accept(alloc, source, !plain)?;
+    let accepted = accept(alloc, source, !plain)?;
+    let acceptance = with_callees(alloc, source, accepted, plain)?;
     layout_answer(alloc, source, &acceptance)
 }
 

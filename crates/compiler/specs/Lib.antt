@@ -1,3 +1,4 @@
+pub mod Elision
 pub mod Lowering
 pub mod NoCoroutine
 pub mod NoRule

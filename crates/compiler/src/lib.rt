@@ -1,7 +1,7 @@
 //! The passes in a row: from a module with coroutines to one without.
 //!
 //! `lower` gives what the written definition says of the bytes (`IsLowering`). Of an accepted module that is the
-//! layouts, the framed form, and what `split_module` and `clean_module` make of it. The text of that stands behind
+//! layouts, the sites, the framed form with these elided, and what `split_module` and `clean_module` make of it. The text of that stands behind
 //! the frame lines. Else it is the count of items, or the first broken rule with its place.
 //!
 //! What is lowered has no coroutine, and neither calls nor declares a coro intrinsic (clause `plain`). What is
@@ -12,8 +12,10 @@
 //! names once it is lowered (clause `few`).
 #![tactic(auto)]
 
+mod elision;
 mod passes;
 mod whole;
 
-pub use passes::{framed_module, lowered_module};
+pub use elision::{Elision, elision_of};
+pub use passes::{elided_module, framed_module, lowered_module};
 pub use whole::{Lowered, Lowering, lower, lower_module};

@@ -1,12 +1,13 @@
 //! The lowering of a text.
 
 ghost use Rattle.std.specs.Prelude.{◌≡◌, IfOk, map, slice_get};
-ghost use Rattle.compiler.specs.Lowering.{IsDone, IsLowering, IsLoweringBy, IsModuleLowering, frame_line, lowered_by, lowered_text, name_of};
+ghost use Rattle.compiler.specs.Lowering.{IsDone, IsDoneWith, IsLowering, IsLoweringBy, IsModuleLowering, frame_line, lowered_by, lowered_text, name_of};
 ghost use Rattle.compiler.specs.NoCoroutine.{LeavesNoCoroutine};
 ghost use Rattle.compiler.specs.NoRule.{BreaksNoRule, IsFramed};
 ghost use Rattle.compiler.specs.Printed.{AllFew, HasFewNames, IsReadPlain};
 
-use crate::passes::{framed_module, lowered_module};
+use crate::elision::{Elision, elision_of};
+use crate::passes::{elided_module, framed_module, lowered_module};
 use frame_acceptance::{Acceptance, accept};
 use frame_layout::{Layout, Layouts};
 use ir_base::{Data, FuncId, Items, Name, Options, Place, Rule};
@@ -18,7 +19,7 @@ use text_printer::{FrameLine, print_frames, print_module};
 
 /// What the lowering of an accepted module gives: its text (a frame line per coroutine, then the canonical text of the
 /// lowered module), the lowered module, the source, its framed form, the layouts of its frames, and the calls whose frames lie
-/// in their callers, of which there are none yet.
+/// in their callers. The framed form is that in which these calls give their callees frames.
 #[derive(Drop)]
 pub struct Lowered {
     pub text: Items<u8>,
@@ -96,12 +97,13 @@ fn names_are_few(functions: &[Function])
 fn lower_framed(
     alloc: Global,
     source: Module,
-    layouts: Layouts,
+    elision: Elision,
     framed: Module,
 ) -> Result<Lowered, AllocError>
-    ensures lowered { IfOk result (λ l. l ≡ lowered_by source layouts framed) }
+    ensures lowered { IfOk result (λ l. l ≡ lowered_by source elision framed) }
     ensures few { IfOk result (λ l. AllFew l.«module».functions) }
 {
+    let Elision { layouts, sites } = elision;
     let module = lowered_module(alloc, &framed, &layouts)?;
     names_are_few(module.functions.as_slice());
     let text = lowered_text(alloc, &source, &layouts, &module)?;
@@ -111,23 +113,43 @@ fn lower_framed(
         source,
         framed,
         layouts,
-        sites: Items::new(alloc),
+        sites,
     })
+}
+
+/// Lowers an accepted source, of which these calls are elided.
+fn lower_with(alloc: Global, source: Module, elision: Elision) -> Result<Lowered, AllocError>
+    ensures done { IfOk result (λ l. IsDoneWith source elision l) }
+    ensures few { IfOk result (λ l. AllFew l.«module».functions) }
+{
+    let framed = framed_module(alloc, &source, &elision.layouts)?;
+    let elided = elided_module(alloc, &framed, elision.sites.as_slice(), &elision.layouts)?;
+    lower_framed(alloc, source, elision, elided)
 }
 
 /// Lowers an accepted source.
 #[tactic(auto, using(crate::proofs::Told::done_by))]
-fn lower_accepted(alloc: Global, source: Module, layouts: Layouts) -> Result<Lowered, AllocError>
-    ensures done { IfOk result (λ l. IsDone source layouts l) }
+fn lower_accepted(
+    alloc: Global,
+    source: Module,
+    layouts: Layouts,
+    options: Options,
+) -> Result<Lowered, AllocError>
+    ensures done { IfOk result (λ l. IsDone source options layouts l) }
     ensures few { IfOk result (λ l. AllFew l.«module».functions) }
 {
-    let framed = framed_module(alloc, &source, &layouts)?;
-    lower_framed(alloc, source, layouts, framed)
+    let elision = elision_of(alloc, &source, layouts, options)?;
+    lower_with(alloc, source, elision)
 }
 
 /// What becomes of a source by its acceptance.
-fn lower_by(alloc: Global, source: Module, acceptance: Acceptance) -> Result<Lowering, AllocError>
-    ensures lowered { IfOk result (λ l. IsLoweringBy source acceptance l) }
+fn lower_by(
+    alloc: Global,
+    source: Module,
+    acceptance: Acceptance,
+    options: Options,
+) -> Result<Lowering, AllocError>
+    ensures lowered { IfOk result (λ l. IsLoweringBy source options acceptance l) }
     ensures few { IfOk result (λ l. HasFewNames l) }
 {
     match acceptance {
@@ -135,20 +157,21 @@ fn lower_by(alloc: Global, source: Module, acceptance: Acceptance) -> Result<Low
             Ok(Lowering::Refused(source, refusal.rule, refusal.place))
         }
         Acceptance::Accepted(layouts) => {
-            Ok(Lowering::Done(lower_accepted(alloc, source, layouts)?))
+            Ok(Lowering::Done(lower_accepted(alloc, source, layouts, options)?))
         }
     }
 }
 
-/// Lowers a module, in whose frames fields share bytes or don't, or tells the rule that it breaks first.
+/// Lowers a module, in whose frames fields share bytes or don't and of whose calls some are elided or none, or tells the rule that
+/// it breaks first.
 #[tactic(auto, using(crate::proofs::Told::lowered_as, crate::proofs::NoCoroutine::lowering_by_has_none))]
-pub fn lower_module(alloc: Global, source: Module, share: bool) -> Result<Lowering, AllocError>
-    ensures lowered { IfOk result (λ l. IsModuleLowering share source l) }
+pub fn lower_module(alloc: Global, source: Module, options: Options) -> Result<Lowering, AllocError>
+    ensures lowered { IfOk result (λ l. IsModuleLowering options source l) }
     ensures plain { IfOk result (λ l. LeavesNoCoroutine l) }
     ensures few { IfOk result (λ l. HasFewNames l) }
 {
-    let acceptance = accept(alloc, &source, share)?;
-    lower_by(alloc, source, acceptance)
+    let acceptance = accept(alloc, &source, options.share)?;
+    lower_by(alloc, source, acceptance, options)
 }
 
 /// Lowers a text. What is lowered has no coroutine left, neither calls nor declares a coro intrinsic, and breaks none of the rules of
@@ -165,6 +188,6 @@ pub fn lower(alloc: Global, text: &[u8], options: Options) -> Result<Lowering, A
     text_is_bytes(text);
     match parse(alloc, text)? {
         Parsed::Syntax { items } => Ok(Lowering::Syntax(items)),
-        Parsed::Module(source) => lower_module(alloc, source, options.share),
+        Parsed::Module(source) => lower_module(alloc, source, options),
     }
 }

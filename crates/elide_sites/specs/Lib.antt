@@ -4,3 +4,8 @@ pub mod Elidable
 pub mod Handles
 pub mod Sites
 pub mod Rows
+pub mod Going
+pub mod Candidates
+pub mod ByFunction
+pub mod Search
+pub mod Chains

@@ -61,7 +61,7 @@ fn has<T: InstrTest>(test: &T, instrs: &[Instr]) -> bool
 }
 
 /// For each block whether an instruction in it passes the test.
-fn marks_of<T: InstrTest>(
+pub fn marks_of<T: InstrTest>(
     alloc: Global,
     test: &T,
     function: &Function,

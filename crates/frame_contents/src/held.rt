@@ -121,7 +121,7 @@ fn push_result(
     }
 }
 
-fn push_params(
+pub(crate) fn push_params(
     all: &mut Items<Holding>,
     values: &[bool],
     params: &[Param],
@@ -134,7 +134,11 @@ fn push_params(
     Ok(())
 }
 
-fn push_phis(all: &mut Items<Holding>, values: &[bool], phis: &[Phi]) -> Result<(), AllocError>
+pub(crate) fn push_phis(
+    all: &mut Items<Holding>,
+    values: &[bool],
+    phis: &[Phi],
+) -> Result<(), AllocError>
     ensures { OnOk result (all.new ≡ all.old ++ held_phis (λ v. get_or values.now v false) phis.now) }
 {
     for phi in phis {
@@ -143,7 +147,7 @@ fn push_phis(all: &mut Items<Holding>, values: &[bool], phis: &[Phi]) -> Result<
     Ok(())
 }
 
-fn push_instr(
+pub(crate) fn push_instr(
     all: &mut Items<Holding>,
     sizes: &Sizes<'_>,
     promise: Option<ValueId>,

@@ -3,15 +3,19 @@
 //!
 //! `frame_of` gives what a coroutine's frame holds, in order of the text, and its layout, or that it is too large
 //! (`IsFrameOf`). `layouts_of` gives the layouts of a module's coroutines or the first that is too large
-//! (`AreLayouts`), with bytes shared or plain. `layout_text` writes them.
+//! (`AreLayouts`), with bytes shared or plain. `nested_layouts` puts callees' frames into those of their callers
+//! (`AreNested`). `layout_text` writes them.
 #![tactic(auto)]
 
+mod callees;
 mod contents;
 mod fields;
 mod frames;
 mod held;
 mod marks;
 mod module_frames;
+mod nested;
+mod nesting;
 mod positions;
 mod promise;
 mod report;
@@ -20,4 +24,5 @@ pub use contents::{Contents, contents_of};
 pub use frames::{CoroutineFrame, frame_of};
 pub use held::{Holding, result_size, value_size};
 pub use module_frames::{LayoutsError, layouts_of};
+pub use nesting::{kept_sites, nested_layouts};
 pub use report::layout_text;

@@ -5,7 +5,10 @@ use Rattle.std.specs.List.{Contains, list_any}
 use Rattle.std.proofs.lemmas.Bool.{and_from, and_parts, cases_lt, eq-eqb, eqb-true, lt-ltb, ltb-true, or_cases, or_left, or_right}
 use Rattle.std.proofs.lemmas.List.{length-map}
 use Rattle.std.proofs.lemmas.List.Elements.{Contains-append_cases, Contains-append_left, Contains-append_right}
+use Rattle.frame_placing.proofs.Alone.{alone_by_pairs}
 use Rattle.frame_placing.proofs.Choosing.{placing_by_pairs}
+use Rattle.frame_placing.specs.Own.{IsOwnPlacing, IsOwnPlacingBy}
+use Rattle.frame_layout.specs.Nested.{IsPlacedAlone}
 use Rattle.frame_placing.specs.Placed.{AreKeptApart, AreOpposed, IsPair}
 use Rattle.frame_placing.specs.Placings.{IsPlacing, IsPlacingBy}
 use Rattle.frame_placing.specs.declared.placing.Placing.{Placing}
@@ -442,6 +445,19 @@ module _ (fields : List Field) (crossing alive : List (ℕ × ℕ)) (slots wide 
       inside : (j : ℕ) → j < length (rooms_of fields) → j < length fields
       inside j lt = let n = length-map fields room_of in omega (arith, lt, n)
 
+  pub alone_tells : (promise : Option ℕ) (found : Option Placing) → IsOwnPlacingBy (rooms_of fields) promise (AreKeptApart narrow one other) found → promise ≡ promise_of fields → IsPlacedAlone fields (field_conflicts fields crossing alive named) found
+  alone_tells promise found h is =
+      subst (λ (p : Option ℕ). IsOwnPlacing (rooms_of fields) p (field_conflicts fields crossing alive named) found) is
+      (alone_by_pairs (rooms_of fields) promise (AreKeptApart narrow one other) (field_conflicts fields crossing alive named) found
+      (λ j k low top ne. (
+        λ c. pairs_at fields crossing alive named j k (inside j low) (inside k top) ne (kept_conflict j k ne c),
+        λ p. conflict_kept j k (inside j low) (inside k top) ne (pairs_told fields crossing alive named j k p),
+      ))
+      h)
+    where
+      inside : (j : ℕ) → j < length (rooms_of fields) → j < length fields
+      inside j lt = let n = length-map fields room_of in omega (arith, lt, n)
+
 pub if_placed : {E : Type 0} (fields : List Field) (crossing alive : List (ℕ × ℕ)) (slots wide : List ℕ) (narrow : List (ℕ × ℕ)) (one other : List (List ℕ)) (rooms : List Room) (promise : Option ℕ) (result : Result (Option Placing) E) →
     rooms ≡ rooms_of fields → promise ≡ promise_of fields → ((j : ℕ) → get_or one j [] ≡ seconds_of (one_pairs fields crossing wide) j) → ((j : ℕ) → get_or other j [] ≡ seconds_of (other_pairs fields crossing alive slots) j) →
     IfOk result (λ found. IsPlacingBy rooms promise (AreKeptApart narrow one other) found) →
@@ -449,3 +465,11 @@ pub if_placed : {E : Type 0} (fields : List Field) (crossing alive : List (ℕ �
 if_placed fields crossing alive slots wide narrow one other rooms promise (Ok found) is_rooms is_promise ones others h = λ named n.
     placed_tells fields crossing alive slots wide narrow named one other n ones others promise found (subst (λ (r : List Room). IsPlacingBy r promise (AreKeptApart narrow one other) found) is_rooms h) is_promise
 if_placed fields crossing alive slots wide narrow one other rooms promise (Err e) is_rooms is_promise ones others h = tt
+
+pub if_alone : {E : Type 0} (fields : List Field) (crossing alive : List (ℕ × ℕ)) (slots wide : List ℕ) (narrow : List (ℕ × ℕ)) (one other : List (List ℕ)) (rooms : List Room) (promise : Option ℕ) (result : Result (Option Placing) E) →
+    rooms ≡ rooms_of fields → promise ≡ promise_of fields → ((j : ℕ) → get_or one j [] ≡ seconds_of (one_pairs fields crossing wide) j) → ((j : ℕ) → get_or other j [] ≡ seconds_of (other_pairs fields crossing alive slots) j) →
+    IfOk result (λ found. IsOwnPlacingBy rooms promise (AreKeptApart narrow one other) found) →
+    IfOk result (λ found. (named : List (ℕ × ℕ)) → AreNamed slots wide narrow named → IsPlacedAlone fields (field_conflicts fields crossing alive named) found)
+if_alone fields crossing alive slots wide narrow one other rooms promise (Ok found) is_rooms is_promise ones others h = λ named n.
+    alone_tells fields crossing alive slots wide narrow named one other n ones others promise found (subst (λ (r : List Room). IsOwnPlacingBy r promise (AreKeptApart narrow one other) found) is_rooms h) is_promise
+if_alone fields crossing alive slots wide narrow one other rooms promise (Err e) is_rooms is_promise ones others h = tt

@@ -1,4 +1,5 @@
 pub mod Grouped
 pub mod Marked
+pub mod Nesting
 pub mod Orders
 pub mod Turns

@@ -3,3 +3,5 @@ pub mod Conflicts
 pub mod Rows
 pub mod Layouts
 pub mod Sides
+pub mod Nested
+pub mod Tables

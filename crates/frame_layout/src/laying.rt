@@ -53,7 +53,7 @@ fn is_index(kind: FieldKind) -> bool
     }
 }
 
-fn promise_of(fields: &[Field]) -> Option<usize>
+pub(crate) fn promise_of(fields: &[Field]) -> Option<usize>
     ensures { result ≡ promise_position fields.now }
 {
     fields.iter().position(|field| is_promise(field.kind))
@@ -71,7 +71,7 @@ fn index_offset(fields: &[Field], offsets: &[u64]) -> u64
     offset_at(offsets, index_of(fields).unwrap_or(fields.len()))
 }
 
-fn rooms_of(alloc: Global, fields: &[Field]) -> Result<Vec<Room>, AllocError>
+pub(crate) fn rooms_of(alloc: Global, fields: &[Field]) -> Result<Vec<Room>, AllocError>
     ensures { IfOk result (λ rooms. rooms.items ≡ rooms_of_fields fields.now) }
 {
     let mut rooms = Vec::new(alloc);
@@ -126,7 +126,7 @@ fn all_placed(
 }
 
 /// The layout of these offsets.
-fn layout_by(
+pub(crate) fn layout_by(
     alloc: Global,
     coroutine: FuncId,
     fields: &[Field],

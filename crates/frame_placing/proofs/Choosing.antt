@@ -79,7 +79,7 @@ stand_by rooms promise One Other offsets k x lt same s = record {
   apart = λ byte i t. s.apart byte i (taken_by rooms promise Other One offsets k byte lt same t);
 }
 
-placed_by_same : (rooms : List Room) (promise : Option ℕ) (One Other : ℕ → ℕ → Type 0) (offsets : List ℕ) → ((j k : ℕ) → j < length rooms → k < length rooms → j ≢ k → One j k ↔ Other j k) →
+pub placed_by_same : (rooms : List Room) (promise : Option ℕ) (One Other : ℕ → ℕ → Type 0) (offsets : List ℕ) → ((j k : ℕ) → j < length rooms → k < length rooms → j ≢ k → One j k ↔ Other j k) →
     IsPlaced rooms promise One offsets → IsPlaced rooms promise Other offsets
 placed_by_same rooms promise One Other offsets same h = record {
   one_each = h.one_each;

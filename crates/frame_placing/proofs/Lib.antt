@@ -1,3 +1,4 @@
+pub mod Alone
 pub mod Adding
 pub mod Aligned
 pub mod Both

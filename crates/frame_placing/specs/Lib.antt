@@ -5,3 +5,4 @@ pub mod Placings
 pub mod Bars
 pub mod Steps
 pub mod Groups
+pub mod Own

@@ -1,6 +1,7 @@
 //! The layouts of a frame.
 
 ghost use Rattle.std.specs.Prelude.{◌≡◌, ◌≤◌, ◌<◌, ◌+◌, ◌^◌, ℕ, IfOk, length, slice_index};
+ghost use Rattle.frame_placing.specs.Own.{IsOwnPlacingBy};
 ghost use Rattle.frame_placing.specs.Placed.{Always, AreKeptApart};
 ghost use Rattle.frame_placing.specs.Placings.{IsFrame, IsPlacing, IsPlacingBy, IsPlainPlacing};
 ghost use Rattle.frame_placing.specs.Rooms.{size_at};
@@ -132,4 +133,27 @@ pub fn place(
     ensures { IfOk result (λ found. IsPlacing rooms.now promise conflicts.now found) }
 {
     place_by(alloc, rooms, promise, conflicts, &[], &[])
+}
+
+/// The layout in which fields may share bytes unless they conflict, told as in `place_by`; it isn't compared with the plain one.
+/// None where it ends above 2^24.
+///
+/// Fails only for want of memory.
+#[tactic(auto, using(crate::proofs::Alone::alone_fits))]
+pub fn place_alone(
+    alloc: Global,
+    rooms: &[Room],
+    promise: Option<usize>,
+    conflicts: &[(usize, usize)],
+    one: &[Items<usize>],
+    other: &[Items<usize>],
+) -> Result<Option<Placing>, AllocError>
+    ensures { IfOk result (λ found. IsOwnPlacingBy rooms.now promise (AreKeptApart conflicts.now one.now other.now) found) }
+{
+    let order = order_of(alloc, rooms, promise)?;
+    let order = order.as_slice();
+    match place_beside(alloc, rooms, promise, order, conflicts, one, other, LIMIT)? {
+        None => Ok(None),
+        Some(offsets) => Ok(Some(frame_of(rooms, offsets))),
+    }
 }

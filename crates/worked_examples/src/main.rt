@@ -8,6 +8,7 @@ mod again;
 mod answer;
 mod call;
 mod case;
+mod counts;
 mod cut;
 mod fault;
 mod limit;

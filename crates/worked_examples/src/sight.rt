@@ -1,5 +1,6 @@
 //! What public calls give on a function, as text.
 
+use crate::counts::counts_of;
 use elide_sites::{elidable_callees, elidable_sites};
 use flow_blocks::{EdgeKind, after_end, edge_kind, reach, successors};
 use frame_classes::{SlotClass, classes};
@@ -120,6 +121,26 @@ impl Sight {
         Ok(())
     }
 
+    /// The calls of allocators in a run of the source, of the framed form and of the lowered module, and the elided calls.
+    fn counts(
+        &mut self,
+        alloc: Global,
+        entry: &str,
+        plain: bool,
+        module: &Module,
+    ) -> Result<(), AllocError> {
+        match counts_of(alloc, entry, plain, module)? {
+            None => self.say("none"),
+            Some(counts) => {
+                let word = format!(in alloc;
+                    "source {} framed {} lowered {} elided {}",
+                    counts.source, counts.framed, counts.lowered, counts.elided
+                )?;
+                self.say(word.as_str())
+            }
+        }
+    }
+
     /// What the call of the words gives on a whole module.
     pub fn look_over(
         &mut self,
@@ -127,6 +148,12 @@ impl Sight {
         words: &str,
         module: &Module,
     ) -> Result<(), AllocError> {
+        if let Some(entry) = words.strip_prefix("allocs --plain ") {
+            return self.counts(alloc, entry, true, module);
+        }
+        if let Some(entry) = words.strip_prefix("allocs ") {
+            return self.counts(alloc, entry, false, module);
+        }
         if words == "elidable_callees" {
             let all = elidable_callees(alloc, module)?;
             return self.say_all(alloc, all.as_slice());
