@@ -1,3 +1,3 @@
-pub mod CalledNames
+pub mod Given
 pub mod Names
 pub mod Turns

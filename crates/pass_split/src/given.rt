@@ -97,7 +97,7 @@ pub fn calls_of(alloc: Global, functions: &[Function]) -> Result<Calls, AllocErr
 }
 
 /// Whether one of them is that of the coroutine's ramp that is given its frame.
-#[tactic(auto, using(crate::proofs::CalledNames::found_alike))]
+#[tactic(auto, using(crate::proofs::Given::found_alike))]
 pub fn is_given_by(alloc: Global, calls: &Calls, function: &Function) -> Result<bool, AllocError>
     ensures { IfOk result (λ b. b ≡ is_given_by calls.now.names function.now) }
 {

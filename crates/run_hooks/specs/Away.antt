@@ -1,5 +1,5 @@
 -- Where activations stand that have left, and those that haven't, in each state of a run by hooks.
-use Rattle.std.specs.Prelude.{◌≡◌, ◌⊎◌, ℕ, ◌+◌, negsuc, true, false, List, [], ◌∷◌, Option, Some, All, map}
+use Rattle.std.specs.Prelude.{◌≡◌, ◌⊎◌, ℕ, ◌+◌, negsuc, true, false, List, [], ◌∷◌, Option, Some, None, All, map}
 use Rattle.std.specs.Prelude.{Result, Ok, Err, slice_get}
 use Rattle.ir_base.specs.declared.cause.Cause.{Cause}
 use Rattle.ir_model.specs.Names.{function_at, position_of}
@@ -13,13 +13,12 @@ use Rattle.ir_model.specs.declared.operand.Intrinsic.{Intrinsic}
 use Rattle.ir_model.specs.declared.operand.Operand.{Operand}
 use Rattle.ir_paths.specs.Facts.{IsWindow}
 use Rattle.ir_paths.specs.Paths.{Leads, entry_point}
-use Rattle.ir_paths.specs.Windows.{IsInWindow, call_result, destroy_label, end_block, is_call_of, resume_label}
-use Rattle.ir_paths.specs.Windows.{saves_of, suspend_of}
+use Rattle.ir_paths.specs.Windows.{IsInWindow, call_result, end_block, saves_of, suspend_of}
 use Rattle.ir_paths.specs.declared.point.Point.{Point}
-use Rattle.pass_kept_proof.specs.Needed.{BranchesTo}
 use Rattle.pass_kept_proof.specs.SuspendRules.{IsCallAt}
 use Rattle.rule_windows.specs.Sets.{IsAfterEnd}
 use Rattle.run_hooks.specs.Hooks.{Hooks}
+use Rattle.run_hooks.specs.Reached.{IsReachedState}
 use Rattle.run_memory.specs.declared.pointer.Value.{Value}
 use Rattle.run_source.specs.State.{function_of}
 use Rattle.run_source.specs.declared.state.Activation.{Activation}
@@ -30,8 +29,7 @@ use Rattle.run_source.specs.declared.state.Status.{Status}
 use Rattle.run_source_tables.specs.Given.{Given, facts_at}
 use Rattle.run_step.specs.Effects.{is_alloca}
 use Rattle.run_step.specs.Step.{AtInstr, AtTerm, Fetched, GoTo, fetch, switch, target_of}
-use Rattle.run_ints.specs.Numbers.{word_of}
-use Rattle.run_step.specs.Values.{Env, arg_value}
+use Rattle.run_step.specs.Values.{Env, arg_value, word_of}
 use Rattle.run_step.specs.declared.world.Slot.{Slot}
 
 -- ---- points
@@ -82,10 +80,7 @@ pub record HasStop (m : Module) (f : Function) (s : Point) : Type 0 where
   pub default : ℕ
   pub cases : List Case
   pub stands : fetch f s.block (s.at + 1) ≡ AtTerm (Terminator.Switch arg default cases)
-  pub own : BranchesTo (resume_label f s) (AtTerm (Terminator.Switch arg default cases)) × BranchesTo
-      (destroy_label f s) (AtTerm (Terminator.Switch arg default cases))
-  pub result : (i : Instr) → fetch f s.block s.at ≡ AtInstr i
-      → (n : ℕ) × (call_result i ≡ Some n) × (arg.value ≡ Operand.Local n)
+  pub result : (i : Instr) → fetch f s.block s.at ≡ AtInstr i → (n : ℕ) × (call_result i ≡ Some n) × (arg.value ≡ Operand.Local n)
   pub stop : target_of m (word_of 8 (negsuc 0)) default cases ≡ default
   pub end : position_of f default ≡ end_block f
   pub is_end : IsCallAt Intrinsic.CoroEnd f (entry_point f default)
@@ -95,8 +90,7 @@ pub record KeepsPlaceRules (m : Module) (f : Function) : Type 0 where
   pub stops : (s : Point) → IsCallAt Intrinsic.CoroSuspend f s → HasStop m f s
   -- no suspend behind the end
   pub no_suspend : (p : Point) → IsAfterEnd f p → IsCallAt Intrinsic.CoroSuspend f p → ⊥
-  -- a suspend takes the token of one save, and a path leads from that to it
-  pub once : (k j s : Point) → IsPair f k s → IsPair f j s → j ≡ k
+  -- a path leads from a save to its suspend
   pub leads : (k s : Point) → IsPair f k s → Leads f [] k s
   -- and from the entry, or from the switch of the suspend, only by the save
   pub entry : IsClear f (record { block = 0; at = 0 })
@@ -109,8 +103,7 @@ pub record KeepsPlaceRules (m : Module) (f : Function) : Type 0 where
 -- all functions do, and the windows that a run is given are theirs
 pub record KeepsAllPlaceRules (g : Given) : Type 0 where
   pub each : (func : ℕ) → KeepsPlaceRules g.code (function_at g.code func)
-  pub saves : (func : ℕ) → map (λ w. (w.save, w.suspend)) (facts_at g.facts func).windows ≡ saves_of
-      (function_at g.code func)
+  pub saves : (func : ℕ) → map (λ w. (w.save, w.suspend)) (facts_at g.facts func).windows ≡ saves_of (function_at g.code func)
   pub windows : (func : ℕ) → All (IsWindow (function_at g.code func)) (facts_at g.facts func).windows
 
 -- ---- states
@@ -132,36 +125,33 @@ pub record IsAllocaAt (f : Function) (p : Point) : Type 0 where
   pub stands : fetch f p.block p.at ≡ AtInstr instr
   pub is : is_alloca instr ≡ true
 
--- one that is entering a label is at an alloca, and hasn't left; there is such a one in some meanings alone
-pub record IsEntering (h : Hooks) (f : Function) (a : Activation) : Type 0 where
-  pub may : h.enters ≡ true
+-- one that is entering a label is at an alloca, and hasn't left
+pub record IsEntering (f : Function) (a : Activation) : Type 0 where
   pub stays : a.has_left ≡ false
   pub alloca : IsAllocaAt f (point_in a)
 
--- an activation that hasn't left is at a clear place, and one that has is away; neither stands right behind a suspend
-pub record IsPlaced (h : Hooks) (f : Function) (a : Activation) : Type 0 where
+-- an activation that hasn't left is at a clear place, and one that has is away
+pub record IsPlaced (f : Function) (a : Activation) : Type 0 where
   pub clear : a.has_left ≡ false → IsClear f (spot_of f a)
   pub away : a.has_left ≡ true → IsAway f (point_in a)
-  pub entering : (from label : ℕ) → a.mode ≡ Mode.Entering from label → IsEntering h f a
-  pub fresh : IsBehind f (point_in a) → ⊥
+  pub entering : (from label : ℕ) → a.mode ≡ Mode.Entering from label → IsEntering f a
 
 -- right behind a suspend the switch takes the stop edge alone
 abbrev pub StopsAlone : Module → Function → Env → Point → Type 0
 StopsAlone m f values p =
-    (arg : Arg) (default : ℕ) (cases : List Case) (label : ℕ)
-    → fetch f p.block p.at ≡ AtTerm (Terminator.Switch arg default cases)
+    (arg : Arg) (default : ℕ) (cases : List Case) (label : ℕ) → fetch f p.block p.at ≡ AtTerm (Terminator.Switch arg default cases)
     → switch m (arg_value m values arg) default cases ≡ GoTo label → position_of f label ≡ end_block f
 
 -- the topmost activation may stand right behind a suspend too
-pub record IsPlacedTop (h : Hooks) (f : Function) (a : Activation) : Type 0 where
+pub record IsPlacedTop (m : Module) (f : Function) (a : Activation) : Type 0 where
   pub clear : a.has_left ≡ false → IsClear f (spot_of f a)
   pub away : a.has_left ≡ true → IsAway f (point_in a) ⊎ (IsBehind f (point_in a) × IsClear f (point_in a))
-  pub entering : (from label : ℕ) → a.mode ≡ Mode.Entering from label → IsEntering h f a
-  pub stops : IsBehind f (point_in a) → StopsAlone h.given.code f a.values (point_in a)
+  pub entering : (from label : ℕ) → a.mode ≡ Mode.Entering from label → IsEntering f a
+  pub stops : IsBehind f (point_in a) → StopsAlone m f a.values (point_in a)
 
-abbrev pub ArePlaced : Hooks → List Activation → Type 0
-ArePlaced h [] = Unit {0}
-ArePlaced h (a ∷ below) = IsPlaced h (function_at h.given.code a.func) a × ArePlaced h below
+abbrev pub ArePlaced : Module → List Activation → Type 0
+ArePlaced m [] = Unit {0}
+ArePlaced m (a ∷ below) = IsPlaced (function_at m a.func) a × ArePlaced m below
 
 -- the suspend of a Suspended instance is clear but for itself
 abbrev pub IsPlacedStatus : Function → Status → Type 0
@@ -173,60 +163,7 @@ ArePlacedInstances m [] = Unit {0}
 ArePlacedInstances m (x ∷ xs) = IsPlacedStatus (function_at m x.coroutine) x.status × ArePlacedInstances m xs
 
 -- all activations stand where they may, and so do instances
-pub record IsPlacedState (h : Hooks) (s : State) : Type 0 where
-  pub top : IsPlacedTop h (function_of h.given s) s.top
-  pub below : ArePlaced h s.below
-  pub instances : ArePlacedInstances h.given.code s.instances
-
--- ---- what it asks of hooks
-
--- what a part of a step gives, if it gives a state
-abbrev pub StaysPlaced : Hooks → Result State Cause → Type 0
-StaysPlaced h (Err cause) = Unit {0}
-StaysPlaced h (Ok s) = IsPlacedState h s
-
--- a caller or resumer, which goes on behind its instruction
-abbrev pub behind_instr : Activation → Activation
-behind_instr a = record a { at = a.at + 1 }
-
--- the place behind the instruction of the topmost activation is one where it may stand
-pub record IsNextPlaced (h : Hooks) (s : State) : Type 0 where
-  pub waits : IsPlaced h (function_of h.given s) (behind_instr s.top)
-  pub below : ArePlaced h s.below
-  pub instances : ArePlacedInstances h.given.code s.instances
-
--- the topmost activation stands right behind an alloca; where it is entering a label, that counts
-pub record IsBehindAlloca (h : Hooks) (s : State) : Type 0 where
-  pub clear : s.top.has_left ≡ false → IsClear (function_of h.given s) (spot_of (function_of h.given s) s.top)
-  pub away : s.top.has_left ≡ true → IsAway (function_of h.given s) (point_in s.top)
-  pub entering : (from label : ℕ) → s.top.mode ≡ Mode.Entering from label
-      → (h.enters ≡ true) × (s.top.has_left ≡ false)
-  pub fresh : IsBehind (function_of h.given s) (point_in s.top) → ⊥
-  pub below : ArePlaced h s.below
-  pub instances : ArePlacedInstances h.given.code s.instances
-
--- an instruction that is no alloca, and no save, suspend or end
-pub record IsOrdinary (x : Fetched) : Type 0 where
-  pub instr : Instr
-  pub stands : x ≡ AtInstr instr
-  pub no_save : is_call_of Intrinsic.CoroSave instr ≡ false
-  pub no_suspend : is_call_of Intrinsic.CoroSuspend instr ≡ false
-  pub no_end : is_call_of Intrinsic.CoroEnd instr ≡ false
-  pub no_alloca : is_alloca instr ≡ false
-
--- hooks that come from placed states to placed states
-pub record KeepsPlaced (h : Hooks) : Type 0 where
-  pub go_on : (s : State) → IsNextPlaced h s → (i : ℕ) (x : Instance) (suspend : Point) (values : Env) (label : ℕ)
-      → slice_get s.instances i ≡ Some x
-      → IsClear (function_at h.given.code x.coroutine) (entry_point (function_at h.given.code x.coroutine) label)
-      → IsPlacedState h (h.go_on s i x suspend values label)
-  pub place : (s : State) (slot : Slot) → IsBehindAlloca h s → IsPlacedState h (h.place s slot)
-  pub start : (s : State) (result : Option ℕ) (memory : Value) → IsNextPlaced h s
-      → StaysPlaced h (h.start s result memory)
-  pub close : (s : State) → IsPlacedState h s → IsPlacedState h (h.close s)
-  -- the activations stay as they are
-  pub closed : (s : State) → ((h.close s).top ≡ s.top) × ((h.close s).below ≡ s.below)
-  pub call : (s : State) (x : Fetched) (r : Result State Cause) → IsNextPlaced h s → h.given_call s x ≡ Some r
-      → StaysPlaced h r
-  pub called : (s : State) (x : Fetched) (r : Result State Cause) → h.given_call s x ≡ Some r → IsOrdinary x
-  pub idle : (s : State) (x : Fetched) → h.is_idle s x ≡ true → IsOrdinary x
+pub record IsPlacedState (g : Given) (s : State) : Type 0 where
+  pub top : IsPlacedTop g.code (function_of g s) s.top
+  pub below : ArePlaced g.code s.below
+  pub instances : ArePlacedInstances g.code s.instances

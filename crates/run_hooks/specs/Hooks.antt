@@ -27,8 +27,6 @@ pub record Hooks : Type 0 where
   pub rights : List Instance → Rights
   -- how a resumed activation goes on at a label behind a suspend
   pub go_on : Continues
-  -- whether an activation may be entering a label while it executes allocas
-  pub enters : Bool
   -- what a new slot does, right behind its alloca
   pub place : State → Slot → State
   -- what coro.alloc gives

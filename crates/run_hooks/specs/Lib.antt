@@ -2,4 +2,3 @@ pub mod Hooks
 pub mod Meanings
 pub mod Reached
 pub mod Left
-pub mod Away

@@ -17,7 +17,6 @@ hooks_by g go =
       given = g;
       rights = λ instances. owner_rights;
       go_on = go;
-      enters = false;
       place = new_slot g;
       allocates = λ s. true;
       start = begin g;
@@ -39,7 +38,6 @@ kept_hooks g keep = hooks_by g (continue_keeping g keep)
 abbrev pub renewed_hooks : RenewedGiven → Hooks
 renewed_hooks g =
     record (hooks_by g.given (continue_renewed g)) {
-      enters = true;
       place = λ s slot. renewed_slot g (with_life g s slot) slot s.top.mode;
       is_idle = λ s fetched. is_idle (g.flags s.top.func) fetched;
     }
@@ -51,7 +49,6 @@ framed_hooks g =
       given = g.given;
       rights = frame_rights g;
       go_on = continue_framed g;
-      enters = true;
       place = λ s slot. framed_slot g s slot s.top.mode;
       allocates = λ s. allocates s.top.mode;
       start = λ s result memory. framed_begin g s result memory s.top.mode;

@@ -10,28 +10,19 @@
 //!
 //! The second says that an activation that hasn't left is the last one of its instance, which isn't Suspended
 //! (`last_activations_stay`, `activations_of_runs_are_last`).
-//!
-//! The third says where they stand: one that has left is between a save and its suspend, at that or its switch, or at
-//! the end or behind it, and one that hasn't is in no such window (`places_stay`, `activations_of_runs_are_placed`).
 #![tactic(auto)]
 
-ghost use Rattle.std.specs.Prelude.{ℕ, ℤ, List, true, false, ◌≡◌, ◌∷◌};
+ghost use Rattle.std.specs.Prelude.{ℕ, ℤ, List, true, ◌≡◌, ◌∷◌};
 ghost use Rattle.frame_layout.specs.declared.layout.Layouts.{Layouts as TheLayouts};
 ghost use Rattle.ir_base.specs.declared.outcome.Word.{Word};
 ghost use Rattle.ir_model.specs.declared.module.Frame.{Frame};
 ghost use Rattle.ir_model.specs.declared.module.Module.{Module};
-ghost use Rattle.ir_paths.specs.Windows.{IsInWindow};
-ghost use Rattle.ir_paths.specs.declared.point.Point.{Point};
 ghost use Rattle.run_framed.specs.Framed.{FramedAt, FramedGiven, framed_given, framed_state_at, framed_step};
 ghost use Rattle.pass_kept_proof.specs.Kept.{Keep, KeptAt, continue_keeping};
 ghost use Rattle.pass_kept_proof.specs.SuspendRules.{AllKeepSuspendRules};
-ghost use Rattle.pass_renewed_proof.specs.Left.{IsLeftAt};
 ghost use Rattle.pass_renewed_proof.specs.Renewed.{Flags, RenewedAt, RenewedGiven, Roots, renewed_given, renewed_step};
 ghost use Rattle.run_source.specs.Source.{SourceAt, first_state, given, state_at, step, step_by};
-ghost use Rattle.run_source.specs.State.{function_of};
-ghost use Rattle.run_source.specs.declared.state.Mode.{Mode};
 ghost use Rattle.run_source.specs.declared.state.State.{State};
-ghost use Rattle.run_hooks.specs.Away.{IsPair, IsPlacedState, KeepsAllPlaceRules, KeepsPlaced, point_in};
 ghost use Rattle.run_hooks.specs.Left.{HaveLeft, IsLastState, KeepsLast, sleeps};
 ghost use Rattle.run_hooks.specs.Reached.{AllHaveSwitches, IsReachedState, KeepsReached};
 ghost use Rattle.run_step.specs.Runs.{iterate};
@@ -131,41 +122,4 @@ pub fn activations_of_runs_are_last()
         → IsLastState (iterate (renewed_step g) n (first_state g.given.code entry args)) }
     ensures framed { (g : FramedGiven) (entry : ℕ) (args : List Word) (n : ℕ)
         → IsLastState (framed_state_at g entry args n) }
-{}
-
-/// Each step of hooks that keep places comes from states whose activations stand where they may to such states.
-/// There an activation that has left is at a place of `IsLeftAt`, and one that hasn't is in no window of a save, unless
-/// it is still entering a label.
-pub fn places_stay()
-    ensures step { (h : Hooks) (s : State) → KeepsAllPlaceRules h.given → KeepsPlaced h → IsReachedState h.given s
-        → IsPlacedState h s → IsPlacedState h (step_of h s) }
-    ensures runs { (h : Hooks) (entry : ℕ) (args : List Word) (n : ℕ) → AllHaveSwitches h.given.code → KeepsReached h
-        → KeepsAllPlaceRules h.given → KeepsPlaced h → IsPlacedState h (hooked_state_at h entry args n) }
-    ensures left { (h : Hooks) (s : State) → IsPlacedState h s → s.top.has_left ≡ true
-        → IsLeftAt (function_of h.given s) (point_in s.top) }
-    ensures stays { (h : Hooks) (s : State) → IsPlacedState h s → s.top.has_left ≡ false
-        → ((from label : ℕ) → s.top.mode ≡ Mode.Entering from label → ⊥) → (k u : Point)
-        → IsPair (function_of h.given s) k u → IsInWindow (function_of h.given s) k u (point_in s.top) → ⊥ }
-{}
-
-/// The hooks of each meaning keep places.
-pub fn meanings_keep_places()
-    ensures source { (g : Given) → KeepsPlaced (source_hooks g) }
-    ensures kept { (g : Given) (keep : Keep) → KeepsPlaced (kept_hooks g keep) }
-    ensures renewed { (g : RenewedGiven) → KeepsPlaced (renewed_hooks g) }
-    ensures framed { (g : FramedGiven) → KeepsAllPlaceRules g.given → KeepsPlaced (framed_hooks g) }
-{}
-
-/// So in each state of a run of a module by the rules all activations stand where they may.
-pub fn activations_of_runs_are_placed()
-    ensures source { (g : Given) (entry : ℕ) (args : List Word) (n : ℕ) → AllHaveSwitches g.code → KeepsAllPlaceRules g
-        → IsPlacedState (source_hooks g) (state_at g entry args n) }
-    ensures kept { (g : Given) (keep : Keep) (entry : ℕ) (args : List Word) (n : ℕ) → AllHaveSwitches g.code
-        → KeepsAllPlaceRules g → IsPlacedState (kept_hooks g keep)
-        (iterate (step_by g (continue_keeping g keep)) n (first_state g.code entry args)) }
-    ensures renewed { (g : RenewedGiven) (entry : ℕ) (args : List Word) (n : ℕ) → AllHaveSwitches g.given.code
-        → KeepsAllPlaceRules g.given → IsPlacedState (renewed_hooks g)
-        (iterate (renewed_step g) n (first_state g.given.code entry args)) }
-    ensures framed { (g : FramedGiven) (entry : ℕ) (args : List Word) (n : ℕ) → AllHaveSwitches g.given.code
-        → KeepsAllPlaceRules g.given → IsPlacedState (framed_hooks g) (framed_state_at g entry args n) }
 {}

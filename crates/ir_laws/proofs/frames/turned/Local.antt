@@ -4,7 +4,7 @@ use Rattle.std.specs.Prelude.{None, Option, Some, is_some, ◌==◌, if◌then�
 use Rattle.ir_base.specs.declared.outcome.Place.{Place}
 use Rattle.ir_laws.proofs.rules.local_rules.Carried.{Passing, none_of, passing}
 use Rattle.ir_laws.proofs.facts.Members.{each_joined, each_left, each_right}
-use Rattle.ir_parts.specs.Parts.{Ending, Head, OfInstr, OfPhi, Part as FunctionPart, Signature, block_parts, blocks_parts, first_part, function_place, instr_parts, instr_place, parts_of, phi_parts}
+use Rattle.ir_parts.specs.Parts.{Ending, Head, OfInstr, OfPhi, Part, Signature, block_parts, blocks_parts, first_part, function_place, instr_parts, instr_place, parts_of, phi_parts}
 use Rattle.pass_intrinsics.specs.Lowered.{lowered, names_taken}
 use Rattle.pass_intrinsics.specs.declared.shape.Part.{Part}
 use Rattle.pass_intrinsics.specs.declared.shape.Shape.{Shape}
@@ -29,13 +29,13 @@ use Rattle.rule_values.specs.declared.kinds.Kind.{Kind}
 -- ---- rules carried block by block
 
 -- What a rule gives of the instructions of the block at a position, and what each of them becomes.
-pub record Carries (s : Shape) (breaks now : Place → FunctionPart → Bool) : Type 0 where
+pub record Carries (s : Shape) (breaks now : Place → Part → Bool) : Type 0 where
   pub head : (p q : Place) (b c : Block) → breaks p (Head b) ≡ false → now q (Head c) ≡ false
   pub phi : (p q : Place) (x : Phi) → breaks p (OfPhi x) ≡ false → now q (OfPhi x) ≡ false
   pub instr : (p : Place) (n : ℕ) (i : Instr) → IsOuter i → breaks p (OfInstr i) ≡ false → Each (λ (j : Instr). (q : Place) → q.block ≡ p.block → now q (OfInstr j) ≡ false) (lowered s Part.Ramp n i)
   pub ending : (p q : Place) (t : Terminator) → breaks p (Ending t) ≡ false → now q (Ending t) ≡ false
 
-module _ (s : Shape) (breaks now : Place → FunctionPart → Bool) (over : Carries s breaks now) (k l : ℕ) where
+module _ (s : Shape) (breaks now : Place → Part → Bool) (over : Carries s breaks now) (k l : ℕ) where
   phis_carried : (block at : ℕ) (ps : List Phi) → Passing breaks (phi_parts k block at ps) → Passing now (phi_parts l block at ps)
   phis_carried block at [] h = tt
   phis_carried block at (p ∷ ps) h = (over.phi (instr_place k block at) (instr_place l block at) p h.0, phis_carried block (at + 1) ps h.1)
@@ -53,10 +53,10 @@ module _ (s : Shape) (breaks now : Place → FunctionPart → Bool) (over : Carr
   block_carried : (n block : ℕ) (b c : Block) → IsTurned s n b c → Passing breaks (block_parts k block b) → Passing now (block_parts l block c)
   unfolding block_parts
   block_carried n block b c t h =
-      let P : Place × FunctionPart → Type 0 = λ x. breaks x.0 x.1 ≡ false in
-      let Q : Place × FunctionPart → Type 0 = λ x. now x.0 x.1 ≡ false in
-      let phis : List (Place × FunctionPart) = phi_parts k block 0 b.phis in
-      let instrs : List (Place × FunctionPart) = instr_parts k block (length b.phis) b.instrs in
+      let P : Place × Part → Type 0 = λ x. breaks x.0 x.1 ≡ false in
+      let Q : Place × Part → Type 0 = λ x. now x.0 x.1 ≡ false in
+      let phis : List (Place × Part) = phi_parts k block 0 b.phis in
+      let instrs : List (Place × Part) = instr_parts k block (length b.phis) b.instrs in
       let old : Place = instr_place k block (length b.phis + length b.instrs) in
       let new : Place = instr_place l block (length c.phis + length c.instrs) in
       let behind : Passing breaks (instrs ++ (old, Ending b.term) ∷ []) = each_right P phis (instrs ++ (old, Ending b.term) ∷ []) h.1 in (

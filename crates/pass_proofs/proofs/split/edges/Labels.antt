@@ -124,7 +124,7 @@ module _ (s : Shape) (part : Part) (h : Function) where
   in_head : (c : Block) → IsListed c head → IsListed c whole
   in_head c l = listed_left c (head ++ pieces) (done_block s ∷ []) (listed_left c head pieces l)
 
-  in_pieces : (c : Block) → IsListed c pieces → IsListed c whole
+  pub in_pieces : (c : Block) → IsListed c pieces → IsListed c whole
   in_pieces c l = listed_left c (head ++ pieces) (done_block s ∷ []) (listed_right c head pieces l)
 
   pub done_there : IsListed (done_block s) whole

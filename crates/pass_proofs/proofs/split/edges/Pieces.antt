@@ -213,11 +213,11 @@ module _ (s : Shape) (part : Part) where
   suspends_alone _ after e = absurd (cc)
 
   -- a resume transfers right before a suspend
-  numbered_suspend : (j : ℕ) (k : Instr) → number_of_save s (token_in k) ≡ Some j → is_suspend k ≡ true
+  pub numbered_suspend : (j : ℕ) (k : Instr) → number_of_save s (token_in k) ≡ Some j → is_suspend k ≡ true
   numbered_suspend j (Instr.Call r must_tail ty (Callee.Intrinsic Intrinsic.CoroSuspend) args) e = refl
   numbered_suspend j _ e = absurd (cc)
 
-  call_transfers : (j : ℕ) (r : Option ℕ) (after : List Instr) (x : Intrinsic) → cut_call s part r after x ≡ Cut.Transfers j → next_suspend s after ≡ Some j
+  pub call_transfers : (j : ℕ) (r : Option ℕ) (after : List Instr) (x : Intrinsic) → cut_call s part r after x ≡ Cut.Transfers j → next_suspend s after ≡ Some j
   call_transfers j r after Intrinsic.CoroEnd e = on (goes_on part) e
     where
       on : (b : Bool) → (if b then Cut.Returns else Cut.Stays) ≡ Cut.Transfers j → next_suspend s after ≡ Some j

@@ -44,6 +44,7 @@ use Rattle.ir_laws.proofs.frames.edges.Shaped.{BeginsWithEnd, IsEndIn, begins_wi
 use Rattle.ir_laws.proofs.paths.counted.PartFacts.{all_listed as all_there}
 use Rattle.ir_laws.proofs.paths.edges.Shaped.{any_there}
 use Rattle.ir_laws.proofs.rules.known_labels.Rules.{labels_spelt as targets_are}
+use Rattle.ir_laws.specs.rules.function_rules.Kept.{KeepsFunctionRules}
 use Rattle.pass_proofs.specs.split.rules.Splittable.{IsSplittable}
 use Rattle.rule_windows.specs.Points.{phi_count, phis_in}
 use Rattle.ir_laws.proofs.rules.woven_rules.Once.{names_below}
@@ -56,30 +57,40 @@ pub record IsStopped (b : Block) (end : ℕ) : Type 0 where
   pub is : b.term ≡ Terminator.Switch arg end cases
   pub both : are_both cases ≡ true
 
-module _ (m : Module) (k : ℕ) (f : Function) (begin : ℕ) (x : IsSplittable m k f begin) where
-  -- ---- labels
+-- ---- labels
 
-  pub labels_different : AreDifferent (labels f.blocks)
-  labels_different = numbers_different label_of f.blocks (λ j n b c d e same. sym (own_label k f x.rules.definitions j b d) ∙ ap (position_of f) same ∙ own_label k f x.rules.definitions n c e)
+module _ (m : Module) (k : ℕ) (f : Function) (x : KeepsFunctionRules m k f) where
+  pub own_labels_different : AreDifferent (labels f.blocks)
+  own_labels_different = numbers_different label_of f.blocks (λ j n b c d e same. sym (own_label k f x.definitions j b d) ∙ ap (position_of f) same ∙ own_label k f x.definitions n c e)
 
-  pub label_low : (b : Block) → IsListed b f.blocks → b.label < length f.names
-  label_low b l = names_below k f x.rules.tabled b.label (listed_right b.label (params_of f) (row_of block_names f.blocks) (to_row block_names f.blocks b b.label l (inl refl)))
+  pub own_label_low : (b : Block) → IsListed b f.blocks → b.label < length f.names
+  own_label_low b l = names_below k f x.tabled b.label (listed_right b.label (params_of f) (row_of block_names f.blocks) (to_row block_names f.blocks b b.label l (inl refl)))
 
   labels_known : (b : Block) → IsListed b f.blocks → list_all (is_label k f) (ending_labels b.term) ≡ true
   labels_known b l =
       let p = place_of f.blocks b l in
-      let parts = of_parts (λ y. names_unknown m (is_value k f) (is_label k f) y.0 y.1 ≡ false) k f (none_part (names_unknown m (is_value k f) (is_label k f)) (parts_of k f) x.rules.known) in
+      let parts = of_parts (λ y. names_unknown m (is_value k f) (is_label k f) y.0 y.1 ≡ false) k f (none_part (names_unknown m (is_value k f) (is_label k f)) (parts_of k f) x.known) in
       let all = holds _ (parts.blocks p.0 b p.1).ending in
       let later = and_second (list_all (knows_type m) (part_types (Ending b.term))) _ all in
       let last = and_second (list_all (knows_operand m (is_value k f)) (part_operands (Ending b.term))) _ later in
       and_first (list_all (is_label k f) (part_labels (Ending b.term))) (knows_called m (Ending b.term)) last
 
   -- an edge leads to a block
-  pub target_known : (b : Block) (label : ℕ) → IsListed b f.blocks → IsListed label (targets b.term) → HasBlock f label
-  target_known b label l t =
+  pub own_target_known : (b : Block) (label : ℕ) → IsListed b f.blocks → IsListed label (targets b.term) → HasBlock f label
+  own_target_known b label l t =
       let known : is_label k f label ≡ true = all_there (is_label k f) (targets b.term) (ap (list_all (is_label k f)) (sym (targets_are b.term)) ∙ labels_known b l) label t in
       let c = any_there (λ (c : Block). c.label == label) f.blocks (sym (label_defined label k f) ∙ known) in
       record { block = c.0; listed = c.1.0; has_label = equal_numbers c.0.label label c.1.1 }
+
+module _ (m : Module) (k : ℕ) (f : Function) (begin : ℕ) (x : IsSplittable m k f begin) where
+  pub labels_different : AreDifferent (labels f.blocks)
+  labels_different = own_labels_different m k f x.rules
+
+  pub label_low : (b : Block) → IsListed b f.blocks → b.label < length f.names
+  label_low = own_label_low m k f x.rules
+
+  pub target_known : (b : Block) (label : ℕ) → IsListed b f.blocks → IsListed label (targets b.term) → HasBlock f label
+  target_known = own_target_known m k f x.rules
 
   -- ---- the end
 

@@ -22,7 +22,7 @@ use Rattle.run_laws.specs.changed.Changed.{Each}
 use Rattle.ir_laws.proofs.frames.turned.Turned.{AreTurned, IsTurned, NoneTurned, OneTurned, names_behind, turned}
 use Rattle.ir_laws.proofs.rules.turned.Turned.{IsOuter}
 
-stays : (s : Shape) (i : Instr) (after : List Instr) → IsOuter i → cut_at s Part.Ramp i after ≡ Cut.Stays
+pub stays : (s : Shape) (i : Instr) (after : List Instr) → IsOuter i → cut_at s Part.Ramp i after ≡ Cut.Stays
 stays s (Instr.Call r must_tail ty (Callee.Intrinsic Intrinsic.CoroBegin) args) after o = let bad : false ≡ true = o.0 in absurd (cc)
 stays s (Instr.Call r must_tail ty (Callee.Intrinsic Intrinsic.CoroSave) args) after o = let bad : false ≡ true = o.0 in absurd (cc)
 stays s (Instr.Call r must_tail ty (Callee.Intrinsic Intrinsic.CoroSuspend) args) after o = let bad : false ≡ true = o.0 in absurd (cc)
@@ -50,7 +50,7 @@ same_incoming : (s : Shape) (label : ℕ) (is : List Incoming) → filter_map (p
 same_incoming s label [] = refl
 same_incoming s label (i ∷ is) = ap (λ (js : List Incoming). i ∷ js) (same_incoming s label is)
 
-same_phis : (s : Shape) (label : ℕ) (ps : List Phi) → map (pieced_phi s Part.Ramp [] label) ps ≡ ps
+pub same_phis : (s : Shape) (label : ℕ) (ps : List Phi) → map (pieced_phi s Part.Ramp [] label) ps ≡ ps
 same_phis s label [] = refl
 same_phis s label (p ∷ ps) = λ k. record { result = p.result; ty = p.ty; incoming = same_incoming s label p.incoming k } ∷ same_phis s label ps k
 

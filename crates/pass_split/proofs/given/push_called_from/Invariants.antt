@@ -1,4 +1,4 @@
-use Rattle.std.proofs.Common.{◌≡◌, ◌++◌, drop}
+use Rattle.std.proofs.Common.{◌≡◌, ◌++◌, ◌∷◌, drop, take, map, filter, length, ◌-◌, ◌+◌}
 use Rattle.pass_split.specs.Given.{called_from}
 use Rattle.pass_split.proofs.given.push_called_from.Given as goal
 

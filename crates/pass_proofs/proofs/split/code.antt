@@ -1,0 +1,5 @@
+pub mod Allocas
+pub mod Dispatch
+pub mod Entries
+pub mod Numbers
+pub mod Positions

@@ -1,0 +1,12 @@
+pub mod Coded
+pub mod Cuts
+pub mod Fronts
+pub mod Laws
+pub mod Lines
+pub mod Parts
+pub mod Phis
+pub mod Plain
+pub mod Ramps
+pub mod Stops
+pub mod Transfers
+pub mod Values
