@@ -1,22 +1,16 @@
 //! The program as one call over a source and two sinks.
 //!
-//! `drive` does all. Where the words are taken, status and both outputs are those of the command's answer to the
-//! whole input (clause `answered`). Otherwise they tell the word that is no list, or a refusal. Each fault has its
-//! cause and its text. Nothing stands on standard output on a fault of the input.
+//! `drive` does all. The words and the input come to one ending (`ComesTo`): the command's answer to the whole input,
+//! help, what is told of words that aren't taken, or a fault. Its text goes to both sinks, and its status is given
+//! (`IsGiven`). Where a write fails, the status says so, and both sinks hold a prefix of what was to be written.
 //!
-//! The answer to `check` is `ok` exactly where no rule is broken, else the first with its place. The answer to
-//! `layout` is the text of the layouts. The answer to `gen`, for which nothing is read, is the text of the generated
-//! module. The answer to `run` is the text of what is seen after so many steps. It is seen of the source (`SourceAt`,
-//! with the frame sizes of its layouts), of its framed form (`FramedAt`) or of the module without coroutines
-//! (`PlainAt`).
+//! Of words that ask for no input nothing is read (`unread`), of others at most 2^24 + 1 bytes (`taken`). The text of a
+//! lowered module stands for a module without coroutines that breaks no rule (`plain`).
 #![tactic(auto)]
 
-mod commands;
-mod entry;
+mod ending;
 mod program;
-mod runs;
-mod texts;
-mod verdict;
+mod reading;
 
+pub use ending::Ending;
 pub use program::{drive, told};
-pub use verdict::{Answer, EntryCall, Verdict};
