@@ -1,6 +1,7 @@
 pub mod Code
 pub mod Costs
 pub mod Distances
+pub mod Framing
 pub mod Layers
 pub mod Offsets
 pub mod Passes
