@@ -42,7 +42,7 @@ functions_call : (fs : List Function) → called_names (map exit_function fs) �
 functions_call [] = refl
 functions_call (f ∷ fs) = λ i. function_calls f i ++ functions_call fs i
 
-same_own_name : (f : Function) → (exit_function f).name ≡ f.name
+pub same_own_name : (f : Function) → (exit_function f).name ≡ f.name
 same_own_name f = on f.coroutine
   where
     on : (b : Bool) → (if b then with_exit_blocks f else f).name ≡ f.name
