@@ -1,6 +1,8 @@
 //! Which coroutines are called with a frame of their caller.
 
 ghost use Rattle.std.specs.Prelude.{◌≡◌, IfOk, OnOk, ◌++◌};
+ghost use Rattle.std.specs.List.{list_any};
+ghost use Rattle.ir_model.specs.Names.{first_where, same_name};
 ghost use Rattle.ir_tables.specs.Tables.{FindsFirst};
 ghost use Rattle.pass_split.specs.Given.{called_by, called_in, called_from, called_names, is_given_by};
 
@@ -96,11 +98,24 @@ pub fn calls_of(alloc: Global, functions: &[Function]) -> Result<Calls, AllocErr
     Ok(Calls { names, table })
 }
 
+/// The first of them that is a name.
+fn place_of(calls: &Calls, name: &Name) -> Option<usize>
+    ensures { result ≡ first_where (λ c. same_name c.name name.now) calls.now.names }
+{
+    find(&calls.table, name)
+}
+
+/// Whether one of them is a name.
+fn is_called(calls: &Calls, name: &Name) -> bool
+    ensures { result ≡ list_any (λ c. same_name name.now c.name) calls.now.names }
+{
+    place_of(calls, name).is_some()
+}
+
 /// Whether one of them is that of the coroutine's ramp that is given its frame.
-#[tactic(auto, using(crate::proofs::CalledNames::found_alike))]
 pub fn is_given_by(alloc: Global, calls: &Calls, function: &Function) -> Result<bool, AllocError>
     ensures { IfOk result (λ b. b ≡ is_given_by calls.now.names function.now) }
 {
     let name = part_name(alloc, &function.name, b".noalloc")?;
-    Ok(find(&calls.table, &name).is_some())
+    Ok(is_called(calls, &name))
 }
