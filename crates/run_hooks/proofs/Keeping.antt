@@ -24,7 +24,7 @@ use Rattle.run_framed.specs.Framed.{reentry_values}
 use Rattle.run_hooks.specs.Meanings.{framed_hooks, hooks_by, kept_hooks, renewed_hooks, source_hooks}
 use Rattle.run_hooks.specs.Reached.{AllHaveSwitches, AreReachedActivations, IsAnInstr, IsReachedState, KeepsReached}
 use Rattle.run_hooks.specs.Reached.{Stays}
-use Rattle.run_hooks.proofs.Reached.{IsBehind, begin_at_stays, begin_stays, change_top, continue_stays, finish_stays}
+use Rattle.run_hooks.proofs.Reached.{IsBehind, begin_at_stays, begin_stays, begun_stays, change_top, continue_stays, finish_stays}
 use Rattle.run_hooks.proofs.Reached.{memory_stays, new_slot_stays, slots_stay}
 use Rattle.run_memory.specs.Memory.{disown, start}
 use Rattle.run_memory.specs.declared.block.Kind.{Kind}

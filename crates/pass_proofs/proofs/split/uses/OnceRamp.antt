@@ -31,6 +31,7 @@ use Rattle.pass_proofs.proofs.split.uses.Names.{blocks_within, fresh, fresh_low,
 use Rattle.pass_proofs.proofs.split.uses.Once.{blocks_kept, frames, kept_most, labelled, labels_both, names_split, no_mark, no_marks, none_new, own_once}
 use Rattle.rule_laws.proofs.rules.uses.Once.{none_twice_by}
 use Rattle.ir_laws.proofs.facts.uses.Sources.{label_of}
+use Rattle.ir_laws.proofs.facts.Truth.{is_number}
 use Rattle.pass_proofs.proofs.split.rules.Cutting.{cut_blocks}
 use Rattle.pass_proofs.specs.split.rules.Pieced.{ArePiecesOf}
 use Rattle.pass_proofs.specs.split.rules.Splittable.{IsSplittable}
