@@ -6,7 +6,8 @@ use Rattle.ir_base.specs.declared.status.Options.{Options}
 use Rattle.pass_cleanup.proofs.Freed.{module_freed}
 use Rattle.pass_cleanup.specs.Cleanup.{clean_function, is_kept_instr}
 use Rattle.pass_cleanup.specs.Free.{calls_id_alone, is_free}
-use Rattle.pass_split.specs.Parts.{back_blocks, done_block, entry_instrs, head_blocks, later_part, layouts_after, marked_parts, first_layout, origins_for, part_blocks, parts_of, plain_of, plain_shape, ramp_of, split_function, split_functions, split_module}
+use Rattle.pass_split.specs.Given.{has_given_call}
+use Rattle.pass_split.specs.Parts.{back_blocks, done_block, entry_instrs, first_layout, given_parts, given_ramp_of, head_blocks, later_part, layouts_after, marked_parts, origins_for, part_blocks, parts_of, plain_of, plain_shape, ramp_of, split_function, split_functions, split_module}
 use Rattle.pass_front.specs.Front.{allocas_of, is_alloca}
 use Rattle.pass_split.specs.Pieces.{all_pieces, begins_again, first_piecing, next_piecing, pass_block, piece, pieced, pieces_of, piecing_of, redirected_term, stop_label, stopped, with_instr, with_instrs}
 use Rattle.pass_split.specs.Reached.{is_flagged, kept_block, kept_blocks, pruned, reached}
@@ -113,41 +114,41 @@ save_fine : (s : Shape) (n : ℕ) (j : Option ℕ) → list_all is_id_or_free (s
 save_fine s n None = refl
 save_fine s n (Some j) = refl
 
-call_fine : (s : Shape) (n : ℕ) (r : Option ℕ) (must_tail : Bool) (ty : Option Ty) (x : Intrinsic) (args : List Arg) → list_all is_id_or_free (lowered s n (Instr.Call r must_tail ty (Callee.Intrinsic x) args)) ≡ true
-call_fine s n r must_tail ty Intrinsic.CoroId args = refl
-call_fine s n r must_tail ty Intrinsic.CoroSizeI32 args = number_fine r 32 s.size
-call_fine s n r must_tail ty Intrinsic.CoroSizeI64 args = number_fine r 64 s.size
-call_fine s n r must_tail ty Intrinsic.CoroAlignI32 args = number_fine r 32 s.align
-call_fine s n r must_tail ty Intrinsic.CoroAlignI64 args = number_fine r 64 s.align
-call_fine s n r must_tail ty Intrinsic.CoroAlloc args = truth_fine r _
-call_fine s n r must_tail ty Intrinsic.CoroBegin args = refl
-call_fine s n r must_tail ty Intrinsic.CoroFree args = address_fine r _ _
-call_fine s n r must_tail ty Intrinsic.CoroFrame args = address_fine r _ _
-call_fine s n r must_tail ty Intrinsic.CoroSave args = save_fine s n (number_of_save s r)
-call_fine s n r must_tail ty Intrinsic.CoroSuspend args = refl
-call_fine s n r must_tail ty Intrinsic.CoroEnd args = truth_fine r _
-call_fine s n r must_tail ty Intrinsic.CoroResume args = refl
-call_fine s n r must_tail ty Intrinsic.CoroDestroy args = refl
-call_fine s n r must_tail ty Intrinsic.CoroDone args = done_fine n r _
-call_fine s n r must_tail ty Intrinsic.CoroPromise args = address_fine r _ _
-call_fine s n r must_tail ty Intrinsic.LifetimeStart args = refl
-call_fine s n r must_tail ty Intrinsic.LifetimeEnd args = refl
-call_fine s n r must_tail ty Intrinsic.MemcpyI64 args = refl
-call_fine s n r must_tail ty Intrinsic.MemcpyI32 args = refl
+call_fine : (s : Shape) (part : Part) (n : ℕ) (r : Option ℕ) (must_tail : Bool) (ty : Option Ty) (x : Intrinsic) (args : List Arg) → list_all is_id_or_free (lowered s part n (Instr.Call r must_tail ty (Callee.Intrinsic x) args)) ≡ true
+call_fine s part n r must_tail ty Intrinsic.CoroId args = refl
+call_fine s part n r must_tail ty Intrinsic.CoroSizeI32 args = number_fine r 32 s.size
+call_fine s part n r must_tail ty Intrinsic.CoroSizeI64 args = number_fine r 64 s.size
+call_fine s part n r must_tail ty Intrinsic.CoroAlignI32 args = number_fine r 32 s.align
+call_fine s part n r must_tail ty Intrinsic.CoroAlignI64 args = number_fine r 64 s.align
+call_fine s part n r must_tail ty Intrinsic.CoroAlloc args = truth_fine r _
+call_fine s part n r must_tail ty Intrinsic.CoroBegin args = refl
+call_fine s part n r must_tail ty Intrinsic.CoroFree args = address_fine r _ _
+call_fine s part n r must_tail ty Intrinsic.CoroFrame args = address_fine r _ _
+call_fine s part n r must_tail ty Intrinsic.CoroSave args = save_fine s n (number_of_save s r)
+call_fine s part n r must_tail ty Intrinsic.CoroSuspend args = refl
+call_fine s part n r must_tail ty Intrinsic.CoroEnd args = truth_fine r _
+call_fine s part n r must_tail ty Intrinsic.CoroResume args = refl
+call_fine s part n r must_tail ty Intrinsic.CoroDestroy args = refl
+call_fine s part n r must_tail ty Intrinsic.CoroDone args = done_fine n r _
+call_fine s part n r must_tail ty Intrinsic.CoroPromise args = address_fine r _ _
+call_fine s part n r must_tail ty Intrinsic.LifetimeStart args = refl
+call_fine s part n r must_tail ty Intrinsic.LifetimeEnd args = refl
+call_fine s part n r must_tail ty Intrinsic.MemcpyI64 args = refl
+call_fine s part n r must_tail ty Intrinsic.MemcpyI32 args = refl
 
-lowered_fine : (s : Shape) (n : ℕ) (i : Instr) → list_all is_id_or_free (lowered s n i) ≡ true
-lowered_fine s n (Instr.Binary result op flags ty left right) = refl
-lowered_fine s n (Instr.Icmp result pred ty left right) = refl
-lowered_fine s n (Instr.Select result c a b) = refl
-lowered_fine s n (Instr.Cast result op nneg arg to) = refl
-lowered_fine s n (Instr.Alloca result ty align) = refl
-lowered_fine s n (Instr.Load result ty address align) = refl
-lowered_fine s n (Instr.Store arg address align) = refl
-lowered_fine s n (Instr.Gep result inbounds ty base indices) = refl
-lowered_fine s n (Instr.Call result must_tail ty (Callee.Named name) args) = refl
-lowered_fine s n (Instr.Call result must_tail ty (Callee.Allocator a) args) = refl
-lowered_fine s n (Instr.Call result must_tail ty (Callee.Intrinsic x) args) = call_fine s n result must_tail ty x args
-lowered_fine s n (Instr.Call result must_tail ty (Callee.Local v) args) = refl
+lowered_fine : (s : Shape) (part : Part) (n : ℕ) (i : Instr) → list_all is_id_or_free (lowered s part n i) ≡ true
+lowered_fine s part n (Instr.Binary result op flags ty left right) = refl
+lowered_fine s part n (Instr.Icmp result pred ty left right) = refl
+lowered_fine s part n (Instr.Select result c a b) = refl
+lowered_fine s part n (Instr.Cast result op nneg arg to) = refl
+lowered_fine s part n (Instr.Alloca result ty align) = refl
+lowered_fine s part n (Instr.Load result ty address align) = refl
+lowered_fine s part n (Instr.Store arg address align) = refl
+lowered_fine s part n (Instr.Gep result inbounds ty base indices) = refl
+lowered_fine s part n (Instr.Call result must_tail ty (Callee.Named name) args) = refl
+lowered_fine s part n (Instr.Call result must_tail ty (Callee.Allocator a) args) = refl
+lowered_fine s part n (Instr.Call result must_tail ty (Callee.Intrinsic x) args) = call_fine s part n result must_tail ty x args
+lowered_fine s part n (Instr.Call result must_tail ty (Callee.Local v) args) = refl
 
 -- ---- the pieces of a block
 
@@ -155,8 +156,8 @@ record Fine (p : Piecing) : Type 0 where
   whole : list_all is_fine_block p.whole ≡ true
   instrs : list_all is_id_or_free p.instrs ≡ true
 
-added : (s : Shape) (p : Piecing) (i : Instr) → Fine p → list_all is_id_or_free (p.instrs ++ lowered s p.next i) ≡ true
-added s p i h = all_joined is_id_or_free p.instrs (lowered s p.next i) h.instrs (lowered_fine s p.next i)
+added : (s : Shape) (part : Part) (p : Piecing) (i : Instr) → Fine p → list_all is_id_or_free (p.instrs ++ lowered s part p.next i) ≡ true
+added s part p i h = all_joined is_id_or_free p.instrs (lowered s part p.next i) h.instrs (lowered_fine s part p.next i)
 
 -- one block more, of fine instructions
 ended : (p : Piecing) (label : ℕ) (phis : List Phi) (instrs : List Instr) (term : Terminator) → Fine p → list_all is_id_or_free instrs ≡ true →
@@ -164,18 +165,18 @@ ended : (p : Piecing) (label : ℕ) (phis : List Phi) (instrs : List Instr) (ter
 ended p label phis instrs term h k =
     all_joined is_fine_block p.whole (record { label = label; phis = phis; instrs = instrs; term = term } ∷ []) h.whole (both (list_all is_id_or_free instrs) true k refl)
 
-pieced_fine : (s : Shape) (p : Piecing) (i : Instr) (term : Terminator) (cut : Cut) → Fine p → Fine (pieced s p i term cut)
-pieced_fine s p i term Cut.Stays h = record { whole = h.whole; instrs = added s p i h }
-pieced_fine s p i term (Cut.Marks label) h =
-    record { whole = ended p p.label p.phis (p.instrs ++ lowered s p.next i) (Terminator.Jump label) h (added s p i h); instrs = refl }
-pieced_fine s p i term Cut.Suspends h = record { whole = ended p p.label p.phis p.instrs (Terminator.Jump (stop_label term)) h h.instrs; instrs = refl }
-pieced_fine s p i term Cut.Returns h = record { whole = ended p p.label p.phis p.instrs (Terminator.Ret None) h h.instrs; instrs = refl }
-pieced_fine s p i term (Cut.Transfers j) h =
+pieced_fine : (s : Shape) (part : Part) (p : Piecing) (i : Instr) (term : Terminator) (cut : Cut) → Fine p → Fine (pieced s part p i term cut)
+pieced_fine s part p i term Cut.Stays h = record { whole = h.whole; instrs = added s part p i h }
+pieced_fine s part p i term (Cut.Marks label) h =
+    record { whole = ended p p.label p.phis (p.instrs ++ lowered s part p.next i) (Terminator.Jump label) h (added s part p i h); instrs = refl }
+pieced_fine s part p i term Cut.Suspends h = record { whole = ended p p.label p.phis p.instrs (Terminator.Jump (stop_label term)) h h.instrs; instrs = refl }
+pieced_fine s part p i term Cut.Returns h = record { whole = ended p p.label p.phis p.instrs (Terminator.Ret None) h h.instrs; instrs = refl }
+pieced_fine s part p i term (Cut.Transfers j) h =
     record {
       whole =
-          all_joined is_fine_block p.whole (piece p p.instrs (Terminator.Jump (pass_label s j)) ∷ pass_block (pass_label s j) (lowered s p.next i) ∷ []) h.whole
-          (both (list_all is_id_or_free p.instrs) (list_all is_id_or_free (lowered s p.next i) && true) h.instrs
-          (both (list_all is_id_or_free (lowered s p.next i)) true (lowered_fine s p.next i) refl));
+          all_joined is_fine_block p.whole (piece p p.instrs (Terminator.Jump (pass_label s j)) ∷ pass_block (pass_label s j) (lowered s part p.next i) ∷ []) h.whole
+          (both (list_all is_id_or_free p.instrs) (list_all is_id_or_free (lowered s part p.next i) && true) h.instrs
+          (both (list_all is_id_or_free (lowered s part p.next i)) true (lowered_fine s part p.next i) refl));
       instrs = refl;
     }
 
@@ -188,7 +189,7 @@ stopped_fine p h = record { whole = ended p p.label p.phis p.instrs Terminator.U
 
 next_fine : (s : Shape) (part : Part) (term : Terminator) (p : Piecing) (i : Instr) (after : List Instr) → Fine p → Fine (next_piecing s part term p i after)
 next_fine s part term p i after h =
-    one_fine (begins_again part i) (stopped p) (pieced s p i term (cut_at s part i after)) (stopped_fine p h) (pieced_fine s p i term (cut_at s part i after) h)
+    one_fine (begins_again part i) (stopped p) (pieced s part p i term (cut_at s part i after)) (stopped_fine p h) (pieced_fine s part p i term (cut_at s part i after) h)
 
 with_instrs_fine : (s : Shape) (part : Part) (term : Terminator) (p : Piecing) (is : List Instr) → Fine p → Fine (with_instrs s part term p is)
 with_instrs_fine s part term p [] h = h
@@ -242,8 +243,10 @@ backs_fine s part j (p ∷ ps) = backs_fine s part (j + 1) ps
 
 head_fine : (s : Shape) (part : Part) (f : Function) → list_all is_fine_block (head_blocks s part f) ≡ true
 head_fine s Part.Ramp f = refl
+head_fine s Part.GivenRamp f = refl
 head_fine s Part.Resume f = both _ _ (entry_fine s f.blocks) (backs_fine s Part.Resume 0 s.suspends)
 head_fine s Part.Destroy f = both _ _ (entry_fine s f.blocks) (backs_fine s Part.Destroy 0 s.suspends)
+head_fine s Part.Cleanup f = both _ _ (entry_fine s f.blocks) (backs_fine s Part.Cleanup 0 s.suspends)
 
 part_fine : (s : Shape) (part : Part) (f : Function) (origins : List Origin) → list_all is_fine_block (part_blocks s part f origins) ≡ true
 part_fine s part f origins =
@@ -266,27 +269,33 @@ pruned_fine f h = kept_fine (reached f) f.blocks h
 abbrev is_split : Function → Bool
 is_split f = not f.coroutine && is_fine f
 
-parts_fine : (s : Shape) (f : Function) → list_all is_split (parts_of s f) ≡ true
-parts_fine s f =
+parts_fine : (s : Shape) (given : Bool) (f : Function) → list_all is_split (parts_of s given f) ≡ true
+parts_fine s given f =
     both _ _ (pruned_fine (ramp_of s f) (part_fine s Part.Ramp f (origins_for s Part.Ramp f)))
     (both _ _ (pruned_fine (later_part s Part.Resume s.resume_name f) (part_fine s Part.Resume f (origins_for s Part.Resume f)))
-    (both _ _ (pruned_fine (later_part s Part.Destroy s.destroy_name f) (part_fine s Part.Destroy f (origins_for s Part.Destroy f))) refl))
-
-marked_fine : (l : Layout) (f : Function) → list_all is_split (marked_parts l f) ≡ true
-marked_fine l f = parts_fine (shape_of f l) f
-
-function_fine : (l : Layout) (f : Function) → list_all is_split (split_function l f) ≡ true
-function_fine l f = on f.coroutine
+    (both _ _ (pruned_fine (later_part s Part.Destroy s.destroy_name f) (part_fine s Part.Destroy f (origins_for s Part.Destroy f))) (others given)))
   where
-    on : (b : Bool) → list_all is_split (if b then marked_parts l (with_exit_blocks f) else plain_of (plain_shape f) f ∷ []) ≡ true
-    on true = marked_fine l (with_exit_blocks f)
+    others : (b : Bool) → list_all is_split (if b then given_parts s f else []) ≡ true
+    others true =
+        both _ _ (pruned_fine (later_part s Part.Cleanup s.cleanup_name f) (part_fine s Part.Cleanup f (origins_for s Part.Cleanup f)))
+        (both _ _ (pruned_fine (given_ramp_of s f) (part_fine s Part.GivenRamp f (origins_for s Part.GivenRamp f))) refl)
+    others false = refl
+
+marked_fine : (l : Layout) (given : Bool) (f : Function) → list_all is_split (marked_parts l given f) ≡ true
+marked_fine l given f = parts_fine (shape_of f l) given f
+
+function_fine : (l : Layout) (given : Bool) (f : Function) → list_all is_split (split_function l given f) ≡ true
+function_fine l given f = on f.coroutine
+  where
+    on : (b : Bool) → list_all is_split (if b then marked_parts l given (with_exit_blocks f) else plain_of (plain_shape f) f ∷ []) ≡ true
+    on true = marked_fine l given (with_exit_blocks f)
     on false = both _ _ (pieces_fine (plain_shape f) Part.Ramp [] _ f.blocks) refl
 
-functions_fine : (ls : List Layout) (fs : List Function) → list_all is_split (split_functions ls fs) ≡ true
-functions_fine ls [] = refl
-functions_fine ls (f ∷ fs) =
-    all_joined is_split (split_function (first_layout ls) f) (split_functions (layouts_after f ls) fs)
-    (function_fine (first_layout ls) f) (functions_fine (layouts_after f ls) fs)
+functions_fine : (ls : List Layout) (m : Module) (fs : List Function) → list_all is_split (split_functions ls m fs) ≡ true
+functions_fine ls m [] = refl
+functions_fine ls m (f ∷ fs) =
+    all_joined is_split (split_function (first_layout ls) (has_given_call m f) f) (split_functions (layouts_after f ls) m fs)
+    (function_fine (first_layout ls) (has_given_call m f) f) (functions_fine (layouts_after f ls) m fs)
 
 all_of_each : {A : Type 0} (t u : A → Bool) → ((x : A) → t x ≡ true → u x ≡ true) → (xs : List A) → list_all t xs ≡ true → list_all u xs ≡ true
 all_of_each t u h [] e = refl
@@ -295,19 +304,19 @@ all_of_each t u h (x ∷ xs) e =
 
 pub split_calls_id : (ls : Layouts) (m : Module) → calls_id_alone (split_module ls m) ≡ true
 split_calls_id ls m =
-    all_of_each is_split is_fine (λ f e. second_of_both (not f.coroutine) (is_fine f) e) (split_functions ls.coroutines m.functions)
-    (functions_fine ls.coroutines m.functions)
+    all_of_each is_split is_fine (λ f e. second_of_both (not f.coroutine) (is_fine f) e) (split_functions ls.coroutines m m.functions)
+    (functions_fine ls.coroutines m m.functions)
 
 abbrev is_ordinary : Function → Bool
 is_ordinary f = not f.coroutine
 
 pub split_all_plain : (ls : Layouts) (m : Module) → list_all (λ f. not f.coroutine) (split_module ls m).functions ≡ true
 split_all_plain ls m =
-    all_of_each is_split is_ordinary (λ f e. first_of_both (not f.coroutine) (is_fine f) e) (split_functions ls.coroutines m.functions)
-    (functions_fine ls.coroutines m.functions)
+    all_of_each is_split is_ordinary (λ f e. first_of_both (not f.coroutine) (is_fine f) e) (split_functions ls.coroutines m m.functions)
+    (functions_fine ls.coroutines m m.functions)
 
 all_ordinary : (ls : Layouts) (m : Module) → list_all is_ordinary (lowered_module ls m).functions ≡ true
-all_ordinary ls m = all_mapped is_ordinary clean_function (λ f e. e) (split_functions ls.coroutines m.functions) (split_all_plain ls m)
+all_ordinary ls m = all_mapped is_ordinary clean_function (λ f e. e) (split_functions ls.coroutines m m.functions) (split_all_plain ls m)
 
 lowered_has_none : (ls : Layouts) (m : Module) → has_no_coroutine (lowered_module ls m) ≡ true
 lowered_has_none ls m = both _ _ (all_ordinary ls m) (module_freed (split_module ls m) (split_calls_id ls m))

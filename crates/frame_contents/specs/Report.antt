@@ -41,6 +41,7 @@ field_text FieldKind.Promise field = line_text (codes "promise") field
 field_text FieldKind.Value field = line_text (codes "value") field
 field_text FieldKind.Slot field = line_text (codes "slot") field
 field_text FieldKind.Index field = []
+field_text FieldKind.Frame field = line_text (codes "frame") field
 
 abbrev pub fields_text : List PlacedField → List ℕ
 fields_text [] = []

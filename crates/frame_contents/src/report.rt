@@ -90,6 +90,7 @@ fn push_field(out: &mut Vec<u8>, field: &PlacedField) -> Result<(), AllocError>
         FieldKind::Value => push_line(out, b"value", field),
         FieldKind::Slot => push_line(out, b"slot", field),
         FieldKind::Index => Ok(()),
+        FieldKind::Frame => push_line(out, b"frame", field),
     }
 }
 

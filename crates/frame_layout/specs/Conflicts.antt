@@ -4,12 +4,13 @@ use Rattle.std.specs.List.{list_any}
 use Rattle.frame_layout.specs.declared.layout.Field.{Field}
 use Rattle.frame_layout.specs.declared.layout.FieldKind.{FieldKind}
 
--- the promise and the index share bytes with no field
+-- the promise, the index and the frames of callees share bytes with no field
 abbrev pub is_apart : FieldKind → Bool
 is_apart FieldKind.Promise = true
 is_apart FieldKind.Value = false
 is_apart FieldKind.Slot = false
 is_apart FieldKind.Index = true
+is_apart FieldKind.Frame = true
 
 -- the field at a position is one of these
 abbrev pub is_apart_at : List Field → ℕ → Bool
@@ -23,8 +24,9 @@ has_pair pairs k x = list_any (λ p. (p.1 == x) && (p.0 == k)) pairs
 abbrev pub share : List (ℕ × ℕ) → List (ℕ × ℕ) → ℕ → ℕ → Bool
 share one other j k = list_any (λ p. (p.0 == j) && has_pair other k p.1) one
 
--- two fields conflict where one of them is the promise or the index, where both are values that cross one suspend, where one is a
--- value and the other a slot that may be alive at a suspend that the value crosses, or where both are slots that the last list names
+-- two fields conflict where one of them is the promise, the index or a callee's frame, where both are values that cross one suspend,
+-- where one is a value and the other a slot that may be alive at a suspend that the value crosses, or where both are slots that the
+-- last list names
 unfoldable pub conflict : List Field → List (ℕ × ℕ) → List (ℕ × ℕ) → List (ℕ × ℕ) → ℕ → ℕ → Bool
 conflict fields crossing alive slots j k =
     is_apart_at fields j

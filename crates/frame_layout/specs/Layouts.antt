@@ -22,12 +22,14 @@ is_promise FieldKind.Promise = true
 is_promise FieldKind.Value = false
 is_promise FieldKind.Slot = false
 is_promise FieldKind.Index = false
+is_promise FieldKind.Frame = false
 
 abbrev pub is_index : FieldKind → Bool
 is_index FieldKind.Promise = false
 is_index FieldKind.Value = false
 is_index FieldKind.Slot = false
 is_index FieldKind.Index = true
+is_index FieldKind.Frame = false
 
 -- the position of the promise
 abbrev pub promise_of : List Field → Option ℕ

@@ -40,7 +40,7 @@ fn is_promise(kind: FieldKind) -> bool
 {
     match kind {
         FieldKind::Promise => true,
-        FieldKind::Value | FieldKind::Slot | FieldKind::Index => false,
+        FieldKind::Value | FieldKind::Slot | FieldKind::Index | FieldKind::Frame => false,
     }
 }
 
@@ -49,7 +49,7 @@ fn is_index(kind: FieldKind) -> bool
 {
     match kind {
         FieldKind::Index => true,
-        FieldKind::Promise | FieldKind::Value | FieldKind::Slot => false,
+        FieldKind::Promise | FieldKind::Value | FieldKind::Slot | FieldKind::Frame => false,
     }
 }
 

@@ -18,6 +18,8 @@ pub enum FieldKind {
     Slot,
     /// The number of the suspend at which the coroutine stands.
     Index,
+    /// The frame of a coroutine that is called, which lies in its caller's.
+    Frame,
 }
 
 /// A field that a frame needs: its name, which the index has not, and its size and alignment in bytes.

@@ -14,7 +14,7 @@ pub(crate) fn is_apart(kind: FieldKind) -> bool
     ensures { result ≡ is_apart kind }
 {
     match kind {
-        FieldKind::Promise | FieldKind::Index => true,
+        FieldKind::Promise | FieldKind::Index | FieldKind::Frame => true,
         FieldKind::Value | FieldKind::Slot => false,
     }
 }

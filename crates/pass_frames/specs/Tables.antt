@@ -64,6 +64,7 @@ is_slot_kind FieldKind.Promise = true
 is_slot_kind FieldKind.Slot = true
 is_slot_kind FieldKind.Value = false
 is_slot_kind FieldKind.Index = false
+is_slot_kind FieldKind.Frame = false
 
 -- the offset of the field at a position, in order of the text
 abbrev pub offset_at : Layout → ℕ → ℕ

@@ -19,6 +19,7 @@ fn is_slot_kind(kind: FieldKind) -> bool
         FieldKind::Slot => true,
         FieldKind::Value => false,
         FieldKind::Index => false,
+        FieldKind::Frame => false,
     }
 }
 

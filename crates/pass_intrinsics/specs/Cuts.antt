@@ -11,8 +11,10 @@ use Rattle.pass_intrinsics.specs.declared.shape.Shape.{Shape}
 
 abbrev pub goes_on : Part → Bool
 goes_on Part.Ramp = false
+goes_on Part.GivenRamp = false
 goes_on Part.Resume = true
 goes_on Part.Destroy = true
+goes_on Part.Cleanup = true
 
 abbrev pub marks_save : Shape → Option ℕ → Cut
 marks_save s None = Cut.Stays

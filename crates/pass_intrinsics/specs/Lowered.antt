@@ -11,7 +11,8 @@ use Rattle.ir_model.specs.declared.operand.Callee.{Callee}
 use Rattle.ir_model.specs.declared.operand.Intrinsic.{Intrinsic}
 use Rattle.ir_model.specs.declared.operand.Operand.{Operand}
 use Rattle.ir_model.specs.TypeView.{bits_of}
-use Rattle.pass_intrinsics.specs.Shapes.{index_bytes, is_true}
+use Rattle.pass_intrinsics.specs.Shapes.{given_name, index_bytes, is_true}
+use Rattle.pass_intrinsics.specs.declared.shape.Part.{Part}
 use Rattle.pass_intrinsics.specs.declared.shape.Shape.{Shape}
 use Rattle.pass_intrinsics.specs.declared.shape.SuspendPoint.{SuspendPoint}
 
@@ -65,15 +66,38 @@ value_or_null (Some a) = a.value
 abbrev pub operand_at : List Arg → ℕ → Operand
 operand_at args i = value_or_null (slice_get args i)
 
+-- ---- what differs where a frame is given: in the ramp that is given it, and where that instance is destroyed
+
+-- such a ramp's coro.alloc is false, any other's is true
+abbrev pub allocates : Part → Bool
+allocates Part.GivenRamp = false
+allocates _ = true
+
+-- begin's memory is its operand, in such a ramp the address that it is given
+abbrev pub begin_memory : Shape → Part → List Arg → Operand
+begin_memory s Part.GivenRamp args = Operand.Local (given_name s)
+begin_memory s _ args = operand_at args 1
+
+-- the function that a destroy calls
+abbrev pub destroyed_by : Shape → Part → Name
+destroyed_by s Part.GivenRamp = s.cleanup_name
+destroyed_by s _ = s.destroy_name
+
+-- what coro.free gives: null for a frame that was given
+abbrev pub freed_by : Shape → Part → Operand
+freed_by s Part.GivenRamp = Operand.Null
+freed_by s Part.Cleanup = Operand.Null
+freed_by s _ = Operand.Local s.begin
+
 -- ---- the intrinsics; n is the next new name
 
 -- begin's value is its operand; the functions that a resume and a destroy call are stored there
-abbrev pub begin_stores : Shape → ℕ → Operand → List Instr
-begin_stores s n p =
+abbrev pub begin_stores : Shape → Part → ℕ → Operand → List Instr
+begin_stores s part n p =
     address s.begin p (pos 0)
     ∷ store_pointer (Operand.Global s.resume_name) (Operand.Local s.begin)
     ∷ address n (Operand.Local s.begin) (pos 8)
-    ∷ store_pointer (Operand.Global s.destroy_name) (Operand.Local n)
+    ∷ store_pointer (Operand.Global (destroyed_by s part)) (Operand.Local n)
     ∷ []
 
 -- what a resume calls behind a suspend
@@ -123,28 +147,28 @@ save_or_none s n None = []
 save_or_none s n (Some j) = save_stores s n j
 
 -- what stands in the place of a call of an intrinsic
-abbrev pub lowered_call : Shape → ℕ → Instr → Intrinsic → Option ℕ → List Arg → List Instr
-lowered_call s n i Intrinsic.CoroSizeI32 r args = set_number r 32 s.size
-lowered_call s n i Intrinsic.CoroSizeI64 r args = set_number r 64 s.size
-lowered_call s n i Intrinsic.CoroAlignI32 r args = set_number r 32 s.align
-lowered_call s n i Intrinsic.CoroAlignI64 r args = set_number r 64 s.align
-lowered_call s n i Intrinsic.CoroAlloc r args = set_truth r (truth_of true)
-lowered_call s n i Intrinsic.CoroBegin r args = begin_stores s n (operand_at args 1)
-lowered_call s n i Intrinsic.CoroFree r args = set_address r (Operand.Local s.begin) (pos 0)
-lowered_call s n i Intrinsic.CoroFrame r args = set_address r (Operand.Local s.begin) (pos 0)
-lowered_call s n i Intrinsic.CoroSave r args = save_or_none s n (number_of_save s r)
-lowered_call s n i Intrinsic.CoroSuspend r args = []
-lowered_call s n i Intrinsic.CoroEnd r args = set_truth r (truth_of false)
-lowered_call s n i Intrinsic.CoroResume r args = resume_call n (operand_at args 0)
-lowered_call s n i Intrinsic.CoroDestroy r args = destroy_call n (operand_at args 0)
-lowered_call s n i Intrinsic.CoroDone r args = done_test n r (operand_at args 0)
-lowered_call s n i Intrinsic.CoroPromise r args = set_address r (operand_at args 0) (promise_distance (is_true (operand_at args 2)))
-lowered_call s n i _ r args = i ∷ []
+abbrev pub lowered_call : Shape → Part → ℕ → Instr → Intrinsic → Option ℕ → List Arg → List Instr
+lowered_call s part n i Intrinsic.CoroSizeI32 r args = set_number r 32 s.size
+lowered_call s part n i Intrinsic.CoroSizeI64 r args = set_number r 64 s.size
+lowered_call s part n i Intrinsic.CoroAlignI32 r args = set_number r 32 s.align
+lowered_call s part n i Intrinsic.CoroAlignI64 r args = set_number r 64 s.align
+lowered_call s part n i Intrinsic.CoroAlloc r args = set_truth r (truth_of (allocates part))
+lowered_call s part n i Intrinsic.CoroBegin r args = begin_stores s part n (begin_memory s part args)
+lowered_call s part n i Intrinsic.CoroFree r args = set_address r (freed_by s part) (pos 0)
+lowered_call s part n i Intrinsic.CoroFrame r args = set_address r (Operand.Local s.begin) (pos 0)
+lowered_call s part n i Intrinsic.CoroSave r args = save_or_none s n (number_of_save s r)
+lowered_call s part n i Intrinsic.CoroSuspend r args = []
+lowered_call s part n i Intrinsic.CoroEnd r args = set_truth r (truth_of false)
+lowered_call s part n i Intrinsic.CoroResume r args = resume_call n (operand_at args 0)
+lowered_call s part n i Intrinsic.CoroDestroy r args = destroy_call n (operand_at args 0)
+lowered_call s part n i Intrinsic.CoroDone r args = done_test n r (operand_at args 0)
+lowered_call s part n i Intrinsic.CoroPromise r args = set_address r (operand_at args 0) (promise_distance (is_true (operand_at args 2)))
+lowered_call s part n i _ r args = i ∷ []
 
 -- what stands in the place of an instruction
-abbrev pub lowered : Shape → ℕ → Instr → List Instr
-lowered s n (Instr.Call r must_tail ty (Callee.Intrinsic x) args) = lowered_call s n (Instr.Call r must_tail ty (Callee.Intrinsic x) args) x r args
-lowered s n i = i ∷ []
+abbrev pub lowered : Shape → Part → ℕ → Instr → List Instr
+lowered s part n (Instr.Call r must_tail ty (Callee.Intrinsic x) args) = lowered_call s part n (Instr.Call r must_tail ty (Callee.Intrinsic x) args) x r args
+lowered s part n i = i ∷ []
 
 -- how many new names it takes
 abbrev pub names_for : Intrinsic → ℕ

@@ -117,9 +117,10 @@ shape_of f l =
       base = length f.names;
       resume_name = part_name f.name (codes ".resume");
       destroy_name = part_name f.name (codes ".destroy");
+      cleanup_name = part_name f.name (codes ".cleanup");
     }
 
--- ---- new names: six of the coroutine, three of each suspend, and then those of the instructions
+-- ---- new names: seven of the coroutine, three of each suspend, and then those of the instructions
 
 abbrev pub begun_label : Shape → ℕ
 begun_label s = s.base
@@ -139,15 +140,19 @@ slot_name s = s.base + 4
 abbrev pub index_name : Shape → ℕ
 index_name s = s.base + 5
 
+-- the last parameter of the ramp that is given its frame
+abbrev pub given_name : Shape → ℕ
+given_name s = s.base + 6
+
 abbrev pub saved_label : Shape → ℕ → ℕ
-saved_label s j = s.base + 6 + 3 * j
+saved_label s j = s.base + 7 + 3 * j
 
 abbrev pub back_label : Shape → ℕ → ℕ
-back_label s j = s.base + 7 + 3 * j
+back_label s j = s.base + 8 + 3 * j
 
 abbrev pub pass_label : Shape → ℕ → ℕ
-pass_label s j = s.base + 8 + 3 * j
+pass_label s j = s.base + 9 + 3 * j
 
 -- the first name of the instructions
 abbrev pub first_name : Shape → ℕ
-first_name s = s.base + 6 + 3 * length s.suspends
+first_name s = s.base + 7 + 3 * length s.suspends

@@ -30,9 +30,8 @@ pub fn goes_on(part: Part) -> bool
     ensures { result ≡ goes_on part }
 {
     match part {
-        Part::Ramp => false,
-        Part::Resume => true,
-        Part::Destroy => true,
+        Part::Ramp | Part::GivenRamp => false,
+        Part::Resume | Part::Destroy | Part::Cleanup => true,
     }
 }
 

@@ -11,5 +11,5 @@ mod small;
 pub use cuts::{Cut, cut_at, goes_on};
 pub use lowered::{index_bytes, names_taken, push_lowered};
 pub use shape::{Part, Shape, SuspendPoint};
-pub use shapes::{saves_of, shape_of, suspends_of};
+pub use shapes::{part_name, saves_of, shape_of, suspends_of};
 pub use small::{address, later, number_arg, pointer_arg};

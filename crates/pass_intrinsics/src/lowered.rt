@@ -3,14 +3,14 @@
 ghost use Rattle.std.specs.Prelude.{◌≡◌, ◌+◌, ◌*◌, IfOk, OnOk, [], ◌∷◌, ◌++◌, slice_get};
 ghost use Rattle.ir_model.specs.TypeView.{bits_of};
 ghost use Rattle.pass_intrinsics.specs.Shapes.{index_bytes, is_true};
-ghost use Rattle.pass_intrinsics.specs.Lowered.{operand_at, set_address, begin_stores, resumed_by, is_final_at, save_stores, resume_call, destroy_call, done_test, promise_distance, number_of_save, save_or_none, lowered_call, lowered, names_for, names_taken};
+ghost use Rattle.pass_intrinsics.specs.Lowered.{operand_at, set_address, allocates, begin_memory, destroyed_by, freed_by, begin_stores, resumed_by, is_final_at, save_stores, resume_call, destroy_call, done_test, promise_distance, number_of_save, save_or_none, lowered_call, lowered, names_for, names_taken};
 
-use crate::shape::Shape;
+use crate::shape::{Part, Shape};
 use crate::small::{
     address, call_pointer, later, load_pointer, number_arg, operand_at, push_address, push_number,
     push_truth, store_pointer,
 };
-use ir_base::{Data, Items, Pred, SuspendId, ValueId};
+use ir_base::{Data, Items, Name, Pred, SuspendId, ValueId};
 use ir_model::{Arg, Callee, Instr, IntWidth, Intrinsic, IrType, Operand};
 use std::alloc::{AllocError, Global};
 
@@ -35,18 +35,64 @@ pub fn is_true(operand: &Operand) -> bool
     }
 }
 
+/// Whether `llvm.coro.alloc` is true in a part.
+fn allocates(part: Part) -> bool
+    ensures { result ≡ allocates part }
+{
+    match part {
+        Part::GivenRamp => false,
+        Part::Ramp | Part::Resume | Part::Destroy | Part::Cleanup => true,
+    }
+}
+
+/// The memory of begin.
+fn begin_memory(
+    alloc: Global,
+    shape: &Shape,
+    part: Part,
+    args: &[Arg],
+) -> Result<Operand, AllocError>
+    ensures { IfOk result (λ x. x ≡ begin_memory shape.now part args.now) }
+{
+    match part {
+        Part::GivenRamp => Ok(Operand::Local(shape.given_name()?)),
+        Part::Ramp | Part::Resume | Part::Destroy | Part::Cleanup => operand_at(alloc, args, 1),
+    }
+}
+
+/// The function that a destroy calls.
+fn destroyed_by(shape: &Shape, part: Part) -> &Name
+    ensures { result.now ≡ destroyed_by shape.now part }
+{
+    match part {
+        Part::GivenRamp => &shape.cleanup_name,
+        Part::Ramp | Part::Resume | Part::Destroy | Part::Cleanup => &shape.destroy_name,
+    }
+}
+
+/// What `llvm.coro.free` gives.
+fn freed_by(shape: &Shape, part: Part) -> Operand
+    ensures { result ≡ freed_by shape.now part }
+{
+    match part {
+        Part::GivenRamp | Part::Cleanup => Operand::Null,
+        Part::Ramp | Part::Resume | Part::Destroy => Operand::Local(shape.begin),
+    }
+}
+
 fn push_begin(
     alloc: Global,
     all: &mut Items<Instr>,
     shape: &Shape,
+    part: Part,
     next: ValueId,
     block: Operand,
 ) -> Result<(), AllocError>
-    ensures { OnOk result (all.new ≡ all.old ++ begin_stores shape.now next block) }
+    ensures { OnOk result (all.new ≡ all.old ++ begin_stores shape.now part next block) }
 {
     let frame = shape.begin;
     let resume = Operand::Global(shape.resume_name.copied(alloc)?);
-    let destroy = Operand::Global(shape.destroy_name.copied(alloc)?);
+    let destroy = Operand::Global(destroyed_by(shape, part).copied(alloc)?);
     all.push(address(alloc, frame, block, 0)?)?;
     all.push(store_pointer(resume, Operand::Local(frame)))?;
     all.push(address(alloc, next, Operand::Local(frame), 8)?)?;
@@ -196,24 +242,27 @@ fn push_call(
     alloc: Global,
     all: &mut Items<Instr>,
     shape: &Shape,
+    part: Part,
     next: ValueId,
     instr: &Instr,
     intrinsic: Intrinsic,
     name: Option<ValueId>,
     args: &[Arg],
 ) -> Result<(), AllocError>
-    ensures { OnOk result (all.new ≡ all.old ++ lowered_call shape.now next instr.now intrinsic name args.now) }
+    ensures { OnOk result (all.new ≡ all.old ++ lowered_call shape.now part next instr.now intrinsic name args.now) }
 {
     match intrinsic {
         Intrinsic::CoroSizeI32 => push_number(all, name, IntWidth::I32, shape.size),
         Intrinsic::CoroSizeI64 => push_number(all, name, IntWidth::I64, shape.size),
         Intrinsic::CoroAlignI32 => push_number(all, name, IntWidth::I32, shape.align),
         Intrinsic::CoroAlignI64 => push_number(all, name, IntWidth::I64, shape.align),
-        Intrinsic::CoroAlloc => push_truth(all, name, true),
-        Intrinsic::CoroBegin => { push_begin(alloc, all, shape, next, operand_at(alloc, args, 1)?) }
-        Intrinsic::CoroFree | Intrinsic::CoroFrame => {
-            push_address(alloc, all, name, Operand::Local(shape.begin), 0)
+        Intrinsic::CoroAlloc => push_truth(all, name, allocates(part)),
+        Intrinsic::CoroBegin => {
+            let block = begin_memory(alloc, shape, part, args)?;
+            push_begin(alloc, all, shape, part, next, block)
         }
+        Intrinsic::CoroFree => push_address(alloc, all, name, freed_by(shape, part), 0),
+        Intrinsic::CoroFrame => push_address(alloc, all, name, Operand::Local(shape.begin), 0),
         Intrinsic::CoroSave => {
             push_save_or_none(alloc, all, shape, next, number_of_save(shape, name))
         }
@@ -238,15 +287,16 @@ fn push_copy(alloc: Global, all: &mut Items<Instr>, instr: &Instr) -> Result<(),
     Ok(())
 }
 
-/// Adds what stands in the place of an instruction; `next` is the next new name.
+/// Adds what stands in the place of an instruction in a part; `next` is the next new name.
 pub fn push_lowered(
     alloc: Global,
     all: &mut Items<Instr>,
     shape: &Shape,
+    part: Part,
     next: ValueId,
     instr: &Instr,
 ) -> Result<(), AllocError>
-    ensures { OnOk result (all.new ≡ all.old ++ lowered shape.now next instr.now) }
+    ensures { OnOk result (all.new ≡ all.old ++ lowered shape.now part next instr.now) }
 {
     match instr {
         Instr::Call {
@@ -259,6 +309,7 @@ pub fn push_lowered(
             alloc,
             all,
             shape,
+            part,
             next,
             instr,
             *intrinsic,

@@ -18,10 +18,14 @@ pub struct SuspendPoint {
 pub enum Part {
     /// The starting function.
     Ramp,
+    /// The starting function that is given the address of its frame.
+    GivenRamp,
     /// The function that goes on at a resume edge.
     Resume,
     /// The function that goes on at a destroy edge.
     Destroy,
+    /// The function that goes on there where the frame was given.
+    Cleanup,
 }
 
 /// What the parts of a coroutine are made by.
@@ -42,7 +46,8 @@ pub struct Shape {
     pub saves: Items<Option<SuspendId>>,
     /// The first new name.
     pub base: ValueId,
-    /// The functions that a resume and a destroy call.
+    /// The functions that a resume and a destroy call, and the one that a destroy calls where the frame was given.
     pub resume_name: Name,
     pub destroy_name: Name,
+    pub cleanup_name: Name,
 }

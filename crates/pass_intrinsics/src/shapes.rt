@@ -3,7 +3,7 @@
 ghost use Rattle.std.specs.Prelude.{◌≡◌, ◌+◌, ◌*◌, IfOk, OnOk, [], ◌∷◌, ◌++◌, length};
 ghost use Rattle.ir_paths.specs.Windows.{is_number, label_in, label_of_term};
 ghost use Rattle.ir_model.specs.Names.{spelling};
-ghost use Rattle.pass_intrinsics.specs.Shapes.{token_of, save_of, first_is_true, is_final, with_suspend, with_suspends_in, with_suspends_by, suspends_of, with_save, with_saves, saves_of, is_end, has_end, end_label, index_width, part_name, shape_of, begun_label, done_label, entry_label, none_label, slot_name, index_name, saved_label, back_label, pass_label, first_name};
+ghost use Rattle.pass_intrinsics.specs.Shapes.{token_of, save_of, first_is_true, is_final, with_suspend, with_suspends_in, with_suspends_by, suspends_of, with_save, with_saves, saves_of, is_end, has_end, end_label, index_width, part_name, shape_of, begun_label, done_label, entry_label, none_label, slot_name, index_name, given_name, saved_label, back_label, pass_label, first_name};
 
 use crate::lowered::is_true;
 use crate::shape::{Shape, SuspendPoint};
@@ -237,7 +237,8 @@ fn spelled(alloc: Global, name: &Name) -> Result<Vec<u8>, AllocError>
     }
 }
 
-fn part_name(alloc: Global, name: &Name, suffix: &[u8]) -> Result<Name, AllocError>
+/// The name of a part of a coroutine.
+pub fn part_name(alloc: Global, name: &Name, suffix: &[u8]) -> Result<Name, AllocError>
     ensures { IfOk result (λ n. n ≡ part_name name.now suffix.now) }
 {
     let mut all = spelled(alloc, name)?;
@@ -263,6 +264,7 @@ pub fn shape_of(alloc: Global, function: &Function, layout: &Layout) -> Result<S
         base: function.names.len(),
         resume_name: part_name(alloc, &function.name, b".resume")?,
         destroy_name: part_name(alloc, &function.name, b".destroy")?,
+        cleanup_name: part_name(alloc, &function.name, b".cleanup")?,
     })
 }
 
@@ -309,31 +311,38 @@ impl Shape {
         later(self.base, 5)
     }
 
+    /// The name of the frame's address in the ramp that is given it.
+    pub fn given_name(&self) -> Result<ValueId, AllocError>
+        ensures { IfOk result (λ n. n ≡ given_name self.now) }
+    {
+        later(self.base, 6)
+    }
+
     /// The label behind the stores of a suspend's save.
     pub fn saved_label(&self, suspend: SuspendId) -> Result<ValueId, AllocError>
         ensures { IfOk result (λ n. n ≡ saved_label self.now suspend) }
     {
-        thrice_later(later(self.base, 6)?, suspend)
+        thrice_later(later(self.base, 7)?, suspend)
     }
 
     /// The label at which a part goes on behind a suspend.
     pub fn back_label(&self, suspend: SuspendId) -> Result<ValueId, AllocError>
         ensures { IfOk result (λ n. n ≡ back_label self.now suspend) }
     {
-        thrice_later(later(self.base, 7)?, suspend)
+        thrice_later(later(self.base, 8)?, suspend)
     }
 
     /// The label of a resume right before a suspend.
     pub fn pass_label(&self, suspend: SuspendId) -> Result<ValueId, AllocError>
         ensures { IfOk result (λ n. n ≡ pass_label self.now suspend) }
     {
-        thrice_later(later(self.base, 8)?, suspend)
+        thrice_later(later(self.base, 9)?, suspend)
     }
 
     /// The first name of the instructions.
     pub fn first_name(&self) -> Result<ValueId, AllocError>
         ensures { IfOk result (λ n. n ≡ first_name self.now) }
     {
-        thrice_later(later(self.base, 6)?, self.suspends.len())
+        thrice_later(later(self.base, 7)?, self.suspends.len())
     }
 }

@@ -1,2 +1,3 @@
+pub mod CalledNames
 pub mod Names
 pub mod Turns

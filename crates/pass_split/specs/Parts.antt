@@ -5,7 +5,7 @@ use Rattle.pass_front.specs.Front.{allocas_of}
 use Rattle.frame_layout.specs.Frames.{index_alone}
 use Rattle.frame_layout.specs.declared.layout.Layout.{Layout}
 use Rattle.frame_layout.specs.declared.layout.Layouts.{Layouts}
-use Rattle.ir_model.specs.Names.{numbered}
+use Rattle.ir_model.specs.Names.{noalloc_of, numbered}
 use Rattle.ir_model.specs.Ty.{int, ptr}
 use Rattle.ir_model.specs.declared.instr.Case.{Case}
 use Rattle.ir_model.specs.declared.instr.Instr.{Instr}
@@ -20,9 +20,10 @@ use Rattle.ir_model.specs.TypeView.{bits_of}
 use Rattle.ir_model.specs.declared.ir_type.IntWidth.{IntWidth}
 use Rattle.pass_intrinsics.specs.Lowered.{address, number_arg}
 use Rattle.pass_intrinsics.specs.Cuts.{goes_on}
+use Rattle.pass_split.specs.Given.{has_given_call}
 use Rattle.pass_split.specs.Pieces.{going_on, next_after, origins_of, pieces_of, redirected}
 use Rattle.pass_split.specs.Reached.{is_flagged, pruned, reached}
-use Rattle.pass_intrinsics.specs.Shapes.{back_label, done_label, entry_label, first_name, index_bytes, index_name, none_label, shape_of, slot_name}
+use Rattle.pass_intrinsics.specs.Shapes.{back_label, done_label, entry_label, first_name, given_name, index_bytes, index_name, none_label, shape_of, slot_name}
 use Rattle.pass_split.specs.declared.origin.Origin.{Origin}
 use Rattle.pass_intrinsics.specs.declared.shape.Part.{Part}
 use Rattle.pass_intrinsics.specs.declared.shape.Shape.{Shape}
@@ -128,6 +129,9 @@ slot_mark = Name.Text (codes "$c.slot")
 unfoldable pub index_mark : Name
 index_mark = Name.Text (codes "$c.index")
 
+unfoldable pub given_mark : Name
+given_mark = Name.Text (codes "$c.given")
+
 unfoldable pub frame_mark : Name
 frame_mark = Name.Text (codes "$c.frame")
 
@@ -135,7 +139,7 @@ abbrev pub label_names : List Name
 label_names = begun_mark ∷ done_mark ∷ entry_mark ∷ none_mark ∷ []
 
 abbrev pub mark_names : List Name
-mark_names = label_names ++ slot_mark ∷ index_mark ∷ []
+mark_names = label_names ++ slot_mark ∷ index_mark ∷ given_mark ∷ []
 
 -- the names of a coroutine's parts, with so many of instructions; begin's value is called `$c.frame`
 abbrev pub names_of : Shape → List Name → ℕ → List Name
@@ -154,17 +158,29 @@ part_blocks s part f origins = head_blocks s part f ++ pieces_of s part origins 
 abbrev pub part_names : Shape → Part → Function → List Origin → List Name
 part_names s part f origins = names_of s f.names (next_after s part origins (first_name s) f.blocks - first_name s)
 
-abbrev pub ramp_of : Shape → Function → Function
-ramp_of s f =
-    let origins = origins_for s Part.Ramp f in
+-- a part that gives what the coroutine gives
+abbrev pub ramp_part : Shape → Part → Name → List Param → Function → Function
+ramp_part s part name params f =
+    let origins = origins_for s part f in
     record {
-      name = f.name;
+      name = name;
       result = f.result;
-      params = f.params;
+      params = params;
       coroutine = false;
-      blocks = part_blocks s Part.Ramp f origins;
-      names = part_names s Part.Ramp f origins;
+      blocks = part_blocks s part f origins;
+      names = part_names s part f origins;
     }
+
+abbrev pub ramp_of : Shape → Function → Function
+ramp_of s f = ramp_part s Part.Ramp f.name f.params f
+
+-- the address of the frame is the last parameter of the ramp that is given it
+abbrev pub given_params : Shape → Function → List Param
+given_params s f = f.params ++ record { ty = ptr; name = given_name s } ∷ []
+
+-- the ramp that is given its frame
+abbrev pub given_ramp_of : Shape → Function → Function
+given_ramp_of s f = ramp_part s Part.GivenRamp (noalloc_of f.name) (given_params s f) f
 
 -- a part that goes on behind a suspend: its parameter is the frame address
 abbrev pub later_part : Shape → Part → Name → Function → Function
@@ -179,12 +195,17 @@ later_part s part name f =
       names = part_names s part f origins;
     }
 
-abbrev pub parts_of : Shape → Function → List Function
-parts_of s f =
+-- the parts of instances whose frames are given
+abbrev pub given_parts : Shape → Function → List Function
+given_parts s f = pruned (later_part s Part.Cleanup s.cleanup_name f) ∷ pruned (given_ramp_of s f) ∷ []
+
+-- those last two stand there where some call gives a frame
+abbrev pub parts_of : Shape → Bool → Function → List Function
+parts_of s given f =
     pruned (ramp_of s f)
     ∷ pruned (later_part s Part.Resume s.resume_name f)
     ∷ pruned (later_part s Part.Destroy s.destroy_name f)
-    ∷ []
+    ∷ (if given then given_parts s f else [])
 
 -- ---- functions that aren't coroutines
 
@@ -203,6 +224,7 @@ plain_shape f =
       base = base;
       resume_name = Name.Text [];
       destroy_name = Name.Text [];
+      cleanup_name = Name.Text [];
     }
 
 -- the resumes, destroys, tests and promises alone are turned
@@ -220,11 +242,11 @@ plain_of s f =
 -- ---- the module
 
 -- the parts of a coroutine whose edges that leave a window have blocks with marks
-abbrev pub marked_parts : Layout → Function → List Function
-marked_parts l f = parts_of (shape_of f l) f
+abbrev pub marked_parts : Layout → Bool → Function → List Function
+marked_parts l given f = parts_of (shape_of f l) given f
 
-abbrev pub split_function : Layout → Function → List Function
-split_function l f = if f.coroutine then marked_parts l (with_exit_blocks f) else plain_of (plain_shape f) f ∷ []
+abbrev pub split_function : Layout → Bool → Function → List Function
+split_function l given f = if f.coroutine then marked_parts l given (with_exit_blocks f) else plain_of (plain_shape f) f ∷ []
 
 -- the first of the layouts, that of a frame of an index alone where there is none
 abbrev pub first_layout : List Layout → Layout
@@ -240,10 +262,10 @@ abbrev pub layouts_after : Function → List Layout → List Layout
 layouts_after f ls = if f.coroutine then other_layouts ls else ls
 
 -- the layouts are those of the coroutines in order
-abbrev pub split_functions : List Layout → List Function → List Function
-split_functions ls [] = []
-split_functions ls (f ∷ fs) = split_function (first_layout ls) f ++ split_functions (layouts_after f ls) fs
+abbrev pub split_functions : List Layout → Module → List Function → List Function
+split_functions ls m [] = []
+split_functions ls m (f ∷ fs) = split_function (first_layout ls) (has_given_call m f) f ++ split_functions (layouts_after f ls) m fs
 
 abbrev pub split_module : Layouts → Module → Module
 split_module ls m =
-    record { types = m.types; globals = m.globals; declarations = m.declarations; functions = split_functions ls.coroutines m.functions }
+    record { types = m.types; globals = m.globals; declarations = m.declarations; functions = split_functions ls.coroutines m m.functions }

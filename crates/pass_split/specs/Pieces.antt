@@ -41,23 +41,23 @@ ended_with p pieces next = record { whole = p.whole ++ pieces; label = p.label; 
 abbrev pub begun_with : Piecing → Block → ℕ → ℕ → Piecing
 begun_with p whole label next = record { whole = p.whole ++ whole ∷ []; label = label; phis = []; instrs = []; ended = p.ended; next = next }
 
-abbrev pub pieced : Shape → Piecing → Instr → Terminator → Cut → Piecing
-pieced s p i term Cut.Stays =
+abbrev pub pieced : Shape → Part → Piecing → Instr → Terminator → Cut → Piecing
+pieced s part p i term Cut.Stays =
     record {
       whole = p.whole;
       label = p.label;
       phis = p.phis;
-      instrs = p.instrs ++ lowered s p.next i;
+      instrs = p.instrs ++ lowered s part p.next i;
       ended = p.ended;
       next = p.next + names_taken i;
     }
-pieced s p i term (Cut.Marks label) =
-    begun_with p (piece p (p.instrs ++ lowered s p.next i) (Terminator.Jump label)) label (p.next + names_taken i)
-pieced s p i term Cut.Suspends = ended_with p (piece p p.instrs (Terminator.Jump (stop_label term)) ∷ []) p.next
-pieced s p i term Cut.Returns = ended_with p (piece p p.instrs (Terminator.Ret None) ∷ []) p.next
-pieced s p i term (Cut.Transfers j) =
+pieced s part p i term (Cut.Marks label) =
+    begun_with p (piece p (p.instrs ++ lowered s part p.next i) (Terminator.Jump label)) label (p.next + names_taken i)
+pieced s part p i term Cut.Suspends = ended_with p (piece p p.instrs (Terminator.Jump (stop_label term)) ∷ []) p.next
+pieced s part p i term Cut.Returns = ended_with p (piece p p.instrs (Terminator.Ret None) ∷ []) p.next
+pieced s part p i term (Cut.Transfers j) =
     ended_with p
-    (piece p p.instrs (Terminator.Jump (pass_label s j)) ∷ pass_block (pass_label s j) (lowered s p.next i) ∷ [])
+    (piece p p.instrs (Terminator.Jump (pass_label s j)) ∷ pass_block (pass_label s j) (lowered s part p.next i) ∷ [])
     (p.next + names_taken i)
 
 abbrev pub is_begin : Instr → Bool
@@ -73,7 +73,7 @@ abbrev pub stopped : Piecing → Piecing
 stopped p = ended_with p (piece p p.instrs Terminator.Unreachable ∷ []) p.next
 
 abbrev pub next_piecing : Shape → Part → Terminator → Piecing → Instr → List Instr → Piecing
-next_piecing s part term p i after = if begins_again part i then stopped p else pieced s p i term (cut_at s part i after)
+next_piecing s part term p i after = if begins_again part i then stopped p else pieced s part p i term (cut_at s part i after)
 
 -- one instruction more, with those behind it
 abbrev pub with_instr : Shape → Part → Terminator → Piecing → Instr → List Instr → Piecing
@@ -107,8 +107,10 @@ all_pieces s p term = if p.ended then p.whole else p.whole ++ piece p p.instrs (
 abbrev pub going_on : Part → Option SuspendPoint → Option ℕ
 going_on part None = None
 going_on Part.Ramp (Some p) = None
+going_on Part.GivenRamp (Some p) = None
 going_on Part.Resume (Some p) = Some p.resume
 going_on Part.Destroy (Some p) = Some p.destroy
+going_on Part.Cleanup (Some p) = Some p.destroy
 
 abbrev pub if_same : ℕ → Option ℕ → ℕ → Option ℕ
 if_same label None back = None

@@ -3,6 +3,7 @@
 //! `split` is `split_module`.
 #![tactic(auto)]
 
+mod given;
 mod origin;
 mod origins;
 mod parts;

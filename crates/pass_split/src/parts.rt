@@ -2,9 +2,9 @@
 
 ghost use Rattle.std.specs.Prelude.{◌≡◌, ◌+◌, ◌-◌, IfOk, OnOk, ◌++◌, ◌∷◌, [], map, codes};
 ghost use Rattle.ir_base.specs.declared.name.Name.{Name as TheName};
-ghost use Rattle.ir_model.specs.Names.{numbered};
+ghost use Rattle.ir_model.specs.Names.{noalloc_of, numbered};
 ghost use Rattle.pass_split.specs.Pieces.{next_after, pieces_of, piecing_of, first_piecing, all_pieces};
-ghost use Rattle.pass_split.specs.Parts.{goes_on_at, is_entered, case_of, cases_from, entry_instrs, entry_term, entry_block, none_block, back_block, back_blocks, done_block, later_head, head_blocks, saved_name, back_name, pass_name, names_of_suspend, begun_mark, done_mark, entry_mark, none_mark, slot_mark, index_mark, frame_mark, label_names, suspend_names, instr_names, mark_names, names_of, origins_for, part_blocks, part_names, ramp_of, later_part, parts_of, plain_shape, plain_of};
+ghost use Rattle.pass_split.specs.Parts.{goes_on_at, is_entered, case_of, cases_from, entry_instrs, entry_term, entry_block, none_block, back_block, back_blocks, done_block, later_head, head_blocks, saved_name, back_name, pass_name, names_of_suspend, begun_mark, done_mark, entry_mark, none_mark, slot_mark, index_mark, given_mark, frame_mark, label_names, suspend_names, instr_names, mark_names, names_of, origins_for, part_blocks, part_names, ramp_part, ramp_of, given_params, given_ramp_of, later_part, given_parts, parts_of, plain_shape, plain_of};
 
 use crate::origin::Origin;
 use crate::origins::set_origins;
@@ -18,7 +18,7 @@ use ir_model::{
 };
 use pass_front::allocas_of;
 use pass_intrinsics::{
-    Part, Shape, SuspendPoint, address, goes_on, index_bytes, later, number_arg,
+    Part, Shape, SuspendPoint, address, goes_on, index_bytes, later, number_arg, part_name,
 };
 use std::alloc::{AllocError, Global};
 
@@ -27,7 +27,7 @@ fn goes_on_at(part: Part, point: &SuspendPoint) -> bool
 {
     match part {
         Part::Resume => !point.is_final,
-        Part::Ramp | Part::Destroy => true,
+        Part::Ramp | Part::GivenRamp | Part::Destroy | Part::Cleanup => true,
     }
 }
 
@@ -373,12 +373,20 @@ fn index_mark(alloc: Global) -> Result<Name, AllocError>
     mark_name(alloc, b"$c.index")
 }
 
+#[tactic(auto, unfolding(crate::specs::Parts::given_mark))]
+fn given_mark(alloc: Global) -> Result<Name, AllocError>
+    ensures { IfOk result (λ n. n ≡ given_mark) }
+{
+    mark_name(alloc, b"$c.given")
+}
+
 fn push_mark_names(alloc: Global, names: &mut Items<Name>) -> Result<(), AllocError>
     ensures { OnOk result (names.new ≡ names.old ++ mark_names) }
 {
     push_labels(alloc, names)?;
     names.push(slot_mark(alloc)?)?;
     names.push(index_mark(alloc)?)?;
+    names.push(given_mark(alloc)?)?;
     Ok(())
 }
 
@@ -467,18 +475,46 @@ fn body_of(
     Ok((blocks, names))
 }
 
-fn ramp_of(alloc: Global, shape: &Shape, function: &Function) -> Result<Function, AllocError>
-    ensures { IfOk result (λ f. f ≡ ramp_of shape.now function.now) }
+/// A part that gives what the coroutine gives.
+fn ramp_part(
+    alloc: Global,
+    shape: &Shape,
+    part: Part,
+    name: Name,
+    params: Items<Param>,
+    function: &Function,
+) -> Result<Function, AllocError>
+    ensures { IfOk result (λ f. f ≡ ramp_part shape.now part name params function.now) }
 {
-    let (blocks, names) = body_of(alloc, shape, Part::Ramp, function)?;
+    let (blocks, names) = body_of(alloc, shape, part, function)?;
     Ok(Function {
-        name: function.name.copied(alloc)?,
+        name,
         result: Data::copied(&function.result, alloc)?,
-        params: function.params.copied(alloc)?,
+        params,
         coroutine: false,
         blocks,
         names,
     })
+}
+
+fn ramp_of(alloc: Global, shape: &Shape, function: &Function) -> Result<Function, AllocError>
+    ensures { IfOk result (λ f. f ≡ ramp_of shape.now function.now) }
+{
+    let name = function.name.copied(alloc)?;
+    let params = function.params.copied(alloc)?;
+    ramp_part(alloc, shape, Part::Ramp, name, params, function)
+}
+
+fn given_ramp_of(alloc: Global, shape: &Shape, function: &Function) -> Result<Function, AllocError>
+    ensures { IfOk result (λ f. f ≡ given_ramp_of shape.now function.now) }
+{
+    let name = part_name(alloc, &function.name, b".noalloc")?;
+    let mut params = function.params.copied(alloc)?;
+    params.push(Param {
+        ty: IrType::pointer(),
+        name: shape.given_name()?,
+    })?;
+    ramp_part(alloc, shape, Part::GivenRamp, name, params, function)
 }
 
 fn later_part(
@@ -506,14 +542,32 @@ fn later_part(
     })
 }
 
-/// Adds the parts of a coroutine.
-pub fn push_parts(
+/// Adds the parts of instances whose frames are given.
+fn push_given_parts(
     alloc: Global,
     all: &mut Items<Function>,
     shape: &Shape,
     function: &Function,
 ) -> Result<(), AllocError>
-    ensures { OnOk result (all.new ≡ all.old ++ parts_of shape.now function.now) }
+    ensures { OnOk result (all.new ≡ all.old ++ given_parts shape.now function.now) }
+{
+    let cleanup = later_part(alloc, shape, Part::Cleanup, &shape.cleanup_name, function)?;
+    let cleanup = pruned(alloc, cleanup)?;
+    let ramp = pruned(alloc, given_ramp_of(alloc, shape, function)?)?;
+    all.push(cleanup)?;
+    all.push(ramp)?;
+    Ok(())
+}
+
+/// Adds the parts of a coroutine, those of instances whose frames are given where there are such.
+pub fn push_parts(
+    alloc: Global,
+    all: &mut Items<Function>,
+    shape: &Shape,
+    given: bool,
+    function: &Function,
+) -> Result<(), AllocError>
+    ensures { OnOk result (all.new ≡ all.old ++ parts_of shape.now given function.now) }
 {
     let ramp = pruned(alloc, ramp_of(alloc, shape, function)?)?;
     let resume = later_part(alloc, shape, Part::Resume, &shape.resume_name, function)?;
@@ -523,6 +577,9 @@ pub fn push_parts(
     all.push(ramp)?;
     all.push(resume)?;
     all.push(destroy)?;
+    if given {
+        push_given_parts(alloc, all, shape, function)?;
+    }
     Ok(())
 }
 
@@ -542,6 +599,7 @@ fn plain_shape(alloc: Global, function: &Function) -> Result<Shape, AllocError>
         base,
         resume_name: Name::Text(Text::from_bytes(alloc, &[])?),
         destroy_name: Name::Text(Text::from_bytes(alloc, &[])?),
+        cleanup_name: Name::Text(Text::from_bytes(alloc, &[])?),
     })
 }
 

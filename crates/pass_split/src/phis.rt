@@ -15,9 +15,9 @@ pub fn going_on(part: Part, point: &SuspendPoint) -> Option<ValueId>
     ensures { result ≡ going_on part (Some point.now) }
 {
     match part {
-        Part::Ramp => None,
+        Part::Ramp | Part::GivenRamp => None,
         Part::Resume => Some(point.resume),
-        Part::Destroy => Some(point.destroy),
+        Part::Destroy | Part::Cleanup => Some(point.destroy),
     }
 }
 

@@ -27,11 +27,12 @@ fn stop_label(term: &Terminator) -> ValueId
 fn staying(
     alloc: Global,
     shape: &Shape,
+    part: Part,
     piecing: Piecing,
     instr: &Instr,
     term: &Terminator,
 ) -> Result<Piecing, AllocError>
-    ensures { IfOk result (λ p. p ≡ pieced shape.now piecing instr.now term.now cuts.Stays) }
+    ensures { IfOk result (λ p. p ≡ pieced shape.now part piecing instr.now term.now cuts.Stays) }
 {
     let Piecing {
         whole,
@@ -41,7 +42,7 @@ fn staying(
         ended,
         next,
     } = piecing;
-    push_lowered(alloc, &mut instrs, shape, next, instr)?;
+    push_lowered(alloc, &mut instrs, shape, part, next, instr)?;
     Ok(Piecing {
         whole,
         label,
@@ -56,12 +57,13 @@ fn staying(
 fn marking(
     alloc: Global,
     shape: &Shape,
+    part: Part,
     piecing: Piecing,
     instr: &Instr,
     term: &Terminator,
     mark: ValueId,
 ) -> Result<Piecing, AllocError>
-    ensures { IfOk result (λ p. p ≡ pieced shape.now piecing instr.now term.now (cuts.Marks mark)) }
+    ensures { IfOk result (λ p. p ≡ pieced shape.now part piecing instr.now term.now (cuts.Marks mark)) }
 {
     let Piecing {
         mut whole,
@@ -71,7 +73,7 @@ fn marking(
         ended,
         next,
     } = piecing;
-    push_lowered(alloc, &mut instrs, shape, next, instr)?;
+    push_lowered(alloc, &mut instrs, shape, part, next, instr)?;
     whole.push(Block {
         label,
         phis,
@@ -120,17 +122,18 @@ fn ending(alloc: Global, piecing: Piecing, term: Terminator) -> Result<Piecing, 
 fn transferring(
     alloc: Global,
     shape: &Shape,
+    part: Part,
     piecing: Piecing,
     instr: &Instr,
     term: &Terminator,
     suspend: SuspendId,
 ) -> Result<Piecing, AllocError>
-    ensures { IfOk result (λ p. p ≡ pieced shape.now piecing instr.now term.now (cuts.Transfers suspend)) }
+    ensures { IfOk result (λ p. p ≡ pieced shape.now part piecing instr.now term.now (cuts.Transfers suspend)) }
 {
     let pass = shape.pass_label(suspend)?;
     let next = piecing.next;
     let mut instrs = Items::new(alloc);
-    push_lowered(alloc, &mut instrs, shape, next, instr)?;
+    push_lowered(alloc, &mut instrs, shape, part, next, instr)?;
     let next = later(next, names_taken(instr))?;
     let mut ended = ending(alloc, piecing, Terminator::Jump(pass))?;
     ended.whole.push(Block {
@@ -146,19 +149,20 @@ fn transferring(
 fn pieced(
     alloc: Global,
     shape: &Shape,
+    part: Part,
     piecing: Piecing,
     instr: &Instr,
     term: &Terminator,
     cut: Cut,
 ) -> Result<Piecing, AllocError>
-    ensures { IfOk result (λ p. p ≡ pieced shape.now piecing instr.now term.now cut) }
+    ensures { IfOk result (λ p. p ≡ pieced shape.now part piecing instr.now term.now cut) }
 {
     match cut {
-        Cut::Stays => staying(alloc, shape, piecing, instr, term),
-        Cut::Marks(label) => marking(alloc, shape, piecing, instr, term, label),
+        Cut::Stays => staying(alloc, shape, part, piecing, instr, term),
+        Cut::Marks(label) => marking(alloc, shape, part, piecing, instr, term, label),
         Cut::Suspends => ending(alloc, piecing, Terminator::Jump(stop_label(term))),
         Cut::Returns => ending(alloc, piecing, Terminator::Ret(None)),
-        Cut::Transfers(suspend) => transferring(alloc, shape, piecing, instr, term, suspend),
+        Cut::Transfers(suspend) => transferring(alloc, shape, part, piecing, instr, term, suspend),
     }
 }
 
@@ -203,7 +207,7 @@ fn next_piecing(
         return ending(alloc, piecing, Terminator::Unreachable);
     }
     let cut = cut_at(shape, part, instr, after)?;
-    pieced(alloc, shape, piecing, instr, term, cut)
+    pieced(alloc, shape, part, piecing, instr, term, cut)
 }
 
 fn with_instr(

@@ -1,6 +1,6 @@
 pub mod LayoutPlaces
 pub mod GivenRamps
-pub mod Chains
+pub mod AllPass
 pub mod Wanting
 pub mod Endings
 pub mod Acting

@@ -3,15 +3,17 @@ use Rattle.std.specs.Prelude.{ℕ, zero, suc, Bool, true, false, not, List, [], 
 use Rattle.run_memory.specs.Memory.{Rights, disown, meets, same_kind}
 use Rattle.run_memory.specs.declared.block.Kind.{Kind}
 use Rattle.run_memory.specs.declared.block.MemoryBlock.{MemoryBlock}
+use Rattle.run_memory.specs.Pointers.{moved, offset_of}
+use Rattle.run_memory.specs.declared.pointer.Offset.{Offset}
 use Rattle.run_memory.specs.declared.pointer.Pointer.{Pointer}
 use Rattle.run_memory.specs.declared.pointer.Value.{Value}
 use Rattle.ir_base.specs.declared.cause.Cause.{Cause}
 use Rattle.ir_base.specs.declared.name.Name.{Name}
 use Rattle.ir_base.specs.declared.outcome.Outcome.{Outcome}
 use Rattle.ir_base.specs.declared.outcome.Word.{Word}
-use Rattle.run_source.specs.Source.{Continues, act, begin, begin_at, called, coro, end_of, enter_block, finish, first_state, push, release, resumed, suspend}
+use Rattle.run_source.specs.Source.{Continues, act, begin, begin_at, begun, called, coro, end_of, enter_block, finish, first_state, is_live_at, push, release, resumed, suspend}
 use Rattle.run_source_tables.specs.Given.{is_true}
-use Rattle.run_source.specs.State.{address_in, began_at, frame_address_of, function_of, gives, instance_at, is_finished, last_where, or_undefined, own_frame, own_instance, settled, with_memory, with_slots, with_status, work_of}
+use Rattle.run_source.specs.State.{began_at, frame_address_of, function_of, gives, instance_at, is_finished, last_where, or_undefined, own_frame, own_instance, settled, with_memory, with_slots, with_status, work_of}
 use Rattle.run_source_tables.specs.Given.{Given}
 use Rattle.run_source.specs.declared.state.Instance.{Instance}
 use Rattle.run_source.specs.declared.state.Mode.{Mode}
@@ -57,12 +59,13 @@ layout_of layouts f = unwrap_or (find (λ l. l.coroutine == f) layouts) (no_layo
 
 -- ---- the bytes of a frame, alignment in it, and comparing pointers into it
 
--- the promise, the values and the slots of a frame may be touched, the index and the header may not
+-- the promise, the values and the slots of a frame may be touched; the index, the header and where callees' frames lie may not
 abbrev pub is_open_kind : FieldKind → Bool
 is_open_kind FieldKind.Promise = true
 is_open_kind FieldKind.Value = true
 is_open_kind FieldKind.Slot = true
 is_open_kind FieldKind.Index = false
+is_open_kind FieldKind.Frame = false
 
 abbrev pub field_opens : ℕ → PlacedField → Bool
 field_opens k x = is_open_kind x.kind && nat_le x.offset k && nat_lt k (x.offset + x.size)
@@ -161,11 +164,15 @@ promise_offset g x = option_map (λ y. y.offset) (find (λ y. is_promise_kind y.
 abbrev pub is_over : Instance → Bool
 is_over x = is_finished x.status || x.freed
 
+-- so many bytes behind an instance's frame address
+abbrev pub address_behind : Instance → ℕ → Value
+address_behind x distance = Value.Ptr (Pointer.At x.block (moved (offset_of x.start) distance))
+
 abbrev pub framed_promise_of_frame : FramedGiven → State → Value → Result Value Cause
 framed_promise_of_frame g s p =
     and_then (found Cause.Frame (instance_at s.instances p)) (λ (i, x).
     and_then (found Cause.Promise (promise_offset g x)) (λ offset.
-    ok_if (not (is_over x)) Cause.Dead (address_in x.block (x.start + offset))))
+    ok_if (not (is_over x)) Cause.Dead (address_behind x offset)))
 
 -- the promise of the instance stands at an offset of a block
 abbrev pub is_promise_at : FramedGiven → ℕ → ℕ → Instance → Bool
@@ -208,10 +215,36 @@ allocates _ = true
 abbrev pub has_size : List MemoryBlock → ℕ → ℕ → Bool
 has_size memory b size = option_map_or (λ x. x.size == size) (slice_get memory b) false
 
--- such a ramp's begin takes the last argument: offset 0 of a live stack block of the frame's size, which the instance then owns
+-- in a live stack block of just the frame's size, at its start, which the instance then owns
+abbrev pub begin_in_block : FramedGiven → State → ℕ → Offset → Result State Cause
+begin_in_block g s b o =
+    and_then (ok_if ((o.bits == 0) && has_size s.world.memory b (own_frame g.given s).size) Cause.Begin s) (λ s. begin_at g.given s (Value.Ptr (Pointer.At b o)) Kind.Stack)
+
+abbrev pub is_frame_kind : FieldKind → Bool
+is_frame_kind FieldKind.Frame = true
+is_frame_kind _ = false
+
+-- the field is for a callee's frame of just this size, and starts at an offset of the block in which its own frame starts at start
+abbrev pub is_room_at : ℕ → ℕ → ℕ → PlacedField → Bool
+is_room_at start offset size y = is_frame_kind y.kind && (start + y.offset == offset) && (y.size == size)
+
+-- the frame in which another one starts: that of the last instance that has the byte and didn't begin there
+abbrev pub frame_around : FramedGiven → List Instance → ℕ → ℕ → Option (ℕ × Instance)
+frame_around g instances b offset = last_where (λ x. covers g b offset x && not (began_at b offset x)) instances
+
+-- it is that of an instance that is neither Finished nor freed, and has such a field there
+abbrev pub has_room : FramedGiven → ℕ → ℕ → Option (ℕ × Instance) → Bool
+has_room g offset size None = false
+has_room g offset size (Some (i, x)) = not (is_over x) && list_any (is_room_at x.start offset size) (layout_of g.layouts x.coroutine).fields
+
+-- in a field of a frame in a live block: the instance owns no block of its own
+abbrev pub begin_in_frame : FramedGiven → State → ℕ → Offset → Result State Cause
+begin_in_frame g s b o = ok_if (is_live_at s.world.memory b) Cause.Begin (begun g.given s b o.bits)
+
+-- such a ramp's begin takes the last argument, the address of a field or of a block
 abbrev pub begin_given_at : FramedGiven → State → Value → Result State Cause
 begin_given_at g s (Value.Ptr (Pointer.At b o)) =
-    and_then (ok_if ((o.bits == 0) && has_size s.world.memory b (own_frame g.given s).size) Cause.Begin s) (λ s. begin_at g.given s (Value.Ptr (Pointer.At b o)) Kind.Stack)
+    if has_room g o.bits (own_frame g.given s).size (frame_around g s.instances b o.bits) then begin_in_frame g s b o else begin_in_block g s b o
 begin_given_at g s _ = Err Cause.Begin
 
 -- earlier instances that began at an address are Finished
@@ -231,16 +264,16 @@ framed_begin g s result mem mode = begin g.given s result mem
 abbrev pub is_stack_block : List MemoryBlock → ℕ → Bool
 is_stack_block memory b = option_map_or (λ x. same_kind x.kind Kind.Stack) (slice_get memory b) false
 
--- the frame of an instance was given to its ramp: it lies in a stack block
+-- the frame of an instance was given to its ramp: it lies in a stack block, or behind the start of another frame
 abbrev pub is_given : List MemoryBlock → Instance → Bool
-is_given memory x = is_stack_block memory x.block
+is_given memory x = is_stack_block memory x.block || not (x.start == 0)
 
 -- coro.free of such an instance gives null
 abbrev pub freed_address : List MemoryBlock → Option (ℕ × Instance) → Value
 freed_address memory None = Value.Poison
 freed_address memory (Some (i, x)) = if is_given memory x then Value.Ptr Pointer.Null else frame_address_of x
 
--- an instance owns a stack block until it is Finished
+-- an instance owns a stack block at whose start it began until it is Finished
 abbrev pub disown_given : State → Option (ℕ × Instance) → State
 disown_given s None = s
 disown_given s (Some (i, x)) = if is_stack_block s.world.memory x.block && (x.start == 0) then with_memory s (disown s.world.memory x.block) else s

@@ -7,7 +7,7 @@ use Rattle.run_source.specs.SourceEffects.{given_of, source_effect}
 use Rattle.run_source.specs.State.{began_at, function_of, is_finished, work_of}
 use Rattle.run_source.specs.declared.state.Instance.{Instance}
 use Rattle.run_source.specs.declared.state.State.{State}
-use Rattle.run_framed.specs.Framed.{FramedGiven, covers, field_opens, framed_coro, given_ramp, is_promise_at, layout_of}
+use Rattle.run_framed.specs.Framed.{FramedGiven, covers, field_opens, framed_coro, given_ramp, is_promise_at, is_room_at, layout_of}
 use Rattle.run_framed.specs.declared.judging.Wanted.{Wanted}
 use Rattle.run_framed.specs.declared.program.FramedProgram.{FramedProgram}
 use Rattle.ir_model.specs.declared.instr.Instr.{Instr}
@@ -34,10 +34,15 @@ abbrev pub fits : FramedGiven → ℕ → Wanted → Instance → Bool
 fits g b (Wanted.Byte k) x = covers g b k x
 fits g b (Wanted.Promise o) x = is_promise_at g b o x
 fits g b (Wanted.Unfinished o) x = began_at b o x && not (is_finished x.status)
+fits g b (Wanted.Around o) x = covers g b o x && not (began_at b o x)
 
 -- a byte of a block is in an open field of the frame of an instance
 abbrev pub opens : FramedGiven → ℕ → Instance → Bool
 opens g k x = list_any (field_opens (k - x.start)) (layout_of g.layouts x.coroutine).fields
+
+-- the layout of an instance has a field for a callee's frame of just a size at an offset of its block
+abbrev pub gives_room : FramedGiven → ℕ → ℕ → Instance → Bool
+gives_room g offset size x = list_any (is_room_at x.start offset size) (layout_of g.layouts x.coroutine).fields
 
 -- what an alloca of the topmost activation does, by rights of access
 abbrev pub alloca_at : FramedGiven → Rights → State → ℕ → IrType → ℕ → Action

@@ -8,17 +8,18 @@ ghost use Rattle.run_memory.specs.declared.pointer.Value.{Value as TheValue};
 ghost use Rattle.run_source.specs.Source.{end_of, release};
 ghost use Rattle.run_source.specs.SourceEffects.{IsStop};
 ghost use Rattle.run_source.specs.State.{gives, own_instance};
-ghost use Rattle.run_framed.specs.Framed.{allocates as allocates_in, are_finished_at as are_finished_at_value, begin_given as begin_given_with, framed_begin, framed_finish, freed_address as freed_address_of, has_size as has_size_in, is_stack_block as is_stack_block_in};
+ghost use Rattle.run_framed.specs.Framed.{allocates as allocates_in, are_finished_at as are_finished_at_value, begin_given as begin_given_with, begin_in_block as begin_in_block_with, begin_in_frame as begin_in_frame_with, frame_around, framed_begin, framed_finish, freed_address as freed_address_of, has_room as has_room_for, has_size as has_size_in, is_given as is_given_in, is_stack_block as is_stack_block_in};
+ghost use Rattle.run_step.specs.Results.{and_then};
 ghost use Rattle.run_framed.specs.FramedEffects.{framed_of};
 
-use crate::judging::{Wanted, last_wanted};
+use crate::judging::{Wanted, has_room_in, last_wanted};
 use crate::program::FramedProgram;
 use ir_base::{Cause, ValueId};
 use run_memory::{BlockId, Kind, Memory, Offset, Pointer, Value};
 use run_source::ending::{after_end, finish, release_with};
-use run_source::frames::{begin, begin_in};
-use run_source::promise::frame_address_of;
-use run_source::{Mode, State, Stop};
+use run_source::frames::{begin, begin_in, give, start_at};
+use run_source::promise::{frame_address_of, is_live_at, is_over};
+use run_source::{Instance, Mode, State, Stop};
 use std::alloc::Global;
 
 /// Whether an activation's `llvm.coro.alloc` is true.
@@ -82,6 +83,83 @@ fn are_finished_at(program: &FramedProgram, state: &State, frame: Value) -> bool
     }
 }
 
+/// `llvm.coro.begin` at the start of a live stack block of just the frame's size.
+fn begin_in_block(
+    alloc: Global,
+    program: &FramedProgram,
+    state: &mut State,
+    next: usize,
+    result_name: Option<ValueId>,
+    block: BlockId,
+    offset: Offset,
+) -> Result<(), Stop>
+    requires { next ≡ state.old.top.at + 1 }
+    ensures done { OnOk result (and_then (begin_in_block_with (framed_of program.now) state.old block offset) (λ s. Ok (gives s result_name (TheValue.Ptr (ThePointer.At block offset)))) ≡ Ok state.new) }
+    ensures refused { IfErr result (λ stop. IsStop stop (and_then (begin_in_block_with (framed_of program.now) state.old block offset) (λ s. Ok (gives s result_name (TheValue.Ptr (ThePointer.At block offset)))))) }
+    ensures kept { OnErr result (state.new ≡ state.old) }
+{
+    let size = program.given.frame(state.top.func).size;
+    if offset.bits != 0 || !has_size(&state.world.memory, block, size) {
+        return Err(Stop::Undefined(Cause::Begin));
+    }
+    let frame = Value::Ptr(Pointer::At(block, offset));
+    begin_in(
+        alloc,
+        &program.given,
+        state,
+        next,
+        result_name,
+        frame,
+        Kind::Stack,
+    )
+}
+
+/// Whether an offset of a block is that of a field for a callee's frame of just a size.
+fn has_room(program: &FramedProgram, state: &State, block: BlockId, offset: u64, size: u64) -> bool
+    ensures { result ≡ has_room_for (framed_of program.now) offset size (frame_around (framed_of program.now) state.now.instances block offset) }
+{
+    let wanted = Wanted::Around(offset);
+    let Some(i) = last_wanted(program, &state.instances, block, wanted) else {
+        return false;
+    };
+    match state.instances.get(i) {
+        None => false,
+        Some(instance) => !is_over(instance) && has_room_in(program, offset, size, instance),
+    }
+}
+
+/// `llvm.coro.begin` at a field of a frame in a live block.
+fn begin_in_frame(
+    alloc: Global,
+    program: &FramedProgram,
+    state: &mut State,
+    next: usize,
+    result_name: Option<ValueId>,
+    block: BlockId,
+    offset: Offset,
+) -> Result<(), Stop>
+    requires { next ≡ state.old.top.at + 1 }
+    ensures done { OnOk result (and_then (begin_in_frame_with (framed_of program.now) state.old block offset) (λ s. Ok (gives s result_name (TheValue.Ptr (ThePointer.At block offset)))) ≡ Ok state.new) }
+    ensures refused { IfErr result (λ stop. IsStop stop (and_then (begin_in_frame_with (framed_of program.now) state.old block offset) (λ s. Ok (gives s result_name (TheValue.Ptr (ThePointer.At block offset)))))) }
+    ensures kept { OnErr result (state.new ≡ state.old) }
+{
+    if !is_live_at(&state.world.memory, block) {
+        return Err(Stop::Undefined(Cause::Begin));
+    }
+    match start_at(alloc, &program.given, state, block, offset.bits) {
+        Ok(()) => {
+            give(
+                state,
+                next,
+                result_name,
+                Value::Ptr(Pointer::At(block, offset)),
+            );
+            Ok(())
+        }
+        Err(_) => Err(Stop::NoMemory),
+    }
+}
+
 /// `llvm.coro.begin` of a ramp that is given the address of its frame.
 fn begin_given(
     alloc: Global,
@@ -106,18 +184,11 @@ fn begin_given(
         return Err(Stop::Undefined(Cause::Begin));
     };
     let size = program.given.frame(state.top.func).size;
-    if offset.bits != 0 || !has_size(&state.world.memory, block, size) {
-        return Err(Stop::Undefined(Cause::Begin));
+    if has_room(program, state, block, offset.bits, size) {
+        begin_in_frame(alloc, program, state, next, result_name, block, offset)
+    } else {
+        begin_in_block(alloc, program, state, next, result_name, block, offset)
     }
-    begin_in(
-        alloc,
-        &program.given,
-        state,
-        next,
-        result_name,
-        frame,
-        Kind::Stack,
-    )
 }
 
 /// `llvm.coro.begin`.
@@ -140,6 +211,13 @@ pub fn begin_framed(
     }
 }
 
+/// Whether the frame of an instance was given to its ramp.
+fn is_given(memory: &Memory, instance: &Instance) -> bool
+    ensures { result ≡ is_given_in memory.now instance.now }
+{
+    is_stack_block(memory, instance.block) || instance.start != 0
+}
+
 /// What `llvm.coro.free` gives: null for a frame that was given.
 fn freed_address(state: &State) -> Value
     ensures { result ≡ freed_address_of state.now.world.memory (own_instance state.now) }
@@ -150,7 +228,7 @@ fn freed_address(state: &State) -> Value
     match state.instances.get(i) {
         None => Value::Poison,
         Some(instance) => {
-            if is_stack_block(&state.world.memory, instance.block) {
+            if is_given(&state.world.memory, instance) {
                 Value::Ptr(Pointer::Null)
             } else {
                 frame_address_of(instance)

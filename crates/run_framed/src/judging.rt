@@ -3,8 +3,8 @@
 ghost use Rattle.std.specs.Prelude.{◌≡◌, option_map, find};
 ghost use Rattle.std.specs.List.{list_any};
 ghost use Rattle.run_source.specs.State.{is_finished, last_from};
-ghost use Rattle.run_framed.specs.Framed.{field_opens, is_open_kind, is_promise_kind, promise_offset as promise_offset_of, covers as covers_byte, is_promise_at as is_promise_of};
-ghost use Rattle.run_framed.specs.FramedEffects.{framed_of, fits as fits_sought, opens as opens_byte};
+ghost use Rattle.run_framed.specs.Framed.{field_opens, is_frame_kind, is_open_kind, is_room_at, is_promise_kind, promise_offset as promise_offset_of, covers as covers_byte, is_promise_at as is_promise_of};
+ghost use Rattle.run_framed.specs.FramedEffects.{framed_of, fits as fits_sought, gives_room, opens as opens_byte};
 
 use crate::program::FramedProgram;
 use frame_layout::{FieldKind, PlacedField};
@@ -20,6 +20,8 @@ pub enum Wanted {
     Promise(u64),
     /// That it began at an offset of the block and is not Finished.
     Unfinished(u64),
+    /// That its frame has an offset of the block, at which it did not begin.
+    Around(u64),
 }
 
 fn is_promise_kind(kind: FieldKind) -> bool
@@ -93,6 +95,10 @@ fn fits(program: &FramedProgram, block: BlockId, wanted: Wanted, instance: &Inst
         Wanted::Unfinished(offset) => {
             instance.block == block && instance.start == offset && !is_finished(&instance.status)
         }
+        Wanted::Around(offset) => {
+            covers(program, block, u128::from(offset), instance)
+                && !(instance.block == block && instance.start == offset)
+        }
     }
 }
 
@@ -122,8 +128,8 @@ fn is_open_kind(kind: FieldKind) -> bool
     ensures { result ≡ is_open_kind kind }
 {
     match kind {
-        FieldKind::Index => false,
-        _ => true,
+        FieldKind::Promise | FieldKind::Value | FieldKind::Slot => true,
+        FieldKind::Index | FieldKind::Frame => false,
     }
 }
 
@@ -158,5 +164,45 @@ pub fn is_open_in(program: &FramedProgram, byte: u128, instance: &Instance) -> b
             layout.fields.as_slice(),
             byte.saturating_sub(u128::from(instance.start)),
         ),
+    }
+}
+
+fn is_frame_kind(kind: FieldKind) -> bool
+    ensures { result ≡ is_frame_kind kind }
+{
+    match kind {
+        FieldKind::Frame => true,
+        _ => false,
+    }
+}
+
+/// Whether a field is for a callee's frame of just a size, and starts at an offset of the block in which its own frame
+/// starts at `start`.
+fn is_room_at(start: u64, offset: u64, size: u64, field: &PlacedField) -> bool
+    ensures { result ≡ is_room_at start offset size field.now }
+{
+    is_frame_kind(field.kind)
+        && u128::from(start) + u128::from(field.offset) == u128::from(offset)
+        && field.size == size
+}
+
+fn any_room_at(start: u64, offset: u64, size: u64, fields: &[PlacedField]) -> bool
+    ensures { result ≡ list_any (λ y. is_room_at start offset size y) fields.now }
+{
+    for field in fields {
+        if is_room_at(start, offset, size, field) {
+            return true;
+        }
+    }
+    false
+}
+
+/// Whether an instance has a field for a callee's frame of just a size at an offset of its block.
+pub fn has_room_in(program: &FramedProgram, offset: u64, size: u64, instance: &Instance) -> bool
+    ensures { result ≡ gives_room (framed_of program.now) offset size instance.now }
+{
+    match program.layout(instance.coroutine) {
+        None => false,
+        Some(layout) => any_room_at(instance.start, offset, size, layout.fields.as_slice()),
     }
 }

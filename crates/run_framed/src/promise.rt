@@ -31,13 +31,10 @@ fn promise_of_frame(program: &FramedProgram, state: &State, p: Value) -> Result<
     if is_over(instance) {
         return Err(Cause::Dead);
     }
-    state.instances.start_at_zero();
-    Ok(Value::Ptr(Pointer::At(
-        instance.block,
-        Offset {
-            bits: instance.start + offset,
-        },
-    )))
+    let start = Offset {
+        bits: instance.start,
+    };
+    Ok(Value::Ptr(Pointer::At(instance.block, start.moved(offset))))
 }
 
 fn frame_of_promise_at(

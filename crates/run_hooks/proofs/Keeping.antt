@@ -17,19 +17,20 @@ use Rattle.pass_kept_proof.specs.SuspendRules.{AllKeepSuspendRules}
 use Rattle.pass_renewed_proof.specs.Renewed.{RenewedGiven, framed_of, is_idle, is_renewed, renew_after, renewed_from}
 use Rattle.pass_renewed_proof.specs.Renewed.{renewed_in, renewed_slot, with_life, with_renewed}
 use Rattle.run_framed.specs.Framed.{FramedGiven, alloca_from, alloca_in, alloca_of, are_finished_at, begin_given}
-use Rattle.run_framed.specs.Framed.{begin_given_at, disown_given, enter_after, enter_given, framed_begin}
-use Rattle.run_framed.specs.Framed.{framed_slot, given_call, given_ramp, has_size, is_stack_block, last_value}
+use Rattle.run_framed.specs.Framed.{begin_given_at, begin_in_block, begin_in_frame, disown_given, enter_after}
+use Rattle.run_framed.specs.Framed.{enter_given, frame_around, framed_begin, framed_slot, given_call, given_ramp}
+use Rattle.run_framed.specs.Framed.{has_room, has_size, is_stack_block, last_value}
 use Rattle.run_framed.specs.Framed.{reentry_values}
 use Rattle.run_hooks.specs.Meanings.{framed_hooks, hooks_by, kept_hooks, renewed_hooks, source_hooks}
 use Rattle.run_hooks.specs.Reached.{AllHaveSwitches, AreReachedActivations, IsAnInstr, IsReachedState, KeepsReached}
 use Rattle.run_hooks.specs.Reached.{Stays}
-use Rattle.run_hooks.proofs.Reached.{IsBehind, begin_at_stays, begin_stays, change_top, continue_stays, finish_stays}
+use Rattle.run_hooks.proofs.Reached.{IsBehind, begin_at_stays, begin_stays, begun_stays, change_top, continue_stays, finish_stays}
 use Rattle.run_hooks.proofs.Reached.{memory_stays, new_slot_stays, slots_stay}
 use Rattle.run_memory.specs.Memory.{disown, start}
 use Rattle.run_memory.specs.declared.block.Kind.{Kind}
 use Rattle.run_memory.specs.declared.pointer.Pointer.{Pointer}
 use Rattle.run_memory.specs.declared.pointer.Value.{Value}
-use Rattle.run_source.specs.Source.{Continues, begin_at, called, continue, finish, push, resumed}
+use Rattle.run_source.specs.Source.{Continues, begin_at, begun, called, continue, finish, is_live_at, push, resumed}
 use Rattle.run_source.specs.State.{frame_address_of, function_of, gives, own_frame, own_instance, with_memory}
 use Rattle.run_source.specs.State.{with_slots, with_status}
 use Rattle.run_source.specs.declared.state.Instance.{Instance}
@@ -269,14 +270,26 @@ module _ (g : FramedGiven) (s : State) (h : IsReachedState g.given s) where
   given_stays : IsBehind g.given s h → (result : Option ℕ) (frame : Value)
       → Stays g.given (and_then (begin_given_at g s frame) (λ z. Ok (gives z result frame)))
   given_stays r result (Value.Ptr (Pointer.At b o)) =
-      on ((o.bits == 0) && has_size s.world.memory b (own_frame g.given s).size)
+      on (has_room g o.bits (own_frame g.given s).size (frame_around g s.instances b o.bits))
     where
-      on : (c : Bool) → Stays g.given
+      in_block : (c : Bool) → Stays g.given
           (and_then (and_then (ok_if c Cause.Begin s)
           (λ z. begin_at g.given z (Value.Ptr (Pointer.At b o)) Kind.Stack))
           (λ z. Ok (gives z result (Value.Ptr (Pointer.At b o)))))
-      on true = begin_at_stays g.given s h r result (Value.Ptr (Pointer.At b o)) Kind.Stack
-      on false = tt
+      in_block true = begin_at_stays g.given s h r result (Value.Ptr (Pointer.At b o)) Kind.Stack
+      in_block false = tt
+
+      in_frame : (c : Bool) → Stays g.given
+          (and_then (ok_if c Cause.Begin (begun g.given s b o.bits))
+          (λ z. Ok (gives z result (Value.Ptr (Pointer.At b o)))))
+      in_frame true = begun_stays g.given s h r s.world.memory b o.bits result (Value.Ptr (Pointer.At b o))
+      in_frame false = tt
+
+      on : (c : Bool) → Stays g.given
+          (and_then (if c then begin_in_frame g s b o else begin_in_block g s b o)
+          (λ z. Ok (gives z result (Value.Ptr (Pointer.At b o)))))
+      on true = in_frame (is_live_at s.world.memory b)
+      on false = in_block ((o.bits == 0) && has_size s.world.memory b (own_frame g.given s).size)
   given_stays r result _ = tt
 
   begin_given_stays : IsBehind g.given s h → (result : Option ℕ) (frame : Value)

@@ -10,9 +10,10 @@ use Rattle.ir_paths.specs.declared.point.Point.{Point}
 use Rattle.pass_kept_proof.specs.Kept.{Keep, kept}
 use Rattle.pass_renewed_proof.specs.Renewed.{RenewedGiven, framed_of, renew_after, renewed_from, renewed_slot}
 use Rattle.pass_renewed_proof.specs.Renewed.{with_life}
-use Rattle.run_framed.specs.Framed.{FramedGiven, alloca_from, are_finished_at, begin_given_at}
-use Rattle.run_framed.specs.Framed.{disown_given, enter_after, enter_given, framed_begin, framed_slot, given_call}
-use Rattle.run_framed.specs.Framed.{given_ramp, has_size, is_stack_block, last_value, reentry_values}
+use Rattle.run_framed.specs.Framed.{FramedGiven, alloca_from, are_finished_at, begin_given_at, begin_in_block}
+use Rattle.run_framed.specs.Framed.{begin_in_frame, disown_given, enter_after, enter_given, frame_around}
+use Rattle.run_framed.specs.Framed.{framed_begin, framed_slot, given_call, given_ramp, has_room, has_size}
+use Rattle.run_framed.specs.Framed.{is_stack_block, last_value, reentry_values}
 use Rattle.run_hooks.proofs.Left.{own_changed, pushed_length, pushed_more, same_more, same_state, set_awake}
 use Rattle.run_hooks.proofs.Left.{set_length, set_more, sleeps_at, then_alike, then_more}
 use Rattle.run_hooks.proofs.Reached.{late_instances, own_is}
@@ -23,7 +24,7 @@ use Rattle.run_memory.specs.declared.block.Kind.{Kind}
 use Rattle.run_memory.specs.declared.block.MemoryBlock.{MemoryBlock}
 use Rattle.run_memory.specs.declared.pointer.Pointer.{Pointer}
 use Rattle.run_memory.specs.declared.pointer.Value.{Value}
-use Rattle.run_source.specs.Source.{Continues, begin, begin_at, begun, called, continue, finish, is_among, is_over}
+use Rattle.run_source.specs.Source.{Continues, begin, begin_at, begun, called, continue, finish, is_among, is_live_at, is_over}
 use Rattle.run_source.specs.Source.{kill_late, new_instance, new_slot, push, resumed, with_new_slots}
 use Rattle.run_source.specs.State.{frame_address_of, function_of, gives, own_facts, own_frame, own_instance}
 use Rattle.run_source.specs.State.{with_memory, with_slots, with_status}
@@ -80,6 +81,21 @@ begins : (s : State) (r : Result State Cause) (t : State) → Begins s r → r �
 begins s (Err cause) t b e = absurd (cc)
 begins s (Ok u) t b e = let k : u ≡ t = cc in subst (HasBegun s) k b
 
+begun_begins : (g : Given) (s : State) (memory : List MemoryBlock) (b from : ℕ) (result : Option ℕ) (mem : Value)
+    → HasBegun s (gives (begun g (with_memory s memory) b from) result mem)
+begun_begins g s memory b from result mem =
+    let x : Instance = new_instance s.top.func b from in
+    let y : Instance = record x { slots = _ } in
+    let more = set_more (s.instances ++ x ∷ []) (length s.instances) y (λ e. refl) in
+    record {
+      instance = refl;
+      below = refl;
+      more =
+          let k = set_length (s.instances ++ x ∷ []) (length s.instances) y in
+          let l = pushed_length s.instances x in omega arith;
+      instances = then_more (pushed_more s.instances x refl) more;
+    }
+
 begin_at_begins : (g : Given) (s : State) (result : Option ℕ) (mem : Value) (kind : Kind)
     → Begins s (and_then (begin_at g s mem kind) (λ z. Ok (gives z result mem)))
 begin_at_begins g s result mem kind = by (own s.world.memory mem (own_frame g s).size kind)
@@ -88,18 +104,7 @@ begin_at_begins g s result mem kind = by (own s.world.memory mem (own_frame g s)
         → Begins s (and_then (and_then (found Cause.Begin o) (λ b. Ok (begun g (with_memory s memory) b 0)))
         (λ z. Ok (gives z result mem)))
     last memory None = tt
-    last memory (Some b) =
-        let x : Instance = new_instance s.top.func b 0 in
-        let y : Instance = record x { slots = _ } in
-        let more = set_more (s.instances ++ x ∷ []) (length s.instances) y (λ e. refl) in
-        record {
-          instance = refl;
-          below = refl;
-          more =
-              let k = set_length (s.instances ++ x ∷ []) (length s.instances) y in
-              let l = pushed_length s.instances x in omega arith;
-          instances = then_more (pushed_more s.instances x refl) more;
-        }
+    last memory (Some b) = begun_begins g s memory b 0 result mem
 
     by : (o : Result (List MemoryBlock) Cause)
         → Begins s (and_then (and_then o
@@ -226,14 +231,26 @@ framed_slot_alike g s slot _ = own_slot_alike s slot
 given_begins : (g : FramedGiven) (s : State) (result : Option ℕ) (frame : Value)
     → Begins s (and_then (begin_given_at g s frame) (λ z. Ok (gives z result frame)))
 given_begins g s result (Value.Ptr (Pointer.At b o)) =
-    on ((o.bits == 0) && has_size s.world.memory b (own_frame g.given s).size)
+    on (has_room g o.bits (own_frame g.given s).size (frame_around g s.instances b o.bits))
   where
-    on : (c : Bool) → Begins s
+    in_block : (c : Bool) → Begins s
         (and_then (and_then (ok_if c Cause.Begin s)
         (λ z. begin_at g.given z (Value.Ptr (Pointer.At b o)) Kind.Stack))
         (λ z. Ok (gives z result (Value.Ptr (Pointer.At b o)))))
-    on true = begin_at_begins g.given s result (Value.Ptr (Pointer.At b o)) Kind.Stack
-    on false = tt
+    in_block true = begin_at_begins g.given s result (Value.Ptr (Pointer.At b o)) Kind.Stack
+    in_block false = tt
+
+    in_frame : (c : Bool) → Begins s
+        (and_then (ok_if c Cause.Begin (begun g.given s b o.bits))
+        (λ z. Ok (gives z result (Value.Ptr (Pointer.At b o)))))
+    in_frame true = begun_begins g.given s s.world.memory b o.bits result (Value.Ptr (Pointer.At b o))
+    in_frame false = tt
+
+    on : (c : Bool) → Begins s
+        (and_then (if c then begin_in_frame g s b o else begin_in_block g s b o)
+        (λ z. Ok (gives z result (Value.Ptr (Pointer.At b o)))))
+    on true = in_frame (is_live_at s.world.memory b)
+    on false = in_block ((o.bits == 0) && has_size s.world.memory b (own_frame g.given s).size)
 given_begins g s result _ = tt
 
 framed_begins : (g : FramedGiven) (s : State) (result : Option ℕ) (memory : Value) (mode : Mode)

@@ -19,6 +19,7 @@ use Rattle.run_framed.specs.Framed.{FramedGiven, alloca_from, alloca_in, alloca_
 use Rattle.run_framed.specs.Framed.{disown_given}
 use Rattle.run_framed.specs.Framed.{enter_after, enter_given, framed_begin, framed_finish, framed_slot, given_call}
 use Rattle.run_framed.specs.Framed.{given_ramp}
+use Rattle.run_framed.specs.Framed.{begin_in_block, begin_in_frame, frame_around, has_room}
 use Rattle.run_framed.specs.Framed.{has_size, is_stack_block, last_value, reentry_values}
 use Rattle.run_hooks.proofs.Placing.{change_placed, called_placed, gives_placed, placed_get, placed_push, placed_set}
 use Rattle.run_hooks.proofs.Reached.{get_last, own_is}
@@ -33,6 +34,7 @@ use Rattle.run_memory.specs.declared.block.Kind.{Kind}
 use Rattle.run_memory.specs.declared.block.MemoryBlock.{MemoryBlock}
 use Rattle.run_memory.specs.declared.pointer.Pointer.{Pointer}
 use Rattle.run_memory.specs.declared.pointer.Value.{Value}
+use Rattle.run_source.specs.Source.{is_live_at}
 use Rattle.run_source.specs.Source.{Continues, begin, begin_at, begun, called, change_own, continue, finish, is_among}
 use Rattle.run_source.specs.Source.{is_over, kill_late, new_instance, new_slot, push, resumed, with_new_slots}
 use Rattle.run_source.specs.State.{frame_address_of, function_of, gives, own_facts, own_frame, own_instance}
@@ -586,14 +588,24 @@ framed_slot_placed g s slot (Mode.GivenRamp frame) e b = slotted_placed (framed_
 
 given_placed : (g : FramedGiven) (s : State) → IsNextPlaced (framed_hooks g) s → (result : Option ℕ) (frame : Value)
     → StaysPlaced (framed_hooks g) (and_then (begin_given_at g s frame) (λ z. Ok (gives z result frame)))
-given_placed g s n result (Value.Ptr (Pointer.At b o)) = on ((o.bits == 0) && has_size s.world.memory b
-    (own_frame g.given s).size)
+given_placed g s n result (Value.Ptr (Pointer.At b o)) =
+    on (has_room g o.bits (own_frame g.given s).size (frame_around g s.instances b o.bits))
   where
-    on : (c : Bool) → StaysPlaced (framed_hooks g) (and_then (and_then (ok_if c Cause.Begin s)
+    in_block : (c : Bool) → StaysPlaced (framed_hooks g) (and_then (and_then (ok_if c Cause.Begin s)
         (λ z. begin_at g.given z (Value.Ptr (Pointer.At b o)) Kind.Stack))
         (λ z. Ok (gives z result (Value.Ptr (Pointer.At b o)))))
-    on true = begin_at_placed (framed_hooks g) g.given s n result (Value.Ptr (Pointer.At b o)) Kind.Stack
-    on false = tt
+    in_block true = begin_at_placed (framed_hooks g) g.given s n result (Value.Ptr (Pointer.At b o)) Kind.Stack
+    in_block false = tt
+
+    in_frame : (c : Bool) → StaysPlaced (framed_hooks g) (and_then (ok_if c Cause.Begin (begun g.given s b o.bits))
+        (λ z. Ok (gives z result (Value.Ptr (Pointer.At b o)))))
+    in_frame true = begun_placed (framed_hooks g) g.given s n s.world.memory b o.bits result (Value.Ptr (Pointer.At b o))
+    in_frame false = tt
+
+    on : (c : Bool) → StaysPlaced (framed_hooks g) (and_then (if c then begin_in_frame g s b o else begin_in_block g s b o)
+        (λ z. Ok (gives z result (Value.Ptr (Pointer.At b o)))))
+    on true = in_frame (is_live_at s.world.memory b)
+    on false = in_block ((o.bits == 0) && has_size s.world.memory b (own_frame g.given s).size)
 given_placed g s n result _ = tt
 
 framed_begin_placed : (g : FramedGiven) (s : State) → IsNextPlaced (framed_hooks g) s

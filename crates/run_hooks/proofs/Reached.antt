@@ -424,14 +424,14 @@ module _ (g : Given) (s : State) (h : IsReachedState g s) where
           (enter_block g (with_left (with_status s ix.0 ix.1 Status.Running) false) label) k refl refl
           (record { own = k.top.own; reached = to; entered = k.top.entered })))
 
-  pub begun_stays : IsBehind → (memory : List MemoryBlock) (b : ℕ) (result : Option ℕ) (mem : Value)
-      → IsReachedState g (gives (begun g (with_memory s memory) b 0) result mem)
-  begun_stays r memory b result mem =
+  pub begun_stays : IsBehind → (memory : List MemoryBlock) (b from : ℕ) (result : Option ℕ) (mem : Value)
+      → IsReachedState g (gives (begun g (with_memory s memory) b from) result mem)
+  begun_stays r memory b from result mem =
       gives_stay g (with_new_slots (own_facts g s).ramp_slots (Some (length s.instances, x)) s1 s.top.slots) result
       mem (new_slots_stay g s1 (own_facts g s).ramp_slots (Some (length s.instances, x)) s.top.slots sound there) r
     where
       x : Instance
-      x = new_instance s.top.func b 0
+      x = new_instance s.top.func b from
 
       s1 : State
       s1 = record s {
@@ -522,7 +522,7 @@ module _ (g : Given) (s : State) (h : IsReachedState g s) where
           → Stays g (and_then (and_then (found Cause.Begin o) (λ b. Ok (begun g (with_memory s memory) b 0)))
           (λ z. Ok (gives z result mem)))
       last memory None = tt
-      last memory (Some b) = begun_stays r memory b result mem
+      last memory (Some b) = begun_stays r memory b 0 result mem
 
       by : (o : Result (List MemoryBlock) Cause)
           → Stays g (and_then (and_then o

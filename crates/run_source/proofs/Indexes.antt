@@ -29,19 +29,14 @@ get-changed (x ∷ xs) (suc j) zero y z e = inr e
 get-changed (x ∷ xs) (suc j) (suc i) y z e =
     elim (get-changed xs j i y z e) [ inl h ↦ inl (ap suc (h.0), h.1) | inr h ↦ inr h ]
 
-start-set : (xs : List Instance) (j i : ℕ) (x y z : Instance) → ((k : ℕ) (w : Instance) → slice_get xs k ≡ Some w → w.start ≡ 0) → slice_get xs j ≡ Some x → y.start ≡ x.start → slice_get (slice_set xs j y) i ≡ Some z → z.start ≡ 0
-start-set xs j i x y z h e s g =
-    elim (get-changed xs j i y z g) [ inl p ↦ ap (λ (w : Instance). w.start) (sym (p.1)) ∙ s ∙ h j x e | inr p ↦ h i z p ]
-
 earlier-set : (xs : List Instance) (earlier : List (Option ℕ)) (j i : ℕ) (x y z : Instance) → ((k : ℕ) (w : Instance) → slice_get xs k ≡ Some w → number_at earlier k ≡ last_of w.block k xs) → slice_get xs j ≡ Some x → y.block ≡ x.block → slice_get (slice_set xs j y) i ≡ Some z → number_at earlier i ≡ last_of z.block i xs
 earlier-set xs earlier j i x y z h e b g =
     elim (get-changed xs j i y z g) [ inl p ↦ ap (number_at earlier) (p.0) ∙ h j x e ∙ ap (λ n. last_of n j xs) (sym b) ∙ ap (λ (w : Instance). last_of w.block j xs) (p.1) ∙ ap (λ n. last_of z.block n xs) (sym (p.0)) | inr p ↦ h i z p ]
 
-pub set-indexed : (xs : List Instance) (last earlier : List (Option ℕ)) (j : ℕ) (x y : Instance) → AreIndexed xs last earlier → slice_get xs j ≡ Some x → y.block ≡ x.block → y.start ≡ x.start → AreIndexed (slice_set xs j y) last earlier
-set-indexed xs last earlier j x y h e b s =
+pub set-indexed : (xs : List Instance) (last earlier : List (Option ℕ)) (j : ℕ) (x y : Instance) → AreIndexed xs last earlier → slice_get xs j ≡ Some x → y.block ≡ x.block → AreIndexed (slice_set xs j y) last earlier
+set-indexed xs last earlier j x y h e b =
     let alike : (block n : ℕ) → last_of block n (slice_set xs j y) ≡ last_of block n xs = λ block n. last-set (is_in block) 0 n xs j x y e (ap (λ m. m == block) b) in
     record {
-      start = λ i z g. start-set xs j i x y z h.start e s g;
       last = λ block. h.last block ∙ sym (alike block (length xs)) ∙ ap (λ n. last_of block n (slice_set xs j y)) (sym (length-set xs j y));
       count = h.count ∙ sym (length-set xs j y);
       earlier = λ i z g. earlier-set xs earlier j i x y z h.earlier e b g ∙ sym (alike z.block i);
@@ -108,55 +103,13 @@ earlier-pushed xs earlier x z i o count h is (inr p) =
     let le : i ≤ length xs = omega arith in
     number-left earlier i o lt' ∙ h i z p ∙ sym (last-before xs x z.block i le)
 
-pub begun-indexed : (xs : List Instance) (last table earlier : List (Option ℕ)) (x : Instance) (o : Option ℕ) → AreIndexed xs last earlier → x.start ≡ 0 → ((i : ℕ) → number_at table i ≡ number_at last i) → x.block < length table → o ≡ number_at table x.block → AreIndexed (xs ++ x ∷ []) (set table x.block (Some (length xs))) (earlier ++ o ∷ [])
-begun-indexed xs last table earlier x o h s same lt is =
+pub begun-indexed : (xs : List Instance) (last table earlier : List (Option ℕ)) (x : Instance) (o : Option ℕ) → AreIndexed xs last earlier → ((i : ℕ) → number_at table i ≡ number_at last i) → x.block < length table → o ≡ number_at table x.block → AreIndexed (xs ++ x ∷ []) (set table x.block (Some (length xs))) (earlier ++ o ∷ [])
+begun-indexed xs last table earlier x o h same lt is =
     record {
-      start = λ i z g. elim (get-pushed xs x z i g) [ inl p ↦ ap (λ (w : Instance). w.start) (sym (p.1)) ∙ s | inr p ↦ h.start i z p ];
       last = λ block. entry-by table x.block block (length xs) (last_of block (length xs) xs) (x.block == block) refl lt (same block ∙ h.last block) ∙ sym (last-pushed xs x block);
       count = length_push earlier o ∙ ap (λ n. n + 1) h.count ∙ sym (length_push xs x);
       earlier = λ i z g. earlier-pushed xs earlier x z i o h.count h.earlier (is ∙ same x.block ∙ h.last x.block) (get-pushed xs x z i g);
     }
-
--- ---- the last instance, by the table
-
-last-tests : (t u : Instance → Bool) (k : ℕ) (xs : List Instance) → ((i : ℕ) (x : Instance) → slice_get xs i ≡ Some x → t x ≡ u x) → last_from t k xs ≡ last_from u k xs
-last-tests t u k [] h = refl
-last-tests t u k (x ∷ xs) h =
-    ap (λ o. or_else o (if t x then Some k else None)) (last-tests t u (suc k) xs (λ i y g. h (suc i) y g))
-    ∙ ap (λ b. or_else (last_from u (suc k) xs) (if b then Some k else None)) (h 0 x refl)
-
-last-none : (k : ℕ) (xs : List Instance) → last_from (λ x. false) k xs ≡ None
-last-none k [] = refl
-last-none k (x ∷ xs) = ap (λ o. or_else o None) (last-none (suc k) xs)
-
-and-true : (a b : Bool) → b ≡ true → (a && b) ≡ a
-and-true true b e = e
-and-true false b e = refl
-
-and-false : (a b : Bool) → b ≡ false → (a && b) ≡ false
-and-false true b e = e
-and-false false b e = refl
-
-start-is : (s offset : ℕ) → s ≡ 0 → offset ≡ 0 → (s == offset) ≡ true
-start-is s offset e f = ap (λ n. n == offset) e ∙ ap (λ n. 0 == n) f
-
-not-equal : (s offset : ℕ) (v : Bool) → (s == offset) ≡ v → s ≡ 0 → offset ≢ 0 → v ≡ false
-not-equal s offset true e z ne = absurd (ne (sym (eqb-true s offset e) ∙ z))
-not-equal s offset false e z ne = refl
-
-start-is-not : (s offset : ℕ) → s ≡ 0 → offset ≢ 0 → (s == offset) ≡ false
-start-is-not s offset z ne = not-equal s offset (s == offset) refl z ne
-
-pub last-there : (xs : List Instance) (last earlier : List (Option ℕ)) (block offset : ℕ) → AreIndexed xs last earlier → offset ≡ 0 → number_at last block ≡ last_from (began_at block offset) 0 xs
-last-there xs last earlier block offset h e =
-    let le : length xs ≤ length xs = omega arith in
-    h.last block
-    ∙ ap (last_from (is_in block) 0) (take_all (length xs) xs le)
-    ∙ sym (last-tests (began_at block offset) (is_in block) 0 xs (λ i x g. and-true (x.block == block) (x.start == offset) (start-is x.start offset (h.start i x g) e)))
-
-pub last-absent : (xs : List Instance) (last earlier : List (Option ℕ)) (block offset : ℕ) → AreIndexed xs last earlier → offset ≢ 0 → None ≡ last_from (began_at block offset) 0 xs
-last-absent xs last earlier block offset h ne =
-    sym (last-tests (began_at block offset) (λ x. false) 0 xs (λ i x g. and-false (x.block == block) (x.start == offset) (start-is-not x.start offset (h.start i x g) ne)) ∙ last-none 0 xs)
 
 -- ---- what is found passes the test
 
@@ -212,8 +165,8 @@ same-more first table next o none e h i = ap (λ (l : List (Option ℕ)). number
 
 -- ---- the same, as the code has it
 
-pub put-indexed : (xs : List Instance) (last earlier : List (Option ℕ)) (j : ℕ) (w y : Instance) → AreIndexed xs last earlier → j < length xs → w ≡ get_or xs j w → y.block ≡ w.block → y.start ≡ w.start → AreIndexed (slice_set xs j y) last earlier
-put-indexed xs last earlier j w y h lt e b s = set-indexed xs last earlier j w y h (slice_get-get_or xs j w lt ∙ ap Some (sym e)) b s
+pub put-indexed : (xs : List Instance) (last earlier : List (Option ℕ)) (j : ℕ) (w y : Instance) → AreIndexed xs last earlier → j < length xs → w ≡ get_or xs j w → y.block ≡ w.block → AreIndexed (slice_set xs j y) last earlier
+put-indexed xs last earlier j w y h lt e b = set-indexed xs last earlier j w y h (slice_get-get_or xs j w lt ∙ ap Some (sym e)) b
 
 pub put-is : (xs old : List Instance) (j : ℕ) (w x : Instance) (f : Instance → Instance) → xs ≡ old → j < length xs → w ≡ get_or xs j w → slice_get old j ≡ Some x → slice_set xs j (f w) ≡ slice_set old j (f x)
 put-is xs old j w x f is lt e g =
@@ -229,9 +182,9 @@ not-there xs old j x is le g =
     let lt : j < length xs = slice_get_within xs j x (ap (λ (l : List Instance). slice_get l j) is ∙ g) in
     omega arith
 
-pub begun-put : (xs new : List Instance) (last table earlier before : List (Option ℕ)) (x : Instance) (o : Option ℕ) (n : ℕ) → AreIndexed xs last earlier → new ≡ xs ++ x ∷ [] → before ≡ earlier ++ o ∷ [] → n ≡ length xs → x.start ≡ 0 → ((i : ℕ) → number_at table i ≡ number_at last i) → x.block < length table → o ≡ number_at table x.block → AreIndexed new (slice_set table x.block (Some n)) before
-begun-put xs new last table earlier before x o n h ns bs ls s same lt is =
+pub begun-put : (xs new : List Instance) (last table earlier before : List (Option ℕ)) (x : Instance) (o : Option ℕ) (n : ℕ) → AreIndexed xs last earlier → new ≡ xs ++ x ∷ [] → before ≡ earlier ++ o ∷ [] → n ≡ length xs → ((i : ℕ) → number_at table i ≡ number_at last i) → x.block < length table → o ≡ number_at table x.block → AreIndexed new (slice_set table x.block (Some n)) before
+begun-put xs new last table earlier before x o n h ns bs ls same lt is =
     subst (λ (l : List Instance). AreIndexed l (slice_set table x.block (Some n)) before) (sym ns)
     (subst (λ (l : List (Option ℕ)). AreIndexed (xs ++ x ∷ []) (slice_set table x.block (Some n)) l) (sym bs)
     (subst (λ m. AreIndexed (xs ++ x ∷ []) (slice_set table x.block (Some m)) (earlier ++ o ∷ [])) (sym ls)
-    (begun-indexed xs last table earlier x o h s same lt is)))
+    (begun-indexed xs last table earlier x o h same lt is)))

@@ -4,6 +4,7 @@ pub mod Iterating
 pub mod Settings
 pub mod Walks
 pub mod Indexes
+pub mod Chains
 pub mod Freeing
 pub mod Beginning
 pub mod Slots

@@ -22,10 +22,9 @@ last_of block n instances = last_from (is_in block) 0 (take n instances)
 abbrev pub number_at : List (Option ℕ) → ℕ → Option ℕ
 number_at table i = unwrap_or (slice_get table i) None
 
--- all frames start at 0 of their blocks; a table has for each block the last instance that began in it, and another for each
--- instance the one that began before it in the same block
+-- a table has for each block the last instance that began in it, and another for each instance the one that began before it in
+-- the same block
 pub record AreIndexed (instances : List Instance) (by_block by_number : List (Option ℕ)) : Type 0 where
-  pub start : (i : ℕ) (x : Instance) → slice_get instances i ≡ Some x → x.start ≡ 0
   pub last : (block : ℕ) → number_at by_block block ≡ last_of block (length instances) instances
   pub count : length by_number ≡ length instances
   pub earlier : (i : ℕ) (x : Instance) → slice_get instances i ≡ Some x → number_at by_number i ≡ last_of x.block i instances

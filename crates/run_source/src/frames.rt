@@ -70,6 +70,26 @@ fn share(
     Ok(Shares { kept, own })
 }
 
+/// The topmost activation's instance begins at an offset of a block.
+pub fn start_at(
+    alloc: Global,
+    given: &SourceProgram,
+    state: &mut State,
+    block: BlockId,
+    start: u64,
+) -> Result<(), AllocError>
+    ensures done { OnOk result (state.new ≡ begun (given_of given.now) state.old block start) }
+    ensures kept { OnErr result (state.new ≡ state.old) }
+{
+    let func = state.top.func;
+    let shares = share(alloc, given, func, state.top.slots.as_slice())?;
+    let i = state.instances.len();
+    state.instances.begin(func, block, start, shares.kept)?;
+    state.top.slots = shares.own;
+    state.top.instance = Some(i);
+    Ok(())
+}
+
 /// `llvm.coro.begin` at a block.
 fn begin_at(
     alloc: Global,
@@ -85,13 +105,8 @@ fn begin_at(
     ensures done { OnOk result (state.new ≡ gives (begun (given_of given.now) (with_memory state.old (with_block state.old.world.memory block (owned_to size))) block 0) result_name mem) }
     ensures kept { OnErr result (state.new ≡ state.old) }
 {
-    let func = state.top.func;
-    let shares = share(alloc, given, func, state.top.slots.as_slice())?;
-    let i = state.instances.len();
-    state.instances.begin(func, block, shares.kept)?;
+    start_at(alloc, given, state, block, 0)?;
     state.world.memory.own_at(block, size);
-    state.top.slots = shares.own;
-    state.top.instance = Some(i);
     give(state, next, result_name, mem);
     Ok(())
 }

@@ -39,6 +39,13 @@ fn reach(table: &mut Vec<Option<usize>>, at: usize) -> Result<(), AllocError>
     Ok(())
 }
 
+/// Whether an instance began at an offset of a block.
+fn began_at(instance: &Instance, block: BlockId, offset: u64) -> bool
+    ensures { result ≡ began_at block offset instance.now }
+{
+    instance.block == block && instance.start == offset
+}
+
 fn set_status(instance: &mut Instance, status: Status)
     ensures { instance.new ≡ record instance.old { status = status } }
 {
@@ -68,7 +75,6 @@ fn wake(alloc: Global, instance: &mut Instance) -> Items<Option<Value>>
 fn drop_slot(instance: &mut Instance)
     ensures dropped { (slot : TheSlot) (slots : List TheSlot) → instance.old.slots ≡ slot ∷ slots → instance.new ≡ record instance.old { slots = slots } }
     ensures block { instance.new.block ≡ instance.old.block }
-    ensures start { instance.new.start ≡ instance.old.start }
 {
     let _ = instance.slots.pop();
 }
@@ -106,23 +112,22 @@ impl Instances {
         self.list.as_slice()
     }
 
-    /// The number of the last instance that began at an offset of a block.
+    /// The number of the last instance that began at an offset of a block: only those that began in it are looked at.
     pub fn last_at(&self, block: BlockId, offset: u64) -> Option<usize>
         ensures number { result ≡ last_from (began_at block offset) 0 self.now }
         ensures there { IfSome result (λ i. (x : TheInstance) → slice_get self.now i ≡ Some x → began_at block offset x ≡ true) }
     {
-        if offset == 0 {
-            number_in(self.last.as_slice(), block)
-        } else {
-            None
+        let mut candidate = self.last_in(block);
+        while let Some(i) = candidate {
+            let Some(instance) = self.get(i) else {
+                return None;
+            };
+            if began_at(instance, block, offset) {
+                return Some(i);
+            }
+            candidate = self.before(i);
         }
-    }
-
-    /// All frames start at 0 of their blocks.
-    pub fn start_at_zero(&self)
-        ensures { (i : ℕ) (x : TheInstance) → slice_get self.now i ≡ Some x → x.start ≡ 0 }
-    {
-        let _ = &self.list;
+        None
     }
 
     /// The number of the last instance that began in a block.
@@ -149,14 +154,15 @@ impl Instances {
         }
     }
 
-    /// A coroutine begins in a block, with slots. Where there is no memory for it, nothing changes.
+    /// A coroutine begins at an offset of a block, with slots. Where there is no memory for it, nothing changes.
     pub fn begin(
         &mut self,
         coroutine: FuncId,
         block: BlockId,
+        start: u64,
         slots: Stack<Slot>,
     ) -> Result<(), AllocError>
-        ensures ok { OnOk result (self.new ≡ self.old ++ (record (new_instance coroutine block 0) { slots = slots }) ∷ []) }
+        ensures ok { OnOk result (self.new ≡ self.old ++ (record (new_instance coroutine block start) { slots = slots }) ∷ []) }
         ensures err { OnErr result (self.new ≡ self.old) }
     {
         let i = self.list.len();
@@ -165,7 +171,7 @@ impl Instances {
         let begun = self.list.push(Instance {
             coroutine,
             block,
-            start: 0,
+            start,
             slots,
             status: Status::Running,
             last_save: None,

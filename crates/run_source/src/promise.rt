@@ -90,7 +90,8 @@ fn has_promise_at(given: &SourceProgram, block: BlockId, instance: &Instance) ->
     }
 }
 
-fn is_live_at(memory: &Memory, block: BlockId) -> bool
+/// Whether a block is live.
+pub fn is_live_at(memory: &Memory, block: BlockId) -> bool
     ensures { result ≡ is_live_block memory.now block }
 {
     match memory.get(block) {

@@ -17,7 +17,7 @@ ghost use Rattle.rule_laws.specs.rules.woven_rules.Weaving.{Weaving};
 ghost use Rattle.frame_layout.specs.declared.layout.Layout.{Layout};
 ghost use Rattle.pass_intrinsics.specs.Shapes.{shape_of};
 ghost use Rattle.pass_intrinsics.specs.declared.shape.Part.{Part};
-ghost use Rattle.rule_laws.specs.frames.same_names.Parts.{HasPartsOf};
+ghost use Rattle.rule_laws.specs.frames.same_names.Parts.{HasPart, HasPartsOf};
 ghost use Rattle.pass_proofs.specs.split.rules.Parted.{IsPartOf};
 ghost use Rattle.pass_split.specs.Parts.{plain_of, plain_shape};
 
@@ -31,9 +31,9 @@ pub fn woven_functions_name_no_intrinsic()
     ensures { (w : Weaving) (m : Module) (k : ℕ) (f g : Function) → IsWoven w m f g → KeepsFunctionRules m k f → AreIncomingOnce f → NamesNoIntrinsic k f → NamesNoIntrinsic k g }
 {}
 
-/// Nor do the parts of a coroutine.
+/// Nor do the parts of a coroutine, where the function is there that a given ramp stores.
 pub fn parts_name_no_intrinsic()
-    ensures { (m n : Module) (k l : ℕ) (layout : Layout) (part : Part) (f g : Function) → HasPartsOf m n → slice_get m.functions k ≡ Some f → f.coroutine ≡ true → IsPartOf (shape_of f layout) f part g → NamesNoIntrinsic k f → NamesNoIntrinsic l g }
+    ensures { (m n : Module) (k l : ℕ) (layout : Layout) (part : Part) (f g : Function) → HasPartsOf m n → slice_get m.functions k ≡ Some f → f.coroutine ≡ true → IsPartOf (shape_of f layout) f part g → (part ≡ Part.GivenRamp → HasPart n (shape_of f layout).cleanup_name) → NamesNoIntrinsic k f → NamesNoIntrinsic l g }
 {}
 
 /// Nor does a function that is no coroutine, once it is turned.

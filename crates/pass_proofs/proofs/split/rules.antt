@@ -1,5 +1,6 @@
 pub mod Carried
 pub mod Cutting
+pub mod GivenParams
 pub mod Instructions
 pub mod Known
 pub mod Laws

@@ -23,11 +23,12 @@ ghost use Rattle.pass_intrinsics.specs.declared.shape.Part.{Part};
 ghost use Rattle.pass_proofs.specs.exits.states.Exits.{exits_split};
 ghost use Rattle.pass_proofs.specs.split.code.Entry.{HasEntry};
 ghost use Rattle.pass_proofs.specs.split.code.Numbers.{IsNumbered};
-ghost use Rattle.pass_proofs.specs.split.code.Positions.{layout_at, moved, number_of};
+ghost use Rattle.pass_proofs.specs.split.code.Positions.{is_given, layout_at, moved, number_of};
 ghost use Rattle.pass_proofs.specs.split.first_exits.Parted.{parted_function, parted_functions, parted_module};
 ghost use Rattle.pass_proofs.specs.split.rules.Parted.{IsPartOf};
 ghost use Rattle.pass_proofs.specs.split.rules.Splittable.{IsSplittable};
 ghost use Rattle.pass_intrinsics.specs.declared.shape.SuspendPoint.{SuspendPoint as Suspend};
+ghost use Rattle.pass_split.specs.Given.{has_given_call};
 ghost use Rattle.pass_split.specs.Parts.{cases_from, is_entered};
 ghost use Rattle.rule_names.specs.declared.stage.Stage.{Stage};
 ghost use Rattle.rule_shape.specs.Suspends.{is_suspend};
@@ -42,12 +43,12 @@ pub fn parts_that_go_on_begin_with_the_index()
 
 /// What a function becomes stands in the split module from its new position on, one behind another.
 pub fn functions_move()
-    ensures { (ls : List Layout) (fs : List Function) (k i : ℕ) (f g : Function) → slice_get fs k ≡ Some f → slice_get (parted_function (layout_at ls fs k) f) i ≡ Some g → slice_get (parted_functions ls fs) (moved ls fs k + i) ≡ Some g }
+    ensures { (ls : List Layout) (m : Module) (fs : List Function) (k i : ℕ) (f g : Function) → slice_get fs k ≡ Some f → slice_get (parted_function (layout_at ls fs k) (has_given_call m f) f) i ≡ Some g → slice_get (parted_functions ls m fs) (moved ls m fs k + i) ≡ Some g }
 {}
 
-/// Of a coroutine these are its parts in their order.
+/// Of a coroutine these are its parts in their order, and where some call gives it its frame the two for that.
 pub fn parts_stand_in_order()
-    ensures { (l : Layout) (f g : Function) (part : Part) → f.coroutine ≡ true → IsPartOf (shape_of f l) f part g → slice_get (parted_function l f) (number_of part) ≡ Some g }
+    ensures { (l : Layout) (given : Bool) (f g : Function) (part : Part) → f.coroutine ≡ true → IsPartOf (shape_of f l) f part g → (is_given part ≡ true → given ≡ true) → slice_get (parted_function l given f) (number_of part) ≡ Some g }
 {}
 
 /// Each function of a split module is found by its name.
@@ -57,7 +58,7 @@ pub fn parts_are_found_by_their_names()
 
 /// So a name of a function becomes that of its first part.
 pub fn names_of_functions_move()
-    ensures { (ls : Layouts) (m : Module) → KeepsItemRules Stage.Source m → HaveShortNames m → (x : Name) (k : ℕ) → function_named (exits_split m) x ≡ Some k → function_named (parted_module ls (exits_split m)) x ≡ Some (moved ls.coroutines (exits_split m).functions k) }
+    ensures { (ls : Layouts) (m : Module) → KeepsItemRules Stage.Source m → HaveShortNames m → (x : Name) (k : ℕ) → function_named (exits_split m) x ≡ Some k → function_named (parted_module ls (exits_split m)) x ≡ Some (moved ls.coroutines (exits_split m) (exits_split m).functions k) }
 {}
 
 /// What is only declared, or is a global, is no function of a split module.

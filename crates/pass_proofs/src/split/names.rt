@@ -5,7 +5,7 @@ ghost use Rattle.pass_split.specs.Parts.{split_module};
 ghost use Rattle.frame_layout.specs.declared.layout.Layouts.{Layouts};
 ghost use Rattle.ir_model.specs.declared.module.Function.{Function};
 ghost use Rattle.ir_model.specs.declared.module.Module.{Module};
-ghost use Rattle.pass_proofs.specs.split.names.Sources.{ComesFrom};
+ghost use Rattle.pass_proofs.specs.split.names.Sources.{ComesFrom, HasGivenParts};
 ghost use Rattle.rule_names.specs.declared.stage.Stage.{Stage};
 ghost use Rattle.rule_laws.specs.rules.plain_rules.Items.{KeepsItemRules};
 ghost use Rattle.rule_laws.specs.frames.same_names.Parts.{HasPartsOf};
@@ -19,6 +19,11 @@ pub fn split_functions_come_from_functions()
 /// A split module has the functions of the module by their names and types, and the parts of each coroutine, where the names of the module are those of a source that breaks no rule.
 pub fn split_modules_have_the_parts()
     ensures { (ls : Layouts) (m : Module) → KeepsItemRules Stage.Source m → HaveShortNames m → HasPartsOf m (split_module ls m) }
+{}
+
+/// It has `f.cleanup` and `f.noalloc` too of each coroutine that some call gives its frame.
+pub fn split_modules_have_given_parts()
+    ensures { (ls : Layouts) (m : Module) → KeepsItemRules Stage.Source m → HaveShortNames m → HasGivenParts m (split_module ls m) }
 {}
 
 /// Its items break no rule of plain modules, where those of the module break none of sources.

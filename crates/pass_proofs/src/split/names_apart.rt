@@ -1,6 +1,6 @@
 //! Lemmas on names apart.
 
-ghost use Rattle.std.specs.Prelude.{◌≡◌, ℕ, Some, slice_get};
+ghost use Rattle.std.specs.Prelude.{◌≡◌, ℕ, Bool, Some, slice_get};
 ghost use Rattle.pass_split.specs.Parts.{split_function};
 ghost use Rattle.frame_layout.specs.declared.layout.Layout.{Layout};
 ghost use Rattle.ir_model.specs.declared.module.Function.{Function};
@@ -9,5 +9,5 @@ ghost use Rattle.rule_laws.specs.rules.names_apart.Words.{AreFew, IsSplitTable};
 
 /// The names of each function into which one is split are all different.
 pub fn split_names_are_apart()
-    ensures { (l : Layout) (f : Function) → IsSplitTable f → (k : ℕ) (p : Function) → slice_get (split_function l f) k ≡ Some p → AreFew p.names → AreApart p.names }
+    ensures { (l : Layout) (given : Bool) (f : Function) → IsSplitTable f → (k : ℕ) (p : Function) → slice_get (split_function l given f) k ≡ Some p → AreFew p.names → AreApart p.names }
 {}

@@ -18,7 +18,7 @@ ghost use Rattle.rule_laws.specs.rules.function_rules.Kept.{KeepsFunctionRules};
 ghost use Rattle.pass_intrinsics.specs.Shapes.{shape_of};
 ghost use Rattle.ir_model.specs.declared.module.Function.{Function};
 ghost use Rattle.ir_model.specs.declared.module.Module.{Module};
-ghost use Rattle.rule_laws.specs.frames.same_names.Parts.{HasPartsOf};
+ghost use Rattle.rule_laws.specs.frames.same_names.Parts.{HasPart, HasPartsOf};
 ghost use Rattle.rule_laws.specs.rules.replaced.Instructions.{KeepsRulesOfInstructions, KnowsItsLocals};
 ghost use Rattle.pass_proofs.specs.split.rules.Parted.{IsPartOf};
 ghost use Rattle.pass_split.specs.Parts.{plain_of, plain_shape};
@@ -38,9 +38,10 @@ pub fn blocks_are_cut_into_pieces()
     ensures { (s : Shape) (part : Part) (origins : List Origin) (n : ℕ) (bs : List Block) → ArePiecesOf s part origins n bs (pieces_of s part origins n bs) (next_after s part origins n bs) }
 {}
 
-/// The parts of a coroutine break none of the rules on types, calls, names of functions and globals, sizes and `musttail`.
+/// The parts of a coroutine break none of the rules on types, calls, names of functions and globals, sizes and `musttail`,
+/// where the function is there that the ramp that is given its frame stores.
 pub fn parts_keep_rules_of_instructions()
-    ensures { (m n : Module) (k l : ℕ) (layout : Layout) (part : Part) (f g : Function) → HasPartsOf m n → slice_get m.functions k ≡ Some f → f.coroutine ≡ true → KeepsFunctionRules m k f → IsPartOf (shape_of f layout) f part g → KeepsRulesOfInstructions n l g }
+    ensures { (m n : Module) (k l : ℕ) (layout : Layout) (part : Part) (f g : Function) → HasPartsOf m n → slice_get m.functions k ≡ Some f → f.coroutine ≡ true → KeepsFunctionRules m k f → IsPartOf (shape_of f layout) f part g → (part ≡ Part.GivenRamp → HasPart n (shape_of f layout).cleanup_name) → KeepsRulesOfInstructions n l g }
 {}
 
 /// Nor does a function that is no coroutine, once its resumes, destroys, tests and promises are turned.
@@ -48,9 +49,10 @@ pub fn plain_functions_keep_rules_of_instructions()
     ensures { (m n : Module) (k l : ℕ) (f : Function) → HasPartsOf m n → slice_get m.functions k ≡ Some f → f.coroutine ≡ false → KeepsFunctionRules m k f → KeepsRulesOfInstructions n l (plain_of (plain_shape f) f) }
 {}
 
-/// In the parts of a coroutine names are known (N2) and operands and results fit their types (Y1), where the locals that they name are their own, and the parts that go on return nothing.
+/// In the parts of a coroutine names are known (N2) and operands and results fit their types (Y1), where the locals that they
+/// name are their own, the parts that go on return nothing, and the function is there that a given ramp stores.
 pub fn parts_know_names_and_fit_types()
-    ensures { (m n : Module) (k l : ℕ) (layout : Layout) (part : Part) (begin : ℕ) (f g : Function) → HasPartsOf m n → slice_get m.functions k ≡ Some f → IsSplittable m k f begin → IsSmall (shape_of f layout) → IsPartOf (shape_of f layout) f part g → KnowsItsLocals l g → (goes_on part ≡ true → ReturnsNothing l g) → (first_unknown n l g ≡ None) × (first_wrong_value n l g ≡ None) }
+    ensures { (m n : Module) (k l : ℕ) (layout : Layout) (part : Part) (begin : ℕ) (f g : Function) → HasPartsOf m n → slice_get m.functions k ≡ Some f → IsSplittable m k f begin → IsSmall (shape_of f layout) → IsPartOf (shape_of f layout) f part g → (part ≡ Part.GivenRamp → HasPart n (shape_of f layout).cleanup_name) → KnowsItsLocals l g → (goes_on part ≡ true → ReturnsNothing l g) → (first_unknown n l g ≡ None) × (first_wrong_value n l g ≡ None) }
 {}
 
 /// So it is in what becomes of a function that is no coroutine.

@@ -1,5 +1,5 @@
 -- Ends, frees, deallocations and promises, where functions have blocks on some of their edges.
-use Rattle.std.proofs.Common.{◌≡◌, ℕ, ◌+◌, Bool, true, false, List, length, refl, sym, ap, ◌∙◌, subst}
+use Rattle.std.proofs.Common.{◌≡◌, ℕ, Bool, true, false, List, length, refl, sym, ap, ◌∙◌, subst}
 use Rattle.std.specs.Prelude.{ℤ, Some, None, Ok, Err, Option, Result, not, if◌then◌else◌, ◌&&◌, ◌==◌}
 use Rattle.run_memory.specs.Memory.{disown}
 use Rattle.run_memory.specs.declared.block.MemoryBlock.{MemoryBlock}
@@ -7,7 +7,7 @@ use Rattle.run_memory.specs.declared.pointer.Pointer.{Pointer}
 use Rattle.run_memory.specs.declared.pointer.Value.{Value}
 use Rattle.ir_base.specs.declared.cause.Cause.{Cause}
 use Rattle.run_source.specs.Source.{after_end, change_own, deallocate, end_of, if_let_go, let_go, may_be_freed, release, slots_of}
-use Rattle.run_source.specs.State.{address_in, frame_address_of, gives, instance_at, last_where, next, own_instance, with_instance, with_memory}
+use Rattle.run_source.specs.State.{frame_address_of, gives, instance_at, last_where, next, own_instance, with_instance, with_memory}
 use Rattle.run_source.specs.declared.state.Activation.{Activation}
 use Rattle.run_source.specs.declared.state.Instance.{Instance}
 use Rattle.run_source.specs.declared.state.Mode.{Mode}
@@ -16,7 +16,7 @@ use Rattle.run_source.specs.declared.state.Status.{Status}
 use Rattle.ir_laws.specs.facts.expanded.Tokens.{IsNamedResult}
 use Rattle.frame_layout.specs.declared.layout.Layout.{Layout}
 use Rattle.run_states.specs.branches.MovedState.{IsNamedBelow}
-use Rattle.run_framed.specs.Framed.{FramedGiven, disown_given, framed_finish, framed_frame_of_promise, framed_given, framed_promise, framed_promise_of_frame, freed_address, is_over, is_promise_at, is_stack_block, promise_offset}
+use Rattle.run_framed.specs.Framed.{FramedGiven, address_behind, disown_given, framed_finish, framed_frame_of_promise, framed_given, framed_promise, framed_promise_of_frame, freed_address, is_over, is_promise_at, is_stack_block, promise_offset}
 use Rattle.ir_model.specs.Names.{function_at}
 use Rattle.ir_model.specs.declared.module.Module.{Module}
 use Rattle.ir_model.specs.declared.operand.Operand.{Operand}
@@ -165,10 +165,10 @@ module _ (mv : Moving) (m : Module) (layouts : List Layout) (answers : List ℤ)
   abbrev k : FramedGiven
   k = framed_given (moved_module mv m) layouts answers
 
-  to_promise : (o : Option (ℕ × Instance)) → and_then (found Cause.Frame (with_number mv m o)) (λ (y : ℕ × Instance). and_then (found Cause.Promise (promise_offset k y.1)) (λ (offset : ℕ). ok_if (not (is_over y.1)) Cause.Dead (address_in y.1.block (y.1.start + offset)))) ≡ and_then (found Cause.Frame o) (λ (y : ℕ × Instance). and_then (found Cause.Promise (promise_offset g y.1)) (λ (offset : ℕ). ok_if (not (is_over y.1)) Cause.Dead (address_in y.1.block (y.1.start + offset))))
+  to_promise : (o : Option (ℕ × Instance)) → and_then (found Cause.Frame (with_number mv m o)) (λ (y : ℕ × Instance). and_then (found Cause.Promise (promise_offset k y.1)) (λ (offset : ℕ). ok_if (not (is_over y.1)) Cause.Dead (address_behind y.1 offset))) ≡ and_then (found Cause.Frame o) (λ (y : ℕ × Instance). and_then (found Cause.Promise (promise_offset g y.1)) (λ (offset : ℕ). ok_if (not (is_over y.1)) Cause.Dead (address_behind y.1 offset)))
   to_promise None = refl
   to_promise (Some (i, x)) =
-      ap (λ (b : Bool). and_then (found Cause.Promise (promise_offset g x)) (λ (offset : ℕ). ok_if (not b) Cause.Dead (address_in x.block (x.start + offset)))) (over_moved mv m x)
+      ap (λ (b : Bool). and_then (found Cause.Promise (promise_offset g x)) (λ (offset : ℕ). ok_if (not b) Cause.Dead (address_behind x offset))) (over_moved mv m x)
 
   to_frame : (o : Option (ℕ × Instance)) → and_then (found Cause.Promise (with_number mv m o)) (λ (y : ℕ × Instance). ok_if (not (is_over y.1)) Cause.Promise (frame_address_of y.1)) ≡ and_then (found Cause.Promise o) (λ (y : ℕ × Instance). ok_if (not (is_over y.1)) Cause.Promise (frame_address_of y.1))
   to_frame None = refl
@@ -189,7 +189,7 @@ module _ (mv : Moving) (m : Module) (layouts : List Layout) (answers : List ℤ)
       on : (t : Bool) → (if t then framed_frame_of_promise k (moved_state mv m s) v else framed_promise_of_frame k (moved_state mv m s) v) ≡ (if t then framed_frame_of_promise g s v else framed_promise_of_frame g s v)
       on true = frame_found s v
       on false =
-          ap (λ (o : Option (ℕ × Instance)). and_then (found Cause.Frame o) (λ (y : ℕ × Instance). and_then (found Cause.Promise (promise_offset k y.1)) (λ (offset : ℕ). ok_if (not (is_over y.1)) Cause.Dead (address_in y.1.block (y.1.start + offset))))) (found_moved mv m s.instances v)
+          ap (λ (o : Option (ℕ × Instance)). and_then (found Cause.Frame o) (λ (y : ℕ × Instance). and_then (found Cause.Promise (promise_offset k y.1)) (λ (offset : ℕ). ok_if (not (is_over y.1)) Cause.Dead (address_behind y.1 offset)))) (found_moved mv m s.instances v)
           ∙ to_promise (instance_at s.instances v)
 
   pub promise_moved : (s : State) (result : Option ℕ) → IsNamedResult (length s.top.values) result → (v : Value) (from : Operand) → and_then (framed_promise k (moved_state mv m s) v from) (λ (w : Value). Ok (gives (moved_state mv m s) result w)) ≡ moved_result mv m (and_then (framed_promise g s v from) (λ (w : Value). Ok (gives s result w)))

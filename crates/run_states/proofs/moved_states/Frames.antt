@@ -1,15 +1,15 @@
 -- How a framed coroutine goes on behind a suspend, its slots and its begin, where functions have blocks on some of their edges.
 use Rattle.std.proofs.Common.{◌≡◌, ℕ, Bool, true, false, List, [], ◌∷◌, ◌++◌, length, refl, sym, ap, ◌∙◌, subst}
 use Rattle.std.proofs.lemmas.List.{length-map, map-append, replicate-append-replicate}
-use Rattle.std.specs.List.{list_all}
-use Rattle.std.specs.Prelude.{ℤ, Some, None, Ok, Err, Option, Result, filter, is_none, map, not, option_and_then, option_map, replicate, slice_get, ◌&&◌, ◌||◌, ◌==◌}
+use Rattle.std.specs.List.{list_all, list_any}
+use Rattle.std.specs.Prelude.{ℤ, Some, None, Ok, Err, Option, Result, filter, is_none, map, not, option_and_then, option_map, replicate, slice_get, ◌&&◌, ◌||◌, ◌==◌, if◌then◌else◌}
 use Rattle.run_memory.specs.Memory.{own}
 use Rattle.run_memory.specs.declared.block.Kind.{Kind}
 use Rattle.run_memory.specs.declared.block.MemoryBlock.{MemoryBlock}
 use Rattle.run_memory.specs.declared.pointer.Pointer.{Pointer}
 use Rattle.run_memory.specs.declared.pointer.Value.{Value}
 use Rattle.ir_base.specs.declared.cause.Cause.{Cause}
-use Rattle.run_source.specs.Source.{begin, begin_at, begun, is_among, new_instance, push, resumed, with_new_slots}
+use Rattle.run_source.specs.Source.{begin, begin_at, begun, is_among, is_live_at, new_instance, push, resumed, with_new_slots}
 use Rattle.run_source.specs.State.{began_at, frame_address_of, gives, is_finished, own_frame, with_memory, with_slots, with_status}
 use Rattle.run_source.specs.declared.state.Instance.{Instance}
 use Rattle.run_source.specs.declared.state.Mode.{Mode}
@@ -23,7 +23,7 @@ use Rattle.ir_laws.specs.facts.expanded.Tokens.{IsNamedResult}
 use Rattle.ir_laws.specs.facts.sound_states.Named.{AreLocalsNamed, HasNamedResults}
 use Rattle.frame_layout.specs.declared.layout.Layout.{Layout}
 use Rattle.run_states.proofs.branches.Calls.{length_none}
-use Rattle.run_framed.specs.Framed.{FramedGiven, alloca_from, alloca_of, are_finished_at, at_point, begin_given, begin_given_at, begin_name, continue_framed, enter_after, framed_begin, framed_facts, framed_given, framed_slot, has_size, reentry_values, with_mode}
+use Rattle.run_framed.specs.Framed.{FramedGiven, alloca_from, alloca_of, are_finished_at, at_point, begin_given, begin_given_at, begin_in_block, begin_in_frame, begin_name, continue_framed, covers, enter_after, frame_around, framed_begin, framed_facts, framed_given, framed_slot, has_room, has_size, is_room_at, layout_of, reentry_values, with_mode}
 use Rattle.ir_model.specs.Names.{function_at, position_of}
 use Rattle.ir_model.specs.declared.instr.Instr.{Instr}
 use Rattle.ir_model.specs.declared.module.Block.{Block}
@@ -40,7 +40,7 @@ use Rattle.run_step.specs.declared.world.Slot.{Slot}
 use Rattle.run_states.proofs.moved_states.Entering.{enters_direct}
 use Rattle.run_states.proofs.moved_states.Parts.{facts_are, facts_moved, function_moved}
 use Rattle.run_states.proofs.moved_states.Sleeping.{gives_moved}
-use Rattle.run_states.proofs.moved_states.States.{finished_moved, with_instance_moved}
+use Rattle.run_states.proofs.moved_states.States.{finished_moved, last_found, over_moved, with_instance_moved, with_number}
 use Rattle.run_states.specs.moved_states.MovedState.{moved_activation, moved_instance, moved_mode, moved_module, moved_result, moved_state}
 use Rattle.run_states.specs.moved_states.Moving.{KeepsKinds, Moves, Moving, moved_point}
 use Rattle.run_states.specs.moved_states.Near.{EntersBy}
@@ -210,12 +210,32 @@ module _ (mv : Moving) (kinds : KeepsKinds mv) (m : Module) (layouts : List Layo
   finished_at_moved xs Value.Poison = refl
   finished_at_moved xs (Value.Int x) = refl
 
+  room_moved : (offset size : ℕ) (o : Option (ℕ × Instance)) → has_room k offset size (with_number mv m o) ≡ has_room g offset size o
+  room_moved offset size None = refl
+  room_moved offset size (Some (i, x)) = ap (λ (b : Bool). not b && list_any (is_room_at x.start offset size) (layout_of g.layouts x.coroutine).fields) (over_moved mv m x)
+
+  -- a frame around an address has a field there as before
+  room_same : (s : State) (b offset : ℕ) → has_room k offset (own_frame k.given (moved_state mv m s)).size (frame_around k (moved_state mv m s).instances b offset) ≡ has_room g offset (own_frame g.given s).size (frame_around g s.instances b offset)
+  room_same s b offset =
+      ap (has_room k offset (own_frame g.given s).size) (last_found mv m (λ x. covers g b offset x && not (began_at b offset x)) (λ x. covers k b offset x && not (began_at b offset x)) (λ x. refl) s.instances)
+      ∙ room_moved offset (own_frame g.given s).size (frame_around g s.instances b offset)
+
   given_gives : (s : State) (result : Option ℕ) → IsNamedResult (length s.top.values) result → (v w : Value) → and_then (begin_given_at k (moved_state mv m s) v) (λ (u : State). Ok (gives u result w)) ≡ moved_result mv m (and_then (begin_given_at g s v) (λ (u : State). Ok (gives u result w)))
-  given_gives s result named (Value.Ptr (Pointer.At b o)) w = on ((o.bits == 0) && has_size s.world.memory b (own_frame g.given s).size)
+  given_gives s result named (Value.Ptr (Pointer.At b o)) w =
+      ap (λ (t : Bool). and_then (if t then begin_in_frame k (moved_state mv m s) b o else begin_in_block k (moved_state mv m s) b o) (λ (u : State). Ok (gives u result w))) (room_same s b o.bits)
+      ∙ on (has_room g o.bits (own_frame g.given s).size (frame_around g s.instances b o.bits))
     where
-      on : (t : Bool) → and_then (and_then (ok_if t Cause.Begin (moved_state mv m s)) (λ (u : State). begin_at k.given u (Value.Ptr (Pointer.At b o)) Kind.Stack)) (λ (u : State). Ok (gives u result w)) ≡ moved_result mv m (and_then (and_then (ok_if t Cause.Begin s) (λ (u : State). begin_at g.given u (Value.Ptr (Pointer.At b o)) Kind.Stack)) (λ (u : State). Ok (gives u result w)))
-      on true = begin_gives s result named (Value.Ptr (Pointer.At b o)) w Kind.Stack
-      on false = refl
+      in_block : (t : Bool) → and_then (and_then (ok_if t Cause.Begin (moved_state mv m s)) (λ (u : State). begin_at k.given u (Value.Ptr (Pointer.At b o)) Kind.Stack)) (λ (u : State). Ok (gives u result w)) ≡ moved_result mv m (and_then (and_then (ok_if t Cause.Begin s) (λ (u : State). begin_at g.given u (Value.Ptr (Pointer.At b o)) Kind.Stack)) (λ (u : State). Ok (gives u result w)))
+      in_block true = begin_gives s result named (Value.Ptr (Pointer.At b o)) w Kind.Stack
+      in_block false = refl
+
+      in_frame : (t : Bool) → and_then (ok_if t Cause.Begin (begun k.given (moved_state mv m s) b o.bits)) (λ (u : State). Ok (gives u result w)) ≡ moved_result mv m (and_then (ok_if t Cause.Begin (begun g.given s b o.bits)) (λ (u : State). Ok (gives u result w)))
+      in_frame true = ap (λ (u : State). Ok (gives u result w)) (begun_moved s b o.bits) ∙ ap Ok (gives_moved mv m (begun g.given s b o.bits) result w named)
+      in_frame false = refl
+
+      on : (t : Bool) → and_then (if t then begin_in_frame k (moved_state mv m s) b o else begin_in_block k (moved_state mv m s) b o) (λ (u : State). Ok (gives u result w)) ≡ moved_result mv m (and_then (if t then begin_in_frame g s b o else begin_in_block g s b o) (λ (u : State). Ok (gives u result w)))
+      on true = in_frame (is_live_at s.world.memory b)
+      on false = in_block ((o.bits == 0) && has_size s.world.memory b (own_frame g.given s).size)
   given_gives s result named (Value.Ptr Pointer.Null) w = refl
   given_gives s result named (Value.Ptr (Pointer.Func f)) w = refl
   given_gives s result named Value.Poison w = refl

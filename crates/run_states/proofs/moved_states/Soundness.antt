@@ -10,14 +10,14 @@ use Rattle.run_memory.specs.declared.pointer.Value.{Value}
 use Rattle.ir_base.specs.declared.cause.Cause.{Cause}
 use Rattle.ir_base.specs.declared.outcome.Outcome.{Outcome}
 use Rattle.ir_base.specs.declared.outcome.Word.{Word}
-use Rattle.run_source.specs.Source.{after_end, begin, begin_at, begun, branch_leaving, called, change_own, deallocate, destroy, done_at, end_of, enter, enter_block, finish, first_state, go_to, if_let_go, let_go, left_windows, may_be_freed, may_leave, pop, push, release, resume, resumed, return, returned, save, save_for, sleeper_at, suspend}
+use Rattle.run_source.specs.Source.{after_end, begin, begin_at, begun, branch_leaving, called, change_own, deallocate, destroy, done_at, end_of, enter, enter_block, finish, first_state, go_to, if_let_go, is_live_at, let_go, left_windows, may_be_freed, may_leave, pop, push, release, resume, resumed, return, returned, save, save_for, sleeper_at, suspend}
 use Rattle.run_source.specs.State.{frame_address_of, function_of, gives, instance_at, next, or_undefined, own_frame, own_instance, point_of, settled, with_instance, with_left, with_memory, with_slots, with_status, work_of}
 use Rattle.run_source.specs.declared.state.Activation.{Activation}
 use Rattle.run_source.specs.declared.state.Instance.{Instance}
 use Rattle.run_source.specs.declared.state.Mode.{Mode}
 use Rattle.run_source.specs.declared.state.State.{State}
 use Rattle.run_source.specs.declared.state.Status.{Status}
-use Rattle.run_states.proofs.sound_states.Acts.{Good, after_sound, begin_at_sound, begin_sound, deallocate_sound, destroy_sound, done_sound, enter_sound, entered_sound, entry_length, finish_sound, free_sound, gives_sound, go_sound, next_sound, on_good, on_result, on_test, resume_sound, return_sound, save_sound, suspend_sound}
+use Rattle.run_states.proofs.sound_states.Acts.{Good, after_sound, begin_at_sound, begin_sound, begun_sound, deallocate_sound, destroy_sound, done_sound, enter_sound, entered_sound, entry_length, finish_sound, free_sound, gives_sound, go_sound, next_sound, on_good, on_result, on_test, resume_sound, return_sound, save_sound, suspend_sound}
 use Rattle.run_states.proofs.sound_states.Fits.{Fits, calls_at, fits, result_named, suspend_there}
 use Rattle.run_states.proofs.sound_states.Kept.{IsGrown, activation_grown, below_grown, grown_set, instance_sound, memory_sound, moved_on, settled_sound, slots_sound, with_outcome}
 use Rattle.run_states.proofs.sound_states.Steps.{first_sound}
@@ -26,7 +26,7 @@ use Rattle.ir_laws.specs.facts.sound_states.Named.{AreLocalsNamed}
 use Rattle.run_states.specs.sound_states.Sound.{IsSound, IsSuspendAt, KeepsSound}
 use Rattle.frame_layout.specs.declared.layout.Layout.{Layout}
 use Rattle.run_states.proofs.branches.Performs.{asleep}
-use Rattle.run_framed.specs.Framed.{FramedGiven, alloca_from, are_finished_at, at_point, begin_given_at, continue_framed, disown_given, enter_after, enter_given, framed_act, framed_advance, framed_begin, framed_context, framed_coro, framed_finish, framed_given, framed_next, framed_promise, framed_slot, framed_step, freed_address, given_call, given_ramp, has_size, is_stack_block, last_value, reentry_values, with_mode}
+use Rattle.run_framed.specs.Framed.{FramedGiven, alloca_from, are_finished_at, at_point, begin_given_at, begin_in_block, begin_in_frame, continue_framed, disown_given, enter_after, enter_given, frame_around, framed_act, framed_advance, framed_begin, framed_context, framed_coro, framed_finish, framed_given, framed_next, framed_promise, framed_slot, framed_step, freed_address, given_call, given_ramp, has_room, has_size, is_stack_block, last_value, reentry_values, with_mode}
 use Rattle.ir_model.specs.Names.{function_at, position_of}
 use Rattle.ir_model.specs.declared.instr.Instr.{Instr}
 use Rattle.ir_model.specs.declared.module.Function.{Function}
@@ -99,10 +99,15 @@ module _ (mv : Moving) (m : Module) (layouts : List Layout) (answers : List ℤ)
   begin_given_sound : (s : State) → IsSound m s → (result : Option ℕ) (v w : Value) → Good g.given (and_then (begin_given_at g s v) (λ (u : State). Ok (gives u result w)))
   begin_given_sound s h result (Value.Ptr (Pointer.At b o)) w =
       on_good g.given (begin_given_at g s (Value.Ptr (Pointer.At b o))) (λ u. Ok (gives u result w))
-      (on_good g.given (ok_if ((o.bits == 0) && has_size s.world.memory b (own_frame g.given s).size) Cause.Begin s) (λ t. begin_at g.given t (Value.Ptr (Pointer.At b o)) Kind.Stack)
-      (on_test g.given ((o.bits == 0) && has_size s.world.memory b (own_frame g.given s).size) Cause.Begin s h)
-      (λ t ht. begin_at_sound g.given t ht (Value.Ptr (Pointer.At b o)) Kind.Stack))
+      (on (has_room g o.bits (own_frame g.given s).size (frame_around g s.instances b o.bits)))
       (λ u hu. gives_sound g.given u result w hu)
+    where
+      on : (t : Bool) → Good g.given (if t then begin_in_frame g s b o else begin_in_block g s b o)
+      on true = on_test g.given (is_live_at s.world.memory b) Cause.Begin (begun g.given s b o.bits) (begun_sound g.given s b o.bits h)
+      on false =
+          on_good g.given (ok_if ((o.bits == 0) && has_size s.world.memory b (own_frame g.given s).size) Cause.Begin s) (λ t. begin_at g.given t (Value.Ptr (Pointer.At b o)) Kind.Stack)
+          (on_test g.given ((o.bits == 0) && has_size s.world.memory b (own_frame g.given s).size) Cause.Begin s h)
+          (λ t ht. begin_at_sound g.given t ht (Value.Ptr (Pointer.At b o)) Kind.Stack)
   begin_given_sound s h result (Value.Ptr Pointer.Null) w = tt
   begin_given_sound s h result (Value.Ptr (Pointer.Func f)) w = tt
   begin_given_sound s h result Value.Poison w = tt
@@ -247,8 +252,15 @@ module _ (mv : Moving) (m : Module) (layouts : List Layout) (answers : List ℤ)
 
   begin_given_enters : (s : State) → EntersIn s → (v : Value) → EntersThen (begin_given_at g s v)
   begin_given_enters s e (Value.Ptr (Pointer.At b o)) =
-      on_enters (ok_if ((o.bits == 0) && has_size s.world.memory b (own_frame g.given s).size) Cause.Begin s) (λ t. begin_at g.given t (Value.Ptr (Pointer.At b o)) Kind.Stack)
-      (test_enters ((o.bits == 0) && has_size s.world.memory b (own_frame g.given s).size) Cause.Begin s e) (λ t k. begin_at_enters t k (Value.Ptr (Pointer.At b o)) Kind.Stack)
+      on (has_room g o.bits (own_frame g.given s).size (frame_around g s.instances b o.bits))
+    where
+      on : (t : Bool) → EntersThen (if t then begin_in_frame g s b o else begin_in_block g s b o)
+      on true =
+          test_enters (is_live_at s.world.memory b) Cause.Begin (begun g.given s b o.bits)
+          (with_instance_enters s.top.func s.top.instance (length s.instances) s.top.result s.top.mode e.0, e.1)
+      on false =
+          on_enters (ok_if ((o.bits == 0) && has_size s.world.memory b (own_frame g.given s).size) Cause.Begin s) (λ t. begin_at g.given t (Value.Ptr (Pointer.At b o)) Kind.Stack)
+          (test_enters ((o.bits == 0) && has_size s.world.memory b (own_frame g.given s).size) Cause.Begin s e) (λ t k. begin_at_enters t k (Value.Ptr (Pointer.At b o)) Kind.Stack)
   begin_given_enters s e (Value.Ptr Pointer.Null) = tt
   begin_given_enters s e (Value.Ptr (Pointer.Func f)) = tt
   begin_given_enters s e Value.Poison = tt

@@ -210,7 +210,7 @@ module _ (g : Given) where
 
   -- ---- begin
 
-  begun_sound : (s : State) (block start : ℕ) → IsSound g.code s → IsSound g.code (begun g s block start)
+  pub begun_sound : (s : State) (block start : ℕ) → IsSound g.code s → IsSound g.code (begun g s block start)
   begun_sound s block start h =
       let x = new_instance s.top.func block start in
       let more : List Instance = s.instances ++ x ∷ [] in

@@ -9,7 +9,8 @@ use Rattle.compiler.proofs.cleanup.rules.NoCoroutine.{none_left}
 use Rattle.compiler.specs.cleanup.rules.Clean.{NameNothingGone}
 use Rattle.pass_cleanup.specs.Cleanup.{clean_module}
 use Rattle.pass_cleanup.specs.Free.{calls_id_alone}
-use Rattle.pass_split.specs.Parts.{later_part, marked_parts, parts_of, plain_of, plain_shape, ramp_of, split_module}
+use Rattle.pass_split.specs.Given.{has_given_call}
+use Rattle.pass_split.specs.Parts.{given_ramp_of, later_part, marked_parts, parts_of, plain_of, plain_shape, ramp_of, split_module}
 use Rattle.pass_split.specs.Reached.{pruned}
 use Rattle.frame_layout.specs.declared.layout.Layout.{Layout}
 use Rattle.frame_layout.specs.declared.layout.Layouts.{Layouts}
@@ -33,11 +34,12 @@ use Rattle.pass_proofs.proofs.split.plain_functions.Whole.{turned_keeps}
 use Rattle.rule_laws.proofs.rules.plain_rules.Accepted.{accepted}
 use Rattle.rule_laws.specs.rules.plain_rules.Kept.{AllKeepPlainRules, KeepsPlainRules}
 use Rattle.pass_proofs.proofs.split.names.Items.{split_keeps_items}
-use Rattle.pass_proofs.proofs.split.names.Parts.{has_parts}
-use Rattle.rule_laws.specs.frames.same_names.Parts.{HasPartsOf}
+use Rattle.pass_proofs.proofs.split.names.Parts.{has_given_parts, has_parts}
+use Rattle.pass_proofs.specs.split.names.Sources.{HasGivenParts}
+use Rattle.rule_laws.specs.frames.same_names.Parts.{HasPart, HasPartsOf}
 use Rattle.pass_proofs.proofs.split.rules.Instructions.{parts_kept}
 use Rattle.pass_proofs.proofs.split.rules.Laws.{parts_named}
-use Rattle.pass_proofs.specs.split.rules.Parted.{IsDestroy, IsPartOf, IsRamp, IsResume}
+use Rattle.pass_proofs.specs.split.rules.Parted.{IsCleanup, IsDestroy, IsGivenRamp, IsPartOf, IsRamp, IsResume}
 use Rattle.rule_laws.specs.frames.replaced.Parted.{IsSmall}
 use Rattle.pass_proofs.specs.split.rules.Splittable.{IsSplittable}
 use Rattle.compiler.proofs.cleanup.unnamed_intrinsics.Parts.{parts_free, turned_free}
@@ -51,10 +53,11 @@ record IsKept (n : Module) (l : ℕ) (g : Function) : Type 0 where
 
 -- ---- a part of a coroutine
 
-part_rules : (m n : Module) (k l : ℕ) (layout : Layout) (part : Part) (begin : ℕ) (f g : Function) → HasPartsOf m n → slice_get m.functions k ≡ Some f → IsSplittable m k f begin → IsSmall (shape_of f layout) → IsPartOf (shape_of f layout) f part g → KeepsPlainRules n l g
-part_rules m n k l layout part begin f g h stands s small is =
-    let kept = parts_kept m n k l layout part f g h stands s.coroutine s.rules is in
-    let named = parts_named m n k l layout part begin f g h stands s small is (locals_known m k l layout part begin f g s is) (later_parts_return_nothing m k l layout part begin f g s is) in
+part_rules : (m n : Module) (k l : ℕ) (layout : Layout) (part : Part) (begin : ℕ) (f g : Function) → HasPartsOf m n → slice_get m.functions k ≡ Some f → IsSplittable m k f begin → IsSmall (shape_of f layout) → IsPartOf (shape_of f layout) f part g
+    → (part ≡ Part.GivenRamp → HasPart n (shape_of f layout).cleanup_name) → KeepsPlainRules n l g
+part_rules m n k l layout part begin f g h stands s small is given =
+    let kept = parts_kept m n k l layout part f g h stands s.coroutine s.rules is given in
+    let named = parts_named m n k l layout part begin f g h stands s small is given (locals_known m k l layout part begin f g s is) (later_parts_return_nothing m k l layout part begin f g s is) in
     record {
       definitions = locals_once m k l layout part begin f g s is;
       known = named.0;
@@ -70,16 +73,20 @@ part_rules m n k l layout part begin f g h stands s small is =
       marks = part_marks_kept m n k l layout part begin f g h s is;
     }
 
--- which part a function among a coroutine's parts is
-pub record IsSomePart (s : Shape) (f g : Function) : Type 0 where
+-- which part a function among a coroutine's parts is; the ramp that is given its frame is one only where some call gives it
+pub record IsSomePart (s : Shape) (given : Bool) (f g : Function) : Type 0 where
   pub part : Part
   pub is : IsPartOf s f part g
+  pub given : part ≡ Part.GivenRamp → given ≡ true
 
-pub some_part : (s : Shape) (f g : Function) (number : ℕ) → slice_get (parts_of s f) number ≡ Some g → IsSomePart s f g
-some_part s f g zero e = let same : pruned (ramp_of s f) ≡ g = cc in record { part = Part.Ramp; is = subst (IsPartOf s f Part.Ramp) same IsRamp }
-some_part s f g (suc zero) e = let same : pruned (later_part s Part.Resume s.resume_name f) ≡ g = cc in record { part = Part.Resume; is = subst (IsPartOf s f Part.Resume) same IsResume }
-some_part s f g (suc (suc zero)) e = let same : pruned (later_part s Part.Destroy s.destroy_name f) ≡ g = cc in record { part = Part.Destroy; is = subst (IsPartOf s f Part.Destroy) same IsDestroy }
-some_part s f g (suc (suc (suc k))) e = absurd (cc)
+pub some_part : (s : Shape) (given : Bool) (f g : Function) (number : ℕ) → slice_get (parts_of s given f) number ≡ Some g → IsSomePart s given f g
+some_part s given f g zero e = let same : pruned (ramp_of s f) ≡ g = cc in record { part = Part.Ramp; is = subst (IsPartOf s f Part.Ramp) same IsRamp; given = λ d. absurd (cc) }
+some_part s given f g (suc zero) e = let same : pruned (later_part s Part.Resume s.resume_name f) ≡ g = cc in record { part = Part.Resume; is = subst (IsPartOf s f Part.Resume) same IsResume; given = λ d. absurd (cc) }
+some_part s given f g (suc (suc zero)) e = let same : pruned (later_part s Part.Destroy s.destroy_name f) ≡ g = cc in record { part = Part.Destroy; is = subst (IsPartOf s f Part.Destroy) same IsDestroy; given = λ d. absurd (cc) }
+some_part s false f g (suc (suc (suc k))) e = absurd (cc)
+some_part s true f g (suc (suc (suc zero))) e = let same : pruned (later_part s Part.Cleanup s.cleanup_name f) ≡ g = cc in record { part = Part.Cleanup; is = subst (IsPartOf s f Part.Cleanup) same IsCleanup; given = λ d. absurd (cc) }
+some_part s true f g (suc (suc (suc (suc zero)))) e = let same : pruned (given_ramp_of s f) ≡ g = cc in record { part = Part.GivenRamp; is = subst (IsPartOf s f Part.GivenRamp) same IsGivenRamp; given = λ d. refl }
+some_part s true f g (suc (suc (suc (suc (suc k))))) e = absurd (cc)
 
 module _ (ls : Layouts) (m : Module) (ready : IsReady ls m) where
   abbrev n : Module
@@ -88,15 +95,18 @@ module _ (ls : Layouts) (m : Module) (ready : IsReady ls m) where
   parts : HasPartsOf m n
   parts = has_parts ls m ready.items ready.short
 
-  part_kept : (k l : ℕ) (f g : Function) (layout : Layout) (number : ℕ) → slice_get m.functions k ≡ Some f → f.coroutine ≡ true → IsSmall (shape_of (with_exit_blocks f) layout) → IsCoroutineReady m ls k f → slice_get (marked_parts layout (with_exit_blocks f)) number ≡ Some g → IsKept n l g
+  given_parts : HasGivenParts m n
+  given_parts = has_given_parts ls m ready.items ready.short
+
+  part_kept : (k l : ℕ) (f g : Function) (layout : Layout) (number : ℕ) → slice_get m.functions k ≡ Some f → f.coroutine ≡ true → IsSmall (shape_of (with_exit_blocks f) layout) → IsCoroutineReady m ls k f → slice_get (marked_parts layout (has_given_call m f) (with_exit_blocks f)) number ≡ Some g → IsKept n l g
   part_kept k l f g layout number stands c small r e =
       let h : Function = with_exit_blocks f in
-      let p = some_part (shape_of h layout) h g number e in
+      let p = some_part (shape_of h layout) (has_given_call m f) h g number e in
       let there : slice_get (exited_module m).functions k ≡ Some h = coroutine_stands m k f stands c in
       let s : IsSplittable (exited_module m) k h r.begin = splittable_exited m k h r.begin r.splittable in
       record {
-        rules = part_rules (exited_module m) n k l layout p.part r.begin h g (parts_exited m n parts) there s small p.is;
-        names = parts_free (exited_module m) n k l layout p.part h g (parts_exited m n parts) there s.coroutine p.is r.names;
+        rules = part_rules (exited_module m) n k l layout p.part r.begin h g (parts_exited m n parts) there s small p.is (λ d. given_parts.cleanups k f stands c (p.given d));
+        names = parts_free (exited_module m) n k l layout p.part h g (parts_exited m n parts) there s.coroutine p.is (λ d. given_parts.cleanups k f stands c (p.given d)) r.names;
       }
 
   plain_kept : (k l : ℕ) (f g : Function) (number : ℕ) → slice_get m.functions k ≡ Some f → f.coroutine ≡ false → IsPlainReady m k f → slice_get (plain_of (plain_shape f) f ∷ []) number ≡ Some g → IsKept n l g
@@ -108,10 +118,10 @@ module _ (ls : Layouts) (m : Module) (ready : IsReady ls m) where
   function_kept : (l : ℕ) (g : Function) → slice_get n.functions l ≡ Some g → IsKept n l g
   function_kept l g there = on r.source.coroutine refl r.is_one
     where
-      r : ComesBy ls.coroutines m.functions g
-      r = comes_by ls.coroutines m.functions l g there
+      r : ComesBy ls.coroutines m m.functions g
+      r = comes_by ls.coroutines m m.functions l g there
 
-      on : (b : Bool) → r.source.coroutine ≡ b → slice_get (if b then marked_parts r.layout (with_exit_blocks r.source) else plain_of (plain_shape r.source) r.source ∷ []) r.number ≡ Some g → IsKept n l g
+      on : (b : Bool) → r.source.coroutine ≡ b → slice_get (if b then marked_parts r.layout (has_given_call m r.source) (with_exit_blocks r.source) else plain_of (plain_shape r.source) r.source ∷ []) r.number ≡ Some g → IsKept n l g
       on true c e =
           let is_ready = ready.coroutines r.position r.source r.stands c in
           part_kept r.position l r.source g r.layout r.number r.stands c (is_ready.small r.layout r.given) is_ready e

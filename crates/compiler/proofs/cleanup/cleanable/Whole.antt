@@ -3,11 +3,13 @@ use Rattle.std.proofs.Common.{◌≡◌, ℕ, zero, suc, Bool, true, false, [], 
 use Rattle.std.specs.Prelude.{None, Option, Some, is_some, slice_get, if◌then◌else◌, ◌||◌}
 use Rattle.ir_base.specs.declared.name.Name.{Name}
 use Rattle.pass_cleanup.specs.Cleanable.{IsCleanable, IsCleanableFunction, IsDefined}
+use Rattle.pass_split.specs.Given.{has_given_call}
 use Rattle.pass_split.specs.Parts.{marked_parts, plain_of, plain_shape, split_module}
 use Rattle.ir_laws.proofs.facts.Truth.{and_second, holds}
 use Rattle.frame_layout.specs.declared.layout.Layout.{Layout}
 use Rattle.frame_layout.specs.declared.layout.Layouts.{Layouts}
-use Rattle.pass_proofs.proofs.split.names.Parts.{has_parts}
+use Rattle.pass_proofs.proofs.split.names.Parts.{has_given_parts, has_parts}
+use Rattle.pass_proofs.specs.split.names.Sources.{HasGivenParts}
 use Rattle.rule_laws.specs.frames.same_names.Parts.{HasPart, HasPartsOf}
 use Rattle.ir_parts.specs.Parts.{first_part, parts_of}
 use Rattle.pass_intrinsics.specs.Shapes.{shape_of}
@@ -47,16 +49,19 @@ module _ (ls : Layouts) (m : Module) (ready : IsReady ls m) where
   parts : HasPartsOf m n
   parts = has_parts ls m ready.items ready.short
 
+  given_parts : HasGivenParts m n
+  given_parts = has_given_parts ls m ready.items ready.short
+
   part_there : (x : Name) → HasPart n x → is_there n x ≡ true
   part_there x h = ap (λ (o : Option ℕ). is_some o || is_some (global_named n x)) h.signature.is_named
 
-  coroutine_cleanable : (k : ℕ) (f g : Function) (layout : Layout) (number : ℕ) → slice_get m.functions k ≡ Some f → f.coroutine ≡ true → IsCoroutineReady m ls k f → slice_get (marked_parts layout (with_exit_blocks f)) number ≡ Some g → IsCleanableFunction n g
+  coroutine_cleanable : (k : ℕ) (f g : Function) (layout : Layout) (number : ℕ) → slice_get m.functions k ≡ Some f → f.coroutine ≡ true → IsCoroutineReady m ls k f → slice_get (marked_parts layout (has_given_call m f) (with_exit_blocks f)) number ≡ Some g → IsCleanableFunction n g
   coroutine_cleanable k f g layout number stands c r e =
       let h : Function = with_exit_blocks f in
       let s : Shape = shape_of h layout in
-      let p = some_part s h g number e in
+      let p = some_part s (has_given_call m f) h g number e in
       function_cleanable n 0 g
-      (parts_pass (is_there n) s p.part k 0 h g (part_there s.resume_name (parts.resumes k f stands c), part_there s.destroy_name (parts.destroys k f stands c)) p.is
+      (parts_pass (is_there n) s p.part k 0 h g (part_there s.resume_name (parts.resumes k f stands c), part_there s.destroy_name (parts.destroys k f stands c), (λ d. part_there s.cleanup_name (given_parts.cleanups k f stands c (p.given d)))) p.is
       (function_there m n refl k h r.splittable.rules.local.function_pointers r.names))
 
   turned_cleanable : (k : ℕ) (f g : Function) (number : ℕ) → f.coroutine ≡ false → IsPlainReady m k f → slice_get (plain_of (plain_shape f) f ∷ []) number ≡ Some g → IsCleanableFunction n g
@@ -70,10 +75,10 @@ module _ (ls : Layouts) (m : Module) (ready : IsReady ls m) where
   functions_cleanable : (l : ℕ) (g : Function) → slice_get n.functions l ≡ Some g → IsCleanableFunction n g
   functions_cleanable l g there = on r.source.coroutine refl r.is_one
     where
-      r : ComesBy ls.coroutines m.functions g
-      r = comes_by ls.coroutines m.functions l g there
+      r : ComesBy ls.coroutines m m.functions g
+      r = comes_by ls.coroutines m m.functions l g there
 
-      on : (b : Bool) → r.source.coroutine ≡ b → slice_get (if b then marked_parts r.layout (with_exit_blocks r.source) else plain_of (plain_shape r.source) r.source ∷ []) r.number ≡ Some g → IsCleanableFunction n g
+      on : (b : Bool) → r.source.coroutine ≡ b → slice_get (if b then marked_parts r.layout (has_given_call m r.source) (with_exit_blocks r.source) else plain_of (plain_shape r.source) r.source ∷ []) r.number ≡ Some g → IsCleanableFunction n g
       on true c e = coroutine_cleanable r.position r.source g r.layout r.number r.stands c (ready.coroutines r.position r.source r.stands c) e
       on false c e = turned_cleanable r.position r.source g r.number c (ready.plain r.position r.source r.stands c) e
 

@@ -12,7 +12,7 @@ use Rattle.ir_laws.proofs.facts.Lists.{by_value}
 use Rattle.compiler.specs.cleanup.rules.Clean.{calls_left}
 use Rattle.ir_parts.specs.Contents.{arg_operands, part_operands}
 use Rattle.ir_parts.specs.Parts.{Ending, OfInstr, OfPhi, Part as FunctionPart, first_part, parts_of}
-use Rattle.pass_intrinsics.specs.Lowered.{address, begin_stores, call_pointer, destroy_call, done_test, is_final_at, load_pointer, lowered, number_of_save, operand_at, promise_distance, resume_call, resumed_by, save_or_none, set_address, set_number, set_truth, store_pointer, truth_of}
+use Rattle.pass_intrinsics.specs.Lowered.{address, allocates, begin_memory, begin_stores, call_pointer, destroy_call, destroyed_by, done_test, freed_by, is_final_at, load_pointer, lowered, number_of_save, operand_at, promise_distance, resume_call, resumed_by, save_or_none, set_address, set_number, set_truth, store_pointer, truth_of}
 use Rattle.pass_intrinsics.specs.Shapes.{is_true}
 use Rattle.pass_intrinsics.specs.declared.shape.Part.{Part}
 use Rattle.pass_intrinsics.specs.declared.shape.Shape.{Shape}
@@ -60,10 +60,10 @@ module _ (test : Name → Bool) where
 
   -- ---- what is lowered
 
-  module _ (s : Shape) where
-    -- the names of the parts pass
+  module _ (s : Shape) (part : Part) where
+    -- the names of the parts that are stored pass
     abbrev pub AreOwn : Type 0
-    AreOwn = (test s.resume_name ≡ true) × (test s.destroy_name ≡ true)
+    AreOwn = (test s.resume_name ≡ true) × (test s.destroy_name ≡ true) × (part ≡ Part.GivenRamp → test s.cleanup_name ≡ true)
 
     -- what these name passes
     abbrev Pass : List Instr → Type 0
@@ -82,12 +82,40 @@ module _ (test : Name → Bool) where
     address_passes None p z e q = tt
     address_passes (Some r) p z e q = (none_other q (OfInstr (address r p z)) (and_both (passes test p) true e refl) refl, tt)
 
-    begin_passes : (n : ℕ) (p : Operand) → AreOwn → passes test p ≡ true → Pass (begin_stores s n p)
+    memory_passes : (q : Part) (args : List Arg) → passes test (operand_at args 1) ≡ true → passes test (begin_memory s q args) ≡ true
+    memory_passes Part.GivenRamp args e = refl
+    memory_passes Part.Ramp args e = e
+    memory_passes Part.Resume args e = e
+    memory_passes Part.Destroy args e = e
+    memory_passes Part.Cleanup args e = e
+
+    freed_passes : (q : Part) → passes test (freed_by s q) ≡ true
+    freed_passes Part.GivenRamp = refl
+    freed_passes Part.Ramp = refl
+    freed_passes Part.Resume = refl
+    freed_passes Part.Destroy = refl
+    freed_passes Part.Cleanup = refl
+
+    destroyed_passes : AreOwn → (q : Part) → part ≡ q → test (destroyed_by s q) ≡ true
+    destroyed_passes own Part.GivenRamp e = own.2 e
+    destroyed_passes own Part.Ramp e = own.1
+    destroyed_passes own Part.Resume e = own.1
+    destroyed_passes own Part.Destroy e = own.1
+    destroyed_passes own Part.Cleanup e = own.1
+
+    begin_passes : (n : ℕ) (p : Operand) → AreOwn → passes test p ≡ true → Pass (begin_stores s part n p)
     begin_passes n p own e q = (
       none_other q (OfInstr (address s.begin p (pos 0))) (and_both (passes test p) true e refl) refl,
       (
         none_other q (OfInstr (store_pointer (Operand.Global s.resume_name) (Operand.Local s.begin))) (and_both (test s.resume_name) true own.0 refl) refl,
-        (refl, (none_other q (OfInstr (store_pointer (Operand.Global s.destroy_name) (Operand.Local n))) (and_both (test s.destroy_name) true own.1 refl) refl, tt)),
+        (
+          refl,
+          (
+            none_other q (OfInstr (store_pointer (Operand.Global (destroyed_by s part)) (Operand.Local n)))
+                (and_both (test (destroyed_by s part)) true (destroyed_passes own part refl) refl) refl,
+            tt,
+          ),
+        ),
       ),
     )
 
@@ -119,14 +147,14 @@ module _ (test : Name → Bool) where
 
     -- the names of the parts are stored where an intrinsic of coroutines alone is called
     call_passes : (p : Place) (n : ℕ) (x : Intrinsic) (r : Option ℕ) (must_tail : Bool) (ty : Option Ty) (args : List Arg) → names_other test p (OfInstr (Instr.Call r must_tail ty (Callee.Intrinsic x) args)) ≡ false → list_all (passes test) (arg_operands args) ≡ true → (is_inner x ≡ true → AreOwn)
-        → Pass (lowered s n (Instr.Call r must_tail ty (Callee.Intrinsic x) args))
+        → Pass (lowered s part n (Instr.Call r must_tail ty (Callee.Intrinsic x) args))
     call_passes p n Intrinsic.CoroSizeI32 r must_tail ty args e o own = number_passes r 32 s.size
     call_passes p n Intrinsic.CoroSizeI64 r must_tail ty args e o own = number_passes r 64 s.size
     call_passes p n Intrinsic.CoroAlignI32 r must_tail ty args e o own = number_passes r 32 s.align
     call_passes p n Intrinsic.CoroAlignI64 r must_tail ty args e o own = number_passes r 64 s.align
-    call_passes p n Intrinsic.CoroAlloc r must_tail ty args e o own = truth_passes r true
-    call_passes p n Intrinsic.CoroBegin r must_tail ty args e o own = begin_passes n (operand_at args 1) (own refl) (argument_passes args 1 o)
-    call_passes p n Intrinsic.CoroFree r must_tail ty args e o own = address_passes r (Operand.Local s.begin) (pos 0) refl
+    call_passes p n Intrinsic.CoroAlloc r must_tail ty args e o own = truth_passes r (allocates part)
+    call_passes p n Intrinsic.CoroBegin r must_tail ty args e o own = begin_passes n (begin_memory s part args) (own refl) (memory_passes part args (argument_passes args 1 o))
+    call_passes p n Intrinsic.CoroFree r must_tail ty args e o own = address_passes r (freed_by s part) (pos 0) (freed_passes part)
     call_passes p n Intrinsic.CoroFrame r must_tail ty args e o own = address_passes r (Operand.Local s.begin) (pos 0) refl
     call_passes p n Intrinsic.CoroSave r must_tail ty args e o own = save_passes n (number_of_save s r) (own refl)
     call_passes p n Intrinsic.CoroSuspend r must_tail ty args e o own = λ q. tt
@@ -138,23 +166,23 @@ module _ (test : Name → Bool) where
     call_passes p n _ r must_tail ty args e o own = λ q. (e, tt)
 
     module _ (extra : Place → FunctionPart → Bool) (own : (p : Place) (r : Option ℕ) (must_tail : Bool) (ty : Option Ty) (x : Intrinsic) (args : List Arg) → extra p (OfInstr (Instr.Call r must_tail ty (Callee.Intrinsic x) args)) ≡ false → is_inner x ≡ true → AreOwn) where
-      lowered_passes : (p : Place) (n : ℕ) (i : Instr) → names_other test p (OfInstr i) ≡ false → extra p (OfInstr i) ≡ false → Pass (lowered s n i)
+      lowered_passes : (p : Place) (n : ℕ) (i : Instr) → names_other test p (OfInstr i) ≡ false → extra p (OfInstr i) ≡ false → Pass (lowered s part n i)
       lowered_passes p n (Instr.Call r must_tail ty (Callee.Intrinsic x) args) e d =
           call_passes p n x r must_tail ty args e (operands_pass p (OfInstr (Instr.Call r must_tail ty (Callee.Intrinsic x) args)) e) (own p r must_tail ty x args d)
       lowered_passes p n i e d = λ q. (e, tt)
 
       -- ---- the cases of the index are numbers
 
-      numbers_pass : (flags : List Bool) (part : Part) (j : ℕ) (ps : List SuspendPoint) → list_all (passes test) (map (λ (k : Case). k.arg.value) (cases_from s flags part j ps)) ≡ true
-      numbers_pass flags part j [] = refl
-      numbers_pass flags part j (p ∷ ps) = on (is_entered flags part p) (numbers_pass flags part (j + 1) ps)
+      numbers_pass : (flags : List Bool) (j : ℕ) (ps : List SuspendPoint) → list_all (passes test) (map (λ (k : Case). k.arg.value) (cases_from s flags part j ps)) ≡ true
+      numbers_pass flags j [] = refl
+      numbers_pass flags j (p ∷ ps) = on (is_entered flags part p) (numbers_pass flags (j + 1) ps)
         where
           on : (b : Bool) → list_all (passes test) (map (λ (k : Case). k.arg.value) (cases_from s flags part (j + 1) ps)) ≡ true → list_all (passes test) (map (λ (k : Case). k.arg.value) ((if b then case_of s j ∷ [] else []) ++ cases_from s flags part (j + 1) ps)) ≡ true
           on true e = e
           on false e = e
 
-      others_carried : (part : Part) → Carries s part 0 (either (names_other test) extra) (names_other test)
-      others_carried part =
+      others_carried : Carries s part 0 (either (names_other test) extra) (names_other test)
+      others_carried =
           record {
             head = λ p b. refl;
             phi = λ p q x y of e.
@@ -167,7 +195,7 @@ module _ (test : Name → Bool) where
             return = λ on q. refl;
             stop = λ q. refl;
             index = λ on q. (refl, (refl, tt));
-            switch = λ on flags q. none_other q (Ending (entry_term s flags part)) (numbers_pass flags part 0 s.suspends) refl;
+            switch = λ on flags q. none_other q (Ending (entry_term s flags part)) (numbers_pass flags 0 s.suspends) refl;
           }
 
   -- ---- the functions
@@ -177,17 +205,17 @@ module _ (test : Name → Bool) where
   never (x ∷ xs) = never xs
 
   -- a coroutine's parts
-  pub parts_pass : (s : Shape) (part : Part) (k l : ℕ) (f g : Function) → AreOwn s → IsPartOf s f part g → first_part (names_other test) (parts_of k f) ≡ None → first_part (names_other test) (parts_of l g) ≡ None
+  pub parts_pass : (s : Shape) (part : Part) (k l : ℕ) (f g : Function) → AreOwn s part → IsPartOf s f part g → first_part (names_other test) (parts_of k f) ≡ None → first_part (names_other test) (parts_of l g) ≡ None
   parts_pass s part k l f g own is e =
-      part_carried s part 0 (either (names_other test) (λ p x. false)) (names_other test) (others_carried s (λ p x. false) (λ p r must_tail ty x args d o. own) part) (omega arith) k l f g is (λ p q d. refl)
+      part_carried s part 0 (either (names_other test) (λ p x. false)) (names_other test) (others_carried s part (λ p x. false) (λ p r must_tail ty x args d o. own)) (omega arith) k l f g is (λ p q d. refl)
       (no_either (names_other test) (λ p x. false) (parts_of k f) e (never (parts_of k f)))
 
   -- a function that is no coroutine stores no parts
-  no_parts : (s : Shape) (p : Place) (r : Option ℕ) (must_tail : Bool) (ty : Option Ty) (x : Intrinsic) (args : List Arg) → on_instr (calls_inner false) p (OfInstr (Instr.Call r must_tail ty (Callee.Intrinsic x) args)) ≡ false → is_inner x ≡ true → AreOwn s
+  no_parts : (s : Shape) (p : Place) (r : Option ℕ) (must_tail : Bool) (ty : Option Ty) (x : Intrinsic) (args : List Arg) → on_instr (calls_inner false) p (OfInstr (Instr.Call r must_tail ty (Callee.Intrinsic x) args)) ≡ false → is_inner x ≡ true → AreOwn s Part.Ramp
   no_parts s p r must_tail ty x args e is = let t : true ≡ false = sym is ∙ e in absurd (cc)
 
   pub turned_passes : (k l : ℕ) (f : Function) → first_part (on_instr (calls_inner false)) (parts_of k f) ≡ None → first_part (names_other test) (parts_of k f) ≡ None → first_part (names_other test) (parts_of l (plain_of (plain_shape f) f)) ≡ None
   turned_passes k l f outer e =
       let s : Shape = plain_shape f in
-      plain_carried s 0 (either (names_other test) (on_instr (calls_inner false))) (names_other test) (others_carried s (on_instr (calls_inner false)) (no_parts s) Part.Ramp) (omega arith) k l f (λ p q d. refl)
+      plain_carried s 0 (either (names_other test) (on_instr (calls_inner false))) (names_other test) (others_carried s Part.Ramp (on_instr (calls_inner false)) (no_parts s)) (omega arith) k l f (λ p q d. refl)
       (no_either (names_other test) (on_instr (calls_inner false)) (parts_of k f) e outer)

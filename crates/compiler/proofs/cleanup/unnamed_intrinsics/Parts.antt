@@ -9,7 +9,7 @@ use Rattle.pass_split.specs.Parts.{plain_of, plain_shape}
 use Rattle.frame_layout.specs.declared.layout.Layout.{Layout}
 use Rattle.compiler.specs.cleanup.rules.Clean.{calls_left}
 use Rattle.rule_laws.specs.rules.function_rules.Kept.{KeepsFunctionRules}
-use Rattle.rule_laws.specs.frames.same_names.Parts.{HasPartsOf}
+use Rattle.rule_laws.specs.frames.same_names.Parts.{HasPart, HasPartsOf}
 use Rattle.ir_parts.specs.Contents.{part_operands}
 use Rattle.ir_parts.specs.Parts.{Part as FunctionPart, first_part, parts_of}
 use Rattle.pass_intrinsics.specs.Shapes.{shape_of}
@@ -50,12 +50,13 @@ Unbroken k f rule = first_part rule (parts_of k f) ≡ None
 
 -- ---- the functions
 
-pub parts_free : (m n : Module) (k l : ℕ) (layout : Layout) (part : Part) (f g : Function) → HasPartsOf m n → slice_get m.functions k ≡ Some f → f.coroutine ≡ true → IsPartOf (shape_of f layout) f part g → NamesNoIntrinsic k f → NamesNoIntrinsic l g
-parts_free m n k l layout part f g h stands coroutine is e =
+pub parts_free : (m n : Module) (k l : ℕ) (layout : Layout) (part : Part) (f g : Function) → HasPartsOf m n → slice_get m.functions k ≡ Some f → f.coroutine ≡ true → IsPartOf (shape_of f layout) f part g
+    → (part ≡ Part.GivenRamp → HasPart n (shape_of f layout).cleanup_name) → NamesNoIntrinsic k f → NamesNoIntrinsic l g
+parts_free m n k l layout part f g h stands coroutine is given e =
     let s : Shape = shape_of f layout in
     let resume : is_kept s.resume_name ≡ true = free_name s.resume_name (h.resumes k f stands coroutine).is_free in
     let destroy : is_kept s.destroy_name ≡ true = free_name s.destroy_name (h.destroys k f stands coroutine).is_free in
-    subst (Unbroken l g) rule_same (parts_pass is_kept s part k l f g (resume, destroy) is (subst (Unbroken k f) (sym rule_same) e))
+    subst (Unbroken l g) rule_same (parts_pass is_kept s part k l f g (resume, destroy, (λ d. free_name s.cleanup_name (given d).is_free)) is (subst (Unbroken k f) (sym rule_same) e))
 
 pub turned_free : (m : Module) (k l : ℕ) (f : Function) → f.coroutine ≡ false → KeepsFunctionRules m k f → NamesNoIntrinsic k f → NamesNoIntrinsic l (plain_of (plain_shape f) f)
 turned_free m k l f coroutine rules e =

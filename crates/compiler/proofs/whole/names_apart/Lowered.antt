@@ -24,4 +24,4 @@ pub lowered_apart : (text : List ℕ) (m : Module) → StandsFor text m → IsRe
 lowered_apart text m stands accepted layouts n form few k f there =
     let all = each_there IsSplitTable n.functions
     (λ i g at. ready_at m layouts.coroutines i g (source_tables text m stands accepted i) (stands_as (early_module m) layouts.coroutines form.functions.count (early_module m).functions n.functions form.functions.framed i g at)) in
-    at_each IsApart (map clean_function (split_functions layouts.coroutines n.functions)) k f (clean_apart (split_functions layouts.coroutines n.functions) (functions_apart layouts.coroutines n.functions all)) there (few k f there)
+    at_each IsApart (map clean_function (split_functions layouts.coroutines n n.functions)) k f (clean_apart (split_functions layouts.coroutines n n.functions) (functions_apart layouts.coroutines n n.functions all)) there (few k f there)

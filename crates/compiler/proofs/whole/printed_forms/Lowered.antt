@@ -10,6 +10,7 @@ use Rattle.text_canonical.specs.canonical.OperandSymbols.{global_symbol, result_
 use Rattle.text_canonical.specs.canonical.Written.{AreWritten}
 use Rattle.pass_cleanup.specs.Cleanup.{clean_module}
 use Rattle.text_names.specs.Spelling.{IsName}
+use Rattle.pass_split.specs.Given.{has_given_call}
 use Rattle.pass_split.specs.Parts.{marked_parts, plain_of, plain_shape, split_module}
 use Rattle.frame_contents.specs.Frames.{AreLayouts}
 use Rattle.frame_contents.specs.declared.contents.Contents.{Contents}
@@ -241,10 +242,10 @@ module _ (text : List ℕ) (m : Module) (bytes : AreBytes text) (stands : Stands
     tabled : HasTabledLocals l g
     filled : HasFilledPhis g
 
-  part_good : (k l : ℕ) (f g : Function) (layout : Layout) (number : ℕ) → slice_get n.functions k ≡ Some f → f.coroutine ≡ true → slice_get (marked_parts layout (with_exit_blocks f)) number ≡ Some g → IsGood l g
+  part_good : (k l : ℕ) (f g : Function) (layout : Layout) (number : ℕ) → slice_get n.functions k ≡ Some f → f.coroutine ≡ true → slice_get (marked_parts layout (has_given_call n f) (with_exit_blocks f)) number ≡ Some g → IsGood l g
   part_good k l f g layout number there c is_one =
       let h : Function = with_exit_blocks f in
-      let p = some_part (shape_of h layout) h g number is_one in
+      let p = some_part (shape_of h layout) (has_given_call n f) h g number is_one in
       let r = ready.coroutines k f there c in
       record {
         spelled = parts_spelled layout p.part h g p.is (exits_spelled f (framed_one k f there));
@@ -273,10 +274,10 @@ module _ (text : List ℕ) (m : Module) (bytes : AreBytes text) (stands : Stands
   split_good : (l : ℕ) (g : Function) → slice_get split.functions l ≡ Some g → IsGood l g
   split_good l g there = on r.source.coroutine refl r.is_one
     where
-      r : ComesBy layouts.coroutines n.functions g
-      r = comes_by layouts.coroutines n.functions l g there
+      r : ComesBy layouts.coroutines n n.functions g
+      r = comes_by layouts.coroutines n n.functions l g there
 
-      on : (b : Bool) → r.source.coroutine ≡ b → slice_get (if b then marked_parts r.layout (with_exit_blocks r.source) else plain_of (plain_shape r.source) r.source ∷ []) r.number ≡ Some g → IsGood l g
+      on : (b : Bool) → r.source.coroutine ≡ b → slice_get (if b then marked_parts r.layout (has_given_call n r.source) (with_exit_blocks r.source) else plain_of (plain_shape r.source) r.source ∷ []) r.number ≡ Some g → IsGood l g
       on true c is_one = part_good r.position l r.source g r.layout r.number r.stands c is_one
       on false c is_one = plain_good r.position l r.source g r.number r.stands c is_one
 

@@ -54,29 +54,29 @@ done_none : (n : ℕ) (r : Option ℕ) (p : Operand) → Each IsNoAlloca (done_t
 done_none n None p = tt
 done_none n (Some v) p = (refl, (refl, tt))
 
-call_none : (s : Shape) (n : ℕ) (i : Instr) (x : Intrinsic) (r : Option ℕ) (args : List Arg) → is_alloca i ≡ false → Each IsNoAlloca (lowered_call s n i x r args)
-call_none s n i Intrinsic.CoroSizeI32 r args e = number_none r 32 s.size
-call_none s n i Intrinsic.CoroSizeI64 r args e = number_none r 64 s.size
-call_none s n i Intrinsic.CoroAlignI32 r args e = number_none r 32 s.align
-call_none s n i Intrinsic.CoroAlignI64 r args e = number_none r 64 s.align
-call_none s n i Intrinsic.CoroAlloc r args e = truth_none r _
-call_none s n i Intrinsic.CoroBegin r args e = (refl, (refl, (refl, (refl, tt))))
-call_none s n i Intrinsic.CoroFree r args e = address_none r _ _
-call_none s n i Intrinsic.CoroFrame r args e = address_none r _ _
-call_none s n i Intrinsic.CoroSave r args e = save_none s n (number_of_save s r)
-call_none s n i Intrinsic.CoroSuspend r args e = tt
-call_none s n i Intrinsic.CoroEnd r args e = truth_none r _
-call_none s n i Intrinsic.CoroResume r args e = (refl, (refl, tt))
-call_none s n i Intrinsic.CoroDestroy r args e = (refl, (refl, (refl, tt)))
-call_none s n i Intrinsic.CoroDone r args e = done_none n r _
-call_none s n i Intrinsic.CoroPromise r args e = address_none r _ _
-call_none s n i _ r args e = (e, tt)
+call_none : (s : Shape) (part : Part) (n : ℕ) (i : Instr) (x : Intrinsic) (r : Option ℕ) (args : List Arg) → is_alloca i ≡ false → Each IsNoAlloca (lowered_call s part n i x r args)
+call_none s part n i Intrinsic.CoroSizeI32 r args e = number_none r 32 s.size
+call_none s part n i Intrinsic.CoroSizeI64 r args e = number_none r 64 s.size
+call_none s part n i Intrinsic.CoroAlignI32 r args e = number_none r 32 s.align
+call_none s part n i Intrinsic.CoroAlignI64 r args e = number_none r 64 s.align
+call_none s part n i Intrinsic.CoroAlloc r args e = truth_none r _
+call_none s part n i Intrinsic.CoroBegin r args e = (refl, (refl, (refl, (refl, tt))))
+call_none s part n i Intrinsic.CoroFree r args e = address_none r _ _
+call_none s part n i Intrinsic.CoroFrame r args e = address_none r _ _
+call_none s part n i Intrinsic.CoroSave r args e = save_none s n (number_of_save s r)
+call_none s part n i Intrinsic.CoroSuspend r args e = tt
+call_none s part n i Intrinsic.CoroEnd r args e = truth_none r _
+call_none s part n i Intrinsic.CoroResume r args e = (refl, (refl, tt))
+call_none s part n i Intrinsic.CoroDestroy r args e = (refl, (refl, (refl, tt)))
+call_none s part n i Intrinsic.CoroDone r args e = done_none n r _
+call_none s part n i Intrinsic.CoroPromise r args e = address_none r _ _
+call_none s part n i _ r args e = (e, tt)
 
-pub lowered_none : (s : Shape) (n : ℕ) (i : Instr) → is_alloca i ≡ false → Each IsNoAlloca (lowered s n i)
-lowered_none s n (Instr.Call r must_tail ty (Callee.Intrinsic x) args) e = call_none s n (Instr.Call r must_tail ty (Callee.Intrinsic x) args) x r args e
-lowered_none s n (Instr.Call r must_tail ty callee args) e = (refl, tt)
-lowered_none s n (Instr.Alloca r ty align) e = absurd (cc)
-lowered_none s n _ e = (refl, tt)
+pub lowered_none : (s : Shape) (part : Part) (n : ℕ) (i : Instr) → is_alloca i ≡ false → Each IsNoAlloca (lowered s part n i)
+lowered_none s part n (Instr.Call r must_tail ty (Callee.Intrinsic x) args) e = call_none s part n (Instr.Call r must_tail ty (Callee.Intrinsic x) args) x r args e
+lowered_none s part n (Instr.Call r must_tail ty callee args) e = (refl, tt)
+lowered_none s part n (Instr.Alloca r ty align) e = absurd (cc)
+lowered_none s part n _ e = (refl, tt)
 
 -- an alloca stays and doesn't cut its block
 alloca_stays : (s : Shape) (part : Part) (i : Instr) (after : List Instr) → is_alloca i ≡ true → cut_at s part i after ≡ Cut.Stays
@@ -91,9 +91,9 @@ alloca_goes_on part (Instr.Alloca r ty align) e = on (goes_on part)
     on false = refl
 alloca_goes_on part _ e = absurd (cc)
 
-alloca_lowered : (s : Shape) (n : ℕ) (i : Instr) → is_alloca i ≡ true → lowered s n i ≡ i ∷ []
-alloca_lowered s n (Instr.Alloca r ty align) e = refl
-alloca_lowered s n _ e = absurd (cc)
+alloca_lowered : (s : Shape) (part : Part) (n : ℕ) (i : Instr) → is_alloca i ≡ true → lowered s part n i ≡ i ∷ []
+alloca_lowered s part n (Instr.Alloca r ty align) e = refl
+alloca_lowered s part n _ e = absurd (cc)
 
 -- ---- pieces
 
@@ -102,11 +102,11 @@ module _ (s : Shape) (part : Part) where
   none_allocas t _ _ _ _ _ _ (Ends label n phis) h = (tt, tt)
   none_allocas t _ _ _ _ _ _ (Stays label n last phis i is c cs e d rest) h =
       let more = none_allocas t label phis (n + names_taken i) last is (c ∷ cs) rest h.1 in
-      (each_joined IsNoAlloca (lowered s n i) c.instrs (lowered_none s n i h.0) more.0, more.1)
-  none_allocas t _ _ _ _ _ _ (Marks label n last mark phis i is cs e d rest) h = (lowered_none s n i h.0, none_allocas t mark [] (n + names_taken i) last is cs rest h.1)
+      (each_joined IsNoAlloca (lowered s part n i) c.instrs (lowered_none s part n i h.0) more.0, more.1)
+  none_allocas t _ _ _ _ _ _ (Marks label n last mark phis i is cs e d rest) h = (lowered_none s part n i h.0, none_allocas t mark [] (n + names_taken i) last is cs rest h.1)
   none_allocas t _ _ _ _ _ _ (Suspends label n phis i is e d) h = (tt, tt)
   none_allocas t _ _ _ _ _ _ (Returns label n phis i is e d) h = (tt, tt)
-  none_allocas t _ _ _ _ _ _ (Transfers label n j phis i is e d) h = (tt, (lowered_none s n i h.0, tt))
+  none_allocas t _ _ _ _ _ _ (Transfers label n j phis i is e d) h = (tt, (lowered_none s part n i h.0, tt))
   none_allocas t _ _ _ _ _ _ (BeginsAgain label n phis i is e) h = (tt, tt)
 
   -- the first piece begins with these instructions, and the others have no alloca
@@ -114,8 +114,8 @@ module _ (s : Shape) (part : Part) where
   HasFront xs [] = ⊥
   HasFront xs (c ∷ cs) = ((more : List Instr) × (c.instrs ≡ xs ++ more)) × Each HasNoAlloca cs
 
-  in_front_of : (a : Instr) (xs : List Instr) (c : Block) (cs : List Block) (n : ℕ) → is_alloca a ≡ true → HasFront xs (c ∷ cs) → HasFront (a ∷ xs) (in_front (lowered s n a) c ∷ cs)
-  in_front_of a xs c cs n e h = ((h.0.0, λ k. alloca_lowered s n a e k ++ h.0.1 k), h.1)
+  in_front_of : (a : Instr) (xs : List Instr) (c : Block) (cs : List Block) (n : ℕ) → is_alloca a ≡ true → HasFront xs (c ∷ cs) → HasFront (a ∷ xs) (in_front (lowered s part n a) c ∷ cs)
+  in_front_of a xs c cs n e h = ((h.0.0, λ k. alloca_lowered s part n a e k ++ h.0.1 k), h.1)
 
   pub front_pieces : (t : Terminator) (label : ℕ) (phis : List Phi) (n last : ℕ) (js : List Instr) (cs : List Block) → ArePieces s part t label phis n js cs last → (xs ys : List Instr) → js ≡ xs ++ ys → Each IsAnAlloca xs → Each IsNoAlloca ys → HasFront xs cs
   front_pieces t label phis n last js cs h [] ys same a b = on cs (none_allocas t label phis n last js cs h (subst (Each IsNoAlloca) (sym same) b)) (head_is s part t label phis n last js cs h)
@@ -127,7 +127,7 @@ module _ (s : Shape) (part : Part) where
   front_pieces t _ _ _ _ _ _ (Stays label n last phis i is c cs e d rest) (x ∷ xs) ys same a b =
       let one : i ≡ x = cc in
       let more : is ≡ xs ++ ys = cc in
-      subst (λ (j : Instr). HasFront (j ∷ xs) (in_front (lowered s n i) c ∷ cs)) one
+      subst (λ (j : Instr). HasFront (j ∷ xs) (in_front (lowered s part n i) c ∷ cs)) one
       (in_front_of i xs c cs n (ap is_alloca one ∙ a.0) (front_pieces t label phis (n + names_taken i) last is (c ∷ cs) rest xs ys more a.1 b))
   front_pieces t _ _ _ _ _ _ (Marks label n last mark phis i is cs e d rest) (x ∷ xs) ys same a b =
       let one : i ≡ x = cc in

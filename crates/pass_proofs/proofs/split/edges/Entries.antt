@@ -169,8 +169,10 @@ first_cut s part os _ _ _ _ more (OneBlock n next last c bs cs ds k rest) b d e 
 
 pub entry_is : (s : Shape) (part : Part) (h : Function) (b e : Block) → slice_get h.blocks 0 ≡ Some b → slice_get (whole s part h) 0 ≡ Some e → IsEntryLabel s part h e.label
 entry_is s Part.Ramp h b e d g = OfRamp refl b d (first_cut s Part.Ramp _ _ _ h.blocks _ (done_block s ∷ []) (are_cut s Part.Ramp h) b d e g)
+entry_is s Part.GivenRamp h b e d g = OfRamp refl b d (first_cut s Part.GivenRamp _ _ _ h.blocks _ (done_block s ∷ []) (are_cut s Part.GivenRamp h) b d e g)
 entry_is s Part.Resume h b e d g = let same : entry_block s (reached h) Part.Resume h.blocks ≡ e = cc in OfLater refl (ap label_of (sym same))
 entry_is s Part.Destroy h b e d g = let same : entry_block s (reached h) Part.Destroy h.blocks ≡ e = cc in OfLater refl (ap label_of (sym same))
+entry_is s Part.Cleanup h b e d g = let same : entry_block s (reached h) Part.Cleanup h.blocks ≡ e = cc in OfLater refl (ap label_of (sym same))
 
 -- ---- labels and the blocks that have them
 

@@ -38,7 +38,7 @@ use Rattle.rule_laws.proofs.frames.replaced.Modules.{size_there}
 use Rattle.rule_laws.proofs.frames.replaced.Saves.{saves_below}
 use Rattle.pass_proofs.specs.split.rules.Parted.{IsPartOf}
 use Rattle.pass_proofs.specs.split.rules.Pieced.{ArePiecesOf, NoBlock, OneBlock}
-use Rattle.rule_laws.specs.frames.replaced.Replaced.{Address, Calls, Loads, Number, Replaces, StoresDestroy, StoresIndex, StoresNull, StoresResume, Tests, Truth}
+use Rattle.rule_laws.specs.frames.replaced.Replaced.{Address, Calls, Loads, Number, Replaces, StoresCleanup, StoresDestroy, StoresIndex, StoresNull, StoresResume, Tests, Truth}
 use Rattle.pass_proofs.specs.split.rules.Splittable.{IsSplittable}
 use Rattle.run_laws.specs.changed.Changed.{Each}
 use Rattle.rule_types.specs.Signatures.{calls_otherwise}
@@ -120,6 +120,11 @@ entry_begins s Part.Resume f b e a d w =
 entry_begins s Part.Destroy f b e a d w =
     let same : entry_block s (reached f) Part.Destroy f.blocks ≡ e = cc in
     (index_instrs s, ap (λ (c : Block). c.instrs) (sym same) ∙ ap (λ (is : List Instr). is ++ index_instrs s) (allocas_are f.blocks b d))
+entry_begins s Part.Cleanup f b e a d w =
+    let same : entry_block s (reached f) Part.Cleanup f.blocks ≡ e = cc in
+    (index_instrs s, ap (λ (c : Block). c.instrs) (sym same) ∙ ap (λ (is : List Instr). is ++ index_instrs s) (allocas_are f.blocks b d))
+entry_begins s Part.GivenRamp f b e a d w =
+    first_front s Part.GivenRamp _ _ _ f.blocks _ (done_block s ∷ []) (are_cut s Part.GivenRamp f) b d (filter is_alloca b.instrs) (filter is_no_alloca b.instrs) (ap (λ (c : Block). c.instrs) (sym a)) (all_allocas b.instrs) (no_allocas b.instrs) e w
 
 -- ---- the sizes of slots stay
 
@@ -180,12 +185,13 @@ module _ (m n : Module) (k : ℕ) (f : Function) (begin : ℕ) (parts : HasParts
   marked_again sizes now h p q _ e = refl
 
   -- what is lowered marks nothing
-  marks_none : (sizes : ℕ → Option ℕ) (q : Place) (j : ℕ) (y : Intrinsic) (r : Option ℕ) (ty : Option Ty) (args : List Arg) (i : Instr) → Replaces s j y r ty args i → marks_otherwise sizes q i ≡ false
+  marks_none : (sizes : ℕ → Option ℕ) (q : Place) (j : ℕ) (y : Intrinsic) (r : Option ℕ) (ty : Option Ty) (args : List Arg) (i : Instr) → Replaces s part j y r ty args i → marks_otherwise sizes q i ≡ false
   marks_none sizes q j y r ty args _ (Number v w z a b c d) = refl
   marks_none sizes q j y r ty args _ (Truth v b c d) = refl
   marks_none sizes q j y r ty args _ (Address v p z a b c) = refl
   marks_none sizes q j y r ty args _ (StoresResume p a b) = refl
   marks_none sizes q j y r ty args _ (StoresDestroy p a b) = refl
+  marks_none sizes q j y r ty args _ (StoresCleanup p a b c) = refl
   marks_none sizes q j y r ty args _ (StoresNull p a) = refl
   marks_none sizes q j y r ty args _ (StoresIndex i p a b) = refl
   marks_none sizes q j y r ty args _ (Loads v p a b) = refl

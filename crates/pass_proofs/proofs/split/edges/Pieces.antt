@@ -317,11 +317,11 @@ module _ (s : Shape) (part : Part) where
   whole_piece t _ _ _ _ _ _ (Ends label n phis) none l o = let same : label ≡ l = cc in record { piece = _; listed = inl refl; has_label = same; has_term = refl }
   whole_piece t _ _ _ _ _ _ (Stays label n last phis i is c cs e d rest) none l o = on (whole_piece t label phis (n + names_taken i) last is (c ∷ cs) rest (λ j k. none j (inr k)) l (sym (ap (λ (x : Origin). origin_in s part x is) (origin_step label i Cut.Stays e (alone i is Cut.Stays no_stays d))) ∙ o))
     where
-      at : (x : Block) → IsListed x (c ∷ cs) → x.label ≡ l → x.term ≡ redirected_term s t → IsWhole t l (in_front (lowered s n i) c ∷ cs)
-      at x (inl same) a b = record { piece = in_front (lowered s n i) c; listed = inl refl; has_label = ap label_of (sym same) ∙ a; has_term = ap (λ (y : Block). y.term) (sym same) ∙ b }
+      at : (x : Block) → IsListed x (c ∷ cs) → x.label ≡ l → x.term ≡ redirected_term s t → IsWhole t l (in_front (lowered s part n i) c ∷ cs)
+      at x (inl same) a b = record { piece = in_front (lowered s part n i) c; listed = inl refl; has_label = ap label_of (sym same) ∙ a; has_term = ap (λ (y : Block). y.term) (sym same) ∙ b }
       at x (inr k) a b = record { piece = x; listed = inr k; has_label = a; has_term = b }
 
-      on : IsWhole t l (c ∷ cs) → IsWhole t l (in_front (lowered s n i) c ∷ cs)
+      on : IsWhole t l (c ∷ cs) → IsWhole t l (in_front (lowered s part n i) c ∷ cs)
       on x = at x.piece x.listed x.has_label x.has_term
   whole_piece t _ _ _ _ _ _ (Marks label n last mark phis i is cs e d rest) none l o =
       let x = whole_piece t mark [] (n + names_taken i) last is cs rest (λ j k. none j (inr k)) l (sym (ap (λ (x : Origin). origin_in s part x is) (origin_step label i (Cut.Marks mark) e (alone i is (Cut.Marks mark) (no_marks mark) d))) ∙ o) in

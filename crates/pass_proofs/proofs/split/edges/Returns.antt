@@ -114,6 +114,8 @@ later_source : (part : Part) (f : Function) → goes_on part ≡ true → f ≡ 
 later_source Part.Ramp f e = absurd (cc)
 later_source Part.Resume f e = refl
 later_source Part.Destroy f e = refl
+later_source Part.Cleanup f e = refl
+later_source Part.GivenRamp f e = absurd (cc)
 
 -- ---- the part
 

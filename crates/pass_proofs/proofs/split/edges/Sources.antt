@@ -1,6 +1,6 @@
 -- The function that is cut for each part: the coroutine itself, and for the ramp the one whose entry block has its allocas in front.
 use Rattle.std.proofs.Common.{ap, refl, sym, ℕ, ◌≡◌}
-use Rattle.pass_split.specs.Parts.{later_part, origins_for, part_names, ramp_of}
+use Rattle.pass_split.specs.Parts.{given_ramp_of, later_part, origins_for, part_names, ramp_of}
 use Rattle.pass_split.specs.Pieces.{stop_label}
 use Rattle.pass_split.specs.Reached.{pruned}
 use Rattle.frame_layout.specs.declared.layout.Layout.{Layout}
@@ -14,7 +14,7 @@ use Rattle.pass_proofs.proofs.split.edges.Labels.{whole}
 use Rattle.pass_proofs.proofs.split.edges.Marked.{are_marks, marks_different}
 use Rattle.pass_proofs.proofs.split.edges.Pieces.{labels, marks}
 use Rattle.pass_proofs.proofs.split.edges.Rules.{destroy_known, end_is, label_low, labels_different, resume_known, stopped, target_known, the_end}
-use Rattle.pass_proofs.specs.split.rules.Parted.{IsDestroy, IsPartOf, IsRamp, IsResume}
+use Rattle.pass_proofs.specs.split.rules.Parted.{IsCleanup, IsDestroy, IsGivenRamp, IsPartOf, IsRamp, IsResume}
 use Rattle.pass_proofs.specs.split.rules.Splittable.{IsSplittable}
 
 -- ---- the function that is cut is as its labels ask
@@ -49,3 +49,5 @@ pub pruned_part : (s : Shape) (part : Part) (f g : Function) → IsPartOf s f pa
 pruned_part s _ f _ IsRamp = record { before = ramp_of s f; is = refl; blocks = refl; names = refl }
 pruned_part s _ f _ IsResume = record { before = later_part s Part.Resume s.resume_name f; is = refl; blocks = refl; names = refl }
 pruned_part s _ f _ IsDestroy = record { before = later_part s Part.Destroy s.destroy_name f; is = refl; blocks = refl; names = refl }
+pruned_part s _ f _ IsCleanup = record { before = later_part s Part.Cleanup s.cleanup_name f; is = refl; blocks = refl; names = refl }
+pruned_part s _ f _ IsGivenRamp = record { before = given_ramp_of s f; is = refl; blocks = refl; names = refl }

@@ -115,6 +115,8 @@ pub goes_on_label : (part : Part) (p : SuspendPoint) → goes_on part ≡ true �
 goes_on_label Part.Ramp p e = absurd (cc)
 goes_on_label Part.Resume p e = inl refl
 goes_on_label Part.Destroy p e = inr refl
+goes_on_label Part.Cleanup p e = inr refl
+goes_on_label Part.GivenRamp p e = absurd (cc)
 
 -- so many names of instructions
 pub instr_names_long : (n : ℕ) → length (instr_names n) ≡ n
@@ -212,7 +214,7 @@ module _ (s : Shape) (part : Part) (h : Function) (ok : IsCuttable s part h) whe
       let points : List Name = suspend_names (length s.suspends) in
       let a : length (names_of s names count) ≡ length ((old ++ mark_names) ++ points) + length (instr_names count) = length-append ((old ++ mark_names) ++ points) (instr_names count) in
       let b : length ((old ++ mark_names) ++ points) ≡ length (old ++ mark_names) + length points = length-append (old ++ mark_names) points in
-      let c : length (old ++ mark_names) ≡ length old + 6 = length-append old mark_names in
+      let c : length (old ++ mark_names) ≡ length old + 7 = length-append old mark_names in
       let d : length old ≡ length names = set_length names s.begin frame_mark in
       let e : length points ≡ 3 * length s.suspends = suspends_named (length s.suspends) in
       let i : length (instr_names count) ≡ count = instr_names_long count in

@@ -1,24 +1,26 @@
 -- From which functions those of a split module come, and by which layouts.
 use Rattle.std.proofs.Common.{◌≡◌, ◌⊎◌, ⊎_elim, inl, inr, ℕ, suc, Bool, true, false, List, [], ◌∷◌, refl}
 use Rattle.std.specs.Prelude.{Some, slice_get, if◌then◌else◌}
+use Rattle.pass_split.specs.Given.{has_given_call}
 use Rattle.pass_split.specs.Parts.{first_layout, layouts_after, other_layouts, split_function, split_functions}
 use Rattle.flow_solver.specs.Paths.{IsListed}
 use Rattle.frame_layout.specs.Frames.{index_alone}
 use Rattle.frame_layout.specs.declared.layout.Layout.{Layout}
 use Rattle.ir_model.specs.declared.module.Function.{Function}
+use Rattle.ir_model.specs.declared.module.Module.{Module}
 use Rattle.ir_laws.proofs.facts.Lists.{of_both}
 
 abbrev pub IsAmong : List Layout → Layout → Type 0
 IsAmong ls l = IsListed l ls ⊎ (l ≡ index_alone 0 0)
 
-pub record ComesBy (ls : List Layout) (fs : List Function) (g : Function) : Type 0 where
+pub record ComesBy (ls : List Layout) (m : Module) (fs : List Function) (g : Function) : Type 0 where
   pub position : ℕ
   pub source : Function
   pub stands : slice_get fs position ≡ Some source
   pub layout : Layout
   pub given : IsAmong ls layout
   pub number : ℕ
-  pub is_one : slice_get (split_function layout source) number ≡ Some g
+  pub is_one : slice_get (split_function layout (has_given_call m source) source) number ≡ Some g
 
 first_given : (ls : List Layout) → IsAmong ls (first_layout ls)
 first_given [] = inr refl
@@ -36,12 +38,12 @@ later_given f ls l = on f.coroutine
     on true h = other_given ls l h
     on false h = h
 
-pub comes_by : (ls : List Layout) (fs : List Function) (k : ℕ) (g : Function) → slice_get (split_functions ls fs) k ≡ Some g → ComesBy ls fs g
-comes_by ls [] k g e = absurd (cc)
-comes_by ls (f ∷ fs) k g e =
+pub comes_by : (ls : List Layout) (m : Module) (fs : List Function) (k : ℕ) (g : Function) → slice_get (split_functions ls m fs) k ≡ Some g → ComesBy ls m fs g
+comes_by ls m [] k g e = absurd (cc)
+comes_by ls m (f ∷ fs) k g e =
     ⊎_elim
     (λ h. record { position = 0; source = f; stands = refl; layout = first_layout ls; given = first_given ls; number = h.at; is_one = h.is })
     (λ h.
-    let r = comes_by (layouts_after f ls) fs h.at g h.is in
+    let r = comes_by (layouts_after f ls) m fs h.at g h.is in
     record { position = suc r.position; source = r.source; stands = r.stands; layout = r.layout; given = later_given f ls r.layout r.given; number = r.number; is_one = r.is_one })
-    (of_both (split_function (first_layout ls) f) (split_functions (layouts_after f ls) fs) k g e)
+    (of_both (split_function (first_layout ls) (has_given_call m f) f) (split_functions (layouts_after f ls) m fs) k g e)

@@ -33,7 +33,7 @@ module _ (ls : Layouts) (m : Module) (h : KeepsItemRules Stage.Source m) (short 
 
   pub split_keeps_items : KeepsItemRules Stage.Plain split
   split_keeps_items =
-      items_kept m (split_functions ls.coroutines m.functions) (knows_name_kept m split (has_parts ls m h short)) Stage.Source Stage.Plain h split_names_free
+      items_kept m (split_functions ls.coroutines m m.functions) (knows_name_kept m split (has_parts ls m h short)) Stage.Source Stage.Plain h split_names_free
       (record {
         types = λ k t there. refl;
         globals = λ k g there. out_of_both (is_reserved g.name) false (or_parts (is_reserved g.name) (is_part m g.name) (h.reserved.globals k g there)).0 refl;

@@ -2,7 +2,7 @@
 use Rattle.std.proofs.Common.{◌≡◌, ℕ, zero, suc, ◌≤◌, ◌^◌, true, List, [], ◌∷◌, ◌++◌, length, refl, sym, subst, arith}
 use Rattle.std.specs.Prelude.{codes, slice_set}
 use Rattle.ir_base.specs.declared.name.Name.{Name}
-use Rattle.pass_split.specs.Parts.{back_name, begun_mark, done_mark, entry_mark, frame_mark, index_mark, instr_names, mark_names, none_mark, pass_name, saved_name, slot_mark, suspend_names}
+use Rattle.pass_split.specs.Parts.{back_name, begun_mark, done_mark, entry_mark, frame_mark, given_mark, index_mark, instr_names, mark_names, none_mark, pass_name, saved_name, slot_mark, suspend_names}
 use Rattle.ir_model.specs.Names.{numbered}
 use Rattle.pass_exits.specs.ExitBlocks.{exit_names}
 use Rattle.pass_exits.specs.declared.exit.Exit.{Exit}
@@ -17,14 +17,14 @@ use Rattle.rule_laws.specs.rules.names_apart.Words.{IsOfWords, IsTableOf, begins
 -- ---- the names of marks, of suspends and of instructions
 
 abbrev mark_words : List (List ℕ)
-mark_words = codes "$c.begun" ∷ codes "$c.done" ∷ codes "$c.entry" ∷ codes "$c.none" ∷ codes "$c.slot" ∷ codes "$c.index" ∷ []
+mark_words = codes "$c.begun" ∷ codes "$c.done" ∷ codes "$c.entry" ∷ codes "$c.none" ∷ codes "$c.slot" ∷ codes "$c.index" ∷ codes "$c.given" ∷ []
 
 abbrev pub suspend_words : List (List ℕ)
 suspend_words = codes "$c.saved." ∷ codes "$c.back." ∷ codes "$c.pass." ∷ []
 
 marks_new : AreNew mark_words mark_names
-unfolding begun_mark done_mark entry_mark none_mark slot_mark index_mark
-marks_new = record { different = tested mark_names refl; words = (refl, (refl, (refl, (refl, (refl, (refl, tt)))))) }
+unfolding begun_mark done_mark entry_mark none_mark slot_mark index_mark given_mark
+marks_new = record { different = tested mark_names refl; words = (refl, (refl, (refl, (refl, (refl, (refl, (refl, tt))))))) }
 
 pub suspends_are : (n : ℕ) → suspend_names n ≡ rows suspend_words n
 unfolding saved_name back_name pass_name

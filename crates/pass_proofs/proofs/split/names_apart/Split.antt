@@ -1,13 +1,15 @@
 -- The names of each function into which one is split are different.
 use Rattle.std.proofs.Common.{◌≡◌, ℕ, ◌-◌, Bool, true, false, List, [], ◌∷◌, length, refl, arith}
 use Rattle.std.specs.Prelude.{Some, slice_get, if◌then◌else◌}
-use Rattle.pass_split.specs.Parts.{first_layout, layouts_after, marked_parts, names_of, origins_for, plain_of, plain_shape, split_function, split_functions}
+use Rattle.pass_split.specs.Given.{has_given_call}
+use Rattle.pass_split.specs.Parts.{first_layout, given_parts, layouts_after, marked_parts, names_of, origins_for, part_names, plain_of, plain_shape, split_function, split_functions}
 use Rattle.pass_split.specs.Pieces.{next_after}
 use Rattle.frame_layout.specs.declared.layout.Layout.{Layout}
 use Rattle.pass_intrinsics.specs.Shapes.{first_name, shape_of}
 use Rattle.pass_intrinsics.specs.declared.shape.Part.{Part}
 use Rattle.pass_intrinsics.specs.declared.shape.Shape.{Shape}
 use Rattle.ir_model.specs.declared.module.Function.{Function}
+use Rattle.ir_model.specs.declared.module.Module.{Module}
 use Rattle.pass_exits.specs.ExitBlocks.{with_exit_blocks}
 use Rattle.pass_exits.specs.Exits.{exits_of}
 use Rattle.ir_laws.proofs.facts.Members.{at_each, each_behind}
@@ -25,36 +27,37 @@ part_of s g count h few =
     let longer = part_longer g.names (exits_of g) s.begin (length s.suspends) count in
     part_apart g.names (exits_of g) s.begin (length s.suspends) count (h (omega (arith, longer, few))) few
 
-parts_apart : (l : Layout) (g : Function) → (AreFew g.names → IsTableOf framed_words g.names) → Each IsApart (marked_parts l (with_exit_blocks g))
-parts_apart l g h =
-    let f : Function = with_exit_blocks g in
-    let s : Shape = shape_of f l in (
-      part_of s g (next_after s Part.Ramp (origins_for s Part.Ramp f) (first_name s) f.blocks - first_name s) h,
-      (
-        part_of s g (next_after s Part.Resume (origins_for s Part.Resume f) (first_name s) f.blocks - first_name s) h,
-        (
-          part_of s g (next_after s Part.Destroy (origins_for s Part.Destroy f) (first_name s) f.blocks - first_name s) h,
-          tt,
-        ),
-      ),
-    )
+parts_apart : (l : Layout) (given : Bool) (g : Function) → (AreFew g.names → IsTableOf framed_words g.names) → Each IsApart (marked_parts l given (with_exit_blocks g))
+parts_apart l given g h = (each Part.Ramp, (each Part.Resume, (each Part.Destroy, others given)))
+  where
+    s : Shape
+    s = shape_of (with_exit_blocks g) l
+
+    each : (part : Part) → AreFew (part_names (shape_of (with_exit_blocks g) l) part (with_exit_blocks g) (origins_for (shape_of (with_exit_blocks g) l) part (with_exit_blocks g))) → AreApart (part_names (shape_of (with_exit_blocks g) l) part (with_exit_blocks g) (origins_for (shape_of (with_exit_blocks g) l) part (with_exit_blocks g)))
+    each part =
+        let f : Function = with_exit_blocks g in
+        part_of s g (next_after s part (origins_for s part f) (first_name s) f.blocks - first_name s) h
+
+    others : (b : Bool) → Each IsApart (if b then given_parts s (with_exit_blocks g) else [])
+    others true = (each Part.Cleanup, (each Part.GivenRamp, tt))
+    others false = tt
 
 plain_alone : (f : Function) → IsTableOf [] f.names → IsApart (plain_of (plain_shape f) f)
 plain_alone f h few =
     let s : Shape = plain_shape f in
     plain_apart f.names (next_after s Part.Ramp [] s.base f.blocks - s.base) h few
 
-split_apart : (l : Layout) (f : Function) → IsSplitTable f → Each IsApart (split_function l f)
-split_apart l f h = on f.coroutine refl
+split_apart : (l : Layout) (given : Bool) (f : Function) → IsSplitTable f → Each IsApart (split_function l given f)
+split_apart l given f h = on f.coroutine refl
   where
-    on : (b : Bool) → f.coroutine ≡ b → Each IsApart (if b then marked_parts l (with_exit_blocks f) else plain_of (plain_shape f) f ∷ [])
-    on true e = parts_apart l f (h.coroutine e)
+    on : (b : Bool) → f.coroutine ≡ b → Each IsApart (if b then marked_parts l given (with_exit_blocks f) else plain_of (plain_shape f) f ∷ [])
+    on true e = parts_apart l given f (h.coroutine e)
     on false e = (plain_alone f (h.other e), tt)
 
-pub split_at : (l : Layout) (f : Function) → IsSplitTable f → (k : ℕ) (p : Function) → slice_get (split_function l f) k ≡ Some p → AreFew p.names → AreApart p.names
-split_at l f h k p there few = at_each IsApart (split_function l f) k p (split_apart l f h) there few
+pub split_at : (l : Layout) (given : Bool) (f : Function) → IsSplitTable f → (k : ℕ) (p : Function) → slice_get (split_function l given f) k ≡ Some p → AreFew p.names → AreApart p.names
+split_at l given f h k p there few = at_each IsApart (split_function l given f) k p (split_apart l given f h) there few
 
-pub functions_apart : (ls : List Layout) (fs : List Function) → Each IsSplitTable fs → Each IsApart (split_functions ls fs)
-functions_apart ls [] h = tt
-functions_apart ls (f ∷ fs) h =
-    each_behind IsApart (split_function (first_layout ls) f) (split_functions (layouts_after f ls) fs) (split_apart (first_layout ls) f h.0) (functions_apart (layouts_after f ls) fs h.1)
+pub functions_apart : (ls : List Layout) (m : Module) (fs : List Function) → Each IsSplitTable fs → Each IsApart (split_functions ls m fs)
+functions_apart ls m [] h = tt
+functions_apart ls m (f ∷ fs) h =
+    each_behind IsApart (split_function (first_layout ls) (has_given_call m f) f) (split_functions (layouts_after f ls) m fs) (split_apart (first_layout ls) (has_given_call m f) f h.0) (functions_apart (layouts_after f ls) m fs h.1)

@@ -78,7 +78,7 @@ module _ (s : Shape) (part : Part) (f g : Function) (block at piece offset : ℕ
 
   module _ (i : Instr) (is : List Instr) (ahead : p.ahead ≡ i ∷ is) where
     abbrev code : List Instr
-    code = lowered s p.new i
+    code = lowered s part p.new i
 
     abbrev Goal : Type 0
     Goal = IsCode s part f g block at piece offset i is p.source.term

@@ -19,18 +19,18 @@ module _ (s : Shape) (part : Part) (t : Terminator) where
   pub data IsCut (label : ℕ) (phis : List Phi) (n last : ℕ) (i : Instr) (is : List Instr) (cs : List Block) : Type 0
     where
       AsOne : (c : Block) (ds : List Block) → begins_again part i ≡ false → cut_at s part i is ≡ Cut.Stays
-          → ArePieces s part t label phis (n + names_taken i) is (c ∷ ds) last → cs ≡ in_front (lowered s n i) c ∷ ds
+          → ArePieces s part t label phis (n + names_taken i) is (c ∷ ds) last → cs ≡ in_front (lowered s part n i) c ∷ ds
           → IsCut label phis n last i is cs
       AtMark : (mark : ℕ) (ds : List Block) → begins_again part i ≡ false → cut_at s part i is ≡ Cut.Marks mark
           → ArePieces s part t mark [] (n + names_taken i) is ds last
-          → cs ≡ block_with label phis (lowered s n i) (Terminator.Jump mark) ∷ ds → IsCut label phis n last i is cs
+          → cs ≡ block_with label phis (lowered s part n i) (Terminator.Jump mark) ∷ ds → IsCut label phis n last i is cs
       AtSuspend : begins_again part i ≡ false → cut_at s part i is ≡ Cut.Suspends
           → cs ≡ block_with label phis [] (Terminator.Jump (stop_label t)) ∷ [] → IsCut label phis n last i is cs
       AtReturn : begins_again part i ≡ false → cut_at s part i is ≡ Cut.Returns
           → cs ≡ block_with label phis [] (Terminator.Ret None) ∷ [] → IsCut label phis n last i is cs
       AtTransfer : (j : ℕ) → begins_again part i ≡ false → cut_at s part i is ≡ Cut.Transfers j
           → last ≡ n + names_taken i → cs ≡ block_with label phis [] (Terminator.Jump (pass_label s j)) ∷ pass_block
-          (pass_label s j) (lowered s n i) ∷ [] → IsCut label phis n last i is cs
+          (pass_label s j) (lowered s part n i) ∷ [] → IsCut label phis n last i is cs
       AtBegin : begins_again part i ≡ true → cs ≡ block_with label phis [] Terminator.Unreachable ∷ []
           → IsCut label phis n last i is cs
 

@@ -37,7 +37,7 @@ one_piece : (s : Shape) (t : Terminator) (label n : ℕ) (phis : List Phi) (is :
 one_piece s t _ _ _ _ _ _ (Ends label n phis) o = (refl, refl)
 one_piece s t _ _ _ _ _ _ (Stays label n last phis i is c cs b e rest) o =
     let more = one_piece s t label (n + names_taken i) phis is (c ∷ cs) last rest o.1 in
-    (ap (first_front (lowered s n i)) more.0, more.1)
+    (ap (first_front (lowered s Part.Ramp n i)) more.0, more.1)
 one_piece s t _ _ _ _ _ _ (Marks label n last mark phis i is cs b e rest) o = let other = sym (stays s i is o.0) ∙ e in absurd (cc)
 one_piece s t _ _ _ _ _ _ (Suspends label n phis i is b e) o = let other = sym (stays s i is o.0) ∙ e in absurd (cc)
 one_piece s t _ _ _ _ _ _ (Returns label n phis i is b e) o = let other = sym (stays s i is o.0) ∙ e in absurd (cc)

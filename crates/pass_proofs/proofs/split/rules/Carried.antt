@@ -3,7 +3,7 @@ use Rattle.std.proofs.Common.{◌≡◌, ℕ, ◌≤◌, Bool, true, false, List
 use Rattle.std.specs.List.{cons_option, list_all}
 use Rattle.std.specs.Prelude.{Option, None, Some, filter, filter_map, pos, slice_get, if◌then◌else◌}
 use Rattle.ir_base.specs.declared.outcome.Place.{Place}
-use Rattle.pass_split.specs.Parts.{done_block, entry_instrs, entry_term, later_head, later_part, origins_for, plain_of, ramp_of}
+use Rattle.pass_split.specs.Parts.{done_block, entry_instrs, entry_term, given_ramp_of, later_head, later_part, origins_for, plain_of, ramp_of}
 use Rattle.pass_front.specs.Front.{allocas_of, is_alloca}
 use Rattle.pass_split.specs.Pieces.{begins_again, comes_from, incoming_from, pieced_incoming, pieced_phi, pieces_of, next_after, redirected_term}
 use Rattle.pass_split.specs.Reached.{is_flagged, kept_phi, pruned, reached}
@@ -29,7 +29,7 @@ use Rattle.ir_model.specs.declared.operand.Operand.{Operand}
 use Rattle.pass_proofs.proofs.split.rules.Cutting.{cut_blocks}
 use Rattle.pass_proofs.proofs.split.rules.Parted.{AreEnds, blocks_all as pieces_of_all, done_all, head_all, kept_all}
 use Rattle.rule_laws.proofs.rules.replaced.Passed.{AllPassingBlock, IsAll, Passes, PassesAll, PassingBlock, blocks_all, blocks_pass}
-use Rattle.pass_proofs.specs.split.rules.Parted.{IsDestroy, IsPartOf, IsRamp, IsResume}
+use Rattle.pass_proofs.specs.split.rules.Parted.{IsCleanup, IsDestroy, IsGivenRamp, IsPartOf, IsRamp, IsResume}
 use Rattle.run_laws.specs.changed.Changed.{Each}
 
 -- ---- phis: some operands go, and the labels of the others change
@@ -82,20 +82,22 @@ index_instrs s =
 -- what is said of phis, instructions and terminators of a function, and what is then said of those of its parts
 pub record Becomes (s : Shape) (part : Part) (low : ℕ) (Q0 Q : Phi → Type 0) (P0 P : Instr → Type 0) (T0 T : Terminator → Type 0) : Type 0 where
   pub phi : (x y : Phi) → IsPhiOf x y → Q0 x → Q y
-  pub instr : (n : ℕ) (i : Instr) → low ≤ n → begins_again part i ≡ false → P0 i → Each P (lowered s n i)
+  pub instr : (n : ℕ) (i : Instr) → low ≤ n → begins_again part i ≡ false → P0 i → Each P (lowered s part n i)
   pub ending : (t : Terminator) → T0 t → T (redirected_term s t)
   pub ends : AreEnds part T
   pub index : goes_on part ≡ true → Each P (index_instrs s)
   pub switch : goes_on part ≡ true → (flags : List Bool) → T (entry_term s flags part)
 
 -- an alloca stands as it is in all parts
-stays_so : (s : Shape) (part : Part) (low : ℕ) (R : Instr → Type 0) (i : Instr) → is_alloca i ≡ true → (begins_again part i ≡ false → (n : ℕ) → low ≤ n → Each R (lowered s n i)) → R i
+stays_so : (s : Shape) (part : Part) (low : ℕ) (R : Instr → Type 0) (i : Instr) → is_alloca i ≡ true → (begins_again part i ≡ false → (n : ℕ) → low ≤ n → Each R (lowered s part n i)) → R i
 stays_so s part low R (Instr.Alloca r ty align) e h = (h (never part) low (omega arith)).0
   where
     never : (p : Part) → begins_again p (Instr.Alloca r ty align) ≡ false
     never Part.Ramp = refl
     never Part.Resume = refl
     never Part.Destroy = refl
+    never Part.GivenRamp = refl
+    never Part.Cleanup = refl
 stays_so s part low R _ e h = absurd (cc)
 
 module _ (s : Shape) (part : Part) (low : ℕ) (Q0 Q : Phi → Type 0) (P0 P : Instr → Type 0) (T0 T : Terminator → Type 0) (over : Becomes s part low Q0 Q P0 P T0 T) where
@@ -112,11 +114,11 @@ module _ (s : Shape) (part : Part) (low : ℕ) (Q0 Q : Phi → Type 0) (P0 P : I
   pub pieces_so : (origins : List Origin) (n : ℕ) (bs : List Block) → low ≤ n → Each Old bs → Each New (pieces_of s part origins n bs)
   pieces_so origins n bs a h =
       pieces_of_all s part FromPhi P T over.ends low origins n (next_after s part origins n bs) bs (pieces_of s part origins n bs) (cut_blocks s part origins n bs)
-      (each_turns Old (λ (b : Block). IsAll (λ (x : Phi). FromPhi (pieced_phi s part origins b.label x)) (λ (i : Instr). begins_again part i ≡ false → (k : ℕ) → low ≤ k → Each P (lowered s k i)) (λ (t : Terminator). T (redirected_term s t)) b)
+      (each_turns Old (λ (b : Block). IsAll (λ (x : Phi). FromPhi (pieced_phi s part origins b.label x)) (λ (i : Instr). begins_again part i ≡ false → (k : ℕ) → low ≤ k → Each P (lowered s part k i)) (λ (t : Terminator). T (redirected_term s t)) b)
       (λ b k.
       record {
         phis = each_turns Q0 (λ (x : Phi). FromPhi (pieced_phi s part origins b.label x)) (λ x u. (x, (u, pieced_phi_of s part origins b.label x))) b.phis k.phis;
-        instrs = each_turns P0 (λ (i : Instr). begins_again part i ≡ false → (m : ℕ) → low ≤ m → Each P (lowered s m i)) (λ i u e m c. over.instr m i c e u) b.instrs k.instrs;
+        instrs = each_turns P0 (λ (i : Instr). begins_again part i ≡ false → (m : ℕ) → low ≤ m → Each P (lowered s part m i)) (λ i u e m c. over.instr m i c e u) b.instrs k.instrs;
         term = over.ending b.term k.term;
       })
       bs h) a
@@ -162,6 +164,10 @@ part_all s _ low Q0 Q P0 P T0 T over a f _ IsResume h =
     kept_so s Part.Resume low Q0 Q P0 P T0 T over (later_part s Part.Resume s.resume_name f) (later_so s Part.Resume low Q0 Q P0 P T0 T over f a refl h (origins_for s Part.Resume f))
 part_all s _ low Q0 Q P0 P T0 T over a f _ IsDestroy h =
     kept_so s Part.Destroy low Q0 Q P0 P T0 T over (later_part s Part.Destroy s.destroy_name f) (later_so s Part.Destroy low Q0 Q P0 P T0 T over f a refl h (origins_for s Part.Destroy f))
+part_all s _ low Q0 Q P0 P T0 T over a f _ IsCleanup h =
+    kept_so s Part.Cleanup low Q0 Q P0 P T0 T over (later_part s Part.Cleanup s.cleanup_name f) (later_so s Part.Cleanup low Q0 Q P0 P T0 T over f a refl h (origins_for s Part.Cleanup f))
+part_all s _ low Q0 Q P0 P T0 T over a f _ IsGivenRamp h =
+    kept_so s Part.GivenRamp low Q0 Q P0 P T0 T over (given_ramp_of s f) (ramp_so s Part.GivenRamp low Q0 Q P0 P T0 T over f a refl h (origins_for s Part.GivenRamp f))
 
 pub plain_all : (s : Shape) (low : ℕ) (Q0 Q : Phi → Type 0) (P0 P : Instr → Type 0) (T0 T : Terminator → Type 0) → Becomes s Part.Ramp low Q0 Q P0 P T0 T → low ≤ s.base → (f : Function) → Each (IsAll Q0 P0 T0) f.blocks → Each (IsAll Q P T) (plain_of s f).blocks
 plain_all s low Q0 Q P0 P T0 T over a f h = now_so s Part.Ramp low Q0 Q P0 P T0 T over (plain_of s f).blocks (pieces_so s Part.Ramp low Q0 Q P0 P T0 T over [] s.base f.blocks a h)
@@ -172,7 +178,7 @@ plain_all s low Q0 Q P0 P T0 T over a f h = now_so s Part.Ramp low Q0 Q P0 P T0 
 pub record Carries (s : Shape) (part : Part) (low : ℕ) (breaks now : Place → FunctionPart → Bool) : Type 0 where
   pub head : (p : Place) (b : Block) → now p (Head b) ≡ false
   pub phi : (p q : Place) (x y : Phi) → IsPhiOf x y → breaks p (OfPhi x) ≡ false → now q (OfPhi y) ≡ false
-  pub instr : (p q : Place) (n : ℕ) (i : Instr) → low ≤ n → begins_again part i ≡ false → breaks p (OfInstr i) ≡ false → Each (λ (j : Instr). now q (OfInstr j) ≡ false) (lowered s n i)
+  pub instr : (p q : Place) (n : ℕ) (i : Instr) → low ≤ n → begins_again part i ≡ false → breaks p (OfInstr i) ≡ false → Each (λ (j : Instr). now q (OfInstr j) ≡ false) (lowered s part n i)
   pub ending : (p q : Place) (t : Terminator) → breaks p (Ending t) ≡ false → now q (Ending (redirected_term s t)) ≡ false
   pub jump : (q : Place) (label : ℕ) → now q (Ending (Terminator.Jump label)) ≡ false
   pub return : goes_on part ≡ true → (q : Place) → now q (Ending (Terminator.Ret None)) ≡ false
@@ -189,7 +195,7 @@ becomes : (s : Shape) (part : Part) (low : ℕ) (breaks now : Place → Function
 becomes s part low breaks now over =
     record {
       phi = λ x y of u q. over.phi u.0 q x y of u.1;
-      instr = λ n i a e u. each_place (λ q j. now q (OfInstr j) ≡ false) (lowered s n i) (λ q. over.instr u.0 q n i a e u.1);
+      instr = λ n i a e u. each_place (λ q j. now q (OfInstr j) ≡ false) (lowered s part n i) (λ q. over.instr u.0 q n i a e u.1);
       ending = λ t u q. over.ending u.0 q t u.1;
       ends = record { jump = λ l q. over.jump q l; return = λ e q. over.return e q; stop = λ q. over.stop q };
       index = λ e. each_place (λ q j. now q (OfInstr j) ≡ false) (index_instrs s) (over.index e);

@@ -26,7 +26,7 @@ module _ (s : Shape) (part : Part) (t : Terminator) where
   ended_stays : (p : Piecing) (is : List Instr) → p.ended ≡ true → with_instrs s part t p is ≡ p
   ended_stays p [] e = refl
   ended_stays p (i ∷ is) e =
-      ap (λ (b : Bool). with_instrs s part t (if b then p else if begins_again part i then stopped p else pieced s p i t (cut_at s part i is)) is) e ∙ ended_stays p is e
+      ap (λ (b : Bool). with_instrs s part t (if b then p else if begins_again part i then stopped p else pieced s part p i t (cut_at s part i is)) is) e ∙ ended_stays p is e
 
   -- a block that has come to q is cut into these pieces behind some whole ones
   record IsCut (whole : List Block) (label : ℕ) (phis : List Phi) (instrs : List Instr) (n : ℕ) (is : List Instr) (q : Piecing) : Type 0 where
@@ -59,29 +59,29 @@ module _ (s : Shape) (part : Part) (t : Terminator) where
             all = ap (λ (x : Piecing). all_pieces s x t) (stays ∙ e) ∙ ap (λ (js : List Instr). whole ++ block_with label phis js u ∷ rest) (sym (append-nil instrs));
           }
 
-      on : (b : Bool) → begins_again part i ≡ b → (c : Cut) → cut_at s part i is ≡ c → ((w : List Block) (l : ℕ) (ps : List Phi) (js : List Instr) (k : ℕ) → IsCut w l ps js k is (with_instrs s part t (begun w l ps js k) is)) → IsCut whole label phis instrs n (i ∷ is) (with_instrs s part t (if b then stopped p else pieced s p i t c) is)
+      on : (b : Bool) → begins_again part i ≡ b → (c : Cut) → cut_at s part i is ≡ c → ((w : List Block) (l : ℕ) (ps : List Phi) (js : List Instr) (k : ℕ) → IsCut w l ps js k is (with_instrs s part t (begun w l ps js k) is)) → IsCut whole label phis instrs n (i ∷ is) (with_instrs s part t (if b then stopped p else pieced s part p i t c) is)
       on true e c d more = over Terminator.Unreachable [] n (stopped p) refl (BeginsAgain label n phis i is e)
       on false e Cut.Stays d more =
-          let r = more whole label phis (instrs ++ lowered s n i) (n + names_taken i) in
+          let r = more whole label phis (instrs ++ lowered s part n i) (n + names_taken i) in
           record {
-            first = in_front (lowered s n i) r.first;
+            first = in_front (lowered s part n i) r.first;
             rest = r.rest;
-            pieces = Stays label n (with_instrs s part t (begun whole label phis (instrs ++ lowered s n i) (n + names_taken i)) is).next phis i is r.first r.rest e d r.pieces;
-            all = r.all ∙ ap (λ (js : List Instr). whole ++ block_with r.first.label r.first.phis js r.first.term ∷ r.rest) (append_assoc instrs (lowered s n i) r.first.instrs);
+            pieces = Stays label n (with_instrs s part t (begun whole label phis (instrs ++ lowered s part n i) (n + names_taken i)) is).next phis i is r.first r.rest e d r.pieces;
+            all = r.all ∙ ap (λ (js : List Instr). whole ++ block_with r.first.label r.first.phis js r.first.term ∷ r.rest) (append_assoc instrs (lowered s part n i) r.first.instrs);
           }
       on false e (Cut.Marks mark) d more =
-          let done : List Block = block_with label phis (instrs ++ lowered s n i) (Terminator.Jump mark) ∷ [] in
+          let done : List Block = block_with label phis (instrs ++ lowered s part n i) (Terminator.Jump mark) ∷ [] in
           let r = more (whole ++ done) mark [] [] (n + names_taken i) in
           record {
-            first = block_with label phis (lowered s n i) (Terminator.Jump mark);
+            first = block_with label phis (lowered s part n i) (Terminator.Jump mark);
             rest = r.first ∷ r.rest;
             pieces = Marks label n (with_instrs s part t (begun (whole ++ done) mark [] [] (n + names_taken i)) is).next mark phis i is (r.first ∷ r.rest) e d r.pieces;
             all = r.all ∙ append_assoc whole done (r.first ∷ r.rest);
           }
-      on false e Cut.Suspends d more = over (Terminator.Jump (stop_label t)) [] n (pieced s p i t Cut.Suspends) refl (Suspends label n phis i is e d)
-      on false e Cut.Returns d more = over (Terminator.Ret None) [] n (pieced s p i t Cut.Returns) refl (Returns label n phis i is e d)
+      on false e Cut.Suspends d more = over (Terminator.Jump (stop_label t)) [] n (pieced s part p i t Cut.Suspends) refl (Suspends label n phis i is e d)
+      on false e Cut.Returns d more = over (Terminator.Ret None) [] n (pieced s part p i t Cut.Returns) refl (Returns label n phis i is e d)
       on false e (Cut.Transfers j) d more =
-          over (Terminator.Jump (pass_label s j)) (pass_block (pass_label s j) (lowered s n i) ∷ []) (n + names_taken i) (pieced s p i t (Cut.Transfers j)) refl (Transfers label n j phis i is e d)
+          over (Terminator.Jump (pass_label s j)) (pass_block (pass_label s j) (lowered s part n i) ∷ []) (n + names_taken i) (pieced s part p i t (Cut.Transfers j)) refl (Transfers label n j phis i is e d)
 
 -- ---- the pieces of blocks
 

@@ -32,7 +32,7 @@ use Rattle.pass_proofs.proofs.split.rules.Carried.{Carries}
 use Rattle.pass_proofs.proofs.split.rules.Local.{Lowers, Replaced, Same, lowers, same_term_operands, same_term_types}
 use Rattle.rule_laws.proofs.frames.replaced.Modules.{address_known, all_known, callee_known}
 use Rattle.rule_laws.specs.rules.replaced.Instructions.{names_strange}
-use Rattle.rule_laws.specs.frames.replaced.Replaced.{Address, Calls, First, Frame, Given, IsPointer, Loads, Number, Replaces, Second, StoresDestroy, StoresIndex, StoresNull, StoresResume, Tests, Truth}
+use Rattle.rule_laws.specs.frames.replaced.Replaced.{Address, Calls, First, Frame, Given, IsPointer, Loads, NoFrame, Number, OfParameter, Replaces, Second, StoresCleanup, StoresDestroy, StoresIndex, StoresNull, StoresResume, Tests, Truth}
 use Rattle.run_laws.specs.changed.Changed.{Each}
 use Rattle.rule_types.specs.Signatures.{calls_otherwise}
 use Rattle.ir_laws.proofs.facts.Members.{all_pass, each_passes, each_turns}
@@ -48,6 +48,12 @@ all_mapped t g (x ∷ xs) = ap (λ (b : Bool). t (g x) && b) (all_mapped t g xs)
 all_true : {A : Type 0} (xs : List A) → list_all (λ (x : A). true) xs ≡ true
 all_true [] = refl
 all_true (x ∷ xs) = all_true xs
+
+-- the names of the parts that are stored are known
+pub record KnowsParts (n : Module) (s : Shape) (part : Part) : Type 0 where
+  pub resume : knows_name n s.resume_name ≡ true
+  pub destroy : knows_name n s.destroy_name ≡ true
+  pub cleanup : part ≡ Part.GivenRamp → knows_name n s.cleanup_name ≡ true
 
 module _ (m n : Module) (h : HasPartsOf m n) (values labels : ℕ → Bool) where
   abbrev Known : Operand → Type 0
@@ -84,10 +90,12 @@ module _ (m n : Module) (h : HasPartsOf m n) (values labels : ℕ → Bool) wher
   same_again p q i e =
       now_known q (OfInstr i) (all_known m n h (instr_types i) ∙ types_before m values labels p (OfInstr i) e) (all_again (instr_operands i) (operands_before m values labels p (OfInstr i) e)) (called_again i (called_before m values labels p (OfInstr i) e))
 
-  module _ (s : Shape) (part : Part) (saves : (r : Option ℕ) (j : ℕ) → number_of_save s r ≡ Some j → j < length s.suspends) (extra : Place → FunctionPart → Bool) (stores : (p : Place) (r : Option ℕ) (must_tail : Bool) (ty : Option Ty) (x : Intrinsic) (args : List Arg) → extra p (OfInstr (Instr.Call r must_tail ty (Callee.Intrinsic x) args)) ≡ false → is_inner x ≡ true → (knows_name n s.resume_name ≡ true) × (knows_name n s.destroy_name ≡ true)) where
-    pointer_known : (k : ℕ) (y : Intrinsic) (args : List Arg) (x : Operand) → Each Before (arg_operands args) → IsPointer s k y args x → Known x
+  module _ (s : Shape) (part : Part) (saves : (r : Option ℕ) (j : ℕ) → number_of_save s r ≡ Some j → j < length s.suspends) (extra : Place → FunctionPart → Bool) (stores : (p : Place) (r : Option ℕ) (must_tail : Bool) (ty : Option Ty) (x : Intrinsic) (args : List Arg) → extra p (OfInstr (Instr.Call r must_tail ty (Callee.Intrinsic x) args)) ≡ false → is_inner x ≡ true → KnowsParts n s part) where
+    pointer_known : (k : ℕ) (y : Intrinsic) (args : List Arg) (x : Operand) → Each Before (arg_operands args) → IsPointer s part k y args x → Known x
     pointer_known k y args _ b (Given a l e) = known_again a.value (of_listed Before (arg_operands args) a.value b (listed_mapped (λ (c : Arg). c.value) args a l))
     pointer_known k y args _ b (Frame e) = refl
+    pointer_known k y args _ b (OfParameter d e) = refl
+    pointer_known k y args _ b NoFrame = refl
     pointer_known k y args _ b First = refl
     pointer_known k y args _ b Second = refl
 
@@ -102,7 +110,7 @@ module _ (m n : Module) (h : HasPartsOf m n) (values labels : ℕ → Bool) wher
     truth_known true = refl
     truth_known false = refl
 
-    put_known : (q : Place) (k : ℕ) (x : Intrinsic) (r : Option ℕ) (ty : Option Ty) (args : List Arg) → (is_inner x ≡ true → (knows_name n s.resume_name ≡ true) × (knows_name n s.destroy_name ≡ true)) → Each Before (arg_operands args) → (j : Instr) → Replaces s k x r ty args j → names_strange n q (OfInstr j) ≡ false
+    put_known : (q : Place) (k : ℕ) (x : Intrinsic) (r : Option ℕ) (ty : Option Ty) (args : List Arg) → (is_inner x ≡ true → KnowsParts n s part) → Each Before (arg_operands args) → (j : Instr) → Replaces s part k x r ty args j → names_strange n q (OfInstr j) ≡ false
     put_known q k x r ty args owns b _ (Number v w z a c d e) = refl
     put_known q k x r ty args owns b _ (Truth v t a c) = on t
       where
@@ -111,23 +119,25 @@ module _ (m n : Module) (h : HasPartsOf m n) (values labels : ℕ → Bool) wher
         on false = refl
     put_known q k x r ty args owns b _ (Address v p z a c d) = now_known q (OfInstr (address v p z)) refl (and_both (knows_operand n (λ u. true) p) true (pointer_known k x args p b c) refl) refl
     put_known q k x r ty args owns b _ (StoresResume p o a) =
-        now_known q (OfInstr (store_pointer (Operand.Global s.resume_name) p)) refl (and_both (knows_address n s.resume_name) (knows_operand n (λ u. true) p && true) (named_known (knows_name n s.resume_name) _ (owns o).0) (one_known p (pointer_known k x args p b a))) refl
+        now_known q (OfInstr (store_pointer (Operand.Global s.resume_name) p)) refl (and_both (knows_address n s.resume_name) (knows_operand n (λ u. true) p && true) (named_known (knows_name n s.resume_name) _ (owns o).resume) (one_known p (pointer_known k x args p b a))) refl
     put_known q k x r ty args owns b _ (StoresDestroy p o a) =
-        now_known q (OfInstr (store_pointer (Operand.Global s.destroy_name) p)) refl (and_both (knows_address n s.destroy_name) (knows_operand n (λ u. true) p && true) (named_known (knows_name n s.destroy_name) _ (owns o).1) (one_known p (pointer_known k x args p b a))) refl
+        now_known q (OfInstr (store_pointer (Operand.Global s.destroy_name) p)) refl (and_both (knows_address n s.destroy_name) (knows_operand n (λ u. true) p && true) (named_known (knows_name n s.destroy_name) _ (owns o).destroy) (one_known p (pointer_known k x args p b a))) refl
+    put_known q k x r ty args owns b _ (StoresCleanup p e o a) =
+        now_known q (OfInstr (store_pointer (Operand.Global s.cleanup_name) p)) refl (and_both (knows_address n s.cleanup_name) (knows_operand n (λ u. true) p && true) (named_known (knows_name n s.cleanup_name) _ ((owns o).cleanup e)) (one_known p (pointer_known k x args p b a))) refl
     put_known q k x r ty args owns b _ (StoresNull p a) = now_known q (OfInstr (store_pointer Operand.Null p)) refl (one_known p (pointer_known k x args p b a)) refl
     put_known q k x r ty args owns b _ (StoresIndex j p a c) = now_known q (OfInstr (Instr.Store (number_arg (bits_of s.width) (pos j)) p (index_bytes s.width))) refl (one_known p (pointer_known k x args p b c)) refl
     put_known q k x r ty args owns b _ (Loads v p a c) = now_known q (OfInstr (load_pointer v p)) refl (one_known p (pointer_known k x args p b c)) refl
     put_known q k x r ty args owns b _ (Calls v p a c) = now_known q (OfInstr (call_pointer v p)) refl (one_known p (pointer_known k x args p b c)) refl
     put_known q k x r ty args owns b _ (Tests v a c) = refl
 
-    instr_known : (p q : Place) (k : ℕ) (i : Instr) → names_unknown m values labels p (OfInstr i) ≡ false → calls_otherwise m p (OfInstr i) ≡ false → extra p (OfInstr i) ≡ false → Each (λ (j : Instr). names_strange n q (OfInstr j) ≡ false) (lowered s k i)
-    instr_known p q k i e calls own = on (lowers m s saves k p i calls)
+    instr_known : (p q : Place) (k : ℕ) (i : Instr) → names_unknown m values labels p (OfInstr i) ≡ false → calls_otherwise m p (OfInstr i) ≡ false → extra p (OfInstr i) ≡ false → Each (λ (j : Instr). names_strange n q (OfInstr j) ≡ false) (lowered s part k i)
+    instr_known p q k i e calls own = on (lowers m s part saves k p i calls)
       where
-        on : Lowers s k i → Each (λ (j : Instr). names_strange n q (OfInstr j) ≡ false) (lowered s k i)
+        on : Lowers s part k i → Each (λ (j : Instr). names_strange n q (OfInstr j) ≡ false) (lowered s part k i)
         on (Same d) = subst (Each (λ (j : Instr). names_strange n q (OfInstr j) ≡ false)) (sym d) (same_again p q i e, tt)
         on (Replaced x r must_tail ty args d put) =
             let before : Each Before (arg_operands args) = each_passes (knows_operand m values) (arg_operands args) (ap (λ (j : Instr). list_all (knows_operand m values) (instr_operands j)) (sym d) ∙ operands_before m values labels p (OfInstr i) e) in
-            each_turns (Replaces s k x r ty args) (λ (j : Instr). names_strange n q (OfInstr j) ≡ false) (λ j c. put_known q k x r ty args (stores p r must_tail ty x args (ap (λ (j : Instr). extra p (OfInstr j)) (sym d) ∙ own)) before j c) (lowered s k i) put
+            each_turns (Replaces s part k x r ty args) (λ (j : Instr). names_strange n q (OfInstr j) ≡ false) (λ j c. put_known q k x r ty args (stores p r must_tail ty x args (ap (λ (j : Instr). extra p (OfInstr j)) (sym d) ∙ own)) before j c) (lowered s part k i) put
 
     cases_known : (flags : List Bool) (j : ℕ) (ps : List SuspendPoint) → list_all (knows_type n) (map (λ (k : Case). k.arg.ty) (cases_from s flags part j ps)) ≡ true
     cases_known flags j [] = refl

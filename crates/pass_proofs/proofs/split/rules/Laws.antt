@@ -10,7 +10,7 @@ use Rattle.pass_intrinsics.specs.declared.shape.Part.{Part}
 use Rattle.ir_model.specs.declared.module.Function.{Function}
 use Rattle.ir_model.specs.declared.module.Module.{Module}
 use Rattle.rule_names.specs.Known.{first_unknown}
-use Rattle.rule_laws.specs.frames.same_names.Parts.{HasPartsOf}
+use Rattle.rule_laws.specs.frames.same_names.Parts.{HasPart, HasPartsOf}
 use Rattle.pass_proofs.proofs.split.rules.Instructions.{parts_kept, plain_kept}
 use Rattle.rule_laws.proofs.rules.replaced.Locals.{all_names_known}
 use Rattle.pass_proofs.proofs.split.rules.ValueLaws.{parts_values, plain_values}
@@ -21,9 +21,9 @@ use Rattle.rule_laws.specs.rules.replaced.Returns.{ReturnsNothing}
 use Rattle.pass_proofs.specs.split.rules.Splittable.{IsSplittable}
 use Rattle.rule_values.specs.Values.{first_wrong_value}
 
-pub parts_named : (m n : Module) (k l : ℕ) (layout : Layout) (part : Part) (begin : ℕ) (f g : Function) → HasPartsOf m n → slice_get m.functions k ≡ Some f → IsSplittable m k f begin → IsSmall (shape_of f layout) → IsPartOf (shape_of f layout) f part g → KnowsItsLocals l g → (goes_on part ≡ true → ReturnsNothing l g) → (first_unknown n l g ≡ None) × (first_wrong_value n l g ≡ None)
-parts_named m n k l layout part begin f g h stands splittable small is own returns =
-    let known : first_unknown n l g ≡ None = all_names_known n l g (parts_kept m n k l layout part f g h stands splittable.coroutine splittable.rules is).known own in
+pub parts_named : (m n : Module) (k l : ℕ) (layout : Layout) (part : Part) (begin : ℕ) (f g : Function) → HasPartsOf m n → slice_get m.functions k ≡ Some f → IsSplittable m k f begin → IsSmall (shape_of f layout) → IsPartOf (shape_of f layout) f part g → (part ≡ Part.GivenRamp → HasPart n (shape_of f layout).cleanup_name) → KnowsItsLocals l g → (goes_on part ≡ true → ReturnsNothing l g) → (first_unknown n l g ≡ None) × (first_wrong_value n l g ≡ None)
+parts_named m n k l layout part begin f g h stands splittable small is given own returns =
+    let known : first_unknown n l g ≡ None = all_names_known n l g (parts_kept m n k l layout part f g h stands splittable.coroutine splittable.rules is given).known own in
     (known, parts_values m n k l layout part begin f g h splittable.rules splittable.named small is known returns)
 
 pub plain_named : (m n : Module) (k l : ℕ) (f : Function) → HasPartsOf m n → slice_get m.functions k ≡ Some f → f.coroutine ≡ false → KeepsFunctionRules m k f → KnowsItsLocals l (plain_of (plain_shape f) f) → (first_unknown n l (plain_of (plain_shape f) f) ≡ None) × (first_wrong_value n l (plain_of (plain_shape f) f) ≡ None)

@@ -37,7 +37,7 @@ use Rattle.rule_laws.specs.frames.same_names.Parts.{HasPartsOf}
 use Rattle.pass_proofs.proofs.split.rules.Carried.{Carries, index_instrs}
 use Rattle.rule_laws.proofs.frames.replaced.Modules.{callee_fits, closed_there, depths_there, extents_there}
 use Rattle.rule_laws.proofs.frames.replaced.Replaced.{IsKeptOne, replaced}
-use Rattle.rule_laws.specs.frames.replaced.Replaced.{Address, Calls, Loads, Number, Replaces, StoresDestroy, StoresIndex, StoresNull, StoresResume, Tests, Truth}
+use Rattle.rule_laws.specs.frames.replaced.Replaced.{Address, Calls, Loads, Number, Replaces, StoresCleanup, StoresDestroy, StoresIndex, StoresNull, StoresResume, Tests, Truth}
 use Rattle.run_laws.specs.changed.Changed.{Each}
 use Rattle.rule_types.specs.Depth.{is_shallow}
 use Rattle.rule_types.specs.Limits.{all_fit, breaks_limits, is_block_past}
@@ -47,40 +47,40 @@ use Rattle.rule_laws.proofs.rules.fetching_rules.Puts.{int_shallow as shallow_in
 
 -- ---- what is lowered in the place of an instruction that is of the types of its callee
 
-pub data Lowers (s : Shape) (n : ℕ) (i : Instr) : Type 0 where
-  Same : lowered s n i ≡ i ∷ [] → Lowers s n i
-  Replaced : (x : Intrinsic) (r : Option ℕ) (must_tail : Bool) (ty : Option Ty) (args : List Arg) → i ≡ Instr.Call r must_tail ty (Callee.Intrinsic x) args → Each (Replaces s n x r ty args) (lowered s n i) → Lowers s n i
+pub data Lowers (s : Shape) (part : Part) (n : ℕ) (i : Instr) : Type 0 where
+  Same : lowered s part n i ≡ i ∷ [] → Lowers s part n i
+  Replaced : (x : Intrinsic) (r : Option ℕ) (must_tail : Bool) (ty : Option Ty) (args : List Arg) → i ≡ Instr.Call r must_tail ty (Callee.Intrinsic x) args → Each (Replaces s part n x r ty args) (lowered s part n i) → Lowers s part n i
 
-abbrev StaysAs : Shape → ℕ → Option ℕ → Bool → Option Ty → List Arg → Intrinsic → Type 0
-StaysAs s n r must_tail ty args x = lowered s n (Instr.Call r must_tail ty (Callee.Intrinsic x) args) ≡ Instr.Call r must_tail ty (Callee.Intrinsic x) args ∷ []
+abbrev StaysAs : Shape → Part → ℕ → Option ℕ → Bool → Option Ty → List Arg → Intrinsic → Type 0
+StaysAs s part n r must_tail ty args x = lowered s part n (Instr.Call r must_tail ty (Callee.Intrinsic x) args) ≡ Instr.Call r must_tail ty (Callee.Intrinsic x) args ∷ []
 
-module _ (m : Module) (s : Shape) (saves : (r : Option ℕ) (j : ℕ) → number_of_save s r ≡ Some j → j < length s.suspends) where
-  kept_lowers : (n : ℕ) (r : Option ℕ) (must_tail : Bool) (ty : Option Ty) (args : List Arg) (x : Intrinsic) → IsKeptOne s n saves r ty args x → lowered s n (Instr.Call r must_tail ty (Callee.Intrinsic x) args) ≡ Instr.Call r must_tail ty (Callee.Intrinsic x) args ∷ []
+module _ (m : Module) (s : Shape) (part : Part) (saves : (r : Option ℕ) (j : ℕ) → number_of_save s r ≡ Some j → j < length s.suspends) where
+  kept_lowers : (n : ℕ) (r : Option ℕ) (must_tail : Bool) (ty : Option Ty) (args : List Arg) (x : Intrinsic) → IsKeptOne s part n saves r ty args x → lowered s part n (Instr.Call r must_tail ty (Callee.Intrinsic x) args) ≡ Instr.Call r must_tail ty (Callee.Intrinsic x) args ∷ []
   kept_lowers n r must_tail ty args x h = on h
     where
-      on : IsKeptOne s n saves r ty args x → StaysAs s n r must_tail ty args x
-      on (inl e) = subst (StaysAs s n r must_tail ty args) (sym e) refl
-      on (inr (inl e)) = subst (StaysAs s n r must_tail ty args) (sym e) refl
-      on (inr (inr (inl e))) = subst (StaysAs s n r must_tail ty args) (sym e) refl
-      on (inr (inr (inr (inl e)))) = subst (StaysAs s n r must_tail ty args) (sym e) refl
-      on (inr (inr (inr (inr e)))) = subst (StaysAs s n r must_tail ty args) (sym e) refl
+      on : IsKeptOne s part n saves r ty args x → StaysAs s part n r must_tail ty args x
+      on (inl e) = subst (StaysAs s part n r must_tail ty args) (sym e) refl
+      on (inr (inl e)) = subst (StaysAs s part n r must_tail ty args) (sym e) refl
+      on (inr (inr (inl e))) = subst (StaysAs s part n r must_tail ty args) (sym e) refl
+      on (inr (inr (inr (inl e)))) = subst (StaysAs s part n r must_tail ty args) (sym e) refl
+      on (inr (inr (inr (inr e)))) = subst (StaysAs s part n r must_tail ty args) (sym e) refl
 
-  pub lowers : (n : ℕ) (p : Place) (i : Instr) → calls_otherwise m p (OfInstr i) ≡ false → Lowers s n i
+  pub lowers : (n : ℕ) (p : Place) (i : Instr) → calls_otherwise m p (OfInstr i) ≡ false → Lowers s part n i
   lowers n p (Instr.Call r must_tail ty (Callee.Intrinsic x) args) e =
-      ⊎_elim (λ h. Replaced x r must_tail ty args refl h) (λ h. Same (kept_lowers n r must_tail ty args x h)) (replaced s n saves r ty args must_tail x (holds _ e))
+      ⊎_elim (λ h. Replaced x r must_tail ty args refl h) (λ h. Same (kept_lowers n r must_tail ty args x h)) (replaced s part n saves r ty args must_tail x (holds _ e))
   lowers n p (Instr.Call r must_tail ty (Callee.Named x) args) e = Same refl
   lowers n p (Instr.Call r must_tail ty (Callee.Allocator a) args) e = Same refl
   lowers n p (Instr.Call r must_tail ty (Callee.Local v) args) e = Same refl
   lowers n p _ e = Same refl
 
   -- a rule that holds of what stays and of what replaces a call
-  module _ (p : Place) (now : Instr → Bool) (put : (n : ℕ) (x : Intrinsic) (r : Option ℕ) (ty : Option Ty) (args : List Arg) (j : Instr) → Replaces s n x r ty args j → now j ≡ false) where
-    pub lowered_keeps : (n : ℕ) (i : Instr) → calls_otherwise m p (OfInstr i) ≡ false → now i ≡ false → Each (λ (j : Instr). now j ≡ false) (lowered s n i)
+  module _ (p : Place) (now : Instr → Bool) (put : (n : ℕ) (x : Intrinsic) (r : Option ℕ) (ty : Option Ty) (args : List Arg) (j : Instr) → Replaces s part n x r ty args j → now j ≡ false) where
+    pub lowered_keeps : (n : ℕ) (i : Instr) → calls_otherwise m p (OfInstr i) ≡ false → now i ≡ false → Each (λ (j : Instr). now j ≡ false) (lowered s part n i)
     lowered_keeps n i e same = on (lowers n p i e)
       where
-        on : Lowers s n i → Each (λ (j : Instr). now j ≡ false) (lowered s n i)
+        on : Lowers s part n i → Each (λ (j : Instr). now j ≡ false) (lowered s part n i)
         on (Same d) = subst (Each (λ (j : Instr). now j ≡ false)) (sym d) (same, tt)
-        on (Replaced x r must_tail ty args d h) = each_turns (Replaces s n x r ty args) (λ (j : Instr). now j ≡ false) (λ j k. put n x r ty args j k) (lowered s n i) h
+        on (Replaced x r must_tail ty args d h) = each_turns (Replaces s part n x r ty args) (λ (j : Instr). now j ≡ false) (λ j k. put n x r ty args j k) (lowered s part n i) h
 
 -- ---- terminators
 
@@ -122,13 +122,13 @@ closed_before m p i = calls_closed m p i || unknown_call m i
 
 module _ (m n : Module) (h : HasPartsOf m n) (s : Shape) (part : Part) (saves : (r : Option ℕ) (j : ℕ) → number_of_save s r ≡ Some j → j < length s.suspends) where
   -- a rule on instructions alone
-  module _ (breaks now : Place → Instr → Bool) (same : (p q : Place) (i : Instr) → breaks p i ≡ false → now q i ≡ false) (put : (q : Place) (k : ℕ) (x : Intrinsic) (r : Option ℕ) (ty : Option Ty) (args : List Arg) (j : Instr) → Replaces s k x r ty args j → now q j ≡ false) (index : (q : Place) → Each (λ (j : Instr). now q j ≡ false) (index_instrs s)) where
+  module _ (breaks now : Place → Instr → Bool) (same : (p q : Place) (i : Instr) → breaks p i ≡ false → now q i ≡ false) (put : (q : Place) (k : ℕ) (x : Intrinsic) (r : Option ℕ) (ty : Option Ty) (args : List Arg) (j : Instr) → Replaces s part k x r ty args j → now q j ≡ false) (index : (q : Place) → Each (λ (j : Instr). now q j ≡ false) (index_instrs s)) where
     pub instr_carried : Carries s part 0 (either (on_instr breaks) (calls_otherwise m)) (on_instr now)
     instr_carried =
         record {
           head = λ p b. refl;
           phi = λ p q x y of e. refl;
-          instr = λ p q k i low again e. lowered_keeps m s saves p (now q) (put q) k i (second_no (breaks p i) (calls_otherwise m p (OfInstr i)) e) (same p q i (first_no (breaks p i) (calls_otherwise m p (OfInstr i)) e));
+          instr = λ p q k i low again e. lowered_keeps m s part saves p (now q) (put q) k i (second_no (breaks p i) (calls_otherwise m p (OfInstr i)) e) (same p q i (first_no (breaks p i) (calls_otherwise m p (OfInstr i)) e));
           ending = λ p q t e. refl;
           jump = λ q l. refl;
           return = λ e q. refl;
@@ -147,12 +147,13 @@ module _ (m n : Module) (h : HasPartsOf m n) (s : Shape) (part : Part) (saves : 
       on false c e = refl
   transfers_same f g p q _ e = refl
 
-  transfers_put : (g : Function) (q : Place) (k : ℕ) (x : Intrinsic) (r : Option ℕ) (ty : Option Ty) (args : List Arg) (j : Instr) → Replaces s k x r ty args j → breaks_transfers Stage.Plain g q j ≡ false
+  transfers_put : (g : Function) (q : Place) (k : ℕ) (x : Intrinsic) (r : Option ℕ) (ty : Option Ty) (args : List Arg) (j : Instr) → Replaces s part k x r ty args j → breaks_transfers Stage.Plain g q j ≡ false
   transfers_put g q k x r ty args _ (Number v w z a b c d) = refl
   transfers_put g q k x r ty args _ (Truth v b c d) = refl
   transfers_put g q k x r ty args _ (Address v p z a b c) = refl
   transfers_put g q k x r ty args _ (StoresResume p a b) = refl
   transfers_put g q k x r ty args _ (StoresDestroy p a b) = refl
+  transfers_put g q k x r ty args _ (StoresCleanup p a b c) = refl
   transfers_put g q k x r ty args _ (StoresNull p a) = refl
   transfers_put g q k x r ty args _ (StoresIndex j p a b) = refl
   transfers_put g q k x r ty args _ (Loads v p a b) = refl
@@ -192,12 +193,13 @@ module _ (m n : Module) (h : HasPartsOf m n) (s : Shape) (part : Part) (saves : 
   bytes_aligned IntWidth.I16 = refl
   bytes_aligned _ = refl
 
-  extents_put : (q : Place) (k : ℕ) (x : Intrinsic) (r : Option ℕ) (ty : Option Ty) (args : List Arg) (j : Instr) → Replaces s k x r ty args j → breaks_extents Stage.Plain n q j ≡ false
+  extents_put : (q : Place) (k : ℕ) (x : Intrinsic) (r : Option ℕ) (ty : Option Ty) (args : List Arg) (j : Instr) → Replaces s part k x r ty args j → breaks_extents Stage.Plain n q j ≡ false
   extents_put q k x r ty args _ (Number v w z a b c d) = refl
   extents_put q k x r ty args _ (Truth v b c d) = refl
   extents_put q k x r ty args _ (Address v p z a b c) = refl
   extents_put q k x r ty args _ (StoresResume p a b) = refl
   extents_put q k x r ty args _ (StoresDestroy p a b) = refl
+  extents_put q k x r ty args _ (StoresCleanup p a b c) = refl
   extents_put q k x r ty args _ (StoresNull p a) = refl
   extents_put q k x r ty args _ (StoresIndex j p a b) = ap not (bytes_aligned s.width)
   extents_put q k x r ty args _ (Loads v p a b) = refl
@@ -211,12 +213,13 @@ module _ (m n : Module) (h : HasPartsOf m n) (s : Shape) (part : Part) (saves : 
 
   -- ---- Y3
 
-  closed_put : (q : Place) (k : ℕ) (x : Intrinsic) (r : Option ℕ) (ty : Option Ty) (args : List Arg) (j : Instr) → Replaces s k x r ty args j → calls_closed n q j ≡ false
+  closed_put : (q : Place) (k : ℕ) (x : Intrinsic) (r : Option ℕ) (ty : Option Ty) (args : List Arg) (j : Instr) → Replaces s part k x r ty args j → calls_closed n q j ≡ false
   closed_put q k x r ty args _ (Number v w z a b c d) = refl
   closed_put q k x r ty args _ (Truth v b c d) = refl
   closed_put q k x r ty args _ (Address v p z a b c) = refl
   closed_put q k x r ty args _ (StoresResume p a b) = refl
   closed_put q k x r ty args _ (StoresDestroy p a b) = refl
+  closed_put q k x r ty args _ (StoresCleanup p a b c) = refl
   closed_put q k x r ty args _ (StoresNull p a) = refl
   closed_put q k x r ty args _ (StoresIndex j p a b) = refl
   closed_put q k x r ty args _ (Loads v p a b) = refl
@@ -239,12 +242,13 @@ module _ (m n : Module) (h : HasPartsOf m n) (s : Shape) (part : Part) (saves : 
   otherwise_same p q (Instr.Call r must_tail ty callee args) e = ap not (callee_fits m n h ty args callee (holds _ e))
   otherwise_same p q _ e = refl
 
-  otherwise_put : (q : Place) (k : ℕ) (x : Intrinsic) (r : Option ℕ) (ty : Option Ty) (args : List Arg) (j : Instr) → Replaces s k x r ty args j → calls_otherwise n q (OfInstr j) ≡ false
+  otherwise_put : (q : Place) (k : ℕ) (x : Intrinsic) (r : Option ℕ) (ty : Option Ty) (args : List Arg) (j : Instr) → Replaces s part k x r ty args j → calls_otherwise n q (OfInstr j) ≡ false
   otherwise_put q k x r ty args _ (Number v w z a b c d) = refl
   otherwise_put q k x r ty args _ (Truth v b c d) = refl
   otherwise_put q k x r ty args _ (Address v p z a b c) = refl
   otherwise_put q k x r ty args _ (StoresResume p a b) = refl
   otherwise_put q k x r ty args _ (StoresDestroy p a b) = refl
+  otherwise_put q k x r ty args _ (StoresCleanup p a b c) = refl
   otherwise_put q k x r ty args _ (StoresNull p a) = refl
   otherwise_put q k x r ty args _ (StoresIndex j p a b) = refl
   otherwise_put q k x r ty args _ (Loads v p a b) = refl
@@ -256,7 +260,7 @@ module _ (m n : Module) (h : HasPartsOf m n) (s : Shape) (part : Part) (saves : 
       record {
         head = λ p b. refl;
         phi = λ p q x y of e. refl;
-        instr = λ p q k i low again e. lowered_keeps m s saves p (λ (j : Instr). calls_otherwise n q (OfInstr j)) (otherwise_put q) k i e (otherwise_same p q i e);
+        instr = λ p q k i low again e. lowered_keeps m s part saves p (λ (j : Instr). calls_otherwise n q (OfInstr j)) (otherwise_put q) k i e (otherwise_same p q i e);
         ending = λ p q t e. refl;
         jump = λ q l. refl;
         return = λ e q. refl;
@@ -280,12 +284,13 @@ module _ (m n : Module) (h : HasPartsOf m n) (s : Shape) (part : Part) (saves : 
   two_fit : (t u : Ty) → is_shallow n.types t ≡ true → is_shallow n.types u ≡ true → all_fit n (t ∷ u ∷ []) ≡ true
   two_fit t u d e = and_both (is_shallow n.types t) (all_fit n (u ∷ [])) d (one_fits u e)
 
-  depths_put : (q : Place) (k : ℕ) (x : Intrinsic) (r : Option ℕ) (ty : Option Ty) (args : List Arg) (j : Instr) → Replaces s k x r ty args j → all_fit n (instr_types j) ≡ true
+  depths_put : (q : Place) (k : ℕ) (x : Intrinsic) (r : Option ℕ) (ty : Option Ty) (args : List Arg) (j : Instr) → Replaces s part k x r ty args j → all_fit n (instr_types j) ≡ true
   depths_put q k x r ty args _ (Number v w z a b c d) = one_fits (int w) (shallow_int n.types w)
   depths_put q k x r ty args _ (Truth v b c d) = one_fits (int 1) (shallow_int n.types 1)
   depths_put q k x r ty args _ (Address v p z a b c) = two_fit (int 8) (int 64) (shallow_int n.types 8) (shallow_int n.types 64)
   depths_put q k x r ty args _ (StoresResume p a b) = one_fits ptr (shallow_ptr n.types)
   depths_put q k x r ty args _ (StoresDestroy p a b) = one_fits ptr (shallow_ptr n.types)
+  depths_put q k x r ty args _ (StoresCleanup p a b c) = one_fits ptr (shallow_ptr n.types)
   depths_put q k x r ty args _ (StoresNull p a) = one_fits ptr (shallow_ptr n.types)
   depths_put q k x r ty args _ (StoresIndex j p a b) = one_fits (int _) (shallow_int n.types _)
   depths_put q k x r ty args _ (Loads v p a b) = one_fits ptr (shallow_ptr n.types)
@@ -300,11 +305,11 @@ module _ (m n : Module) (h : HasPartsOf m n) (s : Shape) (part : Part) (saves : 
       on true e = and_both (is_shallow n.types (int (bits_of s.width))) (all_fit n (map (λ (k : Case). k.arg.ty) (cases_from s flags part (j + 1) ps))) (shallow_int n.types (bits_of s.width)) e
       on false e = e
 
-  depths_instr : (p q : Place) (k : ℕ) (i : Instr) → either (breaks_limits Stage.Plain m None) (calls_otherwise m) p (OfInstr i) ≡ false → Each (λ (j : Instr). breaks_limits Stage.Plain n None q (OfInstr j) ≡ false) (lowered s k i)
+  depths_instr : (p q : Place) (k : ℕ) (i : Instr) → either (breaks_limits Stage.Plain m None) (calls_otherwise m) p (OfInstr i) ≡ false → Each (λ (j : Instr). breaks_limits Stage.Plain n None q (OfInstr j) ≡ false) (lowered s part k i)
   depths_instr p q k i e =
       let before = first_no (breaks_limits Stage.Plain m None p (OfInstr i)) (calls_otherwise m p (OfInstr i)) e in
       let calls = second_no (breaks_limits Stage.Plain m None p (OfInstr i)) (calls_otherwise m p (OfInstr i)) e in
-      lowered_keeps m s saves p (λ (j : Instr). breaks_limits Stage.Plain n None q (OfInstr j)) (λ l x r ty args j c. deep q (instr_types j) (depths_put q l x r ty args j c)) k i calls
+      lowered_keeps m s part saves p (λ (j : Instr). breaks_limits Stage.Plain n None q (OfInstr j)) (λ l x r ty args j c. deep q (instr_types j) (depths_put q l x r ty args j c)) k i calls
       (deep_again p q (instr_types i) (instr_types i) refl before)
 
   pub depths_carried : Carries s part 0 (either (breaks_limits Stage.Plain m None) (calls_otherwise m)) (breaks_limits Stage.Plain n None)

@@ -18,7 +18,7 @@ use Rattle.ir_laws.proofs.paths.source_rules.Locals.{Apart}
 use Rattle.rule_laws.specs.rules.source_rules.Named.{HasTabledLocals}
 use Rattle.frame_layout.specs.declared.layout.Layout.{Layout}
 use Rattle.ir_parts.specs.Parts.{OfInstr, Part as FunctionPart}
-use Rattle.pass_intrinsics.specs.Shapes.{first_name, index_name, index_width, shape_of, slot_name, suspends_of}
+use Rattle.pass_intrinsics.specs.Shapes.{first_name, given_name, index_name, index_width, shape_of, slot_name, suspends_of}
 use Rattle.pass_intrinsics.specs.declared.shape.Part.{Part}
 use Rattle.pass_intrinsics.specs.declared.shape.Shape.{Shape}
 use Rattle.pass_intrinsics.specs.declared.shape.SuspendPoint.{SuspendPoint}
@@ -97,6 +97,7 @@ module _ (m : Module) (k : ℕ) (f : Function) (layout : Layout) (begin : ℕ) (
         frame = λ p r must_tail ty x args e inner. begin_now;
         begin = λ e. begin_now;
         slot = λ e. other_now (slot_name shape) (omega arith) (λ e. let same : length f.names + 4 ≡ length f.names + 5 = e in absurd (omega (arith, same)));
+        given = λ e. other_now (given_name shape) (omega arith) (λ e. let same : length f.names + 6 ≡ length f.names + 5 = e in absurd (omega (arith, same)));
         index = λ e.
             from_new (value_kind f (index_name shape)) (part_kind shape (index_name shape)) (new_none k f tabled (index_name shape) (omega arith))
             ∙ ap (λ (b : Bool). Some (if b then Kind.Int (bits_of shape.width) else Kind.Ptr)) (itself (index_name shape));
@@ -176,6 +177,7 @@ plain_kinds k f tabled =
       frame = λ p r must_tail ty x args e inner. let t : true ≡ false = sym inner ∙ e in absurd (cc);
       begin = λ e. absurd (cc);
       slot = λ e. absurd (cc);
+      given = λ e. absurd (cc);
       index = λ e. absurd (cc);
     }
 

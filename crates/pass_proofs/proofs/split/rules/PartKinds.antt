@@ -6,7 +6,7 @@ use Rattle.rule_laws.proofs.rules.local_rules.Fitting.{either}
 use Rattle.ir_parts.specs.Parts.{OfInstr, Part as FunctionPart}
 use Rattle.pass_intrinsics.specs.Cuts.{goes_on}
 use Rattle.pass_intrinsics.specs.Lowered.{lowered, number_of_save}
-use Rattle.pass_intrinsics.specs.Shapes.{index_name, slot_name}
+use Rattle.pass_intrinsics.specs.Shapes.{given_name, index_name, slot_name}
 use Rattle.pass_intrinsics.specs.declared.shape.Part.{Part}
 use Rattle.pass_intrinsics.specs.declared.shape.Shape.{Shape}
 use Rattle.ir_model.specs.Ty.{Ty}
@@ -27,7 +27,7 @@ use Rattle.pass_proofs.proofs.split.rules.Local.{Lowers, Replaced, Same, lowers}
 use Rattle.ir_laws.proofs.facts.Truth.{first_no, second_no}
 use Rattle.rule_laws.proofs.rules.replaced.Passed.{IsAll, Passes}
 use Rattle.rule_laws.specs.frames.replaced.Kinds.{kinds_with}
-use Rattle.rule_laws.specs.frames.replaced.Replaced.{Address, Calls, Loads, New, Number, OfFrame, OfResult, Replaces, StoresDestroy, StoresIndex, StoresNull, StoresResume, Tests, Truth}
+use Rattle.rule_laws.specs.frames.replaced.Replaced.{Address, Calls, Loads, New, Number, OfFrame, OfResult, Replaces, StoresCleanup, StoresDestroy, StoresIndex, StoresNull, StoresResume, Tests, Truth}
 use Rattle.run_laws.specs.changed.Changed.{Each}
 use Rattle.rule_types.specs.Signatures.{calls_otherwise}
 use Rattle.rule_values.specs.Kinds.{kind_of, result_kind, value_kind}
@@ -49,6 +49,7 @@ pub record AreNewKinds (f : Function) (s : Shape) (part : Part) (low : ℕ) (new
   pub frame : (p : Place) (r : Option ℕ) (must_tail : Bool) (ty : Option Ty) (x : Intrinsic) (args : List Arg) → extra p (OfInstr (Instr.Call r must_tail ty (Callee.Intrinsic x) args)) ≡ false → is_inner x ≡ true → kinds_with f new s.begin ≡ Some Kind.Ptr
   pub begin : goes_on part ≡ true → kinds_with f new s.begin ≡ Some Kind.Ptr
   pub slot : goes_on part ≡ true → kinds_with f new (slot_name s) ≡ Some Kind.Ptr
+  pub given : part ≡ Part.GivenRamp → kinds_with f new (given_name s) ≡ Some Kind.Ptr
   pub index : goes_on part ≡ true → kinds_with f new (index_name s) ≡ Some (Kind.Int (bits_of s.width))
 
 module _ (m : Module) (f : Function) (s : Shape) (part : Part) (saves : (r : Option ℕ) (j : ℕ) → number_of_save s r ≡ Some j → j < length s.suspends) (low : ℕ) (new : ℕ → Kind) (extra : Place → FunctionPart → Bool) (kinds : AreNewKinds f s part low new extra) where
@@ -70,7 +71,7 @@ module _ (m : Module) (f : Function) (s : Shape) (part : Part) (saves : (r : Opt
     of_result : (v q : ℕ) (kind : Kind) → r ≡ Some v → result_kind (Callee.Intrinsic x) ty ≡ kind → Some v ≡ Some q → Some kind ≡ K q
     of_result v q kind e d same = old_same q kind (ap (λ (t : Kind). Some t) (sym d) ∙ made q (e ∙ same))
 
-    put_makes : (j : Instr) → Replaces s n x r ty args j → MakesIn K j
+    put_makes : (j : Instr) → Replaces s part n x r ty args j → MakesIn K j
     put_makes _ (Number v w z b c d e) q same = of_result v q (Kind.Int w) b c same
     put_makes _ (Truth v b c d) q same = of_result v q (Kind.Int 1) c d same
     put_makes _ (Address v y z (OfResult _ b c) d e) q same = of_result v q Kind.Ptr b c same
@@ -80,21 +81,22 @@ module _ (m : Module) (f : Function) (s : Shape) (part : Part) (saves : (r : Opt
     put_makes _ (Address _ y z New d e) q same = let is : n ≡ q = cc in fresh_now n n a (inl refl) ∙ ap K is
     put_makes _ (StoresResume y b c) q same = absurd (cc)
     put_makes _ (StoresDestroy y b c) q same = absurd (cc)
+    put_makes _ (StoresCleanup y b c d) q same = absurd (cc)
     put_makes _ (StoresNull y b) q same = absurd (cc)
     put_makes _ (StoresIndex j y b c) q same = absurd (cc)
     put_makes _ (Loads v y b c) q same = let is : v ≡ q = cc in fresh_now n v a b ∙ ap K is
     put_makes _ (Calls v y b c) q same = absurd (cc)
     put_makes _ (Tests v b c) q same = of_result v q (Kind.Int 1) b c same
 
-  instr_makes : (n : ℕ) (i : Instr) → low ≤ n → Told i → Each (MakesIn K) (lowered s n i)
-  instr_makes n i a told = on (lowers m s saves n told.1.0 i (first_no (calls_otherwise m told.1.0 (OfInstr i)) (extra told.1.0 (OfInstr i)) told.1.1))
+  instr_makes : (n : ℕ) (i : Instr) → low ≤ n → Told i → Each (MakesIn K) (lowered s part n i)
+  instr_makes n i a told = on (lowers m s part saves n told.1.0 i (first_no (calls_otherwise m told.1.0 (OfInstr i)) (extra told.1.0 (OfInstr i)) told.1.1))
     where
-      on : Lowers s n i → Each (MakesIn K) (lowered s n i)
+      on : Lowers s part n i → Each (MakesIn K) (lowered s part n i)
       on (Same d) = subst (Each (MakesIn K)) (sym d) ((λ q e. old_same q (kind_made_by i) (told.0 q e)), tt)
       on (Replaced x r must_tail ty args d put) =
           let own : extra told.1.0 (OfInstr (Instr.Call r must_tail ty (Callee.Intrinsic x) args)) ≡ false = ap (λ (j : Instr). extra told.1.0 (OfInstr j)) (sym d) ∙ second_no (calls_otherwise m told.1.0 (OfInstr i)) (extra told.1.0 (OfInstr i)) told.1.1 in
           let made : MakesIn (value_kind f) (Instr.Call r must_tail ty (Callee.Intrinsic x) args) = subst (MakesIn (value_kind f)) d told.0 in
-          each_turns (Replaces s n x r ty args) (MakesIn K) (put_makes n a told.1.0 x r must_tail ty args own made) (lowered s n i) put
+          each_turns (Replaces s part n x r ty args) (MakesIn K) (put_makes n a told.1.0 x r must_tail ty args own made) (lowered s part n i) put
 
   pub kinds_become : Becomes s part low (PhiMakesIn (value_kind f)) (PhiMakesIn K) Told (MakesIn K) (λ (t : Terminator). Unit {0}) (λ (t : Terminator). Unit {0})
   kinds_become =

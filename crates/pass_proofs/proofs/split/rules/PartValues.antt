@@ -41,7 +41,7 @@ use Rattle.rule_laws.proofs.frames.replaced.Modules.{instr_there}
 use Rattle.pass_proofs.proofs.split.rules.PartKinds.{AreNewKinds}
 use Rattle.rule_laws.specs.frames.replaced.Kinds.{kinds_with}
 use Rattle.rule_laws.specs.frames.replaced.Parted.{IsSmall}
-use Rattle.rule_laws.specs.frames.replaced.Replaced.{Address, BackToFrame, Calls, First, Frame, Given, IsDistance, IsPointer, Loads, Nothing, Number, OfDestroy, OfIndex, OfPromise, Replaces, Second, StoresDestroy, StoresIndex, StoresNull, StoresResume, Tests, Truth}
+use Rattle.rule_laws.specs.frames.replaced.Replaced.{Address, BackToFrame, Calls, First, Frame, Given, IsDistance, IsPointer, Loads, NoFrame, Nothing, Number, OfDestroy, OfIndex, OfParameter, OfPromise, Replaces, Second, StoresCleanup, StoresDestroy, StoresIndex, StoresNull, StoresResume, Tests, Truth}
 use Rattle.run_laws.specs.changed.Changed.{Each}
 use Rattle.rule_types.specs.Signatures.{calls_otherwise}
 use Rattle.rule_values.specs.Fits.{fits, fits_arg, fits_integer, fits_kind, is_literal, is_scalar}
@@ -139,9 +139,11 @@ module _ (m n : Module) (h : HasPartsOf m n) (k : ℕ) (f : Function) (s : Shape
         fits_alike m was K ptr b.value b.value (alike b.value (of_listed Before (arg_operands args) b.value known (listed_mapped (λ (y : Arg). y.value) args b l)))
         ∙ sym (ap (λ (t : Ty). fits was t b.value) e) ∙ and_second (is_passed (Callee.Intrinsic x) b.ty) (fits_arg was b) all
 
-    pointer_fits : (y : Operand) → IsPointer s c x args y → fits K ptr y ≡ true
+    pointer_fits : (y : Operand) → IsPointer s part c x args y → fits K ptr y ≡ true
     pointer_fits _ (Given b l e) = given_fits b l e
     pointer_fits _ (Frame e) = ap (λ (o : Option Kind). fits_kind o ptr) (kinds.frame p r must_tail ty x args own e)
+    pointer_fits _ (OfParameter d e) = ap (λ (o : Option Kind). fits_kind o ptr) (kinds.given d)
+    pointer_fits _ NoFrame = refl
     pointer_fits _ First = ap (λ (o : Option Kind). fits_kind o ptr) (kinds.fresh c a)
     pointer_fits _ Second = ap (λ (o : Option Kind). fits_kind o ptr) (kinds.fresh (c + 1) (omega (arith, a)))
 
@@ -153,7 +155,7 @@ module _ (m n : Module) (h : HasPartsOf m n) (k : ℕ) (f : Function) (s : Shape
     frame_numbers z (inl e) = subst (λ (y : ℕ). y < 2 ^ 32) (sym e) small.size
     frame_numbers z (inr e) = subst (λ (y : ℕ). y < 2 ^ 32) (sym e) small.align
 
-    put_fits : (j : Instr) → Replaces s c x r ty args j → fits_instr n K j ≡ true
+    put_fits : (j : Instr) → Replaces s part c x r ty args j → fits_instr n K j ≡ true
     put_fits _ (Number v w z b d e g) = and_both (nat_lt z (2 ^ w)) (nat_lt 0 (2 ^ w)) (below_fits z w (frame_numbers z g) e) (zero_fits w e)
     put_fits _ (Truth v true b d) = refl
     put_fits _ (Truth v false b d) = refl
@@ -161,6 +163,7 @@ module _ (m n : Module) (h : HasPartsOf m n) (k : ℕ) (f : Function) (s : Shape
         and_both (fits K ptr y) ((is_literal 64 z && true) && true) (pointer_fits y d) (ap (λ (t : Bool). (t && true) && true) (distance_fits s small z e))
     put_fits _ (StoresResume y b d) = pointer_fits y d
     put_fits _ (StoresDestroy y b d) = pointer_fits y d
+    put_fits _ (StoresCleanup y b d e) = pointer_fits y e
     put_fits _ (StoresNull y d) = pointer_fits y d
     put_fits _ (StoresIndex j y b d) = and_both (is_literal (bits_of s.width) (pos j)) (fits K ptr y) (index_fits j b) (pointer_fits y d)
     put_fits _ (Loads v y b d) = pointer_fits y d
@@ -183,8 +186,8 @@ module _ (m n : Module) (h : HasPartsOf m n) (k : ℕ) (f : Function) (s : Shape
         none true = refl
         none false = refl
 
-    instr_fits : (p q : Place) (c : ℕ) (i : Instr) → low ≤ c → old p (OfInstr i) ≡ false → Each (λ (j : Instr). misfits aside n K ty q (OfInstr j) ≡ false) (lowered s c i)
-    instr_fits p q c i a e = on (lowers m s saves c p i calls)
+    instr_fits : (p q : Place) (c : ℕ) (i : Instr) → low ≤ c → old p (OfInstr i) ≡ false → Each (λ (j : Instr). misfits aside n K ty q (OfInstr j) ≡ false) (lowered s part c i)
+    instr_fits p q c i a e = on (lowers m s part saves c p i calls)
       where
         three : either (either (breaks_values m was f.result) (calls_otherwise m)) (names_unknown m values labels) p (OfInstr i) ≡ false
         three = first_no (either (either (breaks_values m was f.result) (calls_otherwise m)) (names_unknown m values labels) p (OfInstr i)) (extra p (OfInstr i)) e
@@ -201,7 +204,7 @@ module _ (m n : Module) (h : HasPartsOf m n) (k : ℕ) (f : Function) (s : Shape
         known : list_all (knows_operand m values) (instr_operands i) ≡ true
         known = operands_before m values labels p (OfInstr i) (second_no (either (breaks_values m was f.result) (calls_otherwise m) p (OfInstr i)) (names_unknown m values labels p (OfInstr i)) three)
 
-        on : Lowers s c i → Each (λ (j : Instr). misfits aside n K ty q (OfInstr j) ≡ false) (lowered s c i)
+        on : Lowers s part c i → Each (λ (j : Instr). misfits aside n K ty q (OfInstr j) ≡ false) (lowered s part c i)
         on (Same d) = subst (Each (λ (j : Instr). misfits aside n K ty q (OfInstr j) ≡ false)) (sym d) (not_fitting aside q (OfInstr i) (same_fits i known fit), tt)
         on (Replaced x r must_tail t args d put) =
             let call : Instr = Instr.Call r must_tail t (Callee.Intrinsic x) args in
@@ -209,8 +212,8 @@ module _ (m n : Module) (h : HasPartsOf m n) (k : ℕ) (f : Function) (s : Shape
             let operands : Each Before (arg_operands args) = each_passes (knows_operand m values) (arg_operands args) (ap (λ (j : Instr). list_all (knows_operand m values) (instr_operands j)) (sym d) ∙ known) in
             let all : fits_call was r t (Callee.Intrinsic x) args ≡ true = ap (fits_instr m was) (sym d) ∙ fit in
             let passed : list_all (passes was (Callee.Intrinsic x)) args ≡ true = and_second (fits_called was (Callee.Intrinsic x) args) (list_all (passes was (Callee.Intrinsic x)) args) (and_second (fits_result (Callee.Intrinsic x) t r) (fits_called was (Callee.Intrinsic x) args && list_all (passes was (Callee.Intrinsic x)) args) all) in
-            each_turns (Replaces s c x r t args) (λ (j : Instr). misfits aside n K ty q (OfInstr j) ≡ false)
-            (λ j z. not_fitting aside q (OfInstr j) (put_fits c a p x r must_tail t args own operands (each_passes (passes was (Callee.Intrinsic x)) args passed) j z)) (lowered s c i) put
+            each_turns (Replaces s part c x r t args) (λ (j : Instr). misfits aside n K ty q (OfInstr j) ≡ false)
+            (λ j z. not_fitting aside q (OfInstr j) (put_fits c a p x r must_tail t args own operands (each_passes (passes was (Callee.Intrinsic x)) args passed) j z)) (lowered s part c i) put
 
     three_before : (p : Place) (x : FunctionPart) → old p x ≡ false → either (either (breaks_values m was f.result) (calls_otherwise m)) (names_unknown m values labels) p x ≡ false
     three_before p x e = first_no (either (either (breaks_values m was f.result) (calls_otherwise m)) (names_unknown m values labels) p x) (extra p x) e

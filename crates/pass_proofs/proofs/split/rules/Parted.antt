@@ -93,7 +93,7 @@ pub record AreEnds (part : Part) (T : Terminator → Type 0) : Type 0 where
 module _ (s : Shape) (part : Part) (Q : Phi → Type 0) (P : Instr → Type 0) (T : Terminator → Type 0) (ends : AreEnds part T) (low : ℕ) where
   -- what is lowered in the place of an instruction that the part has
   abbrev pub AllLowered : Instr → Type 0
-  AllLowered i = begins_again part i ≡ false → (n : ℕ) → low ≤ n → Each P (lowered s n i)
+  AllLowered i = begins_again part i ≡ false → (n : ℕ) → low ≤ n → Each P (lowered s part n i)
 
   front_all : (js : List Instr) (c : Block) → Each P js → IsAll Q P T c → IsAll Q P T (record { label = c.label; phis = c.phis; instrs = js ++ c.instrs; term = c.term })
   front_all js c h k = record { phis = k.phis; instrs = each_joined P js c.instrs h k.instrs; term = k.term }
@@ -102,7 +102,7 @@ module _ (s : Shape) (part : Part) (Q : Phi → Type 0) (P : Instr → Type 0) (
   pieces_all t _ _ _ _ _ _ (Ends label n phis) u q h a = (record { phis = q; instrs = tt; term = u }, tt)
   pieces_all t _ _ _ _ _ _ (Stays label n last phis i is c cs e d rest) u q h a =
       let k = pieces_all t label phis (n + names_taken i) last is (c ∷ cs) rest u q h.1 (omega (arith, a)) in
-      (front_all (lowered s n i) c (h.0 e n a) k.0, k.1)
+      (front_all (lowered s part n i) c (h.0 e n a) k.0, k.1)
   pieces_all t _ _ _ _ _ _ (Marks label n last mark phis i is cs e d rest) u q h a =
       (record { phis = q; instrs = h.0 e n a; term = ends.jump mark }, pieces_all t mark [] (n + names_taken i) last is cs rest u tt h.1 (omega (arith, a)))
   pieces_all t _ _ _ _ _ _ (Suspends label n phis i is e d) u q h a = (record { phis = q; instrs = tt; term = ends.jump _ }, tt)

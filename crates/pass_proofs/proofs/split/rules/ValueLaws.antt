@@ -1,12 +1,14 @@
 -- Operands and results fit their types (rule Y1) in the parts of a coroutine and in what becomes of a function that is none.
 use Rattle.std.proofs.Common.{◌≡◌, ◌⊎◌, inl, inr, ℕ, Bool, true, false, List, [], ◌∷◌, length, refl, sym, ap, ◌∙◌, subst, arith}
+use Rattle.std.proofs.lemmas.List.Folds.{list_all-append}
+use Rattle.std.specs.List.{list_all}
 use Rattle.std.specs.Prelude.{None, Option, Some, is_some, not, ◌&&◌, ◌||◌}
 use Rattle.ir_base.specs.declared.outcome.Place.{Place}
-use Rattle.pass_split.specs.Parts.{plain_of, plain_shape}
+use Rattle.pass_split.specs.Parts.{given_params, plain_of, plain_shape}
 use Rattle.rule_laws.proofs.rules.local_rules.Carried.{passing}
 use Rattle.rule_laws.proofs.rules.local_rules.Fitting.{either, no_either}
 use Rattle.rule_laws.proofs.rules.local_rules.Names.{numbers}
-use Rattle.ir_laws.proofs.facts.Truth.{holds, first_no}
+use Rattle.ir_laws.proofs.facts.Truth.{and_both, and_first, and_second, holds, first_no}
 use Rattle.rule_laws.proofs.rules.local_rules.Woven.{apart_names}
 use Rattle.ir_laws.proofs.paths.source_rules.Locals.{Apart}
 use Rattle.rule_laws.proofs.rules.source_rules.Locals.{names_are}
@@ -15,7 +17,7 @@ use Rattle.ir_parts.specs.Locals.{locals_of}
 use Rattle.ir_parts.specs.Parts.{Ending, OfInstr, OfPhi, Part as FunctionPart, Signature, first_part, function_place, parts_of}
 use Rattle.rule_laws.specs.rules.function_rules.Kept.{KeepsFunctionRules}
 use Rattle.pass_intrinsics.specs.Cuts.{goes_on}
-use Rattle.pass_intrinsics.specs.Shapes.{first_name, shape_of}
+use Rattle.pass_intrinsics.specs.Shapes.{first_name, given_name, shape_of}
 use Rattle.pass_intrinsics.specs.declared.shape.Part.{Part}
 use Rattle.pass_intrinsics.specs.declared.shape.Shape.{Shape}
 use Rattle.ir_model.specs.Calls.{first_result}
@@ -43,15 +45,15 @@ use Rattle.rule_laws.proofs.rules.replaced.Passed.{IsAll, Passes, PassingBlock, 
 use Rattle.rule_laws.proofs.frames.replaced.Saves.{saves_below}
 use Rattle.rule_laws.proofs.rules.replaced.Values.{values_now}
 use Rattle.rule_laws.specs.frames.replaced.Kinds.{kinds_with, part_kind, plain_kind}
-use Rattle.pass_proofs.specs.split.rules.Parted.{IsDestroy, IsPartOf, IsRamp, IsResume}
+use Rattle.pass_proofs.specs.split.rules.Parted.{IsCleanup, IsDestroy, IsGivenRamp, IsPartOf, IsRamp, IsResume}
 use Rattle.rule_laws.specs.frames.replaced.Parted.{IsSmall}
 use Rattle.rule_laws.specs.rules.replaced.Returns.{ReturnsNothing}
 use Rattle.run_laws.specs.changed.Changed.{Each}
 use Rattle.rule_types.specs.Signatures.{calls_otherwise}
 use Rattle.rule_values.specs.Kinds.{kind_of, value_kind}
-use Rattle.rule_values.specs.Values.{breaks_values, first_wrong_value, fits_signature}
+use Rattle.rule_values.specs.Values.{breaks_values, first_wrong_value, fits_signature, has_scalar, is_scalar_or_void}
 use Rattle.rule_values.specs.declared.kinds.Kind.{Kind}
-use Rattle.ir_laws.proofs.facts.Members.{each_turns}
+use Rattle.ir_laws.proofs.facts.Members.{each_joined, each_turns}
 
 -- ---- what is asked of the function
 
@@ -96,21 +98,31 @@ part_result : (s : Shape) (part : Part) (f g : Function) → IsPartOf s f part g
 part_result s _ f _ IsRamp = inr refl
 part_result s _ f _ IsResume = inl refl
 part_result s _ f _ IsDestroy = inl refl
+part_result s _ f _ IsGivenRamp = inr refl
+part_result s _ f _ IsCleanup = inl refl
 
 part_void : (s : Shape) (part : Part) (f g : Function) → IsPartOf s f part g → goes_on part ≡ true → g.result ≡ None
 part_void s _ f _ IsRamp e = absurd (cc)
 part_void s _ f _ IsResume e = refl
 part_void s _ f _ IsDestroy e = refl
+part_void s _ f _ IsGivenRamp e = absurd (cc)
+part_void s _ f _ IsCleanup e = refl
 
 part_signature : (s : Shape) (part : Part) (f g : Function) → IsPartOf s f part g → fits_signature f ≡ true → fits_signature g ≡ true
 part_signature s _ f _ IsRamp e = e
 part_signature s _ f _ IsResume e = refl
 part_signature s _ f _ IsDestroy e = refl
+part_signature s _ f _ IsCleanup e = refl
+part_signature s _ f _ IsGivenRamp e =
+    and_both (is_scalar_or_void f.result) (list_all has_scalar (given_params s f)) (and_first (is_scalar_or_void f.result) (list_all has_scalar f.params) e)
+    (list_all-append has_scalar f.params (record { ty = ptr; name = given_name s } ∷ []) ∙ and_both (list_all has_scalar f.params) true (and_second (is_scalar_or_void f.result) (list_all has_scalar f.params) e) refl)
 
-part_params : (s : Shape) (part : Part) (f g : Function) → IsPartOf s f part g → (P : Param → Type 0) → Each P f.params → P (record { ty = ptr; name = s.begin }) → Each P g.params
-part_params s _ f _ IsRamp P a b = a
-part_params s _ f _ IsResume P a b = (b, tt)
-part_params s _ f _ IsDestroy P a b = (b, tt)
+part_params : (s : Shape) (part : Part) (f g : Function) → IsPartOf s f part g → (P : Param → Type 0) → Each P f.params → P (record { ty = ptr; name = s.begin }) → (part ≡ Part.GivenRamp → P (record { ty = ptr; name = given_name s })) → Each P g.params
+part_params s _ f _ IsRamp P a b c = a
+part_params s _ f _ IsGivenRamp P a b c = each_joined P f.params (record { ty = ptr; name = given_name s } ∷ []) a (c refl, tt)
+part_params s _ f _ IsResume P a b c = (b, tt)
+part_params s _ f _ IsDestroy P a b c = (b, tt)
+part_params s _ f _ IsCleanup P a b c = (b, tt)
 
 pub parts_values : (m n : Module) (k l : ℕ) (layout : Layout) (part : Part) (begin : ℕ) (f g : Function) → HasPartsOf m n → KeepsFunctionRules m k f → first_result Intrinsic.CoroBegin f ≡ Some begin → IsSmall (shape_of f layout) → IsPartOf (shape_of f layout) f part g → first_unknown n l g ≡ None → (goes_on part ≡ true → ReturnsNothing l g) → first_wrong_value n l g ≡ None
 parts_values m n k l layout part begin f g h rules named small is known returns =
@@ -150,7 +162,8 @@ parts_values m n k l layout part begin f g h rules named small is known returns 
         value_is K v g (λ (t : Terminator). Unit {0})
         (part_params s part f g is (λ (p : Param). Some (kind_of p.ty) ≡ K p.name)
         (each_turns (λ (p : Param). Some (kind_of p.ty) ≡ value_kind f p.name) (λ (p : Param). Some (kind_of p.ty) ≡ K p.name) (λ p d. old_same m f s part (saves_below f layout) (first_name s) (part_kind s) nothing_more kinds p.name (kind_of p.ty) d) f.params (own_params f apart))
-        (sym (kinds.frame (function_place 0) None false None Intrinsic.CoroBegin [] refl refl)))
+        (sym (kinds.frame (function_place 0) None false None Intrinsic.CoroBegin [] refl refl))
+        (λ d. sym (kinds.given d)))
         (part_all s part (first_name s) (PhiMakesIn (value_kind f)) (PhiMakesIn K) (λ (i : Instr). MakesIn (value_kind f) i × Passes (either (calls_otherwise m) nothing_more) (OfInstr i)) (MakesIn K) (λ (t : Terminator). Unit {0}) (λ (t : Terminator). Unit {0})
         (kinds_become m f s part (saves_below f layout) (first_name s) (part_kind s) nothing_more kinds) (omega arith) f g is (told m k f rules nothing_more (never (parts_of k f))))
         e

@@ -79,13 +79,17 @@ module _ (m : Module) (k : ℕ) (f : Function) (begin : ℕ) (x : IsSplittable m
   abbrev s : Shape
   s = shape_of f layout
 
+  ramp_bare : (part : Part) → HasNoEntryPhis (pieces_of s part (origins_for s part f) (first_name s) f.blocks ++ done_block s ∷ [])
+  ramp_bare part =
+      let os : List Origin = origins_for s part f in
+      pieces_entry s part os (first_name s) (next_after s part os (first_name s) f.blocks) f.blocks (pieces_of s part os (first_name s) f.blocks) (cut_blocks s part os (first_name s) f.blocks) bare (done_block s ∷ []) refl
+
   whole_bare : (part : Part) → HasNoEntryPhis (part_blocks s part f (origins_for s part f))
-  whole_bare Part.Ramp =
-      let h : Function = f in
-      let os : List Origin = origins_for s Part.Ramp h in
-      pieces_entry s Part.Ramp os (first_name s) (next_after s Part.Ramp os (first_name s) h.blocks) h.blocks (pieces_of s Part.Ramp os (first_name s) h.blocks) (cut_blocks s Part.Ramp os (first_name s) h.blocks) bare (done_block s ∷ []) refl
+  whole_bare Part.Ramp = ramp_bare Part.Ramp
+  whole_bare Part.GivenRamp = ramp_bare Part.GivenRamp
   whole_bare Part.Resume = refl
   whole_bare Part.Destroy = refl
+  whole_bare Part.Cleanup = refl
 
   module _ (part : Part) (p : Function) (blocks : p.blocks ≡ whole (shape_of f layout) part f) (names : p.names ≡ part_names (shape_of f layout) part f (origins_for (shape_of f layout) part f)) where
     abbrev h : Function

@@ -3,24 +3,25 @@ use Rattle.std.proofs.Common.{ℕ, zero, suc, ℤ, pos, ◌+◌, ◌-◌, Bool, 
 use Rattle.std.specs.Prelude.{None, Option, Some, codes, if◌then◌else◌, map, slice_get, slice_set}
 use Rattle.ir_base.specs.declared.name.Name.{Name}
 use Rattle.text_names.specs.Spelling.{IsName}
-use Rattle.pass_split.specs.Parts.{back_name, begun_mark, case_of, cases_from, done_mark, entry_mark, frame_mark, index_mark, instr_names, is_entered, later_part, mark_names, names_of, names_of_suspend, none_mark, origins_for, part_names, pass_name, plain_of, plain_shape, ramp_of, saved_name, slot_mark, suspend_names}
+use Rattle.pass_split.specs.Parts.{back_name, begun_mark, case_of, cases_from, done_mark, entry_mark, frame_mark, given_mark, given_ramp_of, index_mark, instr_names, is_entered, later_part, mark_names, names_of, names_of_suspend, none_mark, origins_for, part_names, pass_name, plain_of, plain_shape, ramp_of, saved_name, slot_mark, suspend_names}
 use Rattle.pass_split.specs.Pieces.{next_after}
 use Rattle.pass_split.specs.Reached.{pruned}
 use Rattle.frame_layout.specs.declared.layout.Layout.{Layout}
-use Rattle.ir_laws.proofs.facts.Members.{each_turns, joined_names}
+use Rattle.ir_laws.proofs.facts.Members.{each_joined, each_turns, joined_names}
 use Rattle.ir_parts.specs.Contents.{ending_types}
-use Rattle.pass_intrinsics.specs.Lowered.{address, begin_stores, call_pointer, destroy_call, done_test, is_final_at, load_pointer, lowered, number_of_save, operand_at, resume_call, resumed_by, save_or_none, set_address, set_number, set_truth, store_pointer, truth_of}
-use Rattle.pass_intrinsics.specs.Shapes.{first_name, shape_of}
+use Rattle.pass_intrinsics.specs.Lowered.{address, allocates, begin_memory, begin_stores, call_pointer, destroy_call, destroyed_by, done_test, freed_by, is_final_at, load_pointer, lowered, number_of_save, operand_at, resume_call, resumed_by, save_or_none, set_address, set_number, set_truth, store_pointer, truth_of}
+use Rattle.pass_intrinsics.specs.Shapes.{first_name, given_name, shape_of}
 use Rattle.pass_intrinsics.specs.declared.shape.Part.{Part}
 use Rattle.pass_intrinsics.specs.declared.shape.Shape.{Shape}
 use Rattle.pass_intrinsics.specs.declared.shape.SuspendPoint.{SuspendPoint}
 use Rattle.ir_model.specs.Names.{numbered}
-use Rattle.ir_model.specs.Ty.{Ty, int}
+use Rattle.ir_model.specs.Ty.{Ty, int, ptr}
 use Rattle.ir_model.specs.declared.instr.Instr.{Instr}
 use Rattle.ir_model.specs.declared.instr.Phi.{Phi}
 use Rattle.ir_model.specs.declared.instr.Terminator.{Terminator}
 use Rattle.ir_model.specs.declared.module.Block.{Block}
 use Rattle.ir_model.specs.declared.module.Function.{Function}
+use Rattle.ir_model.specs.declared.module.Param.{Param}
 use Rattle.ir_model.specs.declared.operand.Arg.{Arg}
 use Rattle.ir_model.specs.declared.operand.Callee.{Callee}
 use Rattle.ir_model.specs.declared.operand.Intrinsic.{Intrinsic}
@@ -33,7 +34,7 @@ use Rattle.pass_proofs.proofs.split.rules.Local.{same_term_types}
 use Rattle.rule_laws.proofs.rules.replaced.Passed.{IsAll}
 use Rattle.rule_laws.specs.texts.spelled.Spelled.{IsSpelled}
 use Rattle.rule_laws.specs.rules.spelled.Spelled.{IsSpelledBlock, IsSpelledFunction, IsSpelledInstr}
-use Rattle.pass_proofs.specs.split.rules.Parted.{IsDestroy, IsPartOf, IsRamp, IsResume}
+use Rattle.pass_proofs.specs.split.rules.Parted.{IsCleanup, IsDestroy, IsGivenRamp, IsPartOf, IsRamp, IsResume}
 use Rattle.run_laws.specs.changed.Changed.{Each}
 
 -- ---- the names of a coroutine's parts
@@ -59,8 +60,8 @@ instrs_named zero = tt
 instrs_named (suc k) = joined_names (instr_names k) (numbered (codes "$c.") k ∷ []) (instrs_named k) (numbered_named (codes "$c.") k refl, tt)
 
 marks_named : Each IsName mark_names
-unfolding begun_mark done_mark entry_mark none_mark slot_mark index_mark
-marks_named = (refl, (refl, (refl, (refl, (refl, (refl, tt))))))
+unfolding begun_mark done_mark entry_mark none_mark slot_mark index_mark given_mark
+marks_named = (refl, (refl, (refl, (refl, (refl, (refl, (refl, tt)))))))
 
 frame_named : IsName frame_mark
 unfolding frame_mark
@@ -110,9 +111,9 @@ module _ (s : Shape) where
   one_call : (n : ℕ) (p : Operand) → IsSpelledInstr (call_pointer n p)
   one_call n p = record { types = (ptr_spelled, tt); stands = tt }
 
-  begin_spelled : (n : ℕ) (p : Operand) → All (begin_stores s n p)
-  begin_spelled n p =
-      (one_address s.begin p (pos 0), (one_store (Operand.Global s.resume_name) (Operand.Local s.begin), (one_address n (Operand.Local s.begin) (pos 8), (one_store (Operand.Global s.destroy_name) (Operand.Local n), tt))))
+  begin_spelled : (part : Part) (n : ℕ) (p : Operand) → All (begin_stores s part n p)
+  begin_spelled part n p =
+      (one_address s.begin p (pos 0), (one_store (Operand.Global s.resume_name) (Operand.Local s.begin), (one_address n (Operand.Local s.begin) (pos 8), (one_store (Operand.Global (destroyed_by s part)) (Operand.Local n), tt))))
 
   save_spelled : (n : ℕ) (o : Option ℕ) → All (save_or_none s n o)
   save_spelled n None = tt
@@ -131,27 +132,27 @@ module _ (s : Shape) where
   test_spelled n None p = tt
   test_spelled n (Some r) p = (one_load n p, (record { types = (ptr_spelled, tt); stands = tt }, tt))
 
-  call_spelled : (n : ℕ) (x : Intrinsic) (r : Option ℕ) (must_tail : Bool) (ty : Option Ty) (args : List Arg) → IsSpelledInstr (Instr.Call r must_tail ty (Callee.Intrinsic x) args) → All (lowered s n (Instr.Call r must_tail ty (Callee.Intrinsic x) args))
-  call_spelled n Intrinsic.CoroSizeI32 r must_tail ty args h = number_spelled r 32 s.size short_spelled
-  call_spelled n Intrinsic.CoroSizeI64 r must_tail ty args h = number_spelled r 64 s.size word_spelled
-  call_spelled n Intrinsic.CoroAlignI32 r must_tail ty args h = number_spelled r 32 s.align short_spelled
-  call_spelled n Intrinsic.CoroAlignI64 r must_tail ty args h = number_spelled r 64 s.align word_spelled
-  call_spelled n Intrinsic.CoroAlloc r must_tail ty args h = set_truth_spelled r (truth_of true)
-  call_spelled n Intrinsic.CoroBegin r must_tail ty args h = begin_spelled n (operand_at args 1)
-  call_spelled n Intrinsic.CoroFree r must_tail ty args h = address_spelled r (Operand.Local s.begin) (pos 0)
-  call_spelled n Intrinsic.CoroFrame r must_tail ty args h = address_spelled r (Operand.Local s.begin) (pos 0)
-  call_spelled n Intrinsic.CoroSave r must_tail ty args h = save_spelled n (number_of_save s r)
-  call_spelled n Intrinsic.CoroSuspend r must_tail ty args h = tt
-  call_spelled n Intrinsic.CoroEnd r must_tail ty args h = set_truth_spelled r (truth_of false)
-  call_spelled n Intrinsic.CoroResume r must_tail ty args h = resume_spelled n (operand_at args 0)
-  call_spelled n Intrinsic.CoroDestroy r must_tail ty args h = destroy_spelled n (operand_at args 0)
-  call_spelled n Intrinsic.CoroDone r must_tail ty args h = test_spelled n r (operand_at args 0)
-  call_spelled n Intrinsic.CoroPromise r must_tail ty args h = address_spelled r (operand_at args 0) _
-  call_spelled n _ r must_tail ty args h = (h, tt)
+  call_spelled : (part : Part) (n : ℕ) (x : Intrinsic) (r : Option ℕ) (must_tail : Bool) (ty : Option Ty) (args : List Arg) → IsSpelledInstr (Instr.Call r must_tail ty (Callee.Intrinsic x) args) → All (lowered s part n (Instr.Call r must_tail ty (Callee.Intrinsic x) args))
+  call_spelled part n Intrinsic.CoroSizeI32 r must_tail ty args h = number_spelled r 32 s.size short_spelled
+  call_spelled part n Intrinsic.CoroSizeI64 r must_tail ty args h = number_spelled r 64 s.size word_spelled
+  call_spelled part n Intrinsic.CoroAlignI32 r must_tail ty args h = number_spelled r 32 s.align short_spelled
+  call_spelled part n Intrinsic.CoroAlignI64 r must_tail ty args h = number_spelled r 64 s.align word_spelled
+  call_spelled part n Intrinsic.CoroAlloc r must_tail ty args h = set_truth_spelled r (truth_of (allocates part))
+  call_spelled part n Intrinsic.CoroBegin r must_tail ty args h = begin_spelled part n (begin_memory s part args)
+  call_spelled part n Intrinsic.CoroFree r must_tail ty args h = address_spelled r (freed_by s part) (pos 0)
+  call_spelled part n Intrinsic.CoroFrame r must_tail ty args h = address_spelled r (Operand.Local s.begin) (pos 0)
+  call_spelled part n Intrinsic.CoroSave r must_tail ty args h = save_spelled n (number_of_save s r)
+  call_spelled part n Intrinsic.CoroSuspend r must_tail ty args h = tt
+  call_spelled part n Intrinsic.CoroEnd r must_tail ty args h = set_truth_spelled r (truth_of false)
+  call_spelled part n Intrinsic.CoroResume r must_tail ty args h = resume_spelled n (operand_at args 0)
+  call_spelled part n Intrinsic.CoroDestroy r must_tail ty args h = destroy_spelled n (operand_at args 0)
+  call_spelled part n Intrinsic.CoroDone r must_tail ty args h = test_spelled n r (operand_at args 0)
+  call_spelled part n Intrinsic.CoroPromise r must_tail ty args h = address_spelled r (operand_at args 0) _
+  call_spelled part n _ r must_tail ty args h = (h, tt)
 
-  lowered_spelled : (n : ℕ) (i : Instr) → IsSpelledInstr i → All (lowered s n i)
-  lowered_spelled n (Instr.Call r must_tail ty (Callee.Intrinsic x) args) h = call_spelled n x r must_tail ty args h
-  lowered_spelled n i h = (h, tt)
+  lowered_spelled : (part : Part) (n : ℕ) (i : Instr) → IsSpelledInstr i → All (lowered s part n i)
+  lowered_spelled part n (Instr.Call r must_tail ty (Callee.Intrinsic x) args) h = call_spelled part n x r must_tail ty args h
+  lowered_spelled part n i h = (h, tt)
 
   -- ---- the entry of the parts that go on
 
@@ -173,7 +174,7 @@ module _ (s : Shape) where
   becomes_spelled part =
       record {
         phi = λ x y of h. subst IsSpelled (sym of.ty) h;
-        instr = λ n i low again h. lowered_spelled n i h;
+        instr = λ n i low again h. lowered_spelled part n i h;
         ending = λ t h. subst (Each IsSpelled) (sym (same_term_types s t)) h;
         ends = record { jump = λ label. tt; return = λ e. tt; stop = tt };
         index = λ e. (one_address _ _ _, (record { types = (width_spelled s.width, tt); stands = tt }, tt));
@@ -226,6 +227,24 @@ parts_spelled layout _ f _ IsDestroy h =
       params = (ptr_spelled, tt);
       blocks = part_blocks_spelled s Part.Destroy f (pruned (later_part s Part.Destroy s.destroy_name f)) IsDestroy h.blocks;
       names = names_spelled s Part.Destroy f h.names;
+    }
+parts_spelled layout _ f _ IsCleanup h =
+    let s : Shape = shape_of f layout in
+    record {
+      name = part_named f.name (codes ".cleanup") h.name refl;
+      result = tt;
+      params = (ptr_spelled, tt);
+      blocks = part_blocks_spelled s Part.Cleanup f (pruned (later_part s Part.Cleanup s.cleanup_name f)) IsCleanup h.blocks;
+      names = names_spelled s Part.Cleanup f h.names;
+    }
+parts_spelled layout _ f _ IsGivenRamp h =
+    let s : Shape = shape_of f layout in
+    record {
+      name = part_named f.name (codes ".noalloc") h.name refl;
+      result = h.result;
+      params = each_joined (λ (p : Param). IsSpelled p.ty) f.params (record { ty = ptr; name = given_name s } ∷ []) h.params (ptr_spelled, tt);
+      blocks = part_blocks_spelled s Part.GivenRamp f (pruned (given_ramp_of s f)) IsGivenRamp h.blocks;
+      names = names_spelled s Part.GivenRamp f h.names;
     }
 
 pub turned_spelled : (f : Function) → IsSpelledFunction f → IsSpelledFunction (plain_of (plain_shape f) f)

@@ -2,7 +2,7 @@
 use Rattle.std.proofs.Common.{◌≡◌, ⊎_elim, inl, inr, ℕ, ◌+◌, ◌-◌, ◌<◌, ◌≤◌, Bool, true, false, List, [], ◌∷◌, ◌++◌, length, length-append, refl, sym, ap, subst, arith}
 use Rattle.std.specs.Prelude.{None, Option, Some, filter, if◌then◌else◌, map}
 use Rattle.ir_base.specs.declared.name.Name.{Name}
-use Rattle.pass_split.specs.Parts.{back_blocks, done_block, head_blocks, instr_names, later_head, later_part, origins_for, part_blocks, part_names, plain_of, plain_shape, ramp_of}
+use Rattle.pass_split.specs.Parts.{back_blocks, done_block, given_ramp_of, head_blocks, instr_names, later_head, later_part, origins_for, part_blocks, part_names, plain_of, plain_shape, ramp_of}
 use Rattle.pass_front.specs.Front.{allocas_of, is_alloca}
 use Rattle.pass_split.specs.Pieces.{is_begin, next_after, pieced_phi, pieces_of}
 use Rattle.pass_split.specs.Reached.{is_flagged, kept_block, kept_blocks, kept_phi, pruned, reached}
@@ -20,7 +20,7 @@ use Rattle.rule_laws.proofs.rules.function_rules.Tabled.{tabled_by}
 use Rattle.rule_laws.proofs.rules.woven_rules.Once.{names_below}
 use Rattle.pass_intrinsics.specs.Cuts.{goes_on}
 use Rattle.pass_intrinsics.specs.Lowered.{lowered, names_for, names_taken, number_of_save, save_or_none}
-use Rattle.pass_intrinsics.specs.Shapes.{first_name, index_name, shape_of, slot_name}
+use Rattle.pass_intrinsics.specs.Shapes.{first_name, given_name, index_name, shape_of, slot_name}
 use Rattle.pass_intrinsics.specs.declared.shape.Part.{Part}
 use Rattle.pass_intrinsics.specs.declared.shape.Shape.{Shape}
 use Rattle.pass_intrinsics.specs.declared.shape.SuspendPoint.{SuspendPoint}
@@ -42,8 +42,9 @@ use Rattle.rule_laws.proofs.rules.short_names.Sources.{results_below}
 use Rattle.rule_laws.proofs.frames.turned.Turned.{AreTurned, NoneTurned, OneTurned}
 use Rattle.rule_laws.proofs.rules.turned.Turned.{IsOuter}
 use Rattle.pass_proofs.proofs.split.rules.Cutting.{cut_blocks}
+use Rattle.pass_proofs.proofs.split.rules.GivenParams.{given_params_are}
 use Rattle.pass_proofs.proofs.split.rules.Parted.{rises}
-use Rattle.pass_proofs.specs.split.rules.Parted.{IsDestroy, IsPartOf, IsRamp, IsResume}
+use Rattle.pass_proofs.specs.split.rules.Parted.{IsCleanup, IsDestroy, IsGivenRamp, IsPartOf, IsRamp, IsResume}
 use Rattle.pass_proofs.specs.split.rules.Pieced.{ArePieces, ArePiecesOf, BeginsAgain, Ends, Marks, NoBlock, OneBlock, Returns, Stays, Suspends, Transfers}
 use Rattle.pass_proofs.specs.split.rules.Splittable.{IsSplittable}
 use Rattle.run_laws.specs.changed.Changed.{Each}
@@ -79,37 +80,37 @@ module _ (limit : ℕ) where
     save_below n None high = tt
     save_below n (Some j) high = (one n (omega (arith, high)), (none, (none, tt)))
 
-    call_below : (n : ℕ) (x : Intrinsic) (r : Option ℕ) (must_tail : Bool) (ty : Option Ty) (args : List Arg) → Below (Instr.Call r must_tail ty (Callee.Intrinsic x) args) → BeginsBelow (Instr.Call r must_tail ty (Callee.Intrinsic x) args) → n + names_for x ≤ limit → Each Below (lowered s n (Instr.Call r must_tail ty (Callee.Intrinsic x) args))
-    call_below n Intrinsic.CoroSizeI32 None must_tail ty args h begin high = tt
-    call_below n Intrinsic.CoroSizeI32 (Some r) must_tail ty args h begin high = (h, tt)
-    call_below n Intrinsic.CoroSizeI64 None must_tail ty args h begin high = tt
-    call_below n Intrinsic.CoroSizeI64 (Some r) must_tail ty args h begin high = (h, tt)
-    call_below n Intrinsic.CoroAlignI32 None must_tail ty args h begin high = tt
-    call_below n Intrinsic.CoroAlignI32 (Some r) must_tail ty args h begin high = (h, tt)
-    call_below n Intrinsic.CoroAlignI64 None must_tail ty args h begin high = tt
-    call_below n Intrinsic.CoroAlignI64 (Some r) must_tail ty args h begin high = (h, tt)
-    call_below n Intrinsic.CoroAlloc None must_tail ty args h begin high = tt
-    call_below n Intrinsic.CoroAlloc (Some r) must_tail ty args h begin high = (h, tt)
-    call_below n Intrinsic.CoroBegin r must_tail ty args h begin high = (one s.begin (begin refl), (none, (one n (omega (arith, high)), (none, tt))))
-    call_below n Intrinsic.CoroFree None must_tail ty args h begin high = tt
-    call_below n Intrinsic.CoroFree (Some r) must_tail ty args h begin high = (h, tt)
-    call_below n Intrinsic.CoroFrame None must_tail ty args h begin high = tt
-    call_below n Intrinsic.CoroFrame (Some r) must_tail ty args h begin high = (h, tt)
-    call_below n Intrinsic.CoroSave r must_tail ty args h begin high = save_below n (number_of_save s r) high
-    call_below n Intrinsic.CoroSuspend r must_tail ty args h begin high = tt
-    call_below n Intrinsic.CoroEnd None must_tail ty args h begin high = tt
-    call_below n Intrinsic.CoroEnd (Some r) must_tail ty args h begin high = (h, tt)
-    call_below n Intrinsic.CoroResume r must_tail ty args h begin high = (one n (omega (arith, high)), (none, tt))
-    call_below n Intrinsic.CoroDestroy r must_tail ty args h begin high = (one n (omega (arith, high)), (one (n + 1) (omega (arith, high)), (none, tt)))
-    call_below n Intrinsic.CoroDone None must_tail ty args h begin high = tt
-    call_below n Intrinsic.CoroDone (Some r) must_tail ty args h begin high = (one n (omega (arith, high)), (h, tt))
-    call_below n Intrinsic.CoroPromise None must_tail ty args h begin high = tt
-    call_below n Intrinsic.CoroPromise (Some r) must_tail ty args h begin high = (h, tt)
-    call_below n _ r must_tail ty args h begin high = (h, tt)
+    call_below : (part : Part) (n : ℕ) (x : Intrinsic) (r : Option ℕ) (must_tail : Bool) (ty : Option Ty) (args : List Arg) → Below (Instr.Call r must_tail ty (Callee.Intrinsic x) args) → BeginsBelow (Instr.Call r must_tail ty (Callee.Intrinsic x) args) → n + names_for x ≤ limit → Each Below (lowered s part n (Instr.Call r must_tail ty (Callee.Intrinsic x) args))
+    call_below part n Intrinsic.CoroSizeI32 None must_tail ty args h begin high = tt
+    call_below part n Intrinsic.CoroSizeI32 (Some r) must_tail ty args h begin high = (h, tt)
+    call_below part n Intrinsic.CoroSizeI64 None must_tail ty args h begin high = tt
+    call_below part n Intrinsic.CoroSizeI64 (Some r) must_tail ty args h begin high = (h, tt)
+    call_below part n Intrinsic.CoroAlignI32 None must_tail ty args h begin high = tt
+    call_below part n Intrinsic.CoroAlignI32 (Some r) must_tail ty args h begin high = (h, tt)
+    call_below part n Intrinsic.CoroAlignI64 None must_tail ty args h begin high = tt
+    call_below part n Intrinsic.CoroAlignI64 (Some r) must_tail ty args h begin high = (h, tt)
+    call_below part n Intrinsic.CoroAlloc None must_tail ty args h begin high = tt
+    call_below part n Intrinsic.CoroAlloc (Some r) must_tail ty args h begin high = (h, tt)
+    call_below part n Intrinsic.CoroBegin r must_tail ty args h begin high = (one s.begin (begin refl), (none, (one n (omega (arith, high)), (none, tt))))
+    call_below part n Intrinsic.CoroFree None must_tail ty args h begin high = tt
+    call_below part n Intrinsic.CoroFree (Some r) must_tail ty args h begin high = (h, tt)
+    call_below part n Intrinsic.CoroFrame None must_tail ty args h begin high = tt
+    call_below part n Intrinsic.CoroFrame (Some r) must_tail ty args h begin high = (h, tt)
+    call_below part n Intrinsic.CoroSave r must_tail ty args h begin high = save_below n (number_of_save s r) high
+    call_below part n Intrinsic.CoroSuspend r must_tail ty args h begin high = tt
+    call_below part n Intrinsic.CoroEnd None must_tail ty args h begin high = tt
+    call_below part n Intrinsic.CoroEnd (Some r) must_tail ty args h begin high = (h, tt)
+    call_below part n Intrinsic.CoroResume r must_tail ty args h begin high = (one n (omega (arith, high)), (none, tt))
+    call_below part n Intrinsic.CoroDestroy r must_tail ty args h begin high = (one n (omega (arith, high)), (one (n + 1) (omega (arith, high)), (none, tt)))
+    call_below part n Intrinsic.CoroDone None must_tail ty args h begin high = tt
+    call_below part n Intrinsic.CoroDone (Some r) must_tail ty args h begin high = (one n (omega (arith, high)), (h, tt))
+    call_below part n Intrinsic.CoroPromise None must_tail ty args h begin high = tt
+    call_below part n Intrinsic.CoroPromise (Some r) must_tail ty args h begin high = (h, tt)
+    call_below part n _ r must_tail ty args h begin high = (h, tt)
 
-    lowered_below : (n : ℕ) (i : Instr) → Below i → BeginsBelow i → n + names_taken i ≤ limit → Each Below (lowered s n i)
-    lowered_below n (Instr.Call r must_tail ty (Callee.Intrinsic x) args) h begin high = call_below n x r must_tail ty args h begin high
-    lowered_below n i h begin high = (h, tt)
+    lowered_below : (part : Part) (n : ℕ) (i : Instr) → Below i → BeginsBelow i → n + names_taken i ≤ limit → Each Below (lowered s part n i)
+    lowered_below part n (Instr.Call r must_tail ty (Callee.Intrinsic x) args) h begin high = call_below part n x r must_tail ty args h begin high
+    lowered_below part n i h begin high = (h, tt)
 
     -- what is asked of an instruction before
     abbrev IsFine : Instr → Type 0
@@ -127,13 +128,13 @@ module _ (limit : ℕ) where
       pieces_below t _ _ _ _ _ _ (Stays label n last phis i is c cs again d more) high q h =
           let r = pieces_below t label (n + names_taken i) last phis is (c ∷ cs) more high q h.1 in
           let up : n + names_taken i ≤ last = rises s part t label (n + names_taken i) last phis is (c ∷ cs) more in
-          (record { phis = r.0.phis; instrs = each_joined Below (lowered s n i) c.instrs (lowered_below n i h.0.0 h.0.1 (omega (arith, up, high))) r.0.instrs }, r.1)
+          (record { phis = r.0.phis; instrs = each_joined Below (lowered s part n i) c.instrs (lowered_below part n i h.0.0 h.0.1 (omega (arith, up, high))) r.0.instrs }, r.1)
       pieces_below t _ _ _ _ _ _ (Marks label n last mark phis i is cs again d more) high q h =
           let up : n + names_taken i ≤ last = rises s part t mark (n + names_taken i) last [] is cs more in
-          (record { phis = q; instrs = lowered_below n i h.0.0 h.0.1 (omega (arith, up, high)) }, pieces_below t mark (n + names_taken i) last [] is cs more high tt h.1)
+          (record { phis = q; instrs = lowered_below part n i h.0.0 h.0.1 (omega (arith, up, high)) }, pieces_below t mark (n + names_taken i) last [] is cs more high tt h.1)
       pieces_below t _ _ _ _ _ _ (Suspends label n phis i is again d) high q h = (record { phis = q; instrs = tt }, tt)
       pieces_below t _ _ _ _ _ _ (Returns label n phis i is again d) high q h = (record { phis = q; instrs = tt }, tt)
-      pieces_below t _ _ _ _ _ _ (Transfers label n j phis i is again d) high q h = (record { phis = q; instrs = tt }, (record { phis = tt; instrs = lowered_below n i h.0.0 h.0.1 high }, tt))
+      pieces_below t _ _ _ _ _ _ (Transfers label n j phis i is again d) high q h = (record { phis = q; instrs = tt }, (record { phis = tt; instrs = lowered_below part n i h.0.0 h.0.1 high }, tt))
       pieces_below t _ _ _ _ _ _ (BeginsAgain label n phis i is again) high q h = (record { phis = q; instrs = tt }, tt)
 
       pieced_below : (origins : List Origin) (label : ℕ) (ps : List Phi) → PhisBelow ps → PhisBelow (map (pieced_phi s part origins label) ps)
@@ -303,7 +304,7 @@ module _ (m : Module) (k : ℕ) (f : Function) (begin : ℕ) (split : IsSplittab
         each_joined (IsBelow limit) (head_blocks s part h ++ pieces) (done_block s ∷ []) (each_joined (IsBelow limit) (head_blocks s part h) pieces head_low pieces_low) (record { phis = tt; instrs = tt }, tt)
 
     -- a function with the names and the blocks of the part
-    part_low : (p : Function) → p.blocks ≡ part_blocks s part h origins → p.names ≡ part_names s part h origins → ((v : ℕ) → IsListed v (params_of p) → v < length f.names) → (l : ℕ) → HasTabledLocals l (pruned p)
+    part_low : (p : Function) → p.blocks ≡ part_blocks s part h origins → p.names ≡ part_names s part h origins → ((v : ℕ) → IsListed v (params_of p) → v < limit) → (l : ℕ) → HasTabledLocals l (pruned p)
     part_low p blocks names params l =
         let same : limit ≡ length p.names = ap length (sym names) in
         let labels : (c : Block) → IsListed c p.blocks → c.label < limit = λ c x.
@@ -312,26 +313,39 @@ module _ (m : Module) (k : ℕ) (f : Function) (begin : ℕ) (split : IsSplittab
         tabled_by l (pruned p)
         (λ v x.
         ⊎_elim
-        (λ a. let low : v < limit = old v (params v a) in omega (arith, low, same))
+        (λ a. let low : v < limit = params v a in omega (arith, low, same))
         (λ b. let low : v < limit = blocks_to limit (pruned p).blocks (kept_labels limit (reached p) p.blocks labels) (kept_below limit (reached p) p.blocks below) v b in omega (arith, low, same))
         (listed_either v (params_of p) (row_of block_names (pruned p).blocks) x))
 
-  frame_param : (v : ℕ) → IsListed v (s.begin ∷ []) → v < length f.names
-  frame_param v (inl e) = subst (λ (n : ℕ). n < length f.names) (sym e) begin_in
-  frame_param v (inr l) = absurd l
+  frame_param : (part : Part) (v : ℕ) → IsListed v (s.begin ∷ []) → v < length (part_names s part f (origins_for s part f))
+  frame_param part v (inl e) = subst (λ (n : ℕ). n < length (part_names s part f (origins_for s part f))) (sym e) (old part s.begin begin_in)
+  frame_param part v (inr l) = absurd l
+
+  own_param : (part : Part) (v : ℕ) → IsListed v (params_of f) → v < length (part_names s part f (origins_for s part f))
+  own_param part v x = old part v (names_below k f split.rules.tabled v (listed_left v (params_of f) (row_of block_names f.blocks) x))
+
+  given_param : (v : ℕ) → IsListed v (params_of f ++ given_name s ∷ []) → v < length (part_names s Part.GivenRamp f (origins_for s Part.GivenRamp f))
+  given_param v x = ⊎_elim (own_param Part.GivenRamp v) new (listed_either v (params_of f) (given_name s ∷ []) x)
+    where
+      new : IsListed v (given_name s ∷ []) → v < length (part_names s Part.GivenRamp f (origins_for s Part.GivenRamp f))
+      new (inl e) = let all = long Part.GivenRamp in let is : v ≡ given_name s = e in omega (arith, all, is)
+      new (inr l) = absurd l
 
   ramp_tabled : (l : ℕ) → HasTabledLocals l (pruned (ramp_of s f))
-  ramp_tabled l = part_low Part.Ramp (ramp_of s f) refl refl (λ v x. names_below k f split.rules.tabled v (listed_left v (params_of f) (row_of block_names f.blocks) x)) l
+  ramp_tabled l = part_low Part.Ramp (ramp_of s f) refl refl (own_param Part.Ramp) l
 
-  later_tabled : (part : Part) (name : Name) → goes_on part ≡ true → (l : ℕ) → HasTabledLocals l (pruned (later_part s part name f))
-  later_tabled Part.Ramp name e l = absurd (cc)
-  later_tabled Part.Resume name e l = part_low Part.Resume (later_part s Part.Resume name f) refl refl frame_param l
-  later_tabled Part.Destroy name e l = part_low Part.Destroy (later_part s Part.Destroy name f) refl refl frame_param l
+  given_tabled : (l : ℕ) → HasTabledLocals l (pruned (given_ramp_of s f))
+  given_tabled l = part_low Part.GivenRamp (given_ramp_of s f) refl refl (λ v x. given_param v (subst (IsListed v) (given_params_are s f) x)) l
+
+  later_tabled : (part : Part) (name : Name) (l : ℕ) → HasTabledLocals l (pruned (later_part s part name f))
+  later_tabled part name l = part_low part (later_part s part name f) refl refl (frame_param part) l
 
 pub parts_tabled : (m : Module) (k l : ℕ) (layout : Layout) (part : Part) (begin : ℕ) (f g : Function) → IsSplittable m k f begin → IsPartOf (shape_of f layout) f part g → HasTabledLocals l g
 parts_tabled m k l layout _ begin f _ split IsRamp = ramp_tabled m k f begin split layout l
-parts_tabled m k l layout _ begin f _ split IsResume = later_tabled m k f begin split layout Part.Resume (shape_of f layout).resume_name refl l
-parts_tabled m k l layout _ begin f _ split IsDestroy = later_tabled m k f begin split layout Part.Destroy (shape_of f layout).destroy_name refl l
+parts_tabled m k l layout _ begin f _ split IsGivenRamp = given_tabled m k f begin split layout l
+parts_tabled m k l layout _ begin f _ split IsResume = later_tabled m k f begin split layout Part.Resume (shape_of f layout).resume_name l
+parts_tabled m k l layout _ begin f _ split IsDestroy = later_tabled m k f begin split layout Part.Destroy (shape_of f layout).destroy_name l
+parts_tabled m k l layout _ begin f _ split IsCleanup = later_tabled m k f begin split layout Part.Cleanup (shape_of f layout).cleanup_name l
 
 -- ---- a function that is no coroutine
 

@@ -79,7 +79,7 @@ module _ (m : Module) (k : ℕ) (f : Function) (begin : ℕ) (split : IsSplittab
     cut =
         record {
           pieces = has_pieces s part origins (first_name s) h.blocks (pieces_apart head css (done_block s) labels_apart);
-          told = λ q c got. told m k f begin split layout q c got;
+          told = λ q c got. told m k f begin split layout part q c got;
           there = λ q c label got l. has_block label (ok.known c label (there_listed h.blocks q c got) l);
           own = own;
           blocks = λ q cs e. block_at_group s part origins (first_name s) h.blocks q cs e;
@@ -114,8 +114,10 @@ module _ (m : Module) (k : ℕ) (f : Function) (begin : ℕ) (split : IsSplittab
       where
         on : (x : Part) → going_on x (Some p) ≡ Some to → HasOwnEdges f p → b.phis ≡ []
         on Part.Ramp d edges = absurd (cc)
+        on Part.GivenRamp d edges = absurd (cc)
         on Part.Resume d edges = let is : p.resume ≡ to = cc in edges.resume.phis q b got (sym same ∙ sym is)
         on Part.Destroy d edges = let is : p.destroy ≡ to = cc in edges.destroy.phis q b got (sym same ∙ sym is)
+        on Part.Cleanup d edges = let is : p.destroy ≡ to = cc in edges.destroy.phis q b got (sym same ∙ sym is)
 
     origin_is : (q : ℕ) (c : Block) (y : Phi) (i : Incoming) (l : ℕ) → slice_get h.blocks q ≡ Some c → IsListed y c.phis → IsListed i y.incoming → comes_from s part c.label i.from (slice_get origins i.from) ≡ Some l → (q0 : ℕ) × ((b0 : Block) × ((slice_get h.blocks q0 ≡ Some b0) × ((b0.label ≡ i.from) × (NoSuspends b0.instrs × (origin_in s part (Origin.Piece b0.label) b0.instrs ≡ Origin.Piece l)))))
     origin_is q c y i l got phi incoming e =

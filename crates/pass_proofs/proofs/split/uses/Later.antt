@@ -38,6 +38,7 @@ use Rattle.rule_laws.proofs.rules.uses.RampMade.{no_operands}
 use Rattle.pass_proofs.proofs.split.uses.Paths.{Comes, IsPieced, end_unused, listed_found, phi_unused, unused}
 use Rattle.ir_laws.proofs.paths.uses.Paths.{there_listed}
 use Rattle.rule_laws.proofs.rules.uses.Plain.{IsPlain}
+use Rattle.rule_laws.proofs.frames.uses.Lowering.{ComesBy, OfBegin, OfGiven, OfOperand}
 use Rattle.rule_laws.proofs.frames.uses.Quiet.{IsQuiet}
 use Rattle.pass_proofs.proofs.split.uses.Rules.{begin_named}
 use Rattle.ir_laws.proofs.paths.uses.Sources.{IsIn}
@@ -107,8 +108,10 @@ module _ (m : Module) (k : ℕ) (f : Function) (begin : ℕ) (split : IsSplittab
       not_begin : v ≡ s.begin → ⊥
       not_begin e = no_param (inl e)
 
-      begin_is : v ≡ s.begin → IsPlain f v
-      begin_is e = absurd (not_begin e)
+      comes : (i : Instr) → ComesBy f s part i v → IsPlain f v
+      comes i (OfOperand p l) = p
+      comes i (OfBegin e a) = absurd (not_begin e)
+      comes i (OfGiven d e) = let t : true ≡ false = sym later ∙ ap goes_on d in absurd (cc)
 
       abbrev A : ℕ → Type 0
       A = IsQuietAt k f split.coroutine split.calls split.rules.edges split.rules.definitions s part later v not_begin
@@ -131,7 +134,7 @@ module _ (m : Module) (k : ℕ) (f : Function) (begin : ℕ) (split : IsSplittab
               let got : slice_get f.blocks (position_of f (or_zero (going_on part (Some p)))) ≡ Some y.0 = ap (λ (n : ℕ). slice_get f.blocks (position_of f n)) (sym same) ∙ y.1 in
               (y.0, (got, label_found f (or_zero (going_on part (Some p))) y.0 got))
 
-      back_arrives : (IsListed v (row_of made_by (allocas_of f.blocks)) → ⊥) → (j : ℕ) (p : SuspendPoint) → slice_get s.suspends j ≡ Some p → is_entered (reached f) part p ≡ true → Arrives f f s part origins head css all.cut v begin_is A N quiet Source.Head (back_block s part j p)
+      back_arrives : (IsListed v (row_of made_by (allocas_of f.blocks)) → ⊥) → (j : ℕ) (p : SuspendPoint) → slice_get s.suspends j ≡ Some p → is_entered (reached f) part p ≡ true → Arrives f f s part origins head css all.cut v comes A N quiet Source.Head (back_block s part j p)
       back_arrives not_slot j p stands entered =
           let listed = there_listed s.suspends j p stands in
           let there = label_there p listed in
@@ -143,12 +146,12 @@ module _ (m : Module) (k : ℕ) (f : Function) (begin : ℕ) (split : IsSplittab
       abbrev tail : List Instr
       tail = address (slot_name s) (Operand.Local s.begin) (pos s.index) ∷ Instr.Load (index_name s) (int (bits_of s.width)) (Operand.Local (slot_name s)) (index_bytes s.width) ∷ []
 
-      entry_left : (IsListed v (made_by_instrs [] (entry_instrs s f.blocks)) → ⊥) → IsLeft f f s part origins head css all.cut v begin_is A N quiet Source.Head first.label first.term
+      entry_left : (IsListed v (made_by_instrs [] (entry_instrs s f.blocks)) → ⊥) → IsLeft f f s part origins head css all.cut v comes A N quiet Source.Head first.label first.term
       entry_left none =
           record {
             operands = operands;
             next = λ l t y d in_part e. ⊎_elim (to_none y d in_part e) (to_back l y d in_part e) (index_target s (reached f) part l t);
-            ends = no_piece f f s part origins head css all.cut v begin_is A N quiet Source.Head first (inl refl) (λ q e. absurd (cc));
+            ends = no_piece f f s part origins head css all.cut v comes A N quiet Source.Head first (inl refl) (λ q e. absurd (cc));
           }
         where
           not_slot : IsListed v (row_of made_by (allocas_of f.blocks)) → ⊥
@@ -158,23 +161,23 @@ module _ (m : Module) (k : ℕ) (f : Function) (begin : ℕ) (split : IsSplittab
           operands (inl e) = none (joined_made v [] (allocas_of f.blocks) tail (inl e))
           operands (inr l) = no_case_value s (reached f) part v 0 s.suspends l
 
-          to_none : {l : ℕ} (y : Source) (d : Block) → IsIn head css (done_block s) y d → d.label ≡ l → l ≡ none_label s → Arrives f f s part origins head css all.cut v begin_is A N quiet y d
+          to_none : {l : ℕ} (y : Source) (d : Block) → IsIn head css (done_block s) y d → d.label ≡ l → l ≡ none_label s → Arrives f f s part origins head css all.cut v comes A N quiet y d
           to_none y d in_part e is =
               let same = all.cut.one Source.Head y (none_block s) d (inr (inl refl)) in_part (sym (e ∙ is)) in
-              subst (λ (z : Source). Arrives f f s part origins head css all.cut v begin_is A N quiet z d) same.0
-              (subst (λ (z : Block). Arrives f f s part origins head css all.cut v begin_is A N quiet Source.Head z) same.1 (AtStop (none_block s) (inr (inl refl)) refl refl))
+              subst (λ (z : Source). Arrives f f s part origins head css all.cut v comes A N quiet z d) same.0
+              (subst (λ (z : Block). Arrives f f s part origins head css all.cut v comes A N quiet Source.Head z) same.1 (AtStop (none_block s) (inr (inl refl)) refl refl))
 
-          to_back : (l : ℕ) (y : Source) (d : Block) → IsIn head css (done_block s) y d → d.label ≡ l → ((j : ℕ) × ((p : SuspendPoint) × ((slice_get s.suspends j ≡ Some p) × ((is_entered (reached f) part p ≡ true) × (l ≡ back_label s j))))) → Arrives f f s part origins head css all.cut v begin_is A N quiet y d
+          to_back : (l : ℕ) (y : Source) (d : Block) → IsIn head css (done_block s) y d → d.label ≡ l → ((j : ℕ) × ((p : SuspendPoint) × ((slice_get s.suspends j ≡ Some p) × ((is_entered (reached f) part p ≡ true) × (l ≡ back_label s j))))) → Arrives f f s part origins head css all.cut v comes A N quiet y d
           to_back l y d in_part e x =
               let j : ℕ = x.0 in
               let p : SuspendPoint = x.1.0 in
               let zero_more : 0 + j ≡ j = omega arith in
               let listed : IsListed (back_block s part j p) head = inr (inr (subst (λ (n : ℕ). IsListed (back_block s part n p) (back_blocks s part 0 s.suspends)) zero_more (back_there s part 0 s.suspends j p x.1.1.0))) in
               let same = all.cut.one Source.Head y (back_block s part j p) d listed in_part (sym (e ∙ x.1.1.1.1)) in
-              subst (λ (z : Source). Arrives f f s part origins head css all.cut v begin_is A N quiet z d) same.0
-              (subst (λ (z : Block). Arrives f f s part origins head css all.cut v begin_is A N quiet Source.Head z) same.1 (back_arrives not_slot j p x.1.1.0 x.1.1.1.0))
+              subst (λ (z : Source). Arrives f f s part origins head css all.cut v comes A N quiet z d) same.0
+              (subst (λ (z : Block). Arrives f f s part origins head css all.cut v comes A N quiet Source.Head z) same.1 (back_arrives not_slot j p x.1.1.0 x.1.1.1.0))
 
-      entry_walked : IsWalked f f s part origins head css all.cut v begin_is A N quiet Source.Head [] first
+      entry_walked : IsWalked f f s part origins head css all.cut v comes A N quiet Source.Head [] first
       entry_walked =
           record {
             uses = unused_joined v [] (allocas_of f.blocks) tail (entry_unused v [] f.blocks) (of_begin, (of_slot, tt));
@@ -189,7 +192,7 @@ module _ (m : Module) (k : ℕ) (f : Function) (begin : ℕ) (split : IsSplittab
           of_slot none (inl e) = none (inl e)
           of_slot none (inr l) = l
 
-      entry : (d : Block) → slice_get (pruned (later_part (shape_of f layout) part name f)).blocks 0 ≡ Some d → Comes f f s part origins head css whole all v begin_is A N quiet d
+      entry : (d : Block) → slice_get (pruned (later_part (shape_of f layout) part name f)).blocks 0 ≡ Some d → Comes f f s part origins head css whole all v comes A N quiet d
       entry d there =
           let kept : Some (kept_block (reached whole) first) ≡ Some d =
           sym (ap (λ (bs : List Block). slice_get (kept_blocks (reached whole) bs) 0) starts.1 ∙ first_kept (reached whole) first starts.0 flagged) ∙ there in
@@ -199,7 +202,7 @@ module _ (m : Module) (k : ℕ) (f : Function) (begin : ℕ) (split : IsSplittab
     pub later_unused : IsUnusedIn (pruned (later_part (shape_of f layout) part name f))
     later_unused =
         record {
-          instrs = λ v no_param. unused f f s part origins head css whole all v (begin_is v no_param) (A v no_param) (N v no_param) (quiet v no_param) (entry v no_param);
-          term = λ v no_param. end_unused f f s part origins head css whole all v (begin_is v no_param) (A v no_param) (N v no_param) (quiet v no_param) (entry v no_param);
-          phis = λ v no_param. phi_unused f f s part origins head css whole all v (begin_is v no_param) (A v no_param) (N v no_param) (quiet v no_param) (entry v no_param);
+          instrs = λ v no_param. unused f f s part origins head css whole all v (comes v no_param) (A v no_param) (N v no_param) (quiet v no_param) (entry v no_param);
+          term = λ v no_param. end_unused f f s part origins head css whole all v (comes v no_param) (A v no_param) (N v no_param) (quiet v no_param) (entry v no_param);
+          phis = λ v no_param. phi_unused f f s part origins head css whole all v (comes v no_param) (A v no_param) (N v no_param) (quiet v no_param) (entry v no_param);
         }

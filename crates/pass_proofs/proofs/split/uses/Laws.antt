@@ -1,21 +1,25 @@
 -- The parts of a coroutine make what they use, name their own locals, and define each once.
-use Rattle.std.proofs.Common.{◌≡◌, inl, ℕ, true, List, [], ◌∷◌, ◌++◌, refl, ap}
-use Rattle.std.specs.Prelude.{None, Some, slice_get}
+use Rattle.std.proofs.Common.{◌≡◌, inl, ℕ, ◌+◌, ◌≤◌, Bool, true, List, [], ◌∷◌, ◌++◌, refl, sym, ap, ◌∙◌, subst, arith}
+use Rattle.std.specs.Prelude.{None, Some, map, slice_get, if◌then◌else◌, ◌==◌}
 use Rattle.ir_base.specs.declared.name.Name.{Name}
-use Rattle.pass_split.specs.Parts.{done_block, entry_block, later_head, later_part, origins_for, ramp_of}
+use Rattle.pass_split.specs.Parts.{back_blocks, done_block, entry_block, given_params, given_ramp_of, head_blocks, later_head, later_part, none_block, origins_for, part_blocks, part_names, ramp_of}
 use Rattle.pass_split.specs.Pieces.{pieces_of}
-use Rattle.pass_split.specs.Reached.{is_flagged, pruned, reached}
-use Rattle.rule_uses.specs.Undefined.{IsFirstUndefined}
+use Rattle.pass_split.specs.Reached.{entry_of, is_flagged, pruned, reached}
+use Rattle.pass_split.specs.declared.origin.Origin.{Origin}
+use Rattle.rule_uses.specs.Undefined.{IsFirstUndefined, params_of}
 use Rattle.rule_uses.specs.Uses.{uses_of}
 use Rattle.flow_solver.specs.Paths.{IsListed}
 use Rattle.frame_layout.specs.declared.layout.Layout.{Layout}
 use Rattle.ir_parts.specs.Locals.{locals_of}
-use Rattle.pass_intrinsics.specs.Shapes.{first_name, shape_of}
+use Rattle.pass_intrinsics.specs.Cuts.{goes_on}
+use Rattle.pass_intrinsics.specs.Shapes.{first_name, given_name, shape_of}
 use Rattle.pass_intrinsics.specs.declared.shape.Part.{Part}
 use Rattle.pass_intrinsics.specs.declared.shape.Shape.{Shape}
+use Rattle.ir_model.specs.Names.{noalloc_of}
 use Rattle.ir_model.specs.declared.module.Block.{Block}
 use Rattle.ir_model.specs.declared.module.Function.{Function}
 use Rattle.ir_model.specs.declared.module.Module.{Module}
+use Rattle.ir_model.specs.declared.module.Param.{Param}
 use Rattle.rule_names.specs.Definitions.{first_twice}
 use Rattle.pass_proofs.proofs.split.edges.Entries.{first_unled}
 use Rattle.pass_proofs.proofs.split.edges.Targets.{part_own, part_tabled}
@@ -23,53 +27,102 @@ use Rattle.pass_proofs.proofs.split.uses.Assembled.{ok, pieced}
 use Rattle.rule_laws.proofs.rules.uses.Fine.{IsUnusedIn, none_undefined_in}
 use Rattle.pass_proofs.proofs.split.uses.Known.{knows_locals}
 use Rattle.pass_proofs.proofs.split.uses.Later.{later_unused}
-use Rattle.pass_proofs.proofs.split.uses.Once.{frames, no_marks}
+use Rattle.pass_proofs.proofs.split.uses.Once.{frames, no_marks, none_new}
+use Rattle.pass_proofs.proofs.split.uses.Groups.{groups}
+use Rattle.pass_proofs.proofs.split.uses.OnceFront.{one_most}
 use Rattle.pass_proofs.proofs.split.uses.OnceLater.{later_once}
 use Rattle.pass_proofs.proofs.split.uses.OnceRamp.{ramp_once}
+use Rattle.pass_proofs.proofs.split.uses.Paths.{IsPieced}
 use Rattle.pass_proofs.proofs.split.uses.Ramp.{ramp_unused}
 use Rattle.pass_proofs.proofs.split.rules.Reached.{led_is_flagged}
 use Rattle.rule_laws.specs.rules.replaced.Instructions.{KnowsItsLocals}
-use Rattle.pass_proofs.specs.split.rules.Parted.{IsDestroy, IsPartOf, IsRamp, IsResume}
+use Rattle.pass_proofs.specs.split.rules.Parted.{IsCleanup, IsDestroy, IsGivenRamp, IsPartOf, IsRamp, IsResume}
 use Rattle.pass_proofs.specs.split.rules.Reached.{Entry}
 use Rattle.pass_proofs.specs.split.rules.Splittable.{IsSplittable}
+use Rattle.pass_proofs.proofs.split.rules.GivenParams.{address_given, given_times, others_same, param_kept}
+use Rattle.ir_laws.specs.facts.woven_rules.Pairs.{times}
 
-module _ (m : Module) (k : ℕ) (f : Function) (begin : ℕ) (split : IsSplittable m k f begin) (layout : Layout) (name : Name) where
-  resume_flagged : is_flagged (reached (later_part (shape_of f layout) Part.Resume name f)) (entry_block (shape_of f layout) (reached f) Part.Resume f.blocks).label ≡ true
-  resume_flagged =
-      led_is_flagged (later_part (shape_of f layout) Part.Resume name f) (part_tabled (shape_of f layout) Part.Resume f (ok m k f begin split layout Part.Resume) (later_part (shape_of f layout) Part.Resume name f) refl refl)
-      (entry_block (shape_of f layout) (reached f) Part.Resume f.blocks).label (Entry (entry_block (shape_of f layout) (reached f) Part.Resume f.blocks).label (inl refl))
+-- ---- the ramps
 
-  destroy_flagged : is_flagged (reached (later_part (shape_of f layout) Part.Destroy name f)) (entry_block (shape_of f layout) (reached f) Part.Destroy f.blocks).label ≡ true
-  destroy_flagged =
-      led_is_flagged (later_part (shape_of f layout) Part.Destroy name f) (part_tabled (shape_of f layout) Part.Destroy f (ok m k f begin split layout Part.Destroy) (later_part (shape_of f layout) Part.Destroy name f) refl refl)
-      (entry_block (shape_of f layout) (reached f) Part.Destroy f.blocks).label (Entry (entry_block (shape_of f layout) (reached f) Part.Destroy f.blocks).label (inl refl))
+module _ (m : Module) (k : ℕ) (f : Function) (begin : ℕ) (split : IsSplittable m k f begin) (layout : Layout) where
+  own_unused : IsUnusedIn (pruned (ramp_of (shape_of f layout) f))
+  own_unused = ramp_unused m k f begin split layout Part.Ramp refl f.name f.params (λ v l. l) (λ e. absurd (cc))
 
-  resume_unused : IsUnusedIn (pruned (later_part (shape_of f layout) Part.Resume name f))
-  resume_unused =
-      later_unused m k f begin split layout Part.Resume refl name (ok m k f begin split layout Part.Resume) (pieced m k f begin split layout Part.Resume (later_part (shape_of f layout) Part.Resume name f) refl) resume_flagged (_, refl)
+  given_unused : IsUnusedIn (pruned (given_ramp_of (shape_of f layout) f))
+  given_unused =
+      ramp_unused m k f begin split layout Part.GivenRamp refl (noalloc_of f.name) (given_params (shape_of f layout) f) (param_kept (shape_of f layout) f)
+      (λ e. address_given (shape_of f layout) f)
 
-  destroy_unused : IsUnusedIn (pruned (later_part (shape_of f layout) Part.Destroy name f))
-  destroy_unused =
-      later_unused m k f begin split layout Part.Destroy refl name (ok m k f begin split layout Part.Destroy) (pieced m k f begin split layout Part.Destroy (later_part (shape_of f layout) Part.Destroy name f) refl) destroy_flagged (_, refl)
+  -- the address is none of the function's own parameters
+  address_once : times (given_name (shape_of f layout)) (map (λ (p : Param). p.name) (given_params (shape_of f layout) f)) ≤ 1
+  address_once =
+      let all = given_times (shape_of f layout) f (given_name (shape_of f layout)) in
+      let none = none_new m k f begin split layout (given_name (shape_of f layout)) (omega arith) in
+      let one = one_most (given_name (shape_of f layout)) (given_name (shape_of f layout)) in
+      omega (arith, all, none, one)
+
+  none_given : times (given_name (shape_of f layout)) (params_of f) ≤ 1
+  none_given = let none = none_new m k f begin split layout (given_name (shape_of f layout)) (omega arith) in omega (arith, none)
+
+-- ---- the parts that go on
+
+module _ (m : Module) (k : ℕ) (f : Function) (begin : ℕ) (split : IsSplittable m k f begin) (layout : Layout) (name : Name) (part : Part) (later : goes_on part ≡ true) where
+  abbrev s : Shape
+  s = shape_of f layout
+
+  abbrev origins : List Origin
+  origins = origins_for (shape_of f layout) part f
+
+  abbrev pieces : List Block
+  pieces = pieces_of s part origins (first_name s) f.blocks
+
+  abbrev whole : Function
+  whole = later_part (shape_of f layout) part name f
+
+  head_is : head_blocks (shape_of f layout) part f ≡ later_head (shape_of f layout) (reached f) part f.blocks
+  head_is = ap (λ (b : Bool). if b then later_head (shape_of f layout) (reached f) part f.blocks else []) later
+
+  flagged : is_flagged (reached (later_part (shape_of f layout) part name f)) (entry_block (shape_of f layout) (reached f) part f.blocks).label ≡ true
+  flagged =
+      let label = (entry_block (shape_of f layout) (reached f) part f.blocks).label in
+      led_is_flagged whole (part_tabled s part f (ok m k f begin split layout part) whole refl refl) label
+      (Entry label (subst (λ (bs : List Block). IsListed label (entry_of ((bs ++ pieces) ++ done_block s ∷ []))) (sym head_is) (inl refl)))
+
+  starts : (rest : List Block) × ((later_part (shape_of f layout) part name f).blocks ≡ entry_block (shape_of f layout) (reached f) part f.blocks ∷ rest)
+  starts =
+      (((none_block s ∷ back_blocks s part 0 s.suspends) ++ pieces) ++ done_block s ∷ [],
+      ap (λ (bs : List Block). (bs ++ pieces) ++ done_block s ∷ []) head_is)
+
+  part_that_goes_on_unused : IsUnusedIn (pruned (later_part (shape_of f layout) part name f))
+  part_that_goes_on_unused =
+      later_unused m k f begin split layout part later name (ok m k f begin split layout part)
+      (subst (λ (bs : List Block). IsPieced f f s part origins bs (groups s part origins (first_name s) f.blocks) (later_part s part name f)) head_is (pieced m k f begin split layout part whole refl))
+      flagged starts
+
+  part_that_goes_on_known : (l : ℕ) → KnowsItsLocals l (pruned (later_part (shape_of f layout) part name f))
+  part_that_goes_on_known l =
+      knows_locals whole (part_tabled s part f (ok m k f begin split layout part) whole refl refl) (part_own s part f (ok m k f begin split layout part) whole refl refl) l part_that_goes_on_unused
 
 pub part_unused : (m : Module) (k : ℕ) (layout : Layout) (part : Part) (begin : ℕ) (f g : Function) → IsSplittable m k f begin → IsPartOf (shape_of f layout) f part g → IsUnusedIn g
-part_unused m k layout _ begin f _ split IsRamp = ramp_unused m k f begin split layout
-part_unused m k layout _ begin f _ split IsResume = resume_unused m k f begin split layout (shape_of f layout).resume_name
-part_unused m k layout _ begin f _ split IsDestroy = destroy_unused m k f begin split layout (shape_of f layout).destroy_name
+part_unused m k layout _ begin f _ split IsRamp = own_unused m k f begin split layout
+part_unused m k layout _ begin f _ split IsGivenRamp = given_unused m k f begin split layout
+part_unused m k layout _ begin f _ split IsResume = part_that_goes_on_unused m k f begin split layout (shape_of f layout).resume_name Part.Resume refl
+part_unused m k layout _ begin f _ split IsDestroy = part_that_goes_on_unused m k f begin split layout (shape_of f layout).destroy_name Part.Destroy refl
+part_unused m k layout _ begin f _ split IsCleanup = part_that_goes_on_unused m k f begin split layout (shape_of f layout).cleanup_name Part.Cleanup refl
 
 pub uses_made : (m : Module) (k l : ℕ) (layout : Layout) (part : Part) (begin : ℕ) (f g : Function) → IsSplittable m k f begin → IsPartOf (shape_of f layout) f part g → IsFirstUndefined g (uses_of l g) None
 uses_made m k l layout part begin f g split is = none_undefined_in g l (part_unused m k layout part begin f g split is)
 
+ramp_known : (m : Module) (k l : ℕ) (layout : Layout) (part : Part) (begin : ℕ) (f whole : Function) → IsSplittable m k f begin → whole.blocks ≡ part_blocks (shape_of f layout) part f (origins_for (shape_of f layout) part f) → whole.names ≡ part_names (shape_of f layout) part f (origins_for (shape_of f layout) part f) → IsUnusedIn (pruned whole) → KnowsItsLocals l (pruned whole)
+ramp_known m k l layout part begin f whole split blocks names unused =
+    knows_locals whole (part_tabled (shape_of f layout) part f (ok m k f begin split layout part) whole blocks names) (part_own (shape_of f layout) part f (ok m k f begin split layout part) whole blocks names) l unused
+
 pub locals_known : (m : Module) (k l : ℕ) (layout : Layout) (part : Part) (begin : ℕ) (f g : Function) → IsSplittable m k f begin → IsPartOf (shape_of f layout) f part g → KnowsItsLocals l g
-locals_known m k l layout _ begin f _ split IsRamp =
-    let whole : Function = ramp_of (shape_of f layout) f in
-    knows_locals whole (part_tabled (shape_of f layout) Part.Ramp f (ok m k f begin split layout Part.Ramp) whole refl refl) (part_own (shape_of f layout) Part.Ramp f (ok m k f begin split layout Part.Ramp) whole refl refl) l (ramp_unused m k f begin split layout)
-locals_known m k l layout _ begin f _ split IsResume =
-    let whole : Function = later_part (shape_of f layout) Part.Resume (shape_of f layout).resume_name f in
-    knows_locals whole (part_tabled (shape_of f layout) Part.Resume f (ok m k f begin split layout Part.Resume) whole refl refl) (part_own (shape_of f layout) Part.Resume f (ok m k f begin split layout Part.Resume) whole refl refl) l (resume_unused m k f begin split layout (shape_of f layout).resume_name)
-locals_known m k l layout _ begin f _ split IsDestroy =
-    let whole : Function = later_part (shape_of f layout) Part.Destroy (shape_of f layout).destroy_name f in
-    knows_locals whole (part_tabled (shape_of f layout) Part.Destroy f (ok m k f begin split layout Part.Destroy) whole refl refl) (part_own (shape_of f layout) Part.Destroy f (ok m k f begin split layout Part.Destroy) whole refl refl) l (destroy_unused m k f begin split layout (shape_of f layout).destroy_name)
+locals_known m k l layout _ begin f _ split IsRamp = ramp_known m k l layout Part.Ramp begin f (ramp_of (shape_of f layout) f) split refl refl (own_unused m k f begin split layout)
+locals_known m k l layout _ begin f _ split IsGivenRamp = ramp_known m k l layout Part.GivenRamp begin f (given_ramp_of (shape_of f layout) f) split refl refl (given_unused m k f begin split layout)
+locals_known m k l layout _ begin f _ split IsResume = part_that_goes_on_known m k f begin split layout (shape_of f layout).resume_name Part.Resume refl l
+locals_known m k l layout _ begin f _ split IsDestroy = part_that_goes_on_known m k f begin split layout (shape_of f layout).destroy_name Part.Destroy refl l
+locals_known m k l layout _ begin f _ split IsCleanup = part_that_goes_on_known m k f begin split layout (shape_of f layout).cleanup_name Part.Cleanup refl l
 
 -- ---- names
 
@@ -77,29 +130,26 @@ some_block : (bs : List Block) (c : Block) → IsListed c bs → (b : Block) × 
 some_block [] c l = absurd l
 some_block (b ∷ bs) c l = (b, (bs, refl))
 
-module _ (m : Module) (k : ℕ) (f : Function) (begin : ℕ) (split : IsSplittable m k f begin) (layout : Layout) (name : Name) (l : ℕ) where
-  abbrev s : Shape
-  s = shape_of f layout
-
+module _ (m : Module) (k : ℕ) (f : Function) (begin : ℕ) (split : IsSplittable m k f begin) (layout : Layout) (name : Name) (part : Part) (later : goes_on part ≡ true) (l : ℕ) where
   first : (b : Block) × ((rest : List Block) × (f.blocks ≡ b ∷ rest))
-  first = some_block f.blocks (ok m k f begin split layout Part.Resume).end_there.block (ok m k f begin split layout Part.Resume).end_there.listed
+  first = some_block f.blocks (ok m k f begin split layout part).end_there.block (ok m k f begin split layout part).end_there.listed
 
   stands : slice_get f.blocks 0 ≡ Some first.0
   stands = ap (λ (bs : List Block). slice_get bs 0) first.1.1
 
-  resume_once : first_twice [] (locals_of l (pruned (later_part (shape_of f layout) Part.Resume name f))) ≡ None
-  resume_once =
-      later_once m k f begin split layout Part.Resume refl name (ok m k f begin split layout Part.Resume) (frames m k f begin split layout Part.Resume) (no_marks m k f begin split layout Part.Resume) first.0 first.1.0 first.1.1
-      (first_unled m k f begin split layout Part.Resume first.0 stands) refl
-      (ap (λ (bs : List Block). (later_head s (reached f) Part.Resume f.blocks ++ pieces_of s Part.Resume (origins_for s Part.Resume f) (first_name s) bs) ++ done_block s ∷ []) first.1.1) l
-
-  destroy_once : first_twice [] (locals_of l (pruned (later_part (shape_of f layout) Part.Destroy name f))) ≡ None
-  destroy_once =
-      later_once m k f begin split layout Part.Destroy refl name (ok m k f begin split layout Part.Destroy) (frames m k f begin split layout Part.Destroy) (no_marks m k f begin split layout Part.Destroy) first.0 first.1.0 first.1.1
-      (first_unled m k f begin split layout Part.Destroy first.0 stands) refl
-      (ap (λ (bs : List Block). (later_head s (reached f) Part.Destroy f.blocks ++ pieces_of s Part.Destroy (origins_for s Part.Destroy f) (first_name s) bs) ++ done_block s ∷ []) first.1.1) l
+  part_that_goes_on_once : first_twice [] (locals_of l (pruned (later_part (shape_of f layout) part name f))) ≡ None
+  part_that_goes_on_once =
+      let shape : Shape = shape_of f layout in
+      later_once m k f begin split layout part later name (ok m k f begin split layout part) (frames m k f begin split layout part) (no_marks m k f begin split layout part) first.0 first.1.0 first.1.1
+      (first_unled m k f begin split layout part first.0 stands) refl
+      (ap (λ (bs : List Block). (bs ++ pieces_of shape part (origins_for shape part f) (first_name shape) f.blocks) ++ done_block shape ∷ []) (head_is m k f begin split layout name part later)
+      ∙ ap (λ (bs : List Block). (later_head shape (reached f) part f.blocks ++ pieces_of shape part (origins_for shape part f) (first_name shape) bs) ++ done_block shape ∷ []) first.1.1) l
 
 pub locals_once : (m : Module) (k l : ℕ) (layout : Layout) (part : Part) (begin : ℕ) (f g : Function) → IsSplittable m k f begin → IsPartOf (shape_of f layout) f part g → first_twice [] (locals_of l g) ≡ None
-locals_once m k l layout _ begin f _ split IsRamp = ramp_once m k f begin split layout l
-locals_once m k l layout _ begin f _ split IsResume = resume_once m k f begin split layout (shape_of f layout).resume_name l
-locals_once m k l layout _ begin f _ split IsDestroy = destroy_once m k f begin split layout (shape_of f layout).destroy_name l
+locals_once m k l layout _ begin f _ split IsRamp =
+    ramp_once m k f begin split layout Part.Ramp refl f.name f.params (λ v other. refl) (none_given m k f begin split layout) l
+locals_once m k l layout _ begin f _ split IsGivenRamp =
+    ramp_once m k f begin split layout Part.GivenRamp refl (noalloc_of f.name) (given_params (shape_of f layout) f) (others_same (shape_of f layout) f) (address_once m k f begin split layout) l
+locals_once m k l layout _ begin f _ split IsResume = part_that_goes_on_once m k f begin split layout (shape_of f layout).resume_name Part.Resume refl l
+locals_once m k l layout _ begin f _ split IsDestroy = part_that_goes_on_once m k f begin split layout (shape_of f layout).destroy_name Part.Destroy refl l
+locals_once m k l layout _ begin f _ split IsCleanup = part_that_goes_on_once m k f begin split layout (shape_of f layout).cleanup_name Part.Cleanup refl l

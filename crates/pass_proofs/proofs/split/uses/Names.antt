@@ -51,9 +51,9 @@ module _ (v : ℕ) where
 
   -- ---- one instruction
 
-  module _ (s : Shape) (n : ℕ) where
+  module _ (s : Shape) (part : Part) (n : ℕ) where
     abbrev Within : Instr → Type 0
-    Within i = times v (row_of made_by (lowered s n i)) ≤ times v (made_by i) + times v (fresh n (names_taken i))
+    Within i = times v (row_of made_by (lowered s part n i)) ≤ times v (made_by i) + times v (fresh n (names_taken i))
 
     stays : (xs : List ℕ) → times v (xs ++ []) ≤ times v xs + 0
     stays xs = let e = nothing_behind xs in omega (arith, e)
@@ -163,22 +163,22 @@ module _ (v : ℕ) where
     pub pieces_within : (t : Terminator) (label n last : ℕ) (phis : List Phi) (is : List Instr) (cs : List Block) → ArePieces s part t label phis n is cs last → Each (NamesFrame s part) is → Bound n last phis is (values cs)
     pieces_within t _ _ _ _ _ _ (Ends label n phis) h = ended label n phis [] (redirected_term s t)
     pieces_within t _ _ _ _ _ _ (Stays label n last phis i is c cs again d more) h =
-        let js : List Instr = lowered s n i in
+        let js : List Instr = lowered s part n i in
         let r = pieces_within t label (n + names_taken i) last phis is (c ∷ cs) more h.1 in
         let front = one_more (record { label = c.label; phis = c.phis; instrs = js ++ c.instrs; term = c.term }) cs in
         let old = one_more c cs in
         let rows = rows_joined js c.instrs in
-        let own = lowered_within s n i (h.0 again) in
+        let own = lowered_within s part n i (h.0 again) in
         let kept = kept_more i is again in
         let new = fresh_joined n (names_taken i) r.0 in
         let long : last ≡ n + names_taken i + r.0 = r.1.0 in
         let most = r.1.1 in
         (names_taken i + r.0, (omega (arith, long), omega (arith, front, old, rows, own, kept, new, most)))
     pieces_within t _ _ _ _ _ _ (Marks label n last mark phis i is cs again d more) h =
-        let js : List Instr = lowered s n i in
+        let js : List Instr = lowered s part n i in
         let r = pieces_within t mark (n + names_taken i) last [] is cs more h.1 in
         let front = one_more (first_with label phis js (Terminator.Jump mark)) cs in
-        let own = lowered_within s n i (h.0 again) in
+        let own = lowered_within s part n i (h.0 again) in
         let kept = kept_more i is again in
         let new = fresh_joined n (names_taken i) r.0 in
         let long : last ≡ n + names_taken i + r.0 = r.1.0 in
@@ -187,11 +187,11 @@ module _ (v : ℕ) where
     pieces_within t _ _ _ _ _ _ (Suspends label n phis i is again d) h = ended label n phis (i ∷ is) (Terminator.Jump (stop_label t))
     pieces_within t _ _ _ _ _ _ (Returns label n phis i is again d) h = ended label n phis (i ∷ is) (Terminator.Ret None)
     pieces_within t _ _ _ _ _ _ (Transfers label n j phis i is again d) h =
-        let js : List Instr = lowered s n i in
+        let js : List Instr = lowered s part n i in
         let pass : Block = pass_block (pass_label s j) js in
         let front = one_more (first_with label phis [] (Terminator.Jump (pass_label s j))) (pass ∷ []) in
         let last_one = one_more pass [] in
-        let own = lowered_within s n i (h.0 again) in
+        let own = lowered_within s part n i (h.0 again) in
         let kept = kept_more i is again in
         (names_taken i, (refl, omega (arith, front, last_one, own, kept)))
     pieces_within t _ _ _ _ _ _ (BeginsAgain label n phis i is again) h = ended label n phis (i ∷ is) Terminator.Unreachable

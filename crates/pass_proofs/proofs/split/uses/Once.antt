@@ -155,8 +155,11 @@ module _ (m : Module) (k : ℕ) (f : Function) (begin : ℕ) (split : IsSplittab
         let at = place_of c.instrs i n in
         begin_result m k f begin split layout p.0 at.0 c i p.1 at.1 is))
 
+    pub no_mark : (v : ℕ) → (IsMark s v → ⊥) → times v (row_of (block_marks s part) f.blocks) ≡ 0
+    no_mark v never = times_none v (row_of (block_marks s part) h.blocks) (λ l. never ((ok m k f begin split layout part).are_marks v l))
+
     pub no_marks : (v : ℕ) → (v < s.base) ⊎ (first_name s ≤ v) → times v (row_of (block_marks s part) f.blocks) ≡ 0
-    no_marks v side = times_none v (row_of (block_marks s part) h.blocks) (λ l. on side ((ok m k f begin split layout part).are_marks v l))
+    no_marks v side = no_mark v (λ x. on side x)
       where
         old : v < s.base → IsMark s v → ⊥
         old low (Begun e) = absurd (omega (arith, low, e))

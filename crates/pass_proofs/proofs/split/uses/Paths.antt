@@ -25,6 +25,7 @@ use Rattle.ir_model.specs.declared.module.Function.{Function}
 use Rattle.ir_model.specs.declared.operand.Operand.{Operand}
 use Rattle.ir_paths.specs.Paths.{targets}
 use Rattle.rule_laws.proofs.rules.uses.Plain.{IsPlain}
+use Rattle.rule_laws.proofs.frames.uses.Lowering.{ComesBy}
 use Rattle.rule_laws.proofs.frames.uses.Quiet.{IsQuiet}
 use Rattle.ir_laws.proofs.paths.uses.Sources.{IsIn}
 use Rattle.pass_proofs.proofs.split.uses.Sources.{NoSuspends, piece_there}
@@ -88,7 +89,7 @@ pub record IsPieced (f h : Function) (s : Shape) (part : Part) (origins : List O
   pub origin : (q : ℕ) (b : Block) (y : Phi) (i : Incoming) (l : ℕ) → slice_get h.blocks q ≡ Some b → IsListed y b.phis → IsListed i y.incoming → comes_from s part b.label i.from (slice_get origins i.from) ≡ Some l → (q0 : ℕ) × ((b0 : Block) × ((slice_get h.blocks q0 ≡ Some b0) × ((b0.label ≡ i.from) × (NoSuspends b0.instrs × (origin_in s part (Origin.Piece b0.label) b0.instrs ≡ Origin.Piece l)))))
   pub plain : (q : ℕ) (b : Block) (y : Phi) (i : Incoming) (v : ℕ) → slice_get h.blocks q ≡ Some b → IsListed y b.phis → IsListed i y.incoming → i.value ≡ Operand.Local v → IsPlain f v
 
-module _ (f h : Function) (s : Shape) (part : Part) (origins : List Origin) (head : List Block) (css : List (List Block)) (whole : Function) (p : IsPieced f h s part origins head css whole) (v : ℕ) (begin : v ≡ s.begin → IsPlain f v) (A : ℕ → Type 0) (N : ℕ → ℕ → Block → List Instr → Type 0) (quiet : IsQuiet f h s part v A N) where
+module _ (f h : Function) (s : Shape) (part : Part) (origins : List Origin) (head : List Block) (css : List (List Block)) (whole : Function) (p : IsPieced f h s part origins head css whole) (v : ℕ) (by_instr : (i : Instr) → ComesBy f s part i v → IsPlain f v) (A : ℕ → Type 0) (N : ℕ → ℕ → Block → List Instr → Type 0) (quiet : IsQuiet f h s part v A N) where
   abbrev g : Function
   g = pruned whole
 
@@ -96,7 +97,7 @@ module _ (f h : Function) (s : Shape) (part : Part) (origins : List Origin) (hea
   flags = reached whole
 
   abbrev Walked : Source → Block → Type 0
-  Walked x c = IsWalked f h s part origins head css p.cut v begin A N quiet x (phi_values c) c
+  Walked x c = IsWalked f h s part origins head css p.cut v by_instr A N quiet x (phi_values c) c
 
   -- a block of the part to which a path without the value leads
   pub record Comes (d : Block) : Type 0 where
@@ -116,7 +117,7 @@ module _ (f h : Function) (s : Shape) (part : Part) (origins : List Origin) (hea
   same_values d c e = ap (λ (b : Block). made_by_phis [] b.phis) e ∙ kept_values flags [] c.phis
 
   -- behind a block that doesn't make the value
-  left_behind : (d : Block) (x : Comes d) → (IsListed v (block_values d) → ⊥) → IsLeft f h s part origins head css p.cut v begin A N quiet x.source x.block.label x.block.term
+  left_behind : (d : Block) (x : Comes d) → (IsListed v (block_values d) → ⊥) → IsLeft f h s part origins head css p.cut v by_instr A N quiet x.source x.block.label x.block.term
   left_behind d x none =
       x.walked.last
       (λ l. none (subst (λ (b : Block). IsListed v (block_values b)) (sym x.is) (subst (λ (ns : List ℕ). IsListed v (made_by_instrs ns x.block.instrs)) (sym (kept_values flags [] x.block.phis)) l)))
@@ -140,7 +141,7 @@ module _ (f h : Function) (s : Shape) (part : Part) (origins : List Origin) (hea
           block = kept.0;
           in_part = source.1;
           is = kept.1.1.0;
-          walked = enter f h s part origins head css p.cut v begin A N quiet source.0 kept.0 (left.next x.label leads source.0 kept.0 source.1 labelled);
+          walked = enter f h s part origins head css p.cut v by_instr A N quiet source.0 kept.0 (left.next x.label leads source.0 kept.0 source.1 labelled);
         }
 
     -- no block to which such a path leads uses the value

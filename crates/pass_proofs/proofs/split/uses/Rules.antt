@@ -20,6 +20,7 @@ use Rattle.ir_parts.specs.Contents.{ending_operands, instr_operands, result_of}
 use Rattle.ir_parts.specs.Locals.{locals_of}
 use Rattle.ir_parts.specs.Parts.{OfInstr}
 use Rattle.pass_intrinsics.specs.Shapes.{shape_of}
+use Rattle.pass_intrinsics.specs.declared.shape.Part.{Part}
 use Rattle.pass_intrinsics.specs.declared.shape.Shape.{Shape}
 use Rattle.ir_model.specs.Calls.{first_result_by, first_result_in, or_else, result_of_call}
 use Rattle.ir_model.specs.Names.{same_intrinsic}
@@ -232,21 +233,21 @@ module _ (m : Module) (k : ℕ) (f : Function) (begin : ℕ) (split : IsSplittab
   all_behind [] = refl
   all_behind (x ∷ xs) = ap (λ (l : List Instr). x ∷ l) (all_behind xs)
 
-  told_from : (q : ℕ) (b : Block) → slice_get f.blocks q ≡ Some b → (ahead is : List Instr) → b.instrs ≡ ahead ++ is → NoSuspends ahead → AreTold f s is b.term
-  told_from q b got ahead [] e none = end_plain q b got (subst NoSuspends (sym (e ∙ all_behind ahead)) none)
-  told_from q b got ahead (i ∷ is) e none =
+  told_from : (part : Part) (q : ℕ) (b : Block) → slice_get f.blocks q ≡ Some b → (ahead is : List Instr) → b.instrs ≡ ahead ++ is → NoSuspends ahead → AreTold f s part is b.term
+  told_from part q b got ahead [] e none = end_plain q b got (subst NoSuspends (sym (e ∙ all_behind ahead)) none)
+  told_from part q b got ahead (i ∷ is) e none =
       let there : slice_get b.instrs (length ahead) ≡ Some i = ap (λ (js : List Instr). slice_get js (length ahead)) e ∙ get_behind ahead is i in (
-        ruled_lowered m f s i (ruled q (length ahead) b i got there),
+        ruled_lowered m f s part i (ruled q (length ahead) b i got there),
         (
           (λ is_suspend.
               let w = switched k f split.coroutine split.switches q (length ahead) b i got there is_suspend in
               (nothing_behind ahead is i (w.last ∙ ap length e), is_switch_then w.value (end_label f) b.term w.switch)),
-          (λ quiet. told_from q b got (ahead ++ i ∷ []) is (e ∙ sym (append_assoc ahead (i ∷ []) is)) (none_joined ahead i none quiet)),
+          (λ quiet. told_from part q b got (ahead ++ i ∷ []) is (e ∙ sym (append_assoc ahead (i ∷ []) is)) (none_joined ahead i none quiet)),
         ),
       )
 
-  pub told : (q : ℕ) (b : Block) → slice_get f.blocks q ≡ Some b → AreTold f s b.instrs b.term
-  told q b got = told_from q b got [] b.instrs refl tt
+  pub told : (part : Part) (q : ℕ) (b : Block) → slice_get f.blocks q ≡ Some b → AreTold f s part b.instrs b.term
+  told part q b got = told_from part q b got [] b.instrs refl tt
 
   -- ---- phis
 

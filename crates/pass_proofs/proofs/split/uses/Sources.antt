@@ -44,7 +44,7 @@ first_piece s part t _ _ _ _ _ _ (Ends label n phis) = record { first = _; rest 
 first_piece s part t _ _ _ _ _ _ (Stays label n last phis i is c cs e d more) =
     let x = first_piece s part t label phis _ last is (c ∷ cs) more in
     let same : c ≡ x.first = (let both : c ∷ cs ≡ x.first ∷ x.rest = x.is in cc) in
-    record { first = record { label = c.label; phis = c.phis; instrs = lowered s n i ++ c.instrs; term = c.term }; rest = cs; is = refl; label_is = ap (λ (b : Block). b.label) same ∙ x.label_is; phis_are = ap (λ (b : Block). b.phis) same ∙ x.phis_are }
+    record { first = record { label = c.label; phis = c.phis; instrs = lowered s part n i ++ c.instrs; term = c.term }; rest = cs; is = refl; label_is = ap (λ (b : Block). b.label) same ∙ x.label_is; phis_are = ap (λ (b : Block). b.phis) same ∙ x.phis_are }
 first_piece s part t _ _ _ _ _ _ (Marks label n last mark phis i is cs e d more) = record { first = _; rest = cs; is = refl; label_is = refl; phis_are = refl }
 first_piece s part t _ _ _ _ _ _ (Suspends label n phis i is e d) = record { first = _; rest = []; is = refl; label_is = refl; phis_are = refl }
 first_piece s part t _ _ _ _ _ _ (Returns label n phis i is e d) = record { first = _; rest = []; is = refl; label_is = refl; phis_are = refl }
@@ -182,7 +182,7 @@ module _ (s : Shape) (part : Part) where
       on (piece_there t label phis _ last is (c ∷ cs) more none.1 l (sym (origin_stays label i is e d) ∙ o))
     where
       front : Block
-      front = record { label = c.label; phis = c.phis; instrs = lowered s n i ++ c.instrs; term = c.term }
+      front = record { label = c.label; phis = c.phis; instrs = lowered s part n i ++ c.instrs; term = c.term }
 
       on : (x : Block) × (IsListed x (c ∷ cs) × (x.label ≡ l)) → (x : Block) × (IsListed x (front ∷ cs) × (x.label ≡ l))
       on (x, (inl same, is_l)) = (front, (inl refl, ap label_of (sym same) ∙ is_l))

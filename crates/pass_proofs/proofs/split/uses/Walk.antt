@@ -32,7 +32,7 @@ use Rattle.ir_model.specs.declared.operand.Callee.{Callee}
 use Rattle.ir_model.specs.declared.operand.Intrinsic.{Intrinsic}
 use Rattle.ir_model.specs.declared.operand.Operand.{Operand}
 use Rattle.ir_paths.specs.Paths.{targets}
-use Rattle.rule_laws.proofs.frames.uses.Lowering.{ComesBy, IsLowered, OfBegin, OfOperand}
+use Rattle.rule_laws.proofs.frames.uses.Lowering.{ComesBy, IsLowered}
 use Rattle.rule_laws.proofs.rules.uses.Plain.{IsPlain}
 use Rattle.rule_laws.proofs.frames.uses.Quiet.{AreTold, IsQuiet, suspends}
 use Rattle.pass_proofs.proofs.split.uses.Sources.{HasPieces, IsFirst, NoSuspends, ends_suspended, first_piece, origin_begins, origin_marks, origin_returns, origin_stays, passes_on, piece_there}
@@ -48,14 +48,14 @@ use Rattle.run_laws.specs.changed.Changed.{Each}
 -- A function whose blocks are cut into pieces, with what stands in front of them: what the rules say of its blocks, where its edges lead, and that labels tell blocks apart.
 pub record IsCutUp (f h : Function) (s : Shape) (part : Part) (origins : List Origin) (head : List Block) (css : List (List Block)) : Type 0 where
   pub pieces : (q : ℕ) (b : Block) → slice_get h.blocks q ≡ Some b → HasPieces s part origins css q b
-  pub told : (q : ℕ) (b : Block) → slice_get h.blocks q ≡ Some b → AreTold f s b.instrs b.term
+  pub told : (q : ℕ) (b : Block) → slice_get h.blocks q ≡ Some b → AreTold f s part b.instrs b.term
   pub there : (q : ℕ) (b : Block) (label : ℕ) → slice_get h.blocks q ≡ Some b → IsListed label (targets b.term) → (c : Block) × ((slice_get h.blocks (position_of h label) ≡ Some c) × (c.label ≡ label))
   pub own : (q : ℕ) (b : Block) → slice_get h.blocks q ≡ Some b → position_of h b.label ≡ q
   pub blocks : (q : ℕ) (cs : List Block) → slice_get css q ≡ Some cs → (b : Block) × (slice_get h.blocks q ≡ Some b)
   pub end : (c : Block) × ((slice_get h.blocks (position_of h s.end) ≡ Some c) × (c.label ≡ s.end))
   pub one : (x y : Source) (c d : Block) → IsIn head css (done_block s) x c → IsIn head css (done_block s) y d → c.label ≡ d.label → (x ≡ y) × (c ≡ d)
 
-module _ (f h : Function) (s : Shape) (part : Part) (origins : List Origin) (head : List Block) (css : List (List Block)) (cut : IsCutUp f h s part origins head css) (v : ℕ) (begin : v ≡ s.begin → IsPlain f v) (A : ℕ → Type 0) (N : ℕ → ℕ → Block → List Instr → Type 0) (quiet : IsQuiet f h s part v A N) where
+module _ (f h : Function) (s : Shape) (part : Part) (origins : List Origin) (head : List Block) (css : List (List Block)) (cut : IsCutUp f h s part origins head css) (v : ℕ) (comes : (i : Instr) → ComesBy f s part i v → IsPlain f v) (A : ℕ → Type 0) (N : ℕ → ℕ → Block → List Instr → Type 0) (quiet : IsQuiet f h s part v A N) where
   abbrev pub InPart : Source → Block → Type 0
   InPart = IsIn head css (done_block s)
 
@@ -65,8 +65,8 @@ module _ (f h : Function) (s : Shape) (part : Part) (origins : List Origin) (hea
   -- A path without the value comes to a block of the part: what is then said of the function.
   pub data Arrives : Source → Block → Type 0 where
     AtFront : (q : ℕ) (b first : Block) (rest : List Block) (n last : ℕ) → slice_get h.blocks q ≡ Some b → AllIn q (first ∷ rest) → ArePieces s part b.term b.label (map (pieced_phi s part origins b.label) b.phis) n b.instrs (first ∷ rest) last → Apart (map label_of (first ∷ rest)) → (IsPlain f v → A q) → Arrives (Source.Of q) first
-    AtPiece : (q at : ℕ) (b first : Block) (rest : List Block) (is : List Instr) (mark n last : ℕ) → Spot h q at b is → AllIn q (first ∷ rest) → ArePieces s part b.term mark [] n is (first ∷ rest) last → Apart (map label_of (first ∷ rest)) → AreTold f s is b.term → origin_in s part (Origin.Piece b.label) b.instrs ≡ origin_in s part (Origin.Piece mark) is → (IsPlain f v → N q at b is) → Arrives (Source.Of q) first
-    AtPass : (q at : ℕ) (b : Block) (i : Instr) (is : List Instr) (n j : ℕ) → Spot h q at b (i ∷ is) → IsLowered f s i → cut_at s part i is ≡ Cut.Transfers j → InPart (Source.Of q) (pass_block (pass_label s j) (lowered s n i)) → (IsPlain f v → N q at b (i ∷ is)) → Arrives (Source.Of q) (pass_block (pass_label s j) (lowered s n i))
+    AtPiece : (q at : ℕ) (b first : Block) (rest : List Block) (is : List Instr) (mark n last : ℕ) → Spot h q at b is → AllIn q (first ∷ rest) → ArePieces s part b.term mark [] n is (first ∷ rest) last → Apart (map label_of (first ∷ rest)) → AreTold f s part is b.term → origin_in s part (Origin.Piece b.label) b.instrs ≡ origin_in s part (Origin.Piece mark) is → (IsPlain f v → N q at b is) → Arrives (Source.Of q) first
+    AtPass : (q at : ℕ) (b : Block) (i : Instr) (is : List Instr) (n j : ℕ) → Spot h q at b (i ∷ is) → IsLowered f s part i → cut_at s part i is ≡ Cut.Transfers j → InPart (Source.Of q) (pass_block (pass_label s j) (lowered s part n i)) → (IsPlain f v → N q at b (i ∷ is)) → Arrives (Source.Of q) (pass_block (pass_label s j) (lowered s part n i))
     AtDone : (IsPlain f v → A (position_of h s.end)) → Arrives Source.Last (done_block s)
     AtBack : (j : ℕ) (p : SuspendPoint) (c : Block) → slice_get h.blocks (position_of h (or_zero (going_on part (Some p)))) ≡ Some c → c.label ≡ or_zero (going_on part (Some p)) → IsListed (back_block s part j p) head → (IsPlain f v → A (position_of h (or_zero (going_on part (Some p))))) → Arrives Source.Head (back_block s part j p)
     AtStop : (c : Block) → IsListed c head → c.instrs ≡ [] → c.term ≡ Terminator.Unreachable → Arrives Source.Head c
@@ -139,11 +139,6 @@ module _ (f h : Function) (s : Shape) (part : Part) (origins : List Origin) (hea
 
   -- ---- along the pieces of a block
 
-  -- a value that comes by an instruction is no token
-  plain_comes : (i : Instr) → ComesBy f s i v → IsPlain f v
-  plain_comes i (OfOperand p l) = p
-  plain_comes i (OfBegin e a) = begin e
-
   abbrev Tail : List Block → List Block
   Tail [] = []
   Tail (c ∷ cs) = cs
@@ -202,7 +197,7 @@ module _ (f h : Function) (s : Shape) (part : Part) (origins : List Origin) (hea
         on true e = absurd (other (sym d ∙ suspend_cuts i is e))
         on false e = refl
 
-    suspend_empty : (n : ℕ) (i : Instr) → suspends i ≡ true → lowered s n i ≡ []
+    suspend_empty : (n : ℕ) (i : Instr) → suspends i ≡ true → lowered s part n i ≡ []
     suspend_empty n (Instr.Call r must_tail ty (Callee.Intrinsic Intrinsic.CoroSuspend) args) e = refl
     suspend_empty n _ e = absurd (cc)
 
@@ -212,7 +207,7 @@ module _ (f h : Function) (s : Shape) (part : Part) (origins : List Origin) (hea
     abbrev TailIn : List Block → Type 0
     TailIn cs = (c : Block) → IsListed c (Tail cs) → InPart (Source.Of q) c
 
-    walk : (label n last : ℕ) (phis : List Phi) (is : List Instr) (cs : List Block) → ArePieces s part b.term label phis n is cs last → (at : ℕ) → Spot h q at b is → AreTold f s is b.term → Whole ≡ origin_in s part (Origin.Piece label) is → Apart (map label_of cs) → TailIn cs → Here label → (IsPlain f v → N q at b is) → (before : List ℕ) → WalkedFirst before cs
+    walk : (label n last : ℕ) (phis : List Phi) (is : List Instr) (cs : List Block) → ArePieces s part b.term label phis n is cs last → (at : ℕ) → Spot h q at b is → AreTold f s part is b.term → Whole ≡ origin_in s part (Origin.Piece label) is → Apart (map label_of cs) → TailIn cs → Here label → (IsPlain f v → N q at b is) → (before : List ℕ) → WalkedFirst before cs
     walk _ _ _ _ _ _ (Ends label n phis) at spot told whole apart all here k before =
         record {
           uses = tt;
@@ -229,10 +224,10 @@ module _ (f h : Function) (s : Shape) (part : Part) (origins : List Origin) (hea
               };
         }
     walk _ _ _ _ _ _ (Stays label n last phis i is c cs again d more) at spot told whole apart all here k before =
-        let js : List Instr = lowered s n i in
+        let js : List Instr = lowered s part n i in
         let goes : cut_at s part i is ≡ Cut.Returns → ⊥ = λ e. let both : Cut.Stays ≡ Cut.Returns = sym d ∙ e in absurd (cc) in
         let quiet_suspend : suspends i ≡ false = not_suspend i is Cut.Stays d (λ e. absurd (cc)) in
-        let own : IsUnused v before js = all_unused v f s i before js (told.0.uses n) (λ unmade by. quiet.used q at b i is spot (k (plain_comes i by)) goes by) in
+        let own : IsUnused v before js = all_unused v f s part i before js (told.0.uses n) (λ unmade by. quiet.used q at b i is spot (k (comes i by)) goes by) in
         ⊎_elim
         (λ made. record { uses = unused_joined v before js c.instrs own (unused_made v (made_by_instrs before js) c.instrs made); last = λ none. absurd (none (joined_made v before js c.instrs (still_made v (made_by_instrs before js) c.instrs made))) })
         (λ unmade.
@@ -242,7 +237,7 @@ module _ (f h : Function) (s : Shape) (part : Part) (origins : List Origin) (hea
         record { uses = unused_joined v before js c.instrs own w.uses; last = λ none. w.last (λ l. none (joined_made v before js c.instrs l)) })
         (listed_or v (made_by_instrs before js))
     walk _ _ _ _ _ _ (Marks label n last mark phis i is cs again d more) at spot told whole apart all here k before =
-        let js : List Instr = lowered s n i in
+        let js : List Instr = lowered s part n i in
         let goes : cut_at s part i is ≡ Cut.Returns → ⊥ = λ e. let both : Cut.Marks mark ≡ Cut.Returns = sym d ∙ e in absurd (cc) in
         let quiet_suspend : suspends i ≡ false = not_suspend i is (Cut.Marks mark) d (λ e. absurd (cc)) in
         let origin : Whole ≡ origin_in s part (Origin.Piece mark) is = whole ∙ origin_marks s part label mark i is again d in
@@ -250,7 +245,7 @@ module _ (f h : Function) (s : Shape) (part : Part) (origins : List Origin) (hea
         let x : IsFirst mark [] cs = first_piece s part b.term mark [] _ last is cs more in
         let first_in : InPart (Source.Of q) x.first = all x.first (subst (IsListed x.first) (sym x.is) (inl refl)) in
         record {
-          uses = all_unused v f s i before js (told.0.uses n) (λ unmade by. quiet.used q at b i is spot (k (plain_comes i by)) goes by);
+          uses = all_unused v f s part i before js (told.0.uses n) (λ unmade by. quiet.used q at b i is spot (k (comes i by)) goes by);
           last = λ none.
               jump_left (Source.Of q) label mark
               (λ y e in_part is_mark.
@@ -288,7 +283,7 @@ module _ (f h : Function) (s : Shape) (part : Part) (origins : List Origin) (hea
           last = λ none. nothing_leads (Source.Of q) label (Terminator.Ret None) refl refl (no_ends label here.0 here.1.0 here.1.1 spot.got (λ nos o. origin_returns s part label label i is again d (sym whole ∙ o)));
         }
     walk _ _ _ _ _ _ (Transfers label n j phis i is again d) at spot told whole apart all here k before =
-        let pass : Block = pass_block (pass_label s j) (lowered s n i) in
+        let pass : Block = pass_block (pass_label s j) (lowered s part n i) in
         let pass_in : InPart (Source.Of q) pass = all pass (inl refl) in
         record {
           uses = tt;
@@ -337,8 +332,8 @@ module _ (f h : Function) (s : Shape) (part : Part) (origins : List Origin) (hea
   enter _ _ (AtPass q at b i is n j spot low d in_part k) =
       let goes : cut_at s part i is ≡ Cut.Returns → ⊥ = λ e. let both : Cut.Transfers j ≡ Cut.Returns = sym d ∙ e in absurd (cc) in
       record {
-        uses = all_unused v f s i [] (lowered s n i) (low.uses n) (λ unmade by. quiet.used q at b i is spot (k (plain_comes i by)) goes by);
-        last = λ none. nothing_leads q b (Source.Of q) (pass_label s j) (Terminator.Ret None) refl refl (no_ends q b (pass_label s j) (pass_block (pass_label s j) (lowered s n i)) in_part refl spot.got (λ nos o. passes_on s part j i is d (none_left q b at (i ∷ is) spot nos).1));
+        uses = all_unused v f s part i [] (lowered s part n i) (low.uses n) (λ unmade by. quiet.used q at b i is spot (k (comes i by)) goes by);
+        last = λ none. nothing_leads q b (Source.Of q) (pass_label s j) (Terminator.Ret None) refl refl (no_ends q b (pass_label s j) (pass_block (pass_label s j) (lowered s part n i)) in_part refl spot.got (λ nos o. passes_on s part j i is d (none_left q b at (i ∷ is) spot nos).1));
       }
   enter _ _ (AtDone a) =
       record {

@@ -121,11 +121,11 @@ pub record Remain (f : Function) (block at : ℕ) (is : List Instr) (t : Termina
 pub data IsCode (s : Shape) (part : Part) (f g : Function) (block at piece offset : ℕ) (i : Instr) (after : List Instr)
     (t : Terminator) : Type 0 where
   Stays : (n : ℕ) → begins_again part i ≡ false → cut_at s part i after ≡ Cut.Stays → AreNew f g n (names_taken i)
-      → StandAt g piece offset (lowered s n i)
-      → IsPlace s part f g block (at + 1) piece (offset + length (lowered s n i))
+      → StandAt g piece offset (lowered s part n i)
+      → IsPlace s part f g block (at + 1) piece (offset + length (lowered s part n i))
       → IsCode s part f g block at piece offset i after t
   Marks : (n mark : ℕ) → begins_again part i ≡ false → cut_at s part i after ≡ Cut.Marks mark
-      → AreNew f g n (names_taken i) → Remain g piece offset (lowered s n i) (Terminator.Jump mark)
+      → AreNew f g n (names_taken i) → Remain g piece offset (lowered s part n i) (Terminator.Jump mark)
       → phis_of (slice_get g.blocks (position_of g mark)) ≡ []
       → IsPlace s part f g block (at + 1) (position_of g mark) 0 → IsCode s part f g block at piece offset i after t
   Suspends : begins_again part i ≡ false → cut_at s part i after ≡ Cut.Suspends
@@ -136,7 +136,7 @@ pub data IsCode (s : Shape) (part : Part) (f g : Function) (block at piece offse
   Transfers : (n j : ℕ) → begins_again part i ≡ false → cut_at s part i after ≡ Cut.Transfers j
       → AreNew f g n (names_taken i) → fetch g piece offset ≡ AtTerm (Terminator.Jump (pass_label s j))
       → phis_of (slice_get g.blocks (position_of g (pass_label s j))) ≡ []
-      → Remain g (position_of g (pass_label s j)) 0 (lowered s n i) (Terminator.Ret None)
+      → Remain g (position_of g (pass_label s j)) 0 (lowered s part n i) (Terminator.Ret None)
       → IsCode s part f g block at piece offset i after t
   BeginsAgain : begins_again part i ≡ true → fetch g piece offset ≡ AtTerm Terminator.Unreachable
       → IsCode s part f g block at piece offset i after t

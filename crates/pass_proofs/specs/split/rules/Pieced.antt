@@ -25,11 +25,11 @@ in_front is c = record { label = c.label; phis = c.phis; instrs = is ++ c.instrs
 -- block ends before it.
 pub data ArePieces (s : Shape) (part : Part) (t : Terminator) : ℕ → List Phi → ℕ → List Instr → List Block → ℕ → Type 0 where
   Ends : (label n : ℕ) (phis : List Phi) → ArePieces s part t label phis n [] (block_with label phis [] (redirected_term s t) ∷ []) n
-  Stays : (label n last : ℕ) (phis : List Phi) (i : Instr) (is : List Instr) (c : Block) (cs : List Block) → begins_again part i ≡ false → cut_at s part i is ≡ Cut.Stays → ArePieces s part t label phis (n + names_taken i) is (c ∷ cs) last → ArePieces s part t label phis n (i ∷ is) (in_front (lowered s n i) c ∷ cs) last
-  Marks : (label n last mark : ℕ) (phis : List Phi) (i : Instr) (is : List Instr) (cs : List Block) → begins_again part i ≡ false → cut_at s part i is ≡ Cut.Marks mark → ArePieces s part t mark [] (n + names_taken i) is cs last → ArePieces s part t label phis n (i ∷ is) (block_with label phis (lowered s n i) (Terminator.Jump mark) ∷ cs) last
+  Stays : (label n last : ℕ) (phis : List Phi) (i : Instr) (is : List Instr) (c : Block) (cs : List Block) → begins_again part i ≡ false → cut_at s part i is ≡ Cut.Stays → ArePieces s part t label phis (n + names_taken i) is (c ∷ cs) last → ArePieces s part t label phis n (i ∷ is) (in_front (lowered s part n i) c ∷ cs) last
+  Marks : (label n last mark : ℕ) (phis : List Phi) (i : Instr) (is : List Instr) (cs : List Block) → begins_again part i ≡ false → cut_at s part i is ≡ Cut.Marks mark → ArePieces s part t mark [] (n + names_taken i) is cs last → ArePieces s part t label phis n (i ∷ is) (block_with label phis (lowered s part n i) (Terminator.Jump mark) ∷ cs) last
   Suspends : (label n : ℕ) (phis : List Phi) (i : Instr) (is : List Instr) → begins_again part i ≡ false → cut_at s part i is ≡ Cut.Suspends → ArePieces s part t label phis n (i ∷ is) (block_with label phis [] (Terminator.Jump (stop_label t)) ∷ []) n
   Returns : (label n : ℕ) (phis : List Phi) (i : Instr) (is : List Instr) → begins_again part i ≡ false → cut_at s part i is ≡ Cut.Returns → ArePieces s part t label phis n (i ∷ is) (block_with label phis [] (Terminator.Ret None) ∷ []) n
-  Transfers : (label n j : ℕ) (phis : List Phi) (i : Instr) (is : List Instr) → begins_again part i ≡ false → cut_at s part i is ≡ Cut.Transfers j → ArePieces s part t label phis n (i ∷ is) (block_with label phis [] (Terminator.Jump (pass_label s j)) ∷ pass_block (pass_label s j) (lowered s n i) ∷ []) (n + names_taken i)
+  Transfers : (label n j : ℕ) (phis : List Phi) (i : Instr) (is : List Instr) → begins_again part i ≡ false → cut_at s part i is ≡ Cut.Transfers j → ArePieces s part t label phis n (i ∷ is) (block_with label phis [] (Terminator.Jump (pass_label s j)) ∷ pass_block (pass_label s j) (lowered s part n i) ∷ []) (n + names_taken i)
   BeginsAgain : (label n : ℕ) (phis : List Phi) (i : Instr) (is : List Instr) → begins_again part i ≡ true → ArePieces s part t label phis n (i ∷ is) (block_with label phis [] Terminator.Unreachable ∷ []) n
 
 -- the pieces of blocks, one block's behind the other's, each with its block's label and phis in front

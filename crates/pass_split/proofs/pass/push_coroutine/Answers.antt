@@ -6,4 +6,4 @@ use Rattle.pass_split.proofs.pass.push_coroutine.Goals as goal
 
 pub returns : goal.returns
 returns c =
-    subst (λ (g : Function). OnOk c.push_marked.result (c.push_marked.new.all ≡ c.args.all.now ++ marked_parts c.args.layout.now g)) c.in_ok-marked.ensures c.push_marked.ensures
+    subst (λ (g : Function). OnOk c.push_marked.result (c.push_marked.new.all ≡ c.args.all.now ++ marked_parts c.args.layout.now c.args.given g)) c.in_ok-marked.ensures c.push_marked.ensures

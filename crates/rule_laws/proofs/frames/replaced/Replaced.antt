@@ -2,8 +2,9 @@
 use Rattle.std.proofs.Common.{◌≡◌, ◌⊎◌, inl, inr, ℕ, ◌+◌, ◌<◌, Bool, true, false, List, [], ◌∷◌, length, refl, sym, ap, ◌∙◌}
 use Rattle.std.specs.Prelude.{ℤ, pos, None, Option, Some, slice_get, ◌&&◌}
 use Rattle.ir_laws.proofs.facts.Truth.{equal_numbers, and_first, and_second}
-use Rattle.pass_intrinsics.specs.Lowered.{done_test, is_final_at, lowered, number_of_save, operand_at, promise_distance, resumed_by, save_or_none, set_address, set_number, set_truth, store_pointer, truth_of}
+use Rattle.pass_intrinsics.specs.Lowered.{allocates, begin_memory, destroyed_by, done_test, freed_by, is_final_at, lowered, number_of_save, operand_at, promise_distance, resumed_by, save_or_none, set_address, set_number, set_truth, store_pointer, truth_of}
 use Rattle.pass_intrinsics.specs.Shapes.{is_true}
+use Rattle.pass_intrinsics.specs.declared.shape.Part.{Part}
 use Rattle.pass_intrinsics.specs.declared.shape.Shape.{Shape}
 use Rattle.ir_model.specs.Ty.{Ty, int, ptr}
 use Rattle.ir_model.specs.declared.instr.Instr.{Instr}
@@ -12,7 +13,7 @@ use Rattle.ir_model.specs.declared.operand.Callee.{Callee}
 use Rattle.ir_model.specs.declared.operand.Intrinsic.{Intrinsic}
 use Rattle.ir_model.specs.declared.operand.Operand.{Operand}
 use Rattle.rule_locals.specs.Intrinsics.{is_inner}
-use Rattle.rule_laws.specs.frames.replaced.Replaced.{Address, BackToFrame, Calls, First, Frame, Given, IsDistance, IsPointer, Loads, New, Nothing, Number, OfDestroy, OfFrame, OfIndex, OfPromise, OfResult, Replaces, StoresDestroy, StoresIndex, StoresNull, StoresResume, Tests, Truth}
+use Rattle.rule_laws.specs.frames.replaced.Replaced.{Address, BackToFrame, Calls, First, Frame, Given, IsDistance, IsPointer, Loads, New, NoFrame, Nothing, Number, OfDestroy, OfFrame, OfIndex, OfParameter, OfPromise, OfResult, Replaces, StoresCleanup, StoresDestroy, StoresIndex, StoresNull, StoresResume, Tests, Truth}
 use Rattle.run_laws.specs.changed.Changed.{Each}
 use Rattle.rule_types.specs.Signatures.{are_wanted, is_result}
 use Rattle.rule_types.specs.Wants.{intrinsic_params, intrinsic_result, is_basic, any, is_int, meets, want}
@@ -41,13 +42,13 @@ ptr_result (Some t) e = ap (λ (u : Ty). Some u) (is_the_ptr t e)
 pointer_at : (w : Wanted) (a : Arg) → w.ty ≡ Basic.Ptr → (is_basic w.ty a.ty && meets w.value a.value) ≡ true → a.ty ≡ ptr
 pointer_at w a e h = is_the_ptr a.ty (sym (ap (λ (b : Basic). is_basic b a.ty) e) ∙ and_first (is_basic w.ty a.ty) (meets w.value a.value) h)
 
-module _ (s : Shape) (n : ℕ) where
+module _ (s : Shape) (part : Part) (n : ℕ) where
   -- the first argument, where it is a pointer
-  first_given : (x : Intrinsic) (w : Wanted) (ws : List Wanted) (args : List Arg) → w.ty ≡ Basic.Ptr → are_wanted (w ∷ ws) args ≡ true → IsPointer s n x args (operand_at args 0)
+  first_given : (x : Intrinsic) (w : Wanted) (ws : List Wanted) (args : List Arg) → w.ty ≡ Basic.Ptr → are_wanted (w ∷ ws) args ≡ true → IsPointer s part n x args (operand_at args 0)
   first_given x w ws [] e h = absurd (cc)
   first_given x w ws (a ∷ args) e h = Given a (inl refl) (pointer_at w a e (and_first (is_basic w.ty a.ty && meets w.value a.value) (are_wanted ws args) h))
 
-  second_given : (x : Intrinsic) (v w : Wanted) (ws : List Wanted) (args : List Arg) → w.ty ≡ Basic.Ptr → are_wanted (v ∷ w ∷ ws) args ≡ true → IsPointer s n x args (operand_at args 1)
+  second_given : (x : Intrinsic) (v w : Wanted) (ws : List Wanted) (args : List Arg) → w.ty ≡ Basic.Ptr → are_wanted (v ∷ w ∷ ws) args ≡ true → IsPointer s part n x args (operand_at args 1)
   second_given x v w ws [] e h = absurd (cc)
   second_given x v w ws (b ∷ []) e h = let t : false ≡ true = and_second (is_basic v.ty b.ty && meets v.value b.value) false h in absurd (cc)
   second_given x v w ws (b ∷ a ∷ args) e h =
@@ -55,7 +56,7 @@ module _ (s : Shape) (n : ℕ) where
 
   module _ (saves : (r : Option ℕ) (j : ℕ) → number_of_save s r ≡ Some j → j < length s.suspends) (r : Option ℕ) (ty : Option Ty) (args : List Arg) where
     abbrev In : Intrinsic → Instr → Type 0
-    In x = Replaces s n x r ty args
+    In x = Replaces s part n x r ty args
 
     numbers : (x : Intrinsic) (w k : ℕ) → result_kind (Callee.Intrinsic x) ty ≡ Kind.Int w → (w ≡ 32) ⊎ (w ≡ 64) → (k ≡ s.size) ⊎ (k ≡ s.align) → Each (In x) (set_number r w k)
     numbers x w k e a b = on r refl
@@ -71,7 +72,7 @@ module _ (s : Shape) (n : ℕ) where
         on None d = tt
         on (Some v) d = (Truth v b d e, tt)
 
-    addresses : (x : Intrinsic) (p : Operand) (z : ℤ) → result_kind (Callee.Intrinsic x) ty ≡ Kind.Ptr → IsPointer s n x args p → IsDistance s z → Each (In x) (set_address r p z)
+    addresses : (x : Intrinsic) (p : Operand) (z : ℤ) → result_kind (Callee.Intrinsic x) ty ≡ Kind.Ptr → IsPointer s part n x args p → IsDistance s z → Each (In x) (set_address r p z)
     addresses x p z e h k = on r refl
       where
         on : (o : Option ℕ) → r ≡ o → Each (In x) (set_address o p z)
@@ -86,12 +87,34 @@ module _ (s : Shape) (n : ℕ) where
     saved x None of h = tt
     saved x (Some j) of h = (Address n (Operand.Local s.begin) (pos s.index) New (Frame of) OfIndex, (StoresIndex j (Operand.Local n) (h j refl) First, (stored x (is_final_at (slice_get s.suspends j)) of, tt)))
 
-    tests : (x : Intrinsic) (p : Operand) → result_kind (Callee.Intrinsic x) ty ≡ Kind.Int 1 → IsPointer s n x args p → Each (In x) (done_test n r p)
+    tests : (x : Intrinsic) (p : Operand) → result_kind (Callee.Intrinsic x) ty ≡ Kind.Int 1 → IsPointer s part n x args p → Each (In x) (done_test n r p)
     tests x p e h = on r refl
       where
         on : (o : Option ℕ) → r ≡ o → Each (In x) (done_test n o p)
         on None d = tt
         on (Some v) d = (Loads n p (inl refl) h, (Tests v d e, tt))
+
+    -- the memory of begin, what a destroy calls, and what is freed
+    memory : (q : Part) → part ≡ q → IsPointer s part n Intrinsic.CoroBegin args (operand_at args 1) → IsPointer s part n Intrinsic.CoroBegin args (begin_memory s q args)
+    memory Part.GivenRamp e given = OfParameter e refl
+    memory Part.Ramp e given = given
+    memory Part.Resume e given = given
+    memory Part.Destroy e given = given
+    memory Part.Cleanup e given = given
+
+    destroyed : (q : Part) → part ≡ q → In Intrinsic.CoroBegin (store_pointer (Operand.Global (destroyed_by s q)) (Operand.Local n))
+    destroyed Part.GivenRamp e = StoresCleanup (Operand.Local n) e refl First
+    destroyed Part.Ramp e = StoresDestroy (Operand.Local n) refl First
+    destroyed Part.Resume e = StoresDestroy (Operand.Local n) refl First
+    destroyed Part.Destroy e = StoresDestroy (Operand.Local n) refl First
+    destroyed Part.Cleanup e = StoresDestroy (Operand.Local n) refl First
+
+    freed : (q : Part) → IsPointer s part n Intrinsic.CoroFree args (freed_by s q)
+    freed Part.GivenRamp = NoFrame
+    freed Part.Cleanup = NoFrame
+    freed Part.Ramp = Frame refl
+    freed Part.Resume = Frame refl
+    freed Part.Destroy = Frame refl
 
     distance : (b : Bool) → IsDistance s (promise_distance b)
     distance true = BackToFrame
@@ -102,20 +125,20 @@ module _ (s : Shape) (n : ℕ) where
     IsKeptOne x = (x ≡ Intrinsic.CoroId) ⊎ ((x ≡ Intrinsic.LifetimeStart) ⊎ ((x ≡ Intrinsic.LifetimeEnd) ⊎ ((x ≡ Intrinsic.MemcpyI64) ⊎ (x ≡ Intrinsic.MemcpyI32))))
 
     -- what is lowered in the place of a call that is of the types of the table
-    pub replaced : (must_tail : Bool) (x : Intrinsic) → (is_result (intrinsic_result x) ty && are_wanted (intrinsic_params x) args) ≡ true → Each (In x) (lowered s n (Instr.Call r must_tail ty (Callee.Intrinsic x) args)) ⊎ IsKeptOne x
+    pub replaced : (must_tail : Bool) (x : Intrinsic) → (is_result (intrinsic_result x) ty && are_wanted (intrinsic_params x) args) ≡ true → Each (In x) (lowered s part n (Instr.Call r must_tail ty (Callee.Intrinsic x) args)) ⊎ IsKeptOne x
     replaced must_tail Intrinsic.CoroId e = inr (inl refl)
     replaced must_tail Intrinsic.CoroSizeI32 e = inl (numbers Intrinsic.CoroSizeI32 32 s.size (ap (result_kind (Callee.Intrinsic Intrinsic.CoroSizeI32)) (int_result 32 Basic.I32 (is_the_int 32) ty (and_first (is_result (Some Basic.I32) ty) (are_wanted [] args) e))) (inl refl) (inl refl))
     replaced must_tail Intrinsic.CoroSizeI64 e = inl (numbers Intrinsic.CoroSizeI64 64 s.size (ap (result_kind (Callee.Intrinsic Intrinsic.CoroSizeI64)) (int_result 64 Basic.I64 (is_the_int 64) ty (and_first (is_result (Some Basic.I64) ty) (are_wanted [] args) e))) (inr refl) (inl refl))
     replaced must_tail Intrinsic.CoroAlignI32 e = inl (numbers Intrinsic.CoroAlignI32 32 s.align (ap (result_kind (Callee.Intrinsic Intrinsic.CoroAlignI32)) (int_result 32 Basic.I32 (is_the_int 32) ty (and_first (is_result (Some Basic.I32) ty) (are_wanted [] args) e))) (inl refl) (inr refl))
     replaced must_tail Intrinsic.CoroAlignI64 e = inl (numbers Intrinsic.CoroAlignI64 64 s.align (ap (result_kind (Callee.Intrinsic Intrinsic.CoroAlignI64)) (int_result 64 Basic.I64 (is_the_int 64) ty (and_first (is_result (Some Basic.I64) ty) (are_wanted [] args) e))) (inr refl) (inr refl))
-    replaced must_tail Intrinsic.CoroAlloc e = inl (truths Intrinsic.CoroAlloc true (ap (result_kind (Callee.Intrinsic Intrinsic.CoroAlloc)) (int_result 1 Basic.I1 (is_the_int 1) ty (and_first (is_result (Some Basic.I1) ty) (are_wanted (intrinsic_params Intrinsic.CoroAlloc) args) e))))
+    replaced must_tail Intrinsic.CoroAlloc e = inl (truths Intrinsic.CoroAlloc (allocates part) (ap (result_kind (Callee.Intrinsic Intrinsic.CoroAlloc)) (int_result 1 Basic.I1 (is_the_int 1) ty (and_first (is_result (Some Basic.I1) ty) (are_wanted (intrinsic_params Intrinsic.CoroAlloc) args) e))))
     replaced must_tail Intrinsic.CoroBegin e =
         let given = second_given Intrinsic.CoroBegin (any Basic.Token) (any Basic.Ptr) [] args refl (and_second (is_result (Some Basic.Ptr) ty) (are_wanted (intrinsic_params Intrinsic.CoroBegin) args) e) in
         inl (
-          Address s.begin (operand_at args 1) (pos 0) (OfFrame refl) given Nothing,
-          (StoresResume (Operand.Local s.begin) refl (Frame refl), (Address n (Operand.Local s.begin) (pos 8) New (Frame refl) OfDestroy, (StoresDestroy (Operand.Local n) refl First, tt))),
+          Address s.begin (begin_memory s part args) (pos 0) (OfFrame refl) (memory part refl given) Nothing,
+          (StoresResume (Operand.Local s.begin) refl (Frame refl), (Address n (Operand.Local s.begin) (pos 8) New (Frame refl) OfDestroy, (destroyed part refl, tt))),
         )
-    replaced must_tail Intrinsic.CoroFree e = inl (addresses Intrinsic.CoroFree (Operand.Local s.begin) (pos 0) (ap (result_kind (Callee.Intrinsic Intrinsic.CoroFree)) (ptr_result ty (and_first (is_result (Some Basic.Ptr) ty) (are_wanted (intrinsic_params Intrinsic.CoroFree) args) e))) (Frame refl) Nothing)
+    replaced must_tail Intrinsic.CoroFree e = inl (addresses Intrinsic.CoroFree (freed_by s part) (pos 0) (ap (result_kind (Callee.Intrinsic Intrinsic.CoroFree)) (ptr_result ty (and_first (is_result (Some Basic.Ptr) ty) (are_wanted (intrinsic_params Intrinsic.CoroFree) args) e))) (freed part) Nothing)
     replaced must_tail Intrinsic.CoroFrame e = inl (addresses Intrinsic.CoroFrame (Operand.Local s.begin) (pos 0) (ap (result_kind (Callee.Intrinsic Intrinsic.CoroFrame)) (ptr_result ty (and_first (is_result (Some Basic.Ptr) ty) (are_wanted [] args) e))) (Frame refl) Nothing)
     replaced must_tail Intrinsic.CoroSave e = inl (saved Intrinsic.CoroSave (number_of_save s r) refl (λ j d. saves r j d))
     replaced must_tail Intrinsic.CoroSuspend e = inl tt

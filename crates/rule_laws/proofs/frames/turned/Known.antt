@@ -10,8 +10,9 @@ use Rattle.rule_laws.proofs.rules.local_rules.Defined.{label_defined, value_defi
 use Rattle.ir_laws.proofs.facts.Truth.{and_both, and_first, and_second, holds}
 use Rattle.flow_solver.specs.Paths.{IsListed}
 use Rattle.ir_parts.specs.Contents.{arg_operands, instr_operands, part_labels, part_operands, part_types}
-use Rattle.ir_parts.specs.Parts.{Ending, OfInstr, OfPhi, Part, block_parts, blocks_parts, instr_parts, instr_place, parts_of, phi_parts}
+use Rattle.ir_parts.specs.Parts.{Ending, OfInstr, OfPhi, Part as FunctionPart, block_parts, blocks_parts, instr_parts, instr_place, parts_of, phi_parts}
 use Rattle.pass_intrinsics.specs.Lowered.{lowered, names_taken, operand_at}
+use Rattle.pass_intrinsics.specs.declared.shape.Part.{Part}
 use Rattle.pass_intrinsics.specs.declared.shape.Shape.{Shape}
 use Rattle.ir_model.specs.declared.instr.Instr.{Instr}
 use Rattle.ir_model.specs.declared.instr.Phi.{Phi}
@@ -74,7 +75,7 @@ module _ (values : ℕ → Bool) where
   becomes_there n made _ _ _ (Promised (Some r) must_tail ty args) own e = (and_both (is_there values (operand_at args 0)) true (argument_there args 0 e) refl, tt)
 
 -- the labels that a part names are labels of the function
-pub term_labels : (m : Module) (k : ℕ) (f : Function) (p : Place) (x : Part) → names_unknown m (is_value k f) (is_label k f) p x ≡ false → list_all (is_label k f) (part_labels x) ≡ true
+pub term_labels : (m : Module) (k : ℕ) (f : Function) (p : Place) (x : FunctionPart) → names_unknown m (is_value k f) (is_label k f) p x ≡ false → list_all (is_label k f) (part_labels x) ≡ true
 term_labels m k f p x e =
     let rest : Bool = list_all (is_label k f) (part_labels x) && knows_called m x in
     and_first (list_all (is_label k f) (part_labels x)) (knows_called m x)
@@ -94,10 +95,10 @@ module _ (s : Shape) (m : Module) (k l : ℕ) (f g : Function) (first : ℕ) (bl
   label_stays : (v : ℕ) → is_label l g v ≡ is_label k f v
   label_stays v = label_defined v l g ∙ labels_same s v first f.blocks g.blocks blocks ∙ sym (label_defined v k f)
 
-  abbrev Unknown : Place → Part → Bool
+  abbrev Unknown : Place → FunctionPart → Bool
   Unknown = names_unknown m (is_value k f) (is_label k f)
 
-  abbrev Lost : Place → Part → Bool
+  abbrev Lost : Place → FunctionPart → Bool
   Lost = names_lost (is_value l g) (is_label l g)
 
   operand_stays : (x : Operand) → knows_operand m (is_value k f) x ≡ true → is_there (is_value l g) x ≡ true
@@ -114,14 +115,14 @@ module _ (s : Shape) (m : Module) (k l : ℕ) (f g : Function) (first : ℕ) (bl
   labels_stay ls e = ap (λ (test : ℕ → Bool). list_all test ls) (λ i v. label_stays v i) ∙ e
 
   -- what a part's names tell
-  operands_of : (p : Place) (x : Part) → Unknown p x ≡ false → list_all (knows_operand m (is_value k f)) (part_operands x) ≡ true
+  operands_of : (p : Place) (x : FunctionPart) → Unknown p x ≡ false → list_all (knows_operand m (is_value k f)) (part_operands x) ≡ true
   operands_of p x e =
       let rest : Bool = list_all (is_label k f) (part_labels x) && knows_called m x in
       and_first (list_all (knows_operand m (is_value k f)) (part_operands x)) rest
       (and_second (list_all (knows_type m) (part_types x)) (list_all (knows_operand m (is_value k f)) (part_operands x) && rest)
       (holds (list_all (knows_type m) (part_types x) && (list_all (knows_operand m (is_value k f)) (part_operands x) && rest)) e))
 
-  part_stays : (p q : Place) (x : Part) → Unknown p x ≡ false → Lost q x ≡ false
+  part_stays : (p q : Place) (x : FunctionPart) → Unknown p x ≡ false → Lost q x ≡ false
   part_stays p q x e =
       ap not (and_both (list_all (is_there (is_value l g)) (part_operands x)) (list_all (is_label l g) (part_labels x)) (operands_stay (part_operands x) (operands_of p x e)) (labels_stay (part_labels x) (term_labels m k f p x e)))
 
@@ -138,7 +139,7 @@ module _ (s : Shape) (m : Module) (k l : ℕ) (f g : Function) (first : ℕ) (bl
   instrs_pass : (block at n : ℕ) (made : List ℕ) (is : List Instr) → Each IsOuter is → ((v : ℕ) → IsListed v (made_by_instrs made (turned s n is)) → is_value l g v ≡ true) → Passing Unknown (instr_parts k block at is) → (now_at : ℕ) → Passing Lost (instr_parts l block now_at (turned s n is))
   instrs_pass block at n made [] o own h now_at = tt
   instrs_pass block at n made (i ∷ is) o own h now_at =
-      let js : List Instr = lowered s n i in
+      let js : List Instr = lowered s Part.Ramp n i in
       let ks : List Instr = turned s (n + names_taken i) is in
       let all : (v : ℕ) → IsListed v (made_by_instrs (made_by_instrs made js) ks) → is_value l g v ≡ true = λ v x. own v (subst (IsListed v) (sym (made_joined made js ks)) x) in
       placed block js ks
@@ -149,10 +150,10 @@ module _ (s : Shape) (m : Module) (k l : ℕ) (f g : Function) (first : ℕ) (bl
   block_passes : (n block : ℕ) (b c : Block) → IsTurned s n b c → ((v : ℕ) → IsListed v (block_values c) → is_value l g v ≡ true) → Passing Unknown (block_parts k block b) → Passing Lost (block_parts l block c)
   unfolding block_parts
   block_passes n block b c t own h =
-      let P : Place × Part → Type 0 = λ x. Unknown x.0 x.1 ≡ false in
-      let Q : Place × Part → Type 0 = λ x. Lost x.0 x.1 ≡ false in
-      let phis : List (Place × Part) = phi_parts k block 0 b.phis in
-      let instrs : List (Place × Part) = instr_parts k block (length b.phis) b.instrs in
+      let P : Place × FunctionPart → Type 0 = λ x. Unknown x.0 x.1 ≡ false in
+      let Q : Place × FunctionPart → Type 0 = λ x. Lost x.0 x.1 ≡ false in
+      let phis : List (Place × FunctionPart) = phi_parts k block 0 b.phis in
+      let instrs : List (Place × FunctionPart) = instr_parts k block (length b.phis) b.instrs in
       let old : Place = instr_place k block (length b.phis + length b.instrs) in
       let new : Place = instr_place l block (length c.phis + length c.instrs) in
       let behind : Passing Unknown (instrs ++ (old, Ending b.term) ∷ []) = each_right P phis (instrs ++ (old, Ending b.term) ∷ []) h.1 in

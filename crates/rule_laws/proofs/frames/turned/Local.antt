@@ -4,8 +4,9 @@ use Rattle.std.specs.Prelude.{None, Option, Some, is_some, ◌==◌, if◌then�
 use Rattle.ir_base.specs.declared.outcome.Place.{Place}
 use Rattle.rule_laws.proofs.rules.local_rules.Carried.{Passing, none_of, passing}
 use Rattle.ir_laws.proofs.facts.Members.{each_joined, each_left, each_right}
-use Rattle.ir_parts.specs.Parts.{Ending, Head, OfInstr, OfPhi, Part, Signature, block_parts, blocks_parts, first_part, function_place, instr_parts, instr_place, parts_of, phi_parts}
+use Rattle.ir_parts.specs.Parts.{Ending, Head, OfInstr, OfPhi, Part as FunctionPart, Signature, block_parts, blocks_parts, first_part, function_place, instr_parts, instr_place, parts_of, phi_parts}
 use Rattle.pass_intrinsics.specs.Lowered.{lowered, names_taken}
+use Rattle.pass_intrinsics.specs.declared.shape.Part.{Part}
 use Rattle.pass_intrinsics.specs.declared.shape.Shape.{Shape}
 use Rattle.ir_model.specs.declared.instr.Instr.{Instr}
 use Rattle.ir_model.specs.declared.instr.Phi.{Phi}
@@ -28,13 +29,13 @@ use Rattle.rule_values.specs.declared.kinds.Kind.{Kind}
 -- ---- rules carried block by block
 
 -- What a rule gives of the instructions of the block at a position, and what each of them becomes.
-pub record Carries (s : Shape) (breaks now : Place → Part → Bool) : Type 0 where
+pub record Carries (s : Shape) (breaks now : Place → FunctionPart → Bool) : Type 0 where
   pub head : (p q : Place) (b c : Block) → breaks p (Head b) ≡ false → now q (Head c) ≡ false
   pub phi : (p q : Place) (x : Phi) → breaks p (OfPhi x) ≡ false → now q (OfPhi x) ≡ false
-  pub instr : (p : Place) (n : ℕ) (i : Instr) → IsOuter i → breaks p (OfInstr i) ≡ false → Each (λ (j : Instr). (q : Place) → q.block ≡ p.block → now q (OfInstr j) ≡ false) (lowered s n i)
+  pub instr : (p : Place) (n : ℕ) (i : Instr) → IsOuter i → breaks p (OfInstr i) ≡ false → Each (λ (j : Instr). (q : Place) → q.block ≡ p.block → now q (OfInstr j) ≡ false) (lowered s Part.Ramp n i)
   pub ending : (p q : Place) (t : Terminator) → breaks p (Ending t) ≡ false → now q (Ending t) ≡ false
 
-module _ (s : Shape) (breaks now : Place → Part → Bool) (over : Carries s breaks now) (k l : ℕ) where
+module _ (s : Shape) (breaks now : Place → FunctionPart → Bool) (over : Carries s breaks now) (k l : ℕ) where
   phis_carried : (block at : ℕ) (ps : List Phi) → Passing breaks (phi_parts k block at ps) → Passing now (phi_parts l block at ps)
   phis_carried block at [] h = tt
   phis_carried block at (p ∷ ps) h = (over.phi (instr_place k block at) (instr_place l block at) p h.0, phis_carried block (at + 1) ps h.1)
@@ -46,16 +47,16 @@ module _ (s : Shape) (breaks now : Place → Part → Bool) (over : Carries s br
   instrs_carried : (block at n : ℕ) (is : List Instr) → Each IsOuter is → Passing breaks (instr_parts k block at is) → (now_at : ℕ) → Passing now (instr_parts l block now_at (turned s n is))
   instrs_carried block at n [] o h now_at = tt
   instrs_carried block at n (i ∷ is) o h now_at =
-      placed block (instr_place k block at) (lowered s n i) (turned s (n + names_taken i) is) refl (over.instr (instr_place k block at) n i o.0 h.0)
+      placed block (instr_place k block at) (lowered s Part.Ramp n i) (turned s (n + names_taken i) is) refl (over.instr (instr_place k block at) n i o.0 h.0)
       (instrs_carried block (at + 1) (n + names_taken i) is o.1 h.1) now_at
 
   block_carried : (n block : ℕ) (b c : Block) → IsTurned s n b c → Passing breaks (block_parts k block b) → Passing now (block_parts l block c)
   unfolding block_parts
   block_carried n block b c t h =
-      let P : Place × Part → Type 0 = λ x. breaks x.0 x.1 ≡ false in
-      let Q : Place × Part → Type 0 = λ x. now x.0 x.1 ≡ false in
-      let phis : List (Place × Part) = phi_parts k block 0 b.phis in
-      let instrs : List (Place × Part) = instr_parts k block (length b.phis) b.instrs in
+      let P : Place × FunctionPart → Type 0 = λ x. breaks x.0 x.1 ≡ false in
+      let Q : Place × FunctionPart → Type 0 = λ x. now x.0 x.1 ≡ false in
+      let phis : List (Place × FunctionPart) = phi_parts k block 0 b.phis in
+      let instrs : List (Place × FunctionPart) = instr_parts k block (length b.phis) b.instrs in
       let old : Place = instr_place k block (length b.phis + length b.instrs) in
       let new : Place = instr_place l block (length c.phis + length c.instrs) in
       let behind : Passing breaks (instrs ++ (old, Ending b.term) ∷ []) = each_right P phis (instrs ++ (old, Ending b.term) ∷ []) h.1 in (
@@ -95,7 +96,7 @@ late_becomes p n _ _ _ (Promised (Some r) must_tail ty args) e = ((λ q same. re
 pub late_turned : (s : Shape) (k l : ℕ) (f g : Function) (n : ℕ) → AreTurned s n f.blocks g.blocks → first_late_alloca k f ≡ None → first_late_alloca l g ≡ None
 late_turned s k l f g n blocks =
     carried s (on_instr allocates_late) (on_instr allocates_late)
-    (record { head = λ p q b c e. refl; phi = λ p q x e. refl; instr = λ p m i o e. late_becomes p m i (lowered s m i) (names_taken i) (becomes s m i o) e; ending = λ p q t e. refl })
+    (record { head = λ p q b c e. refl; phi = λ p q x e. refl; instr = λ p m i o e. late_becomes p m i (lowered s Part.Ramp m i) (names_taken i) (becomes s m i o) e; ending = λ p q t e. refl })
     k l f g n blocks (λ p. refl)
 
 -- ---- K13
@@ -129,8 +130,8 @@ module _ (m n : Module) (h : HasPartsOf m n) where
   sizes_turned : (s : Shape) (first : ℕ) (is : List Instr) (v : ℕ) → Each IsOuter is → first_in (made_size n) (turned s first is) v ≡ first_in (made_size m) is v
   sizes_turned s first [] v o = refl
   sizes_turned s first (i ∷ is) v o =
-      first_joined (made_size n) (lowered s first i) (turned s (first + names_taken i) is) v
-      ∙ (λ k. or_first (size_becomes first i (lowered s first i) (names_taken i) v (becomes s first i o.0) k) (sizes_turned s (first + names_taken i) is v o.1 k))
+      first_joined (made_size n) (lowered s Part.Ramp first i) (turned s (first + names_taken i) is) v
+      ∙ (λ k. or_first (size_becomes first i (lowered s Part.Ramp first i) (names_taken i) v (becomes s first i o.0) k) (sizes_turned s (first + names_taken i) is v o.1 k))
 
   sizes_of_blocks : (s : Shape) (first : ℕ) (bs cs : List Block) (v : ℕ) → AreTurned s first bs cs → first_in (block_size n) cs v ≡ first_in (block_size m) bs v
   sizes_of_blocks s _ _ _ v (NoneTurned first) = refl
@@ -151,7 +152,7 @@ module _ (m n : Module) (h : HasPartsOf m n) where
   marks_turned s k l f g first blocks e =
       ap (λ (sizes : ℕ → Option ℕ). first_part (on_instr (marks_otherwise sizes)) (parts_of l g)) (λ k v. sizes_of_blocks s first f.blocks g.blocks v blocks k)
       ∙ carried s (on_instr (marks_otherwise (slot_size m f))) (on_instr (marks_otherwise (slot_size m f)))
-      (record { head = λ p q b c d. refl; phi = λ p q x d. refl; instr = λ p at i o d. mark_becomes (slot_size m f) p at i (lowered s at i) (names_taken i) (becomes s at i o) d; ending = λ p q t d. refl })
+      (record { head = λ p q b c d. refl; phi = λ p q x d. refl; instr = λ p at i o d. mark_becomes (slot_size m f) p at i (lowered s Part.Ramp at i) (names_taken i) (becomes s at i o) d; ending = λ p q t d. refl })
       k l f g first blocks (λ p. refl) e
 
 -- ---- values that are defined
@@ -187,10 +188,10 @@ kind_becomes n _ _ _ v (Promised (Some r) must_tail ty args) e = some_or (kind_i
 kinds_turned : (s : Shape) (n : ℕ) (is : List Instr) (v : ℕ) → Each IsOuter is → is_some (first_in instr_kind is v) ≡ true → is_some (first_in instr_kind (turned s n is) v) ≡ true
 kinds_turned s n [] v o e = e
 kinds_turned s n (i ∷ is) v o e =
-    ap is_some (first_joined instr_kind (lowered s n i) (turned s (n + names_taken i) is) v)
+    ap is_some (first_joined instr_kind (lowered s Part.Ramp n i) (turned s (n + names_taken i) is) v)
     ∙ ⊎_elim
-    (λ here. some_or (first_in instr_kind (lowered s n i) v) (first_in instr_kind (turned s (n + names_taken i) is) v) (kind_becomes n i (lowered s n i) (names_taken i) v (becomes s n i o.0) here))
-    (λ more. some_behind (first_in instr_kind (lowered s n i) v) (first_in instr_kind (turned s (n + names_taken i) is) v) (kinds_turned s (n + names_taken i) is v o.1 more))
+    (λ here. some_or (first_in instr_kind (lowered s Part.Ramp n i) v) (first_in instr_kind (turned s (n + names_taken i) is) v) (kind_becomes n i (lowered s Part.Ramp n i) (names_taken i) v (becomes s n i o.0) here))
+    (λ more. some_behind (first_in instr_kind (lowered s Part.Ramp n i) v) (first_in instr_kind (turned s (n + names_taken i) is) v) (kinds_turned s (n + names_taken i) is v o.1 more))
     (either_some (instr_kind i v) (first_in instr_kind is v) e)
 
 pub kinds_of_blocks : (s : Shape) (n : ℕ) (bs cs : List Block) (v : ℕ) → AreTurned s n bs cs → is_some (first_in block_kind bs v) ≡ true → is_some (first_in block_kind cs v) ≡ true

@@ -13,6 +13,7 @@ use Rattle.rule_laws.specs.rules.source_rules.Named.{HasTabledLocals}
 use Rattle.flow_solver.specs.Paths.{IsListed}
 use Rattle.ir_parts.specs.Locals.{locals_of}
 use Rattle.pass_intrinsics.specs.Lowered.{lowered, names_taken}
+use Rattle.pass_intrinsics.specs.declared.shape.Part.{Part}
 use Rattle.pass_intrinsics.specs.declared.shape.Shape.{Shape}
 use Rattle.ir_model.specs.declared.instr.Instr.{Instr}
 use Rattle.ir_model.specs.declared.module.Block.{Block}
@@ -57,9 +58,9 @@ old_turned : (s : Shape) (v n : ℕ) (is : List Instr) → Each IsOuter is → v
 old_turned s v n [] o low = omega arith
 old_turned s v n (i ∷ is) o low =
     let rest : List Instr = turned s (n + names_taken i) is in
-    let here : times v (row_of made_by (lowered s n i)) ≤ times v (made_by i) = old_becomes v n i (lowered s n i) (names_taken i) low (becomes s n i o.0) in
+    let here : times v (row_of made_by (lowered s Part.Ramp n i)) ≤ times v (made_by i) = old_becomes v n i (lowered s Part.Ramp n i) (names_taken i) low (becomes s n i o.0) in
     let more : times v (row_of made_by rest) ≤ times v (row_of made_by is) = old_turned s v (n + names_taken i) is o.1 (omega (arith, low)) in
-    let e : times v (row_of made_by (lowered s n i ++ rest)) ≡ times v (row_of made_by (lowered s n i)) + times v (row_of made_by rest) = ap (times v) (rows_joined (lowered s n i) rest) ∙ times_joined v (row_of made_by (lowered s n i)) (row_of made_by rest) in
+    let e : times v (row_of made_by (lowered s Part.Ramp n i ++ rest)) ≡ times v (row_of made_by (lowered s Part.Ramp n i)) + times v (row_of made_by rest) = ap (times v) (rows_joined (lowered s Part.Ramp n i) rest) ∙ times_joined v (row_of made_by (lowered s Part.Ramp n i)) (row_of made_by rest) in
     let d : times v (made_by i ++ row_of made_by is) ≡ times v (made_by i) + times v (row_of made_by is) = times_joined v (made_by i) (row_of made_by is) in
     omega (arith, here, more, e, d)
 
@@ -143,9 +144,9 @@ new_turned : (s : Shape) (v n : ℕ) (is : List Instr) → Each IsOuter is → (
 new_turned s v n [] o none = spread_none v n
 new_turned s v n (i ∷ is) o none =
     let rest : List Instr = turned s (n + names_taken i) is in
-    subst (IsSpread v n (names_behind (n + names_taken i) is)) (sym (rows_joined (lowered s n i) rest))
-    (spread_joined v n (n + names_taken i) (names_behind (n + names_taken i) is) (row_of made_by (lowered s n i)) (row_of made_by rest) (omega arith) (grows (n + names_taken i) is)
-    (new_becomes v n i (lowered s n i) (names_taken i) (λ l. none (listed_left v (made_by i) (row_of made_by is) l)) (becomes s n i o.0))
+    subst (IsSpread v n (names_behind (n + names_taken i) is)) (sym (rows_joined (lowered s Part.Ramp n i) rest))
+    (spread_joined v n (n + names_taken i) (names_behind (n + names_taken i) is) (row_of made_by (lowered s Part.Ramp n i)) (row_of made_by rest) (omega arith) (grows (n + names_taken i) is)
+    (new_becomes v n i (lowered s Part.Ramp n i) (names_taken i) (λ l. none (listed_left v (made_by i) (row_of made_by is) l)) (becomes s n i o.0))
     (new_turned s v (n + names_taken i) is o.1 (λ l. none (listed_right v (made_by i) (row_of made_by is) l))))
 
 abbrev names_after : ℕ → List Block → ℕ

@@ -3,6 +3,7 @@ use Rattle.std.proofs.Common.{◌≡◌, ℕ, ◌+◌, Bool, true, false, List, 
 use Rattle.std.specs.Prelude.{None, Option, Some}
 use Rattle.ir_calls.specs.Calls.{is_true}
 use Rattle.pass_intrinsics.specs.Lowered.{done_test, destroy_call, lowered, names_taken, operand_at, promise_distance, resume_call, set_address}
+use Rattle.pass_intrinsics.specs.declared.shape.Part.{Part}
 use Rattle.pass_intrinsics.specs.declared.shape.Shape.{Shape}
 use Rattle.ir_model.specs.Ty.{Ty}
 use Rattle.ir_model.specs.declared.instr.Instr.{Instr}
@@ -22,7 +23,7 @@ pub data Becomes (n : ℕ) : Instr → List Instr → ℕ → Type 0 where
   Promised : (r : Option ℕ) (must_tail : Bool) (ty : Option Ty) (args : List Arg) → Becomes n (Instr.Call r must_tail ty (Callee.Intrinsic Intrinsic.CoroPromise) args) (set_address r (operand_at args 0) (promise_distance (is_true (operand_at args 2)))) 0
 
 called : (s : Shape) (n : ℕ) (x : Intrinsic) (r : Option ℕ) (must_tail : Bool) (ty : Option Ty) (args : List Arg) → IsOuter (Instr.Call r must_tail ty (Callee.Intrinsic x) args)
-    → Becomes n (Instr.Call r must_tail ty (Callee.Intrinsic x) args) (lowered s n (Instr.Call r must_tail ty (Callee.Intrinsic x) args)) (names_taken (Instr.Call r must_tail ty (Callee.Intrinsic x) args))
+    → Becomes n (Instr.Call r must_tail ty (Callee.Intrinsic x) args) (lowered s Part.Ramp n (Instr.Call r must_tail ty (Callee.Intrinsic x) args)) (names_taken (Instr.Call r must_tail ty (Callee.Intrinsic x) args))
 called s n Intrinsic.CoroResume None must_tail ty args o = Resumed must_tail ty args
 called s n Intrinsic.CoroResume (Some r) must_tail ty args o = let bad : false ≡ true = o.1 in absurd (cc)
 called s n Intrinsic.CoroDestroy None must_tail ty args o = Destroyed must_tail ty args
@@ -42,7 +43,7 @@ called s n Intrinsic.CoroSuspend r must_tail ty args o = let bad : false ≡ tru
 called s n Intrinsic.CoroEnd r must_tail ty args o = let bad : false ≡ true = o.0 in absurd (cc)
 called s n x r must_tail ty args o = Same (Instr.Call r must_tail ty (Callee.Intrinsic x) args)
 
-pub becomes : (s : Shape) (n : ℕ) (i : Instr) → IsOuter i → Becomes n i (lowered s n i) (names_taken i)
+pub becomes : (s : Shape) (n : ℕ) (i : Instr) → IsOuter i → Becomes n i (lowered s Part.Ramp n i) (names_taken i)
 becomes s n (Instr.Call r must_tail ty (Callee.Intrinsic x) args) o = called s n x r must_tail ty args o
 becomes s n i o = Same i
 
@@ -50,7 +51,7 @@ becomes s n i o = Same i
 
 abbrev pub turned : Shape → ℕ → List Instr → List Instr
 turned s n [] = []
-turned s n (i ∷ is) = lowered s n i ++ turned s (n + names_taken i) is
+turned s n (i ∷ is) = lowered s Part.Ramp n i ++ turned s (n + names_taken i) is
 
 abbrev pub names_behind : ℕ → List Instr → ℕ
 names_behind n [] = n

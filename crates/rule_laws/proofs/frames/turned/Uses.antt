@@ -14,6 +14,7 @@ use Rattle.flow_solver.specs.Paths.{IsListed}
 use Rattle.ir_parts.specs.Contents.{arg_operands, ending_operands, instr_operands, result_of}
 use Rattle.ir_parts.specs.Parts.{instr_place}
 use Rattle.pass_intrinsics.specs.Lowered.{address, call_pointer, load_pointer, lowered, names_taken, operand_at, promise_distance}
+use Rattle.pass_intrinsics.specs.declared.shape.Part.{Part}
 use Rattle.pass_intrinsics.specs.declared.shape.Shape.{Shape}
 use Rattle.ir_model.specs.Names.{position_of}
 use Rattle.ir_model.specs.Ty.{ptr}
@@ -63,8 +64,8 @@ made_joined made (i ∷ is) js = made_joined (made_by i ++ made) is js
 within_turned : (s : Shape) (n : ℕ) (before made : List ℕ) (is : List Instr) → Each IsOuter is → Within before made → Within (made_by_instrs before is) (made_by_instrs made (turned s n is))
 within_turned s n before made [] o k = k
 within_turned s n before made (i ∷ is) o k =
-    subst (Within (made_by_instrs (made_by i ++ before) is)) (sym (made_joined made (lowered s n i) (turned s (n + names_taken i) is)))
-    (within_turned s (n + names_taken i) (made_by i ++ before) (made_by_instrs made (lowered s n i)) is o.1 (within_becomes n before made i (lowered s n i) (names_taken i) (becomes s n i o.0) k))
+    subst (Within (made_by_instrs (made_by i ++ before) is)) (sym (made_joined made (lowered s Part.Ramp n i) (turned s (n + names_taken i) is)))
+    (within_turned s (n + names_taken i) (made_by i ++ before) (made_by_instrs made (lowered s Part.Ramp n i)) is o.1 (within_becomes n before made i (lowered s Part.Ramp n i) (names_taken i) (becomes s n i o.0) k))
 
 all_fine : (f : Function) (us : List Use) → Each (IsFine f) us → IsFirstUndefined f us None
 all_fine f [] h = Nowhere
@@ -158,10 +159,10 @@ module _ (s : Shape) (f g : Function) (first : ℕ) (blocks : AreTurned s first 
   instrs_fine k l block at n now_at before made (i ∷ is) o w h =
       let here : List Use = uses_at (instr_place k block at) block before (instr_operands i) in
       let more : List Use = instr_uses k block (at + 1) (made_by i ++ before) is in
-      becomes_fine l block now_at n made i (lowered s n i) (turned s (n + names_taken i) is) (names_taken i) (becomes s n i o.0)
+      becomes_fine l block now_at n made i (lowered s Part.Ramp n i) (turned s (n + names_taken i) is) (names_taken i) (becomes s n i o.0)
       (all_sound block before made w (instr_operands i) (sound_uses f (instr_place k block at) block before (instr_operands i) (each_left (IsFine f) here more h)))
-      (λ later_at. instrs_fine k l block (at + 1) (n + names_taken i) later_at (made_by i ++ before) (made_by_instrs made (lowered s n i)) is o.1
-      (within_becomes n before made i (lowered s n i) (names_taken i) (becomes s n i o.0) w) (each_right (IsFine f) here more h))
+      (λ later_at. instrs_fine k l block (at + 1) (n + names_taken i) later_at (made_by i ++ before) (made_by_instrs made (lowered s Part.Ramp n i)) is o.1
+      (within_becomes n before made i (lowered s Part.Ramp n i) (names_taken i) (becomes s n i o.0) w) (each_right (IsFine f) here more h))
 
   incoming_sound : (is : List Incoming) → Each (IsSoundIn f) is → Each (IsSoundIn g) is
   incoming_sound [] h = tt

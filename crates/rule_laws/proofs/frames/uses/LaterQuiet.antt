@@ -22,7 +22,7 @@ use Rattle.ir_paths.specs.Paths.{targets}
 use Rattle.ir_paths.specs.Windows.{end_block, instr_in, is_call_of}
 use Rattle.rule_names.specs.Definitions.{first_twice}
 use Rattle.run_step.specs.Step.{Fetched, fetch}
-use Rattle.rule_laws.proofs.frames.uses.Lowering.{ComesBy, OfBegin, OfOperand}
+use Rattle.rule_laws.proofs.frames.uses.Lowering.{ComesBy, OfBegin, OfGiven, OfOperand}
 use Rattle.rule_laws.proofs.frames.uses.PhiEdges.{phi_source, used_on}
 use Rattle.rule_laws.proofs.frames.uses.Quiet.{IsQuiet}
 use Rattle.frame_crossing.specs.EdgeUses.{IsUsedOn}
@@ -96,6 +96,7 @@ module _ (k : ℕ) (f : Function) (coroutine : f.coroutine ≡ true) (calls : wr
             (subst (λ (z : ℕ). IsUsedOn f v q z) (sym (own_label k f once to c got)) (subst (λ (z : ℕ). IsUsedOn f v z to) from (used_on f v i local to c x got phi incoming))));
       }
     where
-      on : (q at : ℕ) (b : Block) (i : Instr) (is : List Instr) → Spot f q at b (i ∷ is) → IsQuietFrom q at b (i ∷ is) → (cut_at s part i is ≡ Cut.Returns → ⊥) → ComesBy f s i v → ⊥
+      on : (q at : ℕ) (b : Block) (i : Instr) (is : List Instr) → Spot f q at b (i ∷ is) → IsQuietFrom q at b (i ∷ is) → (cut_at s part i is ≡ Cut.Returns → ⊥) → ComesBy f s part i v → ⊥
       on q at b i is spot n goes (OfOperand p l) = n.0 (Use q at (outside q at b i is spot n.1 goes) (subst (λ (x : Fetched). IsListed v (used_by x)) (sym (spot_instr f q at b i is spot)) l))
       on q at b i is spot n goes (OfBegin e a) = not_begin e
+      on q at b i is spot n goes (OfGiven e same) = let t : true ≡ false = sym later ∙ ap goes_on e in absurd (cc)

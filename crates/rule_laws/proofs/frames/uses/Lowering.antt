@@ -10,8 +10,9 @@ use Rattle.ir_laws.proofs.facts.Lists.{row_of}
 use Rattle.flow_solver.specs.Paths.{IsListed}
 use Rattle.ir_parts.specs.Contents.{arg_operands, instr_operands, result_of}
 use Rattle.ir_parts.specs.Parts.{OfInstr}
-use Rattle.pass_intrinsics.specs.Lowered.{begin_stores, destroy_call, done_test, is_final_at, lowered, number_of_save, operand_at, promise_distance, resume_call, resumed_by, save_or_none, set_address, set_number, set_truth, truth_of}
-use Rattle.pass_intrinsics.specs.Shapes.{is_true}
+use Rattle.pass_intrinsics.specs.Lowered.{allocates, begin_memory, begin_stores, destroy_call, done_test, freed_by, is_final_at, lowered, number_of_save, operand_at, promise_distance, resume_call, resumed_by, save_or_none, set_address, set_number, set_truth, truth_of}
+use Rattle.pass_intrinsics.specs.Shapes.{given_name, is_true}
+use Rattle.pass_intrinsics.specs.declared.shape.Part.{Part}
 use Rattle.pass_intrinsics.specs.declared.shape.Shape.{Shape}
 use Rattle.ir_model.specs.Ty.{Ty}
 use Rattle.ir_model.specs.declared.instr.Instr.{Instr}
@@ -33,20 +34,22 @@ use Rattle.rule_values.specs.Instrs.{fits_instr, passes}
 use Rattle.rule_values.specs.Kinds.{result_kind, value_kind}
 use Rattle.rule_values.specs.declared.kinds.Kind.{Kind}
 
--- an instruction of a function has the value as an operand, or it asks for begin, whose value it is
-pub data ComesBy (f : Function) (s : Shape) (i : Instr) (v : ℕ) : Type 0 where
-  OfOperand : IsPlain f v → IsListed v (locals_in (instr_operands i)) → ComesBy f s i v
-  OfBegin : v ≡ s.begin → asks_begin i ≡ true → ComesBy f s i v
+-- an instruction of a function has the value as an operand, or it asks for begin, whose value it is, or the value is the address that a
+-- ramp is given
+pub data ComesBy (f : Function) (s : Shape) (part : Part) (i : Instr) (v : ℕ) : Type 0 where
+  OfOperand : IsPlain f v → IsListed v (locals_in (instr_operands i)) → ComesBy f s part i v
+  OfBegin : v ≡ s.begin → asks_begin i ≡ true → ComesBy f s part i v
+  OfGiven : part ≡ Part.GivenRamp → v ≡ given_name s → ComesBy f s part i v
 
 -- each local that instructions use is made before among them, or comes by the instruction in whose place they stand
-abbrev pub AreFrom : Function → Shape → Instr → List ℕ → List Instr → Type 0
-AreFrom f s i made [] = Unit {0}
-AreFrom f s i made (j ∷ js) = ((v : ℕ) → IsListed v (locals_in (instr_operands j)) → IsListed v made ⊎ ComesBy f s i v) × AreFrom f s i (made_by j ++ made) js
+abbrev pub AreFrom : Function → Shape → Part → Instr → List ℕ → List Instr → Type 0
+AreFrom f s part i made [] = Unit {0}
+AreFrom f s part i made (j ∷ js) = ((v : ℕ) → IsListed v (locals_in (instr_operands j)) → IsListed v made ⊎ ComesBy f s part i v) × AreFrom f s part i (made_by j ++ made) js
 
 -- what stands in an instruction's place
-pub record IsLowered (f : Function) (s : Shape) (i : Instr) : Type 0 where
-  pub makes : (n v : ℕ) → result_of i ≡ Some v → IsPlain f v → IsListed v (row_of made_by (lowered s n i))
-  pub uses : (n : ℕ) → AreFrom f s i [] (lowered s n i)
+pub record IsLowered (f : Function) (s : Shape) (part : Part) (i : Instr) : Type 0 where
+  pub makes : (n v : ℕ) → result_of i ≡ Some v → IsPlain f v → IsListed v (row_of made_by (lowered s part n i))
+  pub uses : (n : ℕ) → AreFrom f s part i [] (lowered s part n i)
 
 -- what the rules say of an instruction
 pub record IsRuled (m : Module) (f : Function) (s : Shape) (i : Instr) : Type 0 where
@@ -64,7 +67,7 @@ listed_one (Some r) v e = let same : v ≡ r = cc in inl same
 
 -- ---- what is made
 
-module _ (m : Module) (f : Function) (s : Shape) where
+module _ (m : Module) (f : Function) (s : Shape) (part : Part) where
   -- no integer or pointer is of another kind
   not_plain : (o : Option Kind) (v : ℕ) → value_kind f v ≡ o → is_plain_kind o ≡ false → IsPlain f v → ⊥
   not_plain o v e tokenless p = let t : true ≡ false = sym p.scalar ∙ ap is_plain_kind e ∙ tokenless in absurd (cc)
@@ -81,7 +84,7 @@ module _ (m : Module) (f : Function) (s : Shape) where
   no_result (Some t) e = absurd (cc)
 
   abbrev Made : ℕ → ℕ → Bool → Option Ty → List Arg → Intrinsic → Type 0
-  Made n v must_tail ty args x = IsListed v (row_of made_by (lowered s n (Instr.Call (Some v) must_tail ty (Callee.Intrinsic x) args)))
+  Made n v must_tail ty args x = IsListed v (row_of made_by (lowered s part n (Instr.Call (Some v) must_tail ty (Callee.Intrinsic x) args)))
 
   call_makes : (n v : ℕ) (must_tail : Bool) (ty : Option Ty) (x : Intrinsic) (args : List Arg) → (is_result (intrinsic_result x) ty && are_wanted (intrinsic_params x) args) ≡ true → IsRuled m f s (Instr.Call (Some v) must_tail ty (Callee.Intrinsic x) args) → IsPlain f v → Made n v must_tail ty args x
   call_makes n v must_tail ty Intrinsic.CoroSizeI32 args w h p = inl refl
@@ -107,11 +110,11 @@ module _ (m : Module) (f : Function) (s : Shape) where
   call_makes n v must_tail ty Intrinsic.MemcpyI64 args w h p = inl refl
   call_makes n v must_tail ty Intrinsic.MemcpyI32 args w h p = inl refl
 
-  result_made : (n v : ℕ) (i : Instr) → IsRuled m f s i → result_of i ≡ Some v → IsPlain f v → IsListed v (row_of made_by (lowered s n i))
+  result_made : (n v : ℕ) (i : Instr) → IsRuled m f s i → result_of i ≡ Some v → IsPlain f v → IsListed v (row_of made_by (lowered s part n i))
   result_made n v (Instr.Call None must_tail ty callee args) h e p = absurd (cc)
   result_made n v (Instr.Call (Some r) must_tail ty (Callee.Intrinsic x) args) h e p =
       let same : r ≡ v = cc in
-      subst (λ (u : ℕ). IsListed u (row_of made_by (lowered s n (Instr.Call (Some r) must_tail ty (Callee.Intrinsic x) args)))) same
+      subst (λ (u : ℕ). IsListed u (row_of made_by (lowered s part n (Instr.Call (Some r) must_tail ty (Callee.Intrinsic x) args)))) same
       (call_makes n r must_tail ty x args (holds (is_result (intrinsic_result x) ty && are_wanted (intrinsic_params x) args) h.calls) h (subst (IsPlain f) (sym same) p))
   result_made n v (Instr.Call (Some r) must_tail ty (Callee.Named c) args) h e p = listed_one (Some r) v e
   result_made n v (Instr.Call (Some r) must_tail ty (Callee.Allocator a) args) h e p = listed_one (Some r) v e
@@ -120,7 +123,7 @@ module _ (m : Module) (f : Function) (s : Shape) where
 
   -- ---- what is used
 
-  own_operands : (made : List ℕ) (i : Instr) → ((v : ℕ) → IsListed v (locals_in (instr_operands i)) → IsPlain f v) → AreFrom f s i made (i ∷ [])
+  own_operands : (made : List ℕ) (i : Instr) → ((v : ℕ) → IsListed v (locals_in (instr_operands i)) → IsPlain f v) → AreFrom f s part i made (i ∷ [])
   own_operands made i h = ((λ v l. inr (OfOperand (h v l) l)), tt)
 
   module _ (r : Option ℕ) (must_tail : Bool) (ty : Option Ty) (args : List Arg) where
@@ -128,7 +131,7 @@ module _ (m : Module) (f : Function) (s : Shape) where
     call x = Instr.Call r must_tail ty (Callee.Intrinsic x) args
 
     abbrev From : Intrinsic → List ℕ → List Instr → Type 0
-    From x = AreFrom f s (call x)
+    From x = AreFrom f s part (call x)
 
     numbers : (x : Intrinsic) (o : Option ℕ) (w k : ℕ) → From x [] (set_number o w k)
     numbers x None w k = tt
@@ -139,7 +142,7 @@ module _ (m : Module) (f : Function) (s : Shape) where
     truths x (Some v) true = ((λ u l. absurd l), tt)
     truths x (Some v) false = ((λ u l. absurd l), tt)
 
-    frame : (x : Intrinsic) (made : List ℕ) → asks_begin (call x) ≡ true → (v : ℕ) → IsListed v (s.begin ∷ []) → IsListed v made ⊎ ComesBy f s (call x) v
+    frame : (x : Intrinsic) (made : List ℕ) → asks_begin (call x) ≡ true → (v : ℕ) → IsListed v (s.begin ∷ []) → IsListed v made ⊎ ComesBy f s part (call x) v
     frame x made asks v (inl e) = inr (OfBegin e asks)
     frame x made asks v (inr l) = absurd l
 
@@ -147,32 +150,51 @@ module _ (m : Module) (f : Function) (s : Shape) where
     frames x None asks = tt
     frames x (Some v) asks = (frame x [] asks, tt)
 
+    no_frames : (o : Option ℕ) → From Intrinsic.CoroFree [] (set_address o Operand.Null (pos 0))
+    no_frames None = tt
+    no_frames (Some v) = ((λ u l. absurd l), tt)
+
+    freed : (q : Part) (o : Option ℕ) → From Intrinsic.CoroFree [] (set_address o (freed_by s q) (pos 0))
+    freed Part.GivenRamp o = no_frames o
+    freed Part.Cleanup o = no_frames o
+    freed Part.Ramp o = frames Intrinsic.CoroFree o refl
+    freed Part.Resume o = frames Intrinsic.CoroFree o refl
+    freed Part.Destroy o = frames Intrinsic.CoroFree o refl
+
     saved : (n : ℕ) (o : Option ℕ) → From Intrinsic.CoroSave [] (save_or_none s n o)
     saved n None = tt
     saved n (Some j) = (frame Intrinsic.CoroSave [] refl, (made_here, (resumes (is_final_at (slice_get s.suspends j)), tt)))
       where
-        made_here : (v : ℕ) → IsListed v (n ∷ []) → IsListed v (n ∷ []) ⊎ ComesBy f s (call Intrinsic.CoroSave) v
+        made_here : (v : ℕ) → IsListed v (n ∷ []) → IsListed v (n ∷ []) ⊎ ComesBy f s part (call Intrinsic.CoroSave) v
         made_here v l = inl l
 
-        resumes : (b : Bool) (v : ℕ) → IsListed v (locals_in (resumed_by s b ∷ Operand.Local s.begin ∷ [])) → IsListed v (n ∷ []) ⊎ ComesBy f s (call Intrinsic.CoroSave) v
+        resumes : (b : Bool) (v : ℕ) → IsListed v (locals_in (resumed_by s b ∷ Operand.Local s.begin ∷ [])) → IsListed v (n ∷ []) ⊎ ComesBy f s part (call Intrinsic.CoroSave) v
         resumes true v l = frame Intrinsic.CoroSave (n ∷ []) refl v l
         resumes false v l = frame Intrinsic.CoroSave (n ∷ []) refl v l
 
     -- an operand at a position where the table has no token
     module _ (x : Intrinsic) (wanted : are_wanted (intrinsic_params x) args ≡ true) (passed : list_all (passes (value_kind f) (Callee.Intrinsic x)) args ≡ true) (plain : (v : ℕ) → IsListed v (locals_in (arg_operands args)) → is_plain_kind (value_kind f v) ≡ true → IsPlain f v) where
-      given : (at : ℕ) (made : List ℕ) → has_no_token (intrinsic_params x) at ≡ true → (v : ℕ) → IsListed v (locals_in (operand_at args at ∷ [])) → IsListed v made ⊎ ComesBy f s (call x) v
+      given : (at : ℕ) (made : List ℕ) → has_no_token (intrinsic_params x) at ≡ true → (v : ℕ) → IsListed v (locals_in (operand_at args at ∷ [])) → IsListed v made ⊎ ComesBy f s part (call x) v
       given at made tokenless v l =
           let h = operand_given (value_kind f) (Callee.Intrinsic x) (intrinsic_params x) args at v wanted tokenless passed l in
           inr (OfOperand (plain v h.1 h.0) h.1)
 
-      or_given : (at n : ℕ) (made : List ℕ) → has_no_token (intrinsic_params x) at ≡ true → IsListed n made → (v : ℕ) → IsListed v (n ∷ locals_in (operand_at args at ∷ [])) → IsListed v made ⊎ ComesBy f s (call x) v
+      or_given : (at n : ℕ) (made : List ℕ) → has_no_token (intrinsic_params x) at ≡ true → IsListed n made → (v : ℕ) → IsListed v (n ∷ locals_in (operand_at args at ∷ [])) → IsListed v made ⊎ ComesBy f s part (call x) v
       or_given at n made tokenless l v (inl e) = inl (subst (λ (u : ℕ). IsListed u made) (sym e) l)
       or_given at n made tokenless l v (inr h) = given at made tokenless v h
 
-      begins : (n : ℕ) → has_no_token (intrinsic_params x) 1 ≡ true → From x [] (begin_stores s n (operand_at args 1))
-      begins n tokenless = (given 1 [] tokenless, ((λ v l. inl l), ((λ v l. inl l), ((λ v l. on v l), tt))))
+      begins : (n : ℕ) → has_no_token (intrinsic_params x) 1 ≡ true → From x [] (begin_stores s part n (begin_memory s part args))
+      begins n tokenless = (memory part refl, ((λ v l. inl l), ((λ v l. inl l), ((λ v l. on v l), tt))))
         where
-          on : (v : ℕ) → IsListed v (n ∷ []) → IsListed v (n ∷ s.begin ∷ []) ⊎ ComesBy f s (call x) v
+          memory : (q : Part) → part ≡ q → (v : ℕ) → IsListed v (locals_in (begin_memory s q args ∷ [])) → IsListed v [] ⊎ ComesBy f s part (call x) v
+          memory Part.GivenRamp e v (inl l) = inr (OfGiven e l)
+          memory Part.GivenRamp e v (inr l) = absurd l
+          memory Part.Ramp e v l = given 1 [] tokenless v l
+          memory Part.Resume e v l = given 1 [] tokenless v l
+          memory Part.Destroy e v l = given 1 [] tokenless v l
+          memory Part.Cleanup e v l = given 1 [] tokenless v l
+
+          on : (v : ℕ) → IsListed v (n ∷ []) → IsListed v (n ∷ s.begin ∷ []) ⊎ ComesBy f s part (call x) v
           on v (inl e) = inl (inl e)
           on v (inr h) = absurd h
 
@@ -194,14 +216,14 @@ module _ (m : Module) (f : Function) (s : Shape) where
       kept tokenless = own_operands [] (call x) (λ v l. plain v l (scalar_local (value_kind f) (arg_operands args) (all_wanted_scalar (value_kind f) (Callee.Intrinsic x) (intrinsic_params x) args wanted tokenless passed) v l))
 
     module _ (n : ℕ) where
-      call_uses : (x : Intrinsic) → (is_result (intrinsic_result x) ty && are_wanted (intrinsic_params x) args) ≡ true → list_all (passes (value_kind f) (Callee.Intrinsic x)) args ≡ true → ((v : ℕ) → IsListed v (locals_in (arg_operands args)) → is_plain_kind (value_kind f v) ≡ true → IsPlain f v) → From x [] (lowered s n (call x))
+      call_uses : (x : Intrinsic) → (is_result (intrinsic_result x) ty && are_wanted (intrinsic_params x) args) ≡ true → list_all (passes (value_kind f) (Callee.Intrinsic x)) args ≡ true → ((v : ℕ) → IsListed v (locals_in (arg_operands args)) → is_plain_kind (value_kind f v) ≡ true → IsPlain f v) → From x [] (lowered s part n (call x))
       call_uses Intrinsic.CoroSizeI32 w p h = numbers Intrinsic.CoroSizeI32 r 32 s.size
       call_uses Intrinsic.CoroSizeI64 w p h = numbers Intrinsic.CoroSizeI64 r 64 s.size
       call_uses Intrinsic.CoroAlignI32 w p h = numbers Intrinsic.CoroAlignI32 r 32 s.align
       call_uses Intrinsic.CoroAlignI64 w p h = numbers Intrinsic.CoroAlignI64 r 64 s.align
-      call_uses Intrinsic.CoroAlloc w p h = truths Intrinsic.CoroAlloc r true
+      call_uses Intrinsic.CoroAlloc w p h = truths Intrinsic.CoroAlloc r (allocates part)
       call_uses Intrinsic.CoroBegin w p h = begins Intrinsic.CoroBegin (and_second (is_result (intrinsic_result Intrinsic.CoroBegin) ty) (are_wanted (intrinsic_params Intrinsic.CoroBegin) args) w) p h n refl
-      call_uses Intrinsic.CoroFree w p h = frames Intrinsic.CoroFree r refl
+      call_uses Intrinsic.CoroFree w p h = freed part r
       call_uses Intrinsic.CoroFrame w p h = frames Intrinsic.CoroFrame r refl
       call_uses Intrinsic.CoroSave w p h = saved n (number_of_save s r)
       call_uses Intrinsic.CoroSuspend w p h = tt
@@ -219,7 +241,7 @@ module _ (m : Module) (f : Function) (s : Shape) where
   plain_operands : (i : Instr) → calls_intrinsic i ≡ false → IsRuled m f s i → (v : ℕ) → IsListed v (locals_in (instr_operands i)) → IsPlain f v
   plain_operands i tokenless h v l = h.operands v l (scalar_local (value_kind f) (instr_operands i) (operands_scalar (value_kind f) m i tokenless h.fits) v l)
 
-  operands_from : (n : ℕ) (i : Instr) → IsRuled m f s i → AreFrom f s i [] (lowered s n i)
+  operands_from : (n : ℕ) (i : Instr) → IsRuled m f s i → AreFrom f s part i [] (lowered s part n i)
   operands_from n (Instr.Call r must_tail ty (Callee.Intrinsic x) args) h =
       call_uses r must_tail ty args n x (holds (is_result (intrinsic_result x) ty && are_wanted (intrinsic_params x) args) h.calls) (args_pass (value_kind f) r ty (Callee.Intrinsic x) args h.fits) h.operands
   operands_from n (Instr.Call r must_tail ty (Callee.Named c) args) h = own_operands [] (Instr.Call r must_tail ty (Callee.Named c) args) (plain_operands (Instr.Call r must_tail ty (Callee.Named c) args) refl h)
@@ -234,5 +256,5 @@ module _ (m : Module) (f : Function) (s : Shape) where
   operands_from n (Instr.Store arg x align) h = own_operands [] (Instr.Store arg x align) (plain_operands (Instr.Store arg x align) refl h)
   operands_from n (Instr.Gep r inbounds ty base indices) h = own_operands [] (Instr.Gep r inbounds ty base indices) (plain_operands (Instr.Gep r inbounds ty base indices) refl h)
 
-  pub ruled_lowered : (i : Instr) → IsRuled m f s i → IsLowered f s i
+  pub ruled_lowered : (i : Instr) → IsRuled m f s i → IsLowered f s part i
   ruled_lowered i h = record { makes = λ n v e p. result_made n v i h e p; uses = λ n. operands_from n i h }

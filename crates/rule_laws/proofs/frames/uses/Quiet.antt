@@ -28,7 +28,7 @@ use Rattle.rule_laws.proofs.rules.uses.Plain.{IsPlain}
 -- a block, before some instructions. Paths end where the part returns.
 pub record IsQuiet (f h : Function) (s : Shape) (part : Part) (v : ℕ) (A : ℕ → Type 0) (N : ℕ → ℕ → Block → List Instr → Type 0) : Type 0 where
   pub front : (q : ℕ) (b : Block) → slice_get h.blocks q ≡ Some b → A q → (IsListed v (phi_values b) → ⊥) → N q 0 b b.instrs
-  pub used : (q at : ℕ) (b : Block) (i : Instr) (is : List Instr) → Spot h q at b (i ∷ is) → N q at b (i ∷ is) → (cut_at s part i is ≡ Cut.Returns → ⊥) → ComesBy f s i v → ⊥
+  pub used : (q at : ℕ) (b : Block) (i : Instr) (is : List Instr) → Spot h q at b (i ∷ is) → N q at b (i ∷ is) → (cut_at s part i is ≡ Cut.Returns → ⊥) → ComesBy f s part i v → ⊥
   pub next : (q at : ℕ) (b : Block) (i : Instr) (is : List Instr) → Spot h q at b (i ∷ is) → N q at b (i ∷ is) → (cut_at s part i is ≡ Cut.Returns → ⊥) → (result_of i ≡ Some v → ⊥) → N q (at + 1) b is
   pub term : (q at : ℕ) (b : Block) → Spot h q at b [] → N q at b [] → IsListed v (locals_in (ending_operands b.term)) → ⊥
   pub edge : (q at : ℕ) (b : Block) → Spot h q at b [] → N q at b [] → (label : ℕ) → IsListed label (targets b.term) → A (position_of h label)
@@ -40,6 +40,6 @@ abbrev pub suspends : Instr → Bool
 suspends i = is_call_of Intrinsic.CoroSuspend i
 
 -- what is lowered in the place of each is as it should be; a suspend is the last, before a switch; and where there is none, the terminator uses no token
-abbrev pub AreTold : Function → Shape → List Instr → Terminator → Type 0
-AreTold f s [] t = (v : ℕ) → IsListed v (locals_in (ending_operands t)) → IsPlain f v
-AreTold f s (i ∷ is) t = IsLowered f s i × ((suspends i ≡ true → (is ≡ []) × (is_switch t ≡ true)) × (suspends i ≡ false → AreTold f s is t))
+abbrev pub AreTold : Function → Shape → Part → List Instr → Terminator → Type 0
+AreTold f s part [] t = (v : ℕ) → IsListed v (locals_in (ending_operands t)) → IsPlain f v
+AreTold f s part (i ∷ is) t = IsLowered f s part i × ((suspends i ≡ true → (is ≡ []) × (is_switch t ≡ true)) × (suspends i ≡ false → AreTold f s part is t))

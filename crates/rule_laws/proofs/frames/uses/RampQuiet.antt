@@ -9,13 +9,14 @@ use Rattle.ir_laws.proofs.paths.source_rules.Locals.{listed_either}
 use Rattle.rule_laws.proofs.rules.source_rules.Locals.{made_by}
 use Rattle.flow_solver.specs.Paths.{IsListed}
 use Rattle.ir_parts.specs.Contents.{result_of}
+use Rattle.pass_intrinsics.specs.Shapes.{given_name}
 use Rattle.pass_intrinsics.specs.declared.shape.Part.{Part}
 use Rattle.pass_intrinsics.specs.declared.shape.Shape.{Shape}
 use Rattle.ir_model.specs.Names.{position_of}
 use Rattle.ir_model.specs.declared.instr.Instr.{Instr}
 use Rattle.ir_model.specs.declared.module.Block.{Block}
 use Rattle.ir_model.specs.declared.module.Function.{Function}
-use Rattle.rule_laws.proofs.frames.uses.Lowering.{ComesBy, OfBegin, OfOperand}
+use Rattle.rule_laws.proofs.frames.uses.Lowering.{ComesBy, OfBegin, OfGiven, OfOperand}
 use Rattle.rule_laws.proofs.frames.uses.Quiet.{IsQuiet}
 use Rattle.rule_laws.specs.rules.replaced.Splittable.{AreBegun}
 use Rattle.rule_laws.proofs.rules.uses.RampQuiet.{IsMade}
@@ -29,7 +30,7 @@ pub record IsWithout (h : Function) (begin v q : ℕ) (b : Block) (is : List Ins
   pub begun : AreBegun h begin q before is
   pub whole : made_by_instrs before is ≡ block_values b
 
-module _ (f h : Function) (s : Shape) (part : Part) (begin : ℕ) (named : s.begin ≡ begin) (rules : IsMade h begin) (v : ℕ) (no_param : IsListed v (params_of h) → ⊥) where
+module _ (f h : Function) (s : Shape) (part : Part) (begin : ℕ) (named : s.begin ≡ begin) (rules : IsMade h begin) (v : ℕ) (no_param : IsListed v (params_of h) → ⊥) (no_given : part ≡ Part.GivenRamp → v ≡ given_name s → ⊥) where
   abbrev pub Without : ℕ → ℕ → Block → List Instr → Type 0
   Without q at b is = IsWithout h begin v q b is
 
@@ -41,11 +42,12 @@ module _ (f h : Function) (s : Shape) (part : Part) (begin : ℕ) (named : s.beg
       on (Some r) k (inl e) = k (ap (λ (n : ℕ). Some n) (sym e))
       on (Some r) k (inr m) = m
 
-  comes : (q at : ℕ) (b : Block) (i : Instr) (is : List Instr) → IsWithout h begin v q b (i ∷ is) → ComesBy f s i v → ⊥
+  comes : (q at : ℕ) (b : Block) (i : Instr) (is : List Instr) → IsWithout h begin v q b (i ∷ is) → ComesBy f s part i v → ⊥
   comes q at b i is n (OfOperand p l) = n.made.0 v l n.reaches n.unmade no_param
   comes q at b i is n (OfBegin e asks) =
       let is_begin : v ≡ begin = e ∙ named in
       n.unmade (subst (λ (u : ℕ). IsListed u n.before) (sym is_begin) (n.begun.0 asks (subst (λ (u : ℕ). ReachesWithout h u q) is_begin n.reaches)))
+  comes q at b i is n (OfGiven e same) = no_given e same
 
   at_end : (q : ℕ) (b : Block) → IsWithout h begin v q b [] → IsListed v (block_values b) → ⊥
   at_end q b n l = n.unmade (subst (IsListed v) (sym n.whole) l)

@@ -8,6 +8,7 @@ use Rattle.ir_laws.proofs.facts.Lists.{row_of}
 use Rattle.flow_solver.specs.Paths.{IsListed}
 use Rattle.ir_model.specs.declared.instr.Instr.{Instr}
 use Rattle.ir_model.specs.declared.module.Function.{Function}
+use Rattle.pass_intrinsics.specs.declared.shape.Part.{Part}
 use Rattle.pass_intrinsics.specs.declared.shape.Shape.{Shape}
 use Rattle.rule_laws.proofs.frames.uses.Lowering.{AreFrom, ComesBy}
 use Rattle.rule_laws.proofs.rules.uses.Unused.{IsUnused}
@@ -23,17 +24,17 @@ module _ (v : ℕ) where
   unused_joined before (x ∷ xs) ys a b = (a.0, unused_joined (made_by x ++ before) xs ys a.1 b)
 
   -- what is lowered in the place of an instruction doesn't use the value, where that doesn't come by the instruction
-  lowered_unused : (f : Function) (s : Shape) (i : Instr) (made before : List ℕ) (js : List Instr) → AreFrom f s i made js → ((u : ℕ) → IsListed u made → IsListed u before) → ((IsListed v before → ⊥) → ComesBy f s i v → ⊥) → IsUnused v before js
-  lowered_unused f s i made before [] h within none = tt
-  lowered_unused f s i made before (j ∷ js) h within none = (
+  lowered_unused : (f : Function) (s : Shape) (part : Part) (i : Instr) (made before : List ℕ) (js : List Instr) → AreFrom f s part i made js → ((u : ℕ) → IsListed u made → IsListed u before) → ((IsListed v before → ⊥) → ComesBy f s part i v → ⊥) → IsUnused v before js
+  lowered_unused f s part i made before [] h within none = tt
+  lowered_unused f s part i made before (j ∷ js) h within none = (
     (λ unmade u. ⊎_elim (λ l. unmade (within v l)) (λ c. none unmade c) (h.0 v u)),
-    lowered_unused f s i (made_by j ++ made) (made_by j ++ before) js h.1
+    lowered_unused f s part i (made_by j ++ made) (made_by j ++ before) js h.1
         (λ u l. ⊎_elim (λ a. listed_left u (made_by j) before a) (λ b. listed_right u (made_by j) before (within u b)) (listed_either u (made_by j) made l))
         (λ unmade c. none (λ l. unmade (listed_right v (made_by j) before l)) c),
   )
 
-  pub all_unused : (f : Function) (s : Shape) (i : Instr) (before : List ℕ) (js : List Instr) → AreFrom f s i [] js → ((IsListed v before → ⊥) → ComesBy f s i v → ⊥) → IsUnused v before js
-  all_unused f s i before js h none = lowered_unused f s i [] before js h (λ u l. absurd l) none
+  pub all_unused : (f : Function) (s : Shape) (part : Part) (i : Instr) (before : List ℕ) (js : List Instr) → AreFrom f s part i [] js → ((IsListed v before → ⊥) → ComesBy f s part i v → ⊥) → IsUnused v before js
+  all_unused f s part i before js h none = lowered_unused f s part i [] before js h (λ u l. absurd l) none
 
   -- what is made by instructions is made behind them
   pub row_made : (before : List ℕ) (js : List Instr) → IsListed v (row_of made_by js) → IsListed v (made_by_instrs before js)

@@ -4,7 +4,7 @@ use Rattle.std.proofs.lemmas.Bool.{and_from, le-leb, or_parts}
 use Rattle.std.proofs.lemmas.Fmt.{decimal_injective, decimal_is_IsNumeral}
 use Rattle.std.proofs.lemmas.List.{append_cancel_right}
 use Rattle.std.proofs.lemmas.Str.Parse.{digit_from_value}
-use Rattle.std.specs.Prelude.{codes, decimal, nat_le, ◌^◌}
+use Rattle.std.specs.Prelude.{codes, decimal, nat_le, ◌^◌, ◌==◌, if◌then◌else◌}
 use Rattle.std.specs.List.{list_all}
 use Rattle.std.specs.Str.Parse.{AllDigits}
 use Rattle.ir_base.specs.declared.name.Name.{Name}
@@ -26,11 +26,26 @@ last_behind : (d : ℕ) (xs : List ℕ) (y : ℕ) (ys : List ℕ) → last_of d 
 last_behind d [] y ys = refl
 last_behind d (x ∷ xs) y ys = last_behind x xs y ys
 
-letters : (d e : List ℕ) → d ++ codes ".resume" ≡ e ++ codes ".destroy" → ◌≡◌ {A = ℕ} 101 121
-letters d e same = sym (last_behind 0 d 46 (codes "resume")) ∙ ap (last_of 0) same ∙ last_behind 0 e 46 (codes "destroy")
+-- ---- the suffixes of the names of parts
 
-other_last : (d e : List ℕ) → d ++ codes ".resume" ≡ e ++ codes ".destroy" → ⊥
-other_last d e same = omega (arith, letters d e same)
+pub data IsSuffix : List ℕ → Type 0 where
+  OfResume : IsSuffix (codes ".resume")
+  OfDestroy : IsSuffix (codes ".destroy")
+  OfCleanup : IsSuffix (codes ".cleanup")
+  OfNoalloc : IsSuffix (codes ".noalloc")
+
+-- the suffix that ends with a byte
+abbrev suffix_of : ℕ → List ℕ
+suffix_of c = if c == 101 then codes ".resume" else if c == 121 then codes ".destroy" else if c == 112 then codes ".cleanup" else codes ".noalloc"
+
+last_tells : (w : List ℕ) → IsSuffix w → (d : List ℕ) → suffix_of (last_of 0 (d ++ w)) ≡ w
+last_tells _ OfResume d = ap suffix_of (last_behind 0 d 46 (codes "resume"))
+last_tells _ OfDestroy d = ap suffix_of (last_behind 0 d 46 (codes "destroy"))
+last_tells _ OfCleanup d = ap suffix_of (last_behind 0 d 46 (codes "cleanup"))
+last_tells _ OfNoalloc d = ap suffix_of (last_behind 0 d 46 (codes "noalloc"))
+
+same_suffix : (v w : List ℕ) → IsSuffix v → IsSuffix w → (d e : List ℕ) → d ++ v ≡ e ++ w → v ≡ w
+same_suffix v w p q d e same = sym (last_tells v p d) ∙ ap (λ (t : List ℕ). suffix_of (last_of 0 t)) same ∙ last_tells w q e
 
 -- ---- numbers are digits
 
@@ -60,11 +75,12 @@ abbrev text_of : Name → List ℕ
 text_of (Name.Number n) = []
 text_of (Name.Text t) = t
 
-pub resumes_alike : (a b : Name) → IsShort a → IsShort b → is_odd a ≡ false → is_odd b ≡ false → part_name a (codes ".resume") ≡ part_name b (codes ".resume") → a ≡ b
-resumes_alike a b p q h k e = spelled_alike a b p q h k (append_cancel_right (spelling a) (spelling b) (codes ".resume") (ap text_of e))
+-- of two parts with one name the suffixes are one
+pub suffixes_alike : (a b : Name) (v w : List ℕ) → IsSuffix v → IsSuffix w → part_name a v ≡ part_name b w → v ≡ w
+suffixes_alike a b v w p q e = same_suffix v w p q (spelling a) (spelling b) (ap text_of e)
 
-pub destroys_alike : (a b : Name) → IsShort a → IsShort b → is_odd a ≡ false → is_odd b ≡ false → part_name a (codes ".destroy") ≡ part_name b (codes ".destroy") → a ≡ b
-destroys_alike a b p q h k e = spelled_alike a b p q h k (append_cancel_right (spelling a) (spelling b) (codes ".destroy") (ap text_of e))
-
-pub resume_is_no_destroy : (a b : Name) → part_name a (codes ".resume") ≡ part_name b (codes ".destroy") → ⊥
-resume_is_no_destroy a b e = other_last (spelling a) (spelling b) (ap text_of e)
+-- and so are the names that they are made of
+pub parts_alike : (a b : Name) (v w : List ℕ) → IsSuffix v → IsSuffix w → IsShort a → IsShort b → is_odd a ≡ false → is_odd b ≡ false → part_name a v ≡ part_name b w → a ≡ b
+parts_alike a b v w p q x y h k e =
+    let one : v ≡ w = suffixes_alike a b v w p q e in
+    spelled_alike a b x y h k (append_cancel_right (spelling a) (spelling b) v (ap text_of (e ∙ ap (part_name b) (sym one))))

@@ -1,5 +1,5 @@
 use Rattle.std.proofs.Common.{◌∙◌, sym}
-use Rattle.run_framed.proofs.Chains.{candidate-first, candidate-here, candidate-less, candidate-next, candidate-none, candidate-there}
+use Rattle.run_source.proofs.Chains.{candidate-first, candidate-here, candidate-less, candidate-next, candidate-none, candidate-there}
 use Rattle.run_framed.proofs.Wanting.{of-block}
 use Rattle.run_framed.proofs.judging.last_wanted.Goals as goal
 use Rattle.run_framed.specs.FramedEffects.{fits, framed_of}

@@ -1,5 +1,5 @@
 use Rattle.run_framed.specs.FramedEffects.{fits, framed_of}
-use Rattle.run_framed.proofs.Chains.{IsCandidate, after}
+use Rattle.run_source.proofs.Chains.{IsCandidate, after}
 use Rattle.run_framed.proofs.judging.last_wanted.Given as goal
 
 abbrev pub invariant-loop-candidate : goal.invariant-loop-candidate

@@ -11,7 +11,7 @@ use Rattle.run_source.proofs.state.Instances.free.Goals as goal
 pub invariant_of-self : goal.invariant_of-self
 invariant_of-self c =
     let lt : c.args.i < length c.self.inside.list.items = omega arith in
-    put-indexed c.self.inside.list.items c.self.inside.last.items c.self.inside.earlier.items c.args.i c.index_mut.result.now (record c.index_mut.result.now { freed = true }) c.self.invariant lt c.index_mut.ensures.value (refl) (refl)
+    put-indexed c.self.inside.list.items c.self.inside.last.items c.self.inside.earlier.items c.args.i c.index_mut.result.now (record c.index_mut.result.now { freed = true }) c.self.invariant lt c.index_mut.ensures.value refl
 
 pub returns-then-i-len : goal.returns-then-i-len
 returns-then-i-len c = λ x g.

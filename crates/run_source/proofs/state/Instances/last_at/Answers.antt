@@ -1,26 +1,25 @@
-use Rattle.std.proofs.Common.{ℕ, ◌∙◌, ap, List, Option}
-use Rattle.run_source.specs.Indexes.{last_from, number_at}
+use Rattle.std.proofs.Common.{◌∙◌, sym}
 use Rattle.run_source.specs.State.{began_at}
-use Rattle.run_source.specs.declared.state.Instance.{Instance}
-use Rattle.run_source.proofs.Indexes.{last-absent, last-passes, last-there}
+use Rattle.run_source.proofs.Chains.{candidate-first, candidate-here, candidate-less, candidate-next, candidate-none, candidate-there, began-in}
 use Rattle.run_source.proofs.state.Instances.last_at.Goals as goal
 
-pub returns-then-offset-eq0-clause-number : goal.returns-then-offset-eq0-clause-number
-returns-then-offset-eq0-clause-number c =
-    c.number_in.ensures
-    ∙ ap (λ (l : List (Option ℕ)). number_at l c.args.block) c.as_slice.ensures.value
-    ∙ last-there c.self.inside.list.items c.self.inside.last.items c.self.inside.earlier.items c.args.block c.args.offset c.self.invariant c.if-offset-eq0.true
-    ∙ ap (λ (l : List Instance). last_from (began_at c.args.block c.args.offset) 0 l) c.self.view_is
+pub loop-candidate-init : goal.loop-candidate-init
+loop-candidate-init c = candidate-first (began_at c.args.block c.args.offset) c.args.block c.args.self.now c.last_in-candidate.result c.last_in-candidate.ensures
 
-pub returns-then-offset-eq0-clause-there : goal.returns-then-offset-eq0-clause-there
-returns-then-offset-eq0-clause-there c =
-    last-passes (began_at c.args.block c.args.offset) c.args.self.now c.number_in.result
-    (c.number_in.ensures
-    ∙ ap (λ (l : List (Option ℕ)). number_at l c.args.block) c.as_slice.ensures.value
-    ∙ last-there c.self.inside.list.items c.self.inside.last.items c.self.inside.earlier.items c.args.block c.args.offset c.self.invariant c.if-offset-eq0.true
-    ∙ ap (λ (l : List Instance). last_from (began_at c.args.block c.args.offset) 0 l) c.self.view_is)
+pub returns-then-began_at-clause-number : goal.returns-then-began_at-clause-number
+returns-then-began_at-clause-number c =
+    candidate-here (began_at c.args.block c.args.offset) c.args.block c.args.self.now c.loop-candidate.candidate c.in-Some.i c.in-Some-get.instance.now (began-in c.args.block c.args.offset) c.loop-candidate.invariant c.in-Some.is c.in-Some-get.ensures (sym c.began_at.ensures ∙ c.if-began_at.true)
 
-pub returns-else-offset-eq0-clause-number : goal.returns-else-offset-eq0-clause-number
-returns-else-offset-eq0-clause-number c =
-    last-absent c.self.inside.list.items c.self.inside.last.items c.self.inside.earlier.items c.args.block c.args.offset c.self.invariant c.if-offset-eq0.false
-    ∙ ap (λ (l : List Instance). last_from (began_at c.args.block c.args.offset) 0 l) c.self.view_is
+pub loop-candidate-preserved : goal.loop-candidate-preserved
+loop-candidate-preserved c =
+    candidate-next (began_at c.args.block c.args.offset) c.args.block c.args.self.now c.loop-candidate.candidate c.before-candidate.result c.in-Some.i c.in-Some-get.instance.now (began-in c.args.block c.args.offset) c.loop-candidate.invariant c.in-Some.is c.in-Some-get.ensures (sym c.began_at.ensures ∙ c.if-began_at.false) (c.before-candidate.ensures c.in-Some-get.instance.now c.in-Some-get.ensures)
+
+pub loop-candidate-smaller : goal.loop-candidate-smaller
+loop-candidate-smaller c =
+    candidate-less (began_at c.args.block c.args.offset) c.args.block c.args.self.now c.loop-candidate.candidate c.before-candidate.result c.in-Some.i c.in-Some-get.instance.now c.loop-candidate.invariant c.in-Some.is c.in-Some-get.ensures (c.before-candidate.ensures c.in-Some-get.instance.now c.in-Some-get.ensures)
+
+pub returns-in_default-get-clause-number : goal.returns-in_default-get-clause-number
+returns-in_default-get-clause-number c = absurd (candidate-there (began_at c.args.block c.args.offset) c.args.block c.args.self.now c.loop-candidate.candidate c.in-Some.i c.loop-candidate.invariant c.in-Some.is (c.in_default-get.ensures {u = tt}))
+
+pub returns-clause-number : goal.returns-clause-number
+returns-clause-number c = candidate-none (began_at c.args.block c.args.offset) c.args.block c.args.self.now c.loop-candidate.candidate (began-in c.args.block c.args.offset) c.loop-candidate.invariant c.in_default.is

@@ -11,7 +11,7 @@ use Rattle.run_source.proofs.state.Instances.wake.Goals as goal
 pub invariant_of-self : goal.invariant_of-self
 invariant_of-self c =
     let lt : c.args.i < length c.self.inside.list.items = omega arith in
-    put-indexed c.self.inside.list.items c.self.inside.last.items c.self.inside.earlier.items c.args.i c.index_mut.result.now c.wake.new.instance c.self.invariant lt c.index_mut.ensures.value (ap (λ (y : Instance). y.block) c.wake.ensures.left) (ap (λ (y : Instance). y.start) c.wake.ensures.left)
+    put-indexed c.self.inside.list.items c.self.inside.last.items c.self.inside.earlier.items c.args.i c.index_mut.result.now c.wake.new.instance c.self.invariant lt c.index_mut.ensures.value (ap (λ (y : Instance). y.block) c.wake.ensures.left)
 
 pub returns-then-i-len-clause-taken : goal.returns-then-i-len-clause-taken
 returns-then-i-len-clause-taken c = λ x suspend values g e.

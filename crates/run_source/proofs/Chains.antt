@@ -1,13 +1,12 @@
 -- The instances that began in a block, from the last on.
 use Rattle.std.proofs.Common.{◌≡◌, ℕ, zero, suc, ◌<◌, ◌≤◌, Bool, true, false, ◌&&◌, List, [], ◌∷◌, length, take, refl, ap, sym, ◌∙◌, arith, Option, Some, None}
-use Rattle.std.specs.Prelude.{is_none, not, slice_get, if◌then◌else◌, ◌==◌, ◌||◌}
-use Rattle.std.specs.List.{list_all}
+use Rattle.std.specs.Prelude.{slice_get, if◌then◌else◌, ◌==◌}
 use Rattle.std.proofs.lemmas.Bool.{false≢true}
 use Rattle.std.proofs.lemmas.Bool.Decides.{nat_tests}
 use Rattle.std.proofs.lemmas.List.{take_all}
 use Rattle.std.proofs.lemmas.Option.{same_Some}
 use Rattle.run_source.specs.Indexes.{is_in, last_of}
-use Rattle.run_source.specs.State.{last_from, or_else}
+use Rattle.run_source.specs.State.{began_at, last_from}
 use Rattle.run_source.specs.declared.state.Instance.{Instance}
 use Rattle.run_source.proofs.Indexes.{Found, There, is-there, last-found, last-step}
 
@@ -50,6 +49,14 @@ end-at test b xs n t h e r = end-by test b xs n t.instance (is_in b t.instance) 
 pub chain-end : (test : Instance → Bool) (b : ℕ) (xs : List Instance) (n : ℕ) → IsOfBlock test b → n ≤ length xs → last_of b n xs ≡ None → last_from test 0 (take n xs) ≡ None
 chain-end test b xs zero h le e = refl
 chain-end test b xs (suc n) h le e = end-at test b xs n (is-there xs n (omega arith)) h e (λ f. chain-end test b xs n h (omega arith) f)
+
+and-left : (a b : Bool) → (a && b) ≡ true → a ≡ true
+and-left true b e = refl
+and-left false b e = e
+
+-- an instance that began at an offset of a block did so in the block
+pub began-in : (b o : ℕ) → IsOfBlock (began_at b o) b
+began-in b o = record { in_block = λ x e. and-left (x.block == b) (x.start == o) e }
 
 -- ---- the walk
 
@@ -109,24 +116,3 @@ candidate-there test b xs o i k is none =
 
 pub candidate-none : (test : Instance → Bool) (b : ℕ) (xs : List Instance) (o : Option ℕ) → IsOfBlock test b → IsCandidate test b xs o → o ≡ None → None ≡ last_from test 0 xs
 candidate-none test b xs o h k is = sym (k.rest ∙ chain-end test b xs k.bound h k.within (sym k.candidate ∙ is))
-
--- ---- all that pass a test, by the last that does not
-
-all-or : (v : Bool) (o : Option ℕ) (k : ℕ) (rest : Bool) → rest ≡ is_none o → (not v && rest) ≡ is_none (or_else o (if v then Some k else None))
-all-or true None k rest e = refl
-all-or true (Some i) k rest e = refl
-all-or false None k rest e = e
-all-or false (Some i) k rest e = e
-
-pub none-fails : (test : Instance → Bool) (k : ℕ) (xs : List Instance) → list_all (λ x. not (test x)) xs ≡ is_none (last_from test k xs)
-none-fails test k [] = refl
-none-fails test k (x ∷ xs) = all-or (test x) (last_from test (suc k) xs) k (list_all (λ x. not (test x)) xs) (none-fails test (suc k) xs)
-
-not-and : (a b : Bool) → (not a || b) ≡ not (a && not b)
-not-and true true = refl
-not-and true false = refl
-not-and false b = refl
-
-pub all-same : (s t : Instance → Bool) (xs : List Instance) → list_all (λ x. not (s x) || t x) xs ≡ list_all (λ x. not (s x && not (t x))) xs
-all-same s t [] = refl
-all-same s t (x ∷ xs) = ap (λ v. v && list_all (λ y. not (s y) || t y) xs) (not-and (s x) (t x)) ∙ ap (λ v. not (s x && not (t x)) && v) (all-same s t xs)
