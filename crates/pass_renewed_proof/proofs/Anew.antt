@@ -70,7 +70,7 @@ about_there l m n b st known (Seen h) = on (slice_get (muted l.hides m) b) refl
 
 module _ (m : Module) (l : Ledger) (memory target : List MemoryBlock) (y : MemoryBlock) (depth : ℕ) (tenant : Option
     ℕ) (st : AreStanding l.homes (muted l.hides memory) target) (e : AreEntered m l memory target) (whole : length
-    y.bytes ≡ y.size) where
+    y.bytes ≡ y.size) (free : y.owned ≡ None) where
   abbrev k : Ledger
   k = anew_ledger l (length target) depth tenant
 
@@ -107,6 +107,12 @@ module _ (m : Module) (l : Ledger) (memory target : List MemoryBlock) (y : Memor
         ∙ h) in let more = longer in omega arith)
         (cases_eq c (length target));
     seated = e.seated;
+    placed = λ b seat h. let old = e.placed b seat h in (
+      old.0,
+      updated_other l.owners (length target) (Some depth) _ (below_other _ (length target) (e.owned _ old.0 old.1))
+          ∙ old.1,
+    );
+    unowned = unowned_on;
     mates = λ b x none at. mate_on b x (e.mates b x none at);
     full = full_on;
     quiet = e.quiet;
@@ -114,6 +120,15 @@ module _ (m : Module) (l : Ledger) (memory target : List MemoryBlock) (y : Memor
     future = e.future;
   }
     where
+      unowned_on : (c d : ℕ) (x : MemoryBlock) → updated l.owners (length target) (Some depth) c ≡ Some d
+          → slice_get (target ++ y ∷ []) c ≡ Some x → x.owned ≡ None
+      unowned_on c d x h at = ⊎_elim
+          (λ is. let k : y ≡ x = same_some y x (sym (get_last target y) ∙ ap (slice_get (target ++ y ∷ [])) (sym is)
+          ∙ at) in ap (λ (z : MemoryBlock). z.owned) (sym k) ∙ free)
+          (λ ne. e.unowned c d x (sym (updated_other l.owners (length target) (Some depth) c ne)
+          ∙ h) (sym (get_other target y c ne) ∙ at))
+          (cases_eq c (length target))
+
       full_on : (c : ℕ) → IsFull (target ++ y ∷ []) c
       full_on c x at live = ⊎_elim
           (λ is. let k : y ≡ x = same_some y x (sym (get_last target y) ∙ ap (slice_get (target ++ y ∷ [])) (sym is)
@@ -148,7 +163,7 @@ module _ (m : Module) (l : Ledger) (memory target : List MemoryBlock) (y : Memor
         d h)) ∙ h;
     tenants = λ c d h. updated_other l.tenants (length target) tenant c (below_other c (length target) (e.owned c d
         h));
-    ready = λ b c d h old x at. ready_on c x (old x at);
+    ready = λ b c d seat seated h old x at. ready_on c x (old x at);
   }
 
   pub anew_kept : (b : ℕ) → IsSlotKept l (anew_ledger l (length target) depth tenant) memory memory b
@@ -157,4 +172,5 @@ module _ (m : Module) (l : Ledger) (memory target : List MemoryBlock) (y : Memor
     hides = refl;
     fresh = λ f. record { unseen = f.unseen; blank = f.blank };
     lives = λ h. h;
+    gone = λ h. h;
   }

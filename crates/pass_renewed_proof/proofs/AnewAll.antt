@@ -14,7 +14,7 @@ use Rattle.run_source.specs.declared.state.Mode.{Mode}
 use Rattle.run_source.specs.declared.state.State.{State}
 use Rattle.run_step.specs.Step.{alloca_kind}
 use Rattle.pass_renewed_proof.proofs.Anew.{about_there, anew_carried, anew_entered, anew_kept}
-use Rattle.pass_renewed_proof.proofs.Carried.{IsCarried, IsSlotKept}
+use Rattle.pass_renewed_proof.proofs.Carried.{IsCarried, IsSlotKept, same_carried, same_kept}
 use Rattle.pass_renewed_proof.proofs.Made.{get_there}
 use Rattle.pass_renewed_proof.proofs.Places.{grown}
 use Rattle.pass_renewed_proof.proofs.Ready.{trans_extends}
@@ -34,7 +34,8 @@ trans_carried l k j m a b c p q = record {
       q.unseated n (ap (λ (z : Home). z.is_seen) (p.extends.each n seen) ∙ seen) (p.unseated n seen h);
   owners = λ n d h. q.owners n d (p.owners n d h);
   tenants = λ n d h. q.tenants n d (p.owners n d h) ∙ p.tenants n d h;
-  ready = λ n d e h old. q.ready n d e (p.owners d e h) (p.ready n d e h old);
+  ready = λ n d e seat is h old. q.ready n d e seat (p.seats n seat is) (p.owners d e h) (p.ready n d e seat is h
+      old);
 }
 
 trans_kept : (l k j : Ledger) (m : List MemoryBlock) (b : ℕ) → IsSlotKept l k m m b → IsSlotKept k j m m b
@@ -44,6 +45,7 @@ trans_kept l k j m b p q = record {
   hides = q.hides ∙ p.hides;
   fresh = λ h. q.fresh (p.fresh h);
   lives = λ h. p.lives (q.lives h);
+  gone = λ h. q.gone (p.gone h);
 }
 
 -- all that is said of it
@@ -76,9 +78,9 @@ module _ (m : Module) (memory : List MemoryBlock) (depth : ℕ) (tenant : ℕ
         standing = grown l.homes (muted l.hides memory) s.world.memory (y ∷ [])
             (λ b seen. get_there s.world.memory (home_of l.homes b).block (about_there l memory s.world.memory b st
             e.known (Seen seen))) st;
-        entered = anew_entered m l memory s.world.memory y depth (tenant x.name) st e whole;
-        carried = anew_carried m l memory s.world.memory y depth (tenant x.name) st e whole;
-        kept = anew_kept m l memory s.world.memory y depth (tenant x.name) st e whole;
+        entered = anew_entered m l memory s.world.memory y depth (tenant x.name) st e whole refl;
+        carried = anew_carried m l memory s.world.memory y depth (tenant x.name) st e whole refl;
+        kept = anew_kept m l memory s.world.memory y depth (tenant x.name) st e whole refl;
         homes = refl;
         hides = refl;
         seats = refl;
@@ -92,15 +94,8 @@ module _ (m : Module) (memory : List MemoryBlock) (depth : ℕ) (tenant : ℕ
     record {
       standing = st;
       entered = e;
-      carried = record {
-        extends = record { each = λ b h. refl };
-        seats = λ b seat h. h;
-        unseated = λ b seen h. h;
-        owners = λ n d h. h;
-        tenants = λ n d h. refl;
-        ready = λ b n d h old. old;
-      };
-      kept = λ b. record { home = refl; hides = refl; fresh = λ h. h; lives = λ h. h };
+      carried = same_carried l memory s.world.memory;
+      kept = same_kept l memory;
       homes = refl;
       hides = refl;
       seats = refl;

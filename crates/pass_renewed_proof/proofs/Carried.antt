@@ -1,5 +1,5 @@
 -- What a step doesn't touch stays beside what it was beside.
-use Rattle.std.proofs.Common.{◌≡◌, ℕ, suc, ◌+◌, ◌⊎◌, inl, inr, Bool, true, List, [], ◌∷◌, length, Option, Some, None}
+use Rattle.std.proofs.Common.{◌≡◌, ℕ, suc, ◌+◌, inl, inr, Bool, true, false, List, [], ◌∷◌, length, Option, Some, None}
 use Rattle.std.proofs.Common.{refl, sym, ap, ◌∙◌, subst, ⊎_elim, arith}
 use Rattle.std.specs.Prelude.{slice_get, IsTrue}
 use Rattle.std.specs.List.{Contains}
@@ -19,7 +19,7 @@ use Rattle.pass_renewed_proof.specs.Beside.{AreBelow, AreInstancesBeside, AreSlo
 use Rattle.pass_renewed_proof.specs.Beside.{IsActivationBeside, IsInstanceBeside, IsKeptSlot, IsOverOf, IsOwn}
 use Rattle.pass_renewed_proof.specs.Beside.{IsSeated, IsSlotBeside, IsSlotOf, IsStatusBeside, IsTold, MayStand}
 use Rattle.pass_renewed_proof.specs.Beside.{NoSlots, Second}
-use Rattle.pass_renewed_proof.specs.Ledger.{IsFresh, IsHomeOf, Ledger, LivesIn, Seat}
+use Rattle.pass_renewed_proof.specs.Ledger.{IsFresh, IsGone, IsHomeOf, Ledger, LivesIn, Seat}
 use Rattle.pass_renewed_proof.specs.Places.{IsReady}
 use Rattle.pass_renewed_proof.specs.Renewed.{Flags, Roots}
 use Rattle.pass_renewed_proof.specs.SlotEnvs.{AreSlotEnvs}
@@ -42,6 +42,7 @@ pub record IsSlotKept (l k : Ledger) (m n : List MemoryBlock) (b : ℕ) : Type 0
   pub hides : k.hides b ≡ l.hides b
   pub fresh : IsFresh l m b → IsFresh k n b
   pub lives : LivesIn n b → LivesIn m b
+  pub gone : IsGone m b → IsGone n b
 
 module _ (l k : Ledger) (m n : List MemoryBlock) (b : ℕ) (kept : IsSlotKept l k m n b) where
   home_kept : (c : ℕ) → IsHomeOf l b c → IsHomeOf k b c
@@ -53,7 +54,11 @@ module _ (l k : Ledger) (m n : List MemoryBlock) (b : ℕ) (kept : IsSlotKept l 
 
   pub told_kept : (f : Function) (slot : ℕ) (p : Point) → IsTold l m f slot b p → IsTold k n f slot b p
   told_kept f slot p (inl h) = inl (kept.fresh h)
-  told_kept f slot p (inr h) = inr h
+  told_kept f slot p (inr (inl h)) = inr (inl h)
+  told_kept f slot p (inr (inr h)) = inr (inr (record {
+    away = h.away;
+    unseen = λ live. ap (λ (q : Home). q.is_seen) kept.home ∙ h.unseen (kept.lives live);
+  }))
 
 -- ---- activations and instances that the step doesn't touch
 
@@ -64,8 +69,22 @@ pub record IsCarried (l k : Ledger) (m n target after : List MemoryBlock) : Type
   pub unseated : (b : ℕ) → (home_of l.homes b).is_seen ≡ true → l.seats b ≡ None → k.seats b ≡ None
   pub owners : (c depth : ℕ) → l.owners c ≡ Some depth → k.owners c ≡ Some depth
   pub tenants : (c depth : ℕ) → l.owners c ≡ Some depth → k.tenants c ≡ l.tenants c
-  pub ready : (b c depth : ℕ) → l.owners c ≡ Some depth → ((x : MemoryBlock) → slice_get m b ≡ Some x
-      → IsReady target c x) → (x : MemoryBlock) → slice_get n b ≡ Some x → IsReady after c x
+  pub ready : (b c depth : ℕ) (seat : Seat) → l.seats b ≡ Some seat → l.owners c ≡ Some depth → ((x : MemoryBlock)
+      → slice_get m b ≡ Some x → IsReady target c x) → (x : MemoryBlock) → slice_get n b ≡ Some x → IsReady after c x
+
+-- where nothing changes all is carried and kept
+pub same_carried : (l : Ledger) (m target : List MemoryBlock) → IsCarried l l m m target target
+same_carried l m target = record {
+  extends = record { each = λ b seen. refl };
+  seats = λ b seat at. at;
+  unseated = λ b seen at. at;
+  owners = λ d depth at. at;
+  tenants = λ d depth at. refl;
+  ready = λ b d depth seat seated at old. old;
+}
+
+pub same_kept : (l : Ledger) (m : List MemoryBlock) (b : ℕ) → IsSlotKept l l m m b
+same_kept l m b = record { home = refl; hides = refl; fresh = λ z. z; lives = λ z. z; gone = λ z. z }
 
 -- the instances behind a step: an activation that may go on might before, and slots are still those of it
 pub record AreInstancesOn (xs ys : List Instance) (depth : ℕ) (a : Activation) : Type 0 where
@@ -79,17 +98,19 @@ module _ (m : Module) (flags : Flags) (roots : Roots) (l k : Ledger) (xs ys : Li
       → IsSlotBeside m k ys memory' target' depth a alloca b d
   slot_kept depth a alloca b d on kept s = record {
     slot = on.slots _ s.slot;
+    passed = s.passed;
     ramp = s.ramp;
     seat = c.seats b _ s.seat;
     depth_is = s.depth_is;
     owner = c.owners d depth s.owner;
     tenant = c.tenants d depth s.owner ∙ s.tenant;
-    ready = c.ready b d depth s.owner s.ready;
+    ready = c.ready b d depth _ s.seat s.owner s.ready;
     first = λ is goes. stand_kept l k memory memory' b kept d (s.first is (⊎_elim (λ g. inl (on.goes_on g)) (λ h. inr
         h) goes));
     resumed = λ is goes. ⊎_elim (λ h. inl (stand_kept l k memory memory' b kept d h)) (λ h. inr h) (s.resumed is
         (on.goes_on goes));
-    told = λ goes. told_kept l k memory memory' b kept _ _ _ (s.told (on.goes_on goes));
+    told_first = λ is goes. ⊎_elim (λ h. inl (kept.fresh h)) (λ h. inr h) (s.told_first is (on.goes_on goes));
+    told = λ is goes. told_kept l k memory memory' b kept _ _ _ (s.told is (on.goes_on goes));
     alive = λ goes lives. s.alive (on.goes_on goes) (kept.lives lives);
     gone = λ left lives seen at. s.gone left (kept.lives lives) (ap (λ (q : Home). q.is_seen) (sym kept.home)
         ∙ seen) (ap (λ (q : Home). q.block) (sym kept.home) ∙ at);
@@ -127,7 +148,7 @@ module _ (m : Module) (flags : Flags) (roots : Roots) (l k : Ledger) (xs ys : Li
 
   -- what is said of each slot of an activation is said behind the step
   pub record IsActivationCarried (depth : ℕ) (a : Activation) : Type 0 where
-    pub over : IsOverOf xs a → IsOverOf ys a
+    pub over : a.has_left ≡ false → IsOverOf xs a → IsOverOf ys a
     pub slots : (alloca b d : ℕ) → IsTrue (flags a.func alloca)
         → IsSlotBeside m l xs memory target depth a alloca b d → IsSlotBeside m k ys memory' target' depth a alloca b d
 
@@ -142,9 +163,10 @@ module _ (m : Module) (flags : Flags) (roots : Roots) (l k : Ledger) (xs ys : Li
     listed = slots_on _ _ _ _ (flags a.func) (seated_on (flags a.func) a.func None) (own_on (flags a.func) depth
         a.values h.values) a.slots h.slots h.listed;
     each = λ alloca b d flagged at there. on.slots alloca b d flagged (h.each alloca b d flagged at there);
+    made = h.made;
     modes = h.modes;
     came = h.came;
-    begun = λ some left. ⊎_elim (λ r. inl r) (λ o. inr (on.over o)) (h.begun some left);
+    begun = λ some. ⊎_elim (λ r. inl r) (λ o. inr (o.0, λ stays. on.over stays (o.1 stays))) (h.begun some);
     begins = h.begins;
     left = h.left;
   }
@@ -179,8 +201,8 @@ module _ (m : Module) (flags : Flags) (roots : Roots) (l k : Ledger) (xs ys : Li
   pub record IsInstanceCarried (x : Instance) : Type 0 where
     pub slots : (s : Point) (alloca b : ℕ) → is_suspended x.status ≡ true → IsTrue (flags x.coroutine alloca)
         → IsKeptSlot m l memory x s alloca b → IsKeptSlot m k memory' x s alloca b
-    pub lives : (slot : Slot) → Contains x.slots slot → IsTrue (flags x.coroutine slot.alloca)
-        → LivesIn memory' slot.block → LivesIn memory slot.block
+    pub gone : (slot : Slot) → Contains x.slots slot → IsTrue (flags x.coroutine slot.alloca)
+        → IsGone memory slot.block → IsGone memory' slot.block
 
   status_kept : (x : Instance) (s t : Status) → x.status ≡ s → IsInstanceCarried x
       → IsStatusBeside m flags roots l memory x s t → IsStatusBeside m flags roots k memory' x s t
@@ -212,7 +234,7 @@ module _ (m : Module) (flags : Flags) (roots : Roots) (l k : Ledger) (xs ys : Li
         listed = slots_on _ _ _ _ (flags x.coroutine) (seated_on (flags x.coroutine) x.coroutine (Some i)) (λ slot o.
             o) x.slots h.slots h.listed;
         statuses = status_kept x x.status h.status refl on h.statuses;
-        over = λ e slot is flagged lives. h.over e slot is flagged (on.lives slot is flagged lives);
+        over = λ e slot is flagged. on.gone slot is flagged (h.over e slot is flagged);
       }
 
   -- of the instances from a number on, by what is said of their slots

@@ -76,11 +76,11 @@ not_ended : (i : Intrinsic) → same_intrinsic Intrinsic.CoroSave i ≡ true →
 not_ended Intrinsic.CoroSave e h = false≢true h
 not_ended _ e h = absurd (cc)
 
-save_starts : (i : Instr) → is_call_of Intrinsic.CoroSave i ≡ true → is_call_of Intrinsic.LifetimeStart i ≡ true → ⊥
+pub save_starts : (i : Instr) → is_call_of Intrinsic.CoroSave i ≡ true → is_call_of Intrinsic.LifetimeStart i ≡ true → ⊥
 save_starts (Instr.Call result must_tail ty (Callee.Intrinsic j) args) e h = not_both j j e h
 save_starts _ e h = absurd (cc)
 
-save_ends : (i : Instr) → is_call_of Intrinsic.CoroSave i ≡ true → is_call_of Intrinsic.LifetimeEnd i ≡ true → ⊥
+pub save_ends : (i : Instr) → is_call_of Intrinsic.CoroSave i ≡ true → is_call_of Intrinsic.LifetimeEnd i ≡ true → ⊥
 save_ends (Instr.Call result must_tail ty (Callee.Intrinsic j) args) e h = not_ended j e h
 save_ends _ e h = absurd (cc)
 

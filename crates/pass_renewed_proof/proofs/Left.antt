@@ -107,7 +107,7 @@ end_follows f p c h = record { start = p; is_start = h; path = record { between 
 
 -- ---- uses where an activation has left
 
-to_pairs : (f : Function) (p k s : Point) (saves : List Point) → suspend_of f k ≡ Some s → IsInWindow f k s p → has_point saves k ≡ true → IsInOneOf f (filter_map (λ save. option_map (λ suspend. (save, suspend)) (suspend_of f save)) saves) p
+pub to_pairs : (f : Function) (p k s : Point) (saves : List Point) → suspend_of f k ≡ Some s → IsInWindow f k s p → has_point saves k ≡ true → IsInOneOf f (filter_map (λ save. option_map (λ suspend. (save, suspend)) (suspend_of f save)) saves) p
 to_pairs f p k s [] es w h = absurd (false≢true h)
 to_pairs f p k s (x ∷ saves) es w h = on (λ e. to_pairs f p k s saves es w e) (either (same_point k x) (has_point saves k) h)
   where
@@ -124,18 +124,22 @@ to_pairs f p k s (x ∷ saves) es w h = on (λ e. to_pairs f p k s saves es w e)
         subst One (sym (ap (suspend_of f) (sym is) ∙ es)) (inl (subst (λ z. IsInWindow f z s p) is w))
     on ih (inr e) = later (ih e) (suspend_of f x)
 
--- a call that stands at a point is among the calls
-pub call_listed : (f : Function) (intrinsic : Intrinsic) (p : Point) → IsCallAt intrinsic f p → has_point (points_where (is_call_of intrinsic) f) p ≡ true
-call_listed f intrinsic p c = where_complete (is_call_of intrinsic) f p c.instr (on (slice_get f.blocks p.block) c.stands) c.is
+pub instr_there : (f : Function) (p : Point) (i : Instr) → fetch f p.block p.at ≡ AtInstr i
+    → instr_in (slice_get f.blocks p.block) p.at ≡ Some i
+instr_there f p i e = on (slice_get f.blocks p.block) e
   where
-    at_block : (b : Block) (o : Option Instr) (t : Bool) → fetch_or o t b.term ≡ AtInstr c.instr → o ≡ Some c.instr
-    at_block b (Some i) t h = let e : i ≡ c.instr = cc in ap Some e
+    at_block : (b : Block) (o : Option Instr) (t : Bool) → fetch_or o t b.term ≡ AtInstr i → o ≡ Some i
+    at_block b (Some j) t h = let e : j ≡ i = cc in ap Some e
     at_block b None true h = absurd (cc)
     at_block b None false h = absurd (cc)
 
-    on : (o : Option Block) → fetch_in o p.at ≡ AtInstr c.instr → instr_in o p.at ≡ Some c.instr
+    on : (o : Option Block) → fetch_in o p.at ≡ AtInstr i → instr_in o p.at ≡ Some i
     on None h = absurd (cc)
     on (Some b) h = at_block b (slice_get b.instrs p.at) (p.at == length b.instrs) h
+
+-- a call that stands at a point is among the calls
+pub call_listed : (f : Function) (intrinsic : Intrinsic) (p : Point) → IsCallAt intrinsic f p → has_point (points_where (is_call_of intrinsic) f) p ≡ true
+call_listed f intrinsic p c = where_complete (is_call_of intrinsic) f p c.instr (instr_there f p c.instr c.stands) c.is
 
 pub left_closed : (f : Function) (s p : Point) → IsCallAt Intrinsic.CoroSuspend f s
     → (IsCallAt Intrinsic.CoroSuspend f p → ⊥) → (IsBehindSuspendCall f p.block p.at → ⊥)

@@ -1,6 +1,8 @@
 -- What is said of an activation's slots goes on along an edge on which no marker stands.
-use Rattle.std.proofs.Common.{◌≡◌, ℕ, ◌⊎◌, inl, inr, Bool, true, false, List, refl, sym, ap, ◌∙◌, subst, ⊎_elim}
+use Rattle.std.proofs.Common.{◌≡◌, ℕ, inl, inr, Bool, true, false, List, refl, sym, ap, ◌∙◌, subst, ⊎_elim}
+use Rattle.std.proofs.Common.{None, arith}
 use Rattle.std.specs.Prelude.{IsTrue}
+use Rattle.std.specs.List.{Contains}
 use Rattle.ir_model.specs.Names.{function_at}
 use Rattle.ir_model.specs.declared.instr.Instr.{Instr}
 use Rattle.ir_model.specs.declared.module.Function.{Function}
@@ -29,10 +31,11 @@ use Rattle.pass_renewed_proof.proofs.Carried.{IsCarried, IsSlotKept, slots_on, s
 use Rattle.pass_renewed_proof.proofs.History.{fetch_is, no_marker, no_start}
 use Rattle.pass_renewed_proof.proofs.Left.{after_edge, window_next}
 use Rattle.pass_renewed_proof.proofs.Way.{alive_more, barred_more, resumed_more, same_instr, suspend_called}
-use Rattle.pass_renewed_proof.specs.Ahead.{IsBehindSuspendCall, IsNoStart, WasUsed}
-use Rattle.pass_renewed_proof.specs.Beside.{Begun, Early, GoesOn, IsActivationBeside, IsAliveAt, IsOwn, IsSlotBeside}
-use Rattle.pass_renewed_proof.specs.Beside.{IsSlotOf, Leaves, NotLeft, place_in}
-use Rattle.pass_renewed_proof.specs.Ordinary.{IsOrdinary}
+use Rattle.pass_renewed_proof.specs.Ahead.{IsBehindSuspendCall, IsNoStart}
+use Rattle.pass_renewed_proof.specs.Beside.{AreSlots, Begun, Early, GoesOn, IsActivationBeside, IsAliveAt, IsOwn}
+use Rattle.pass_renewed_proof.specs.Beside.{IsPassed, IsSeated, IsSlotBeside, IsSlotOf, IsTold, Leaves, NotLeft}
+use Rattle.pass_renewed_proof.specs.Beside.{place_in}
+use Rattle.pass_renewed_proof.specs.Ordinary.{IsCalm, IsOrdinary}
 use Rattle.pass_renewed_proof.specs.Ledger.{IsHomeOf, Ledger, LivesIn}
 use Rattle.pass_renewed_proof.specs.Left.{AtEnd, AtSuspend, AtSwitch, Behind, Between, IsLeftBy, behind}
 use Rattle.pass_renewed_proof.specs.Renewed.{Flags, Roots}
@@ -61,30 +64,35 @@ pub no_end_here : (f : Function) (slot : ℕ) (p : Point) (i : Instr) → fetch 
 no_end_here f slot p i e n = no_marker f Intrinsic.LifetimeEnd slot p (λ x. not_ended i n (subst (λ j. is_call_of
     Intrinsic.LifetimeEnd j ≡ true) (same_instr x.instr i (sym x.stands ∙ e)) x.is))
 
+pub calm : (f : Function) (p : Point) → IsOrdinary f p → IsCalm f p
+calm f p o = record { no_switch = o.no_switch; no_end = o.no_end; no_close = o.no_close }
+
 -- an activation that has left goes on over it
-pub left_next : (f : Function) (s p : Point) (i : Instr) → fetch f p.block p.at ≡ AtInstr i → IsOrdinary f p
+pub left_next : (f : Function) (s p : Point) (i : Instr) → fetch f p.block p.at ≡ AtInstr i → IsCalm f p
     → IsCallAt Intrinsic.CoroSuspend f s → IsLeftBy f s p → IsLeftBy f s (behind p)
 left_next f s p i e o call (Between k c es w) = window_next f k s c es p i e w
-left_next f s p i e o call (AtSuspend is) = absurd (o.no_suspend (subst (IsCallAt Intrinsic.CoroSuspend f) (sym is)
-    call))
+left_next f s p i e o call (AtSuspend is) = AtSwitch (ap behind is)
 left_next f s p i e o call (AtSwitch is) = absurd (o.no_switch (subst (λ q. IsBehindSuspendCall f q.block q.at) (sym
     is) (record { before = s.at; next = refl; is_suspend = call })))
 left_next f s p i e o call (AtEnd is z) = absurd (o.no_end is z)
 left_next f s p i e o call (Behind a) = Behind (after_edge f p (behind p) a (next_edge f p.block p.at i e))
 
+-- the allocas before it still stand before the next one
+pub passed_next : (f : Function) (slot : ℕ) (p : Point) → IsPassed f slot p → IsPassed f slot (behind p)
+passed_next f slot p old k ty align at first = let lt = old k ty align at first in omega arith
+
 -- ---- along an edge
 
 -- from the place of an activation to another one
-pub record IsQuietEdge (f : Function) (a : Activation) (q : Point) : Type 0 where
+pub record IsEdgeOf (f : Function) (a : Activation) (q : Point) : Type 0 where
   pub edge : has_point (nexts f (place_in a)) q ≡ true
-  pub no_start : (slot : ℕ) → IsNoStart f slot (place_in a)
-  pub no_end : (slot : ℕ) → has_point (ends_of f slot) (place_in a) ≡ false
+  pub passed : (slot : ℕ) → IsPassed f slot (place_in a) → IsPassed f slot q
   pub not_last : a.mode ≡ Mode.Resumed → a.block ≡ end_block f → ⊥
   pub left : a.has_left ≡ true → (s : Point) → IsCallAt Intrinsic.CoroSuspend f s → IsLeftBy f s (place_in a)
       → IsLeftBy f s q
 
 module _ (m : Module) (l k : Ledger) (xs : List Instance) (memory memory' target target' : List MemoryBlock) (c :
-    IsCarried l k memory memory' target target') (depth : ℕ) (a : Activation) (q : Point) (vs : Env) (on : IsQuietEdge
+    IsCarried l k memory memory' target target') (depth : ℕ) (a : Activation) (q : Point) (vs : Env) (on : IsEdgeOf
     (function_at m a.func) a q) where
   abbrev f : Function
   f = function_at m a.func
@@ -93,7 +101,7 @@ module _ (m : Module) (l k : Ledger) (xs : List Instance) (memory memory' target
   abbrev pub there : Activation
   there = record a { block = q.block; at = q.at; values = vs }
 
-  goes_before : GoesOn xs depth (record a { block = q.block; at = q.at; values = vs }) → GoesOn xs depth a
+  pub goes_before : GoesOn xs depth (record a { block = q.block; at = q.at; values = vs }) → GoesOn xs depth a
   goes_before (NotLeft e) = NotLeft e
   goes_before (Leaves h) = Leaves (record {
     number = h.number;
@@ -106,15 +114,15 @@ module _ (m : Module) (l k : Ledger) (xs : List Instance) (memory memory' target
     is_its = h.is_its;
   })
 
-  slot_there : (slot : Slot) → IsSlotOf xs a slot
+  pub slot_there : (slot : Slot) → IsSlotOf xs a slot
       → IsSlotOf xs (record a { block = q.block; at = q.at; values = vs }) slot
   slot_there slot (Early none is) = Early none is
   slot_there slot (Begun i x own at is) = Begun i x own at is
 
-  alive_on : (alloca : ℕ) → IsAliveAt a (function_at m a.func) alloca (place_in a)
+  alive_on : (alloca : ℕ) → has_point (ends_of (function_at m a.func) alloca) (place_in a) ≡ false → IsAliveAt a (function_at m a.func) alloca (place_in a)
       → IsAliveAt (record a { block = q.block; at = q.at; values = vs }) (function_at m a.func) alloca q
-  alive_on alloca (inl h) = inl h
-  alive_on alloca (inr h) = inr (alive_more (function_at m a.func) alloca (place_in a) q on.edge (on.no_end alloca) h)
+  alive_on alloca no_end (inl h) = inl h
+  alive_on alloca no_end (inr h) = inr (alive_more (function_at m a.func) alloca (place_in a) q on.edge no_end h)
 
   was_alive_on : (alloca : ℕ) → a.has_left ≡ true → ((s : Point)
       → IsTrue (has_point (suspends (function_at m a.func)) s)
@@ -127,34 +135,42 @@ module _ (m : Module) (l k : Ledger) (xs : List Instance) (memory memory' target
     by = on.left left w.suspend (called w.suspend w.is_suspend) w.by;
   }
 
-  used_before : (alloca : ℕ) → WasUsed (function_at m a.func) alloca (place_in a)
-      → WasUsed (function_at m a.func) alloca q
-  used_before alloca (inl u) = inl (used_on (function_at m a.func) alloca (place_in a) q on.edge (on.no_start alloca)
-      u)
-  used_before alloca (inr away) = inr away
+  told_on : (alloca b : ℕ) → IsNoStart (function_at m a.func) alloca (place_in a) → IsSlotKept l k memory memory' b
+      → IsTold l memory (function_at m a.func) alloca b (place_in a)
+      → IsTold k memory' (function_at m a.func) alloca b q
+  told_on alloca b no_start kept (inl h) = inl (kept.fresh h)
+  told_on alloca b no_start kept (inr (inl u)) = inr (inl (used_on (function_at m a.func) alloca (place_in a) q on.edge
+      no_start u))
+  told_on alloca b no_start kept (inr (inr h)) = inr (inr (record {
+    away = h.away;
+    unseen = λ live. ap (λ (z : Home). z.is_seen) kept.home ∙ h.unseen (kept.lives live);
+  }))
 
-  -- a slot that isn't used on the way
-  pub slot_passed : (alloca b d : ℕ) → IsSlotKept l k memory memory' b
+  -- a slot that isn't used on the way, nor started; if it ends there it doesn't live behind it
+  pub slot_passed : (alloca b d : ℕ) → IsNoStart (function_at m a.func) alloca (place_in a) → (LivesIn memory' b
+      → has_point (ends_of (function_at m a.func) alloca) (place_in a) ≡ false) → IsSlotKept l k memory memory' b
       → IsSlotBeside m l xs memory target depth a alloca b d
       → IsSlotBeside m k xs memory' target' depth (record a { block = q.block; at = q.at; values = vs }) alloca b d
-  slot_passed alloca b d kept s = record {
+  slot_passed alloca b d no_start no_end kept s = record {
     slot = slot_there _ s.slot;
+    passed = on.passed alloca s.passed;
     ramp = s.ramp;
     seat = c.seats b _ s.seat;
     depth_is = s.depth_is;
     owner = c.owners d depth s.owner;
     tenant = c.tenants d depth s.owner ∙ s.tenant;
-    ready = c.ready b d depth s.owner s.ready;
+    ready = c.ready b d depth _ s.seat s.owner s.ready;
     first = λ is goes. stand_kept l k memory memory' b kept d (s.first is (⊎_elim (λ g. inl (goes_before g)) (λ w. inr
         w) goes));
     resumed = λ is goes. ⊎_elim
         (λ h. inl (stand_kept l k memory memory' b kept d h))
-        (λ h. inr (⊎_elim (λ barred. inl (barred_more (function_at m a.func) alloca (place_in a) q barred (on.no_start
-        alloca) (on.not_last is) on.edge)) (λ away. inr away) h))
+        (λ h. inr (⊎_elim (λ barred. inl (barred_more (function_at m a.func) alloca (place_in a) q barred no_start
+        (on.not_last is) on.edge)) (λ away. inr away) h))
         (s.resumed is (goes_before goes));
-    told = λ goes. ⊎_elim (λ fresh. inl (kept.fresh fresh)) (λ u. inr (used_before alloca u)) (s.told (goes_before
-        goes));
-    alive = λ goes lives. alive_on alloca (s.alive (goes_before goes) (kept.lives lives));
+    told_first = λ is goes. ⊎_elim (λ h. inl (kept.fresh h)) (λ u. inr (used_on (function_at m a.func) alloca
+        (place_in a) q on.edge no_start u)) (s.told_first is (goes_before goes));
+    told = λ is goes. told_on alloca b no_start kept (s.told is (goes_before goes));
+    alive = λ goes lives. alive_on alloca (no_end lives) (s.alive (goes_before goes) (kept.lives lives));
     gone = λ left lives seen at. s.gone left (kept.lives lives) (ap (λ (z : Home). z.is_seen) (sym kept.home)
         ∙ seen) (ap (λ (z : Home). z.block) (sym kept.home) ∙ at);
     away = λ is left escaped away lives. was_alive_on alloca left (suspend_called (function_at m a.func)) (s.away is
@@ -162,23 +178,26 @@ module _ (m : Module) (l k : Ledger) (xs : List Instance) (memory memory' target
   }
 
   -- one that is used at the place, and stands in the activation's own block behind it
-  pub slot_used : (alloca b d : ℕ) → IsHomeOf k b d → (LivesIn memory' b → LivesIn memory b)
+  pub slot_used : (alloca b d : ℕ) → has_point (ends_of (function_at m a.func) alloca) (place_in a) ≡ false
+      → IsHomeOf k b d → (LivesIn memory' b → LivesIn memory b)
       → IsUse (function_at m a.func) alloca (At (place_in a)) → (a.has_left ≡ true → LivesIn memory b
       → (home_of k.homes b).is_seen ≡ true → ⊥)
       → IsSlotBeside m l xs memory target depth a alloca b d
       → IsSlotBeside m k xs memory' target' depth (record a { block = q.block; at = q.at; values = vs }) alloca b d
-  slot_used alloca b d home lives u gone s = record {
+  slot_used alloca b d no_end home lives u gone s = record {
     slot = slot_there _ s.slot;
+    passed = on.passed alloca s.passed;
     ramp = s.ramp;
     seat = c.seats b _ s.seat;
     depth_is = s.depth_is;
     owner = c.owners d depth s.owner;
     tenant = c.tenants d depth s.owner ∙ s.tenant;
-    ready = c.ready b d depth s.owner s.ready;
+    ready = c.ready b d depth _ s.seat s.owner s.ready;
     first = λ is goes. inr home;
     resumed = λ is goes. inl (inr home);
-    told = λ goes. inr (inl (used_at (function_at m a.func) alloca (place_in a) q on.edge u));
-    alive = λ goes live. alive_on alloca (s.alive (goes_before goes) (lives live));
+    told_first = λ is goes. inr (used_at (function_at m a.func) alloca (place_in a) q on.edge u);
+    told = λ is goes. inr (inl (used_at (function_at m a.func) alloca (place_in a) q on.edge u));
+    alive = λ goes live. alive_on alloca no_end (s.alive (goes_before goes) (lives live));
     gone = λ left live seen at. gone left (lives live) seen;
     away = λ is left escaped away live. was_alive_on alloca left (suspend_called (function_at m a.func)) (s.away is
         left escaped away (lives live));
@@ -187,18 +206,7 @@ module _ (m : Module) (l k : Ledger) (xs : List Instance) (memory memory' target
   -- ---- the activation
 
   module _ (flags : Flags) (roots : Roots) (b : Activation) (h : IsActivationBeside m flags roots l xs memory target
-      depth a b) (ws : Env) (envs : AreSlotEnvs k.homes (roots a.func) vs ws)
-      (same : (slot : ℕ) → IsTrue (flags a.func slot)
-      → (value_in vs slot ≡ value_in a.values slot) × (value_in ws slot ≡ value_in h.values slot)) where
-    own_there : (slot : Slot) → IsOwn l (flags a.func) depth a.values h.values slot
-        → IsOwn k (flags a.func) depth vs ws slot
-    own_there slot o = record {
-      flagged = o.flagged;
-      owner = c.owners slot.block depth o.owner;
-      address = (same slot.alloca o.flagged).1 ∙ o.address;
-      tenant = λ d at. (same slot.alloca o.flagged).0 ∙ o.tenant d (sym (c.tenants slot.block depth o.owner) ∙ at);
-    }
-
+      depth a b) where
     runs_on : (IsCallAt Intrinsic.CoroEnd (function_at m a.func) (place_in a) → ⊥)
         → RunsOut (function_at m a.func) (place_in a) → RunsOut (function_at m a.func) q
     runs_on no_close r = record {
@@ -218,41 +226,50 @@ module _ (m : Module) (l k : Ledger) (xs : List Instance) (memory memory' target
             }))
         by false e = e
 
-    pub activation_there : (IsCallAt Intrinsic.CoroEnd (function_at m a.func) (place_in a) → ⊥)
-        → ((slot d e : ℕ) → IsTrue (flags a.func slot) → value_in a.values slot ≡ pointer_to d
-        → value_in h.values slot ≡ pointer_to e
+    -- with values and slots of which the same is said
+    pub activation_listed : (IsCallAt Intrinsic.CoroEnd (function_at m a.func) (place_in a)
+        → ⊥) → (z : Activation) (ws : Env) (slots : List Slot) → z ≡ record a {
+          block = q.block;
+          at = q.at;
+          values = ws;
+          slots = slots;
+        } → AreSlotEnvs k.homes (roots a.func) vs ws
+        → AreSlots k (IsSeated k (flags a.func) a.func None) (IsOwn k (flags a.func) depth vs ws) (flags a.func)
+        a.slots slots
+        → ((slot d e : ℕ) → IsTrue (flags a.func slot) → value_in vs slot ≡ pointer_to d
+        → value_in ws slot ≡ pointer_to e
         → IsSlotBeside m k xs memory' target' depth (record a {
           block = q.block;
           at = q.at;
           values = vs;
         }) slot d e)
+        → ((slot : Slot) → Contains slots slot → IsTrue (flags a.func slot.alloca)
+        → IsPassed (function_at m a.func) slot.alloca q)
         → IsActivationBeside m flags roots k xs memory' target' depth (record a {
           block = q.block;
           at = q.at;
           values = vs;
-        }) (record b { block = q.block; at = q.at; values = ws })
-    activation_there no_close slots = record {
+        }) z
+    activation_listed no_close z ws slots is envs listed each made = record {
       values = ws;
-      slots = h.slots;
-      is = ap (λ (z : Activation). record z { block = q.block; at = q.at; values = ws }) h.is;
+      slots = slots;
+      is = is;
       envs = envs;
-      listed = slots_on m flags roots l k xs xs memory memory' target target' c _ _ _ _ (flags a.func) (λ slot z.
-          record {
-            flagged = z.flagged;
-            depth = z.depth;
-            seat = c.seats slot.block _ z.seat;
-          }) own_there a.slots h.slots h.listed;
-      each = λ slot d e flagged at there. slots slot d e flagged (sym (same slot flagged).0
-          ∙ at) (sym (same slot flagged).1 ∙ there);
+      listed = listed;
+      each = each;
+      made = made;
       modes = h.modes;
       came = λ is. resumed_more (function_at m a.func) (place_in a) q (h.came is) (on.not_last is) on.edge;
-      begun = λ some left. ⊎_elim (λ r. inl (runs_on no_close r)) (λ o. inr (record {
-        number = o.number;
-        own = o.own;
-        instance = o.instance;
-        there = o.there;
-        over = o.over;
-      })) (h.begun some left);
+      begun = λ some. ⊎_elim (λ r. inl (runs_on no_close r)) (λ o. inr (
+        after_edge (function_at m a.func) (place_in a) q o.0 on.edge,
+        λ stays. let w = o.1 stays in record {
+          number = w.number;
+          own = w.own;
+          instance = w.instance;
+          there = w.there;
+          over = w.over;
+        },
+      )) (h.begun some);
       begins = h.begins;
       left = λ left. let at = h.left left in record {
         suspend = at.suspend;
@@ -260,3 +277,43 @@ module _ (m : Module) (l k : Ledger) (xs : List Instance) (memory memory' target
         by = on.left left at.suspend at.is_call at.by;
       };
     }
+
+    module _ (ws : Env) (envs : AreSlotEnvs k.homes (roots a.func) vs ws)
+        (same : (slot : ℕ) → IsTrue (flags a.func slot)
+        → (value_in vs slot ≡ value_in a.values slot) × (value_in ws slot ≡ value_in h.values slot)) where
+      own_there : (slot : Slot) → IsOwn l (flags a.func) depth a.values h.values slot
+          → IsOwn k (flags a.func) depth vs ws slot
+      own_there slot o = record {
+        flagged = o.flagged;
+        owner = c.owners slot.block depth o.owner;
+        address = (same slot.alloca o.flagged).1 ∙ o.address;
+        tenant = λ d at. (same slot.alloca o.flagged).0 ∙ o.tenant d (sym (c.tenants slot.block depth o.owner) ∙ at);
+      }
+
+      pub activation_there : (IsCallAt Intrinsic.CoroEnd (function_at m a.func) (place_in a) → ⊥)
+          → ((slot d e : ℕ) → IsTrue (flags a.func slot) → value_in a.values slot ≡ pointer_to d
+          → value_in h.values slot ≡ pointer_to e
+          → IsSlotBeside m k xs memory' target' depth (record a {
+            block = q.block;
+            at = q.at;
+            values = vs;
+          }) slot d e)
+          → IsActivationBeside m flags roots k xs memory' target' depth (record a {
+            block = q.block;
+            at = q.at;
+            values = vs;
+          }) (record b { block = q.block; at = q.at; values = ws })
+      activation_there no_close slots = activation_listed no_close (record b {
+        block = q.block;
+        at = q.at;
+        values = ws;
+      }) ws h.slots (ap (λ (z : Activation). record z { block = q.block; at = q.at; values = ws }) h.is) envs
+          (slots_on m flags roots l k xs xs memory memory' target target' c _ _ _ _ (flags a.func) (λ slot z.
+          record {
+            flagged = z.flagged;
+            depth = z.depth;
+            seat = c.seats slot.block _ z.seat;
+          }) own_there a.slots h.slots h.listed)
+          (λ slot d e flagged at there. slots slot d e flagged (sym (same slot flagged).0
+          ∙ at) (sym (same slot flagged).1 ∙ there))
+          (λ slot is flagged. on.passed slot.alloca (h.made slot is flagged))

@@ -1,6 +1,6 @@
 -- An ordinary instruction that uses slots of its activation does the same in both runs, and all blocks stand behind
 -- it.
-use Rattle.std.proofs.Common.{◌≡◌, ℕ, zero, suc, ◌<◌, ◌⊎◌, Bool, true, List, [], ◌∷◌, length, Option, Some, refl, sym}
+use Rattle.std.proofs.Common.{◌≡◌, ℕ, zero, suc, ◌<◌, Bool, true, List, [], ◌∷◌, length, Option, Some, refl, sym}
 use Rattle.std.proofs.Common.{ap, ◌∙◌, subst, ⊎_elim, ◌==◌, nat_le}
 use Rattle.std.specs.Prelude.{IsTrue, slice_get, ℤ}
 use Rattle.ir_model.specs.Names.{function_at}
@@ -103,6 +103,8 @@ module _ (m : Module) (flags : Flags) (roots : Roots) (keeps : (func : ℕ)
         seat = _;
         seated = slot.seat;
         tenant = slot.tenant;
+        depth = _;
+        owner = slot.owner;
         ready = slot.ready;
         stands = use_stands m flags roots l xs s.memory t.memory depth a b h ordinary i.alloca p.block p.target
             ((keeps a.func).is_local i.alloca is).1 (used_here no_slot p i) slot;

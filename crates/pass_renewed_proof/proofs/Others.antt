@@ -70,7 +70,16 @@ module _ (m : Module) (flags : Flags) (roots : Roots) (l k : Ledger) (xs : List 
       on false e n = absurd (false≢true (sym n ∙ ap not e))
 
   module _ (carried : IsCarried l k memory memory' target target') (home : (home_of k.homes c).block ≡ d) (lives :
-      LivesIn memory' c → LivesIn memory c) where
+      LivesIn memory' c → LivesIn memory c) (loud : (home_of k.homes c).is_seen ≡ true
+      → is_quiet m (l.seats c) ≡ false) where
+    -- where the topmost one has left, no pointer is about into the block if it lives
+    live_unseen : a.has_left ≡ true → LivesIn memory' c → (home_of k.homes c).is_seen ≡ false
+    live_unseen left live = on (home_of k.homes c).is_seen refl
+      where
+        on : (t : Bool) → (home_of k.homes c).is_seen ≡ t → (home_of k.homes c).is_seen ≡ false
+        on true e = absurd (used_gone left (loud_escaped (loud e)) (lives live))
+        on false e = e
+
     -- another activation, which may not go on where the topmost one hasn't left
     pub other_used : (depth' : ℕ) (z : Activation) (alloca' d' : ℕ) → depth' ≢ depth → (GoesOn xs depth' z
         → a.has_left ≡ false → ⊥) → z.func ≡ a.func → alloca' ≡ alloca
@@ -78,15 +87,20 @@ module _ (m : Module) (flags : Flags) (roots : Roots) (l k : Ledger) (xs : List 
         → IsSlotBeside m k xs memory' target' depth' z alloca' c d'
     other_used depth' z alloca' d' ne alone func same o = record {
       slot = o.slot;
+      passed = o.passed;
       ramp = o.ramp;
       seat = carried.seats c _ o.seat;
       depth_is = o.depth_is;
       owner = carried.owners d' depth' o.owner;
       tenant = carried.tenants d' depth' o.owner ∙ o.tenant;
-      ready = carried.ready c d' depth' o.owner o.ready;
+      ready = carried.ready c d' depth' _ o.seat o.owner o.ready;
       first = λ is goes. absurd (no_first is goes);
       resumed = λ is goes. inr (inr (theirs (away_here (not_true a.has_left (alone goes)))));
-      told = λ goes. inr (inr (theirs (away_here (not_true a.has_left (alone goes)))));
+      told_first = λ is goes. absurd (no_first is (inl goes));
+      told = λ is goes. inr (inr (record {
+        away = theirs (away_here (not_true a.has_left (alone goes)));
+        unseen = live_unseen (not_true a.has_left (alone goes));
+      }));
       alive = λ goes live. o.alive goes (lives live);
       gone = λ left live seen at. ne (same_depth (sym o.owner ∙ ap l.owners (sym at ∙ home) ∙ s.owner));
       away = λ is left escaped away live. o.away is left escaped away (lives live);
@@ -115,16 +129,14 @@ module _ (m : Module) (flags : Flags) (roots : Roots) (l k : Ledger) (xs : List 
 
     -- a suspended instance that keeps its address
     pub kept_used : (x : Instance) (p : Point) (alloca' : ℕ) → a.has_left ≡ true → x.coroutine ≡ a.func
-        → alloca' ≡ alloca → ((home_of k.homes c).is_seen ≡ true → is_quiet m (l.seats c) ≡ false)
-        → IsKeptSlot m l memory x p alloca' c → IsKeptSlot m k memory' x p alloca' c
-    kept_used x p alloca' left func same loud o = record {
+        → alloca' ≡ alloca → IsKeptSlot m l memory x p alloca' c → IsKeptSlot m k memory' x p alloca' c
+    kept_used x p alloca' left func same o = record {
       slot = o.slot;
-      told = inr (inr (subst (λ g. HasAwayUse (function_at m g) alloca') (sym func) (subst (HasAwayUse (function_at m
-          a.func)) (sym same) (away_here left))));
+      told = inr (inr (record {
+        away = subst (λ g. HasAwayUse (function_at m g) alloca') (sym func) (subst (HasAwayUse (function_at m
+            a.func)) (sym same) (away_here left));
+        unseen = live_unseen left;
+      }));
       alive = λ live. o.alive (lives live);
-      gone = λ live. on (lives live) (home_of k.homes c).is_seen refl;
+      gone = live_unseen left;
     }
-      where
-        on : LivesIn memory c → (t : Bool) → (home_of k.homes c).is_seen ≡ t → (home_of k.homes c).is_seen ≡ false
-        on live true e = absurd (used_gone left (loud_escaped (loud e)) live)
-        on live false e = e

@@ -29,11 +29,11 @@ use Rattle.run_step.specs.Step.{AtInstr, Context, Fetched, Work, fetch}
 use Rattle.run_step.specs.Values.{Env, distance, element, indices_of, is_in_bounds, pointer_to, value_in, with_value}
 use Rattle.run_step.specs.declared.world.World.{World}
 use Rattle.pass_renewed_proof.proofs.Ahead.{next_edge}
-use Rattle.pass_renewed_proof.proofs.Carried.{IsCarried, IsSlotKept}
+use Rattle.pass_renewed_proof.proofs.Carried.{same_carried, same_kept}
 use Rattle.pass_renewed_proof.proofs.Chosen.{beyond, placed, target_of}
 use Rattle.pass_renewed_proof.proofs.EnteredValues.{set_here, set_length}
-use Rattle.pass_renewed_proof.proofs.Onward.{IsQuietEdge, activation_there, left_next, no_end_here, no_start_here}
-use Rattle.pass_renewed_proof.proofs.Onward.{slot_passed}
+use Rattle.pass_renewed_proof.proofs.Onward.{IsEdgeOf, activation_there, calm, left_next, no_end_here}
+use Rattle.pass_renewed_proof.proofs.Onward.{no_start_here, passed_next, slot_passed}
 use Rattle.pass_renewed_proof.proofs.Ordinary.{good, one_alloca, own_address, roots_of}
 use Rattle.pass_renewed_proof.proofs.Ready.{part_placed}
 use Rattle.pass_renewed_proof.proofs.Sets.{set_elsewhere}
@@ -282,29 +282,15 @@ module _ (m : Module) (flags : Flags) (roots : Roots) (keeps : (func : ℕ)
   second = other_part m flags roots keeps answers l s.instances (length s.below) s.world t.world s.top t.top h
       beside.world beside.entered is.place name r is.slot inbounds ty indices is.here is.root is.of_slot
 
-  same_carried : IsCarried l l s.world.memory s.world.memory t.world.memory t.world.memory
-  same_carried = record {
-    extends = record { each = λ b seen. refl };
-    seats = λ b seat at. at;
-    unseated = λ b seen at. at;
-    owners = λ d depth at. at;
-    tenants = λ d depth at. refl;
-    ready = λ b d depth at old. old;
-  }
-
-  same_kept : (b : ℕ) → IsSlotKept l l s.world.memory s.world.memory b
-  same_kept b = record { home = refl; hides = refl; fresh = λ z. z; lives = λ z. z }
-
   abbrev next : Point
   next = behind (place_in s.top)
 
-  onward : IsQuietEdge (function_at m s.top.func) s.top next
+  onward : IsEdgeOf (function_at m s.top.func) s.top next
   onward = record {
     edge = next_edge func s.top.block s.top.at i is.here;
-    no_start = λ slot. no_start_here func slot (place_in s.top) i is.here tt;
-    no_end = λ slot. no_end_here func slot (place_in s.top) i is.here tt;
+    passed = λ slot. passed_next func slot (place_in s.top);
     not_last = λ resumed last. is.place.no_end last (end_at_first func (place_in s.top) (h.came resumed) last);
-    left = λ left z call by. left_next func z (place_in s.top) i is.here is.place call by;
+    left = λ left z call by. left_next func z (place_in s.top) i is.here (calm func (place_in s.top) is.place) call by;
   }
 
   unset : (slot : ℕ) → IsTrue (flags s.top.func slot) → name ≡ slot → ⊥
@@ -319,7 +305,7 @@ module _ (m : Module) (flags : Flags) (roots : Roots) (keeps : (func : ℕ)
         values = with_value h.values name second;
       })
   top_part = activation_there m l l s.instances s.world.memory s.world.memory t.world.memory t.world.memory
-      same_carried (length s.below) s.top next (with_value s.top.values name first) onward flags roots t.top h
+      (same_carried l s.world.memory t.world.memory) (length s.below) s.top next (with_value s.top.values name first) onward flags roots t.top h
       (with_value h.values name second)
       (part_envs m flags roots keeps answers l s.instances (length s.below) s.world t.world s.top t.top h beside.world
       beside.entered is.place name r is.slot inbounds ty indices is.here is.root is.of_slot)
@@ -329,8 +315,9 @@ module _ (m : Module) (flags : Flags) (roots : Roots) (keeps : (func : ℕ)
       ))
       is.place.no_close
       (λ slot d e flagged at there. slot_passed m l l s.instances s.world.memory s.world.memory t.world.memory
-      t.world.memory same_carried (length s.below) s.top next (with_value s.top.values name first) onward slot d e
-      (same_kept d) (h.each slot d e flagged at there))
+      t.world.memory (same_carried l s.world.memory t.world.memory) (length s.below) s.top next (with_value s.top.values name first) onward slot d e
+      (no_start_here func slot (place_in s.top) i is.here tt) (λ live. no_end_here func slot (place_in s.top) i
+      is.here tt) (same_kept l s.world.memory d) (h.each slot d e flagged at there))
 
   same_top : record t.top {
     block = s.top.block;

@@ -1,5 +1,5 @@
 -- An ordinary instruction that is done leads from states beside each other to states beside each other.
-use Rattle.std.proofs.Common.{◌≡◌, ◌≢◌, ℕ, zero, suc, ◌+◌, ◌<◌, ◌≤◌, ◌^◌, ◌⊎◌, Bool, true, false, not, List, [], ◌∷◌}
+use Rattle.std.proofs.Common.{◌≡◌, ◌≢◌, ℕ, zero, suc, ◌+◌, ◌<◌, ◌≤◌, ◌^◌, Bool, true, false, not, List, [], ◌∷◌}
 use Rattle.std.proofs.Common.{length, Option, Some, None, refl, sym, ap, ◌∙◌, subst, ⊎_elim, arith, nat_le}
 use Rattle.std.proofs.lemmas.Bool.{cases_lt, false≢true}
 use Rattle.std.specs.Prelude.{IsTrue, slice_get, ℤ}
@@ -11,9 +11,11 @@ use Rattle.ir_model.specs.declared.instr.Instr.{Instr}
 use Rattle.ir_model.specs.declared.module.Function.{Function}
 use Rattle.ir_model.specs.declared.module.Module.{Module}
 use Rattle.ir_model.specs.declared.operand.Operand.{Operand}
+use Rattle.ir_paths.specs.Paths.{has_point}
 use Rattle.ir_paths.specs.declared.point.Point.{Point}
 use Rattle.frame_classes.specs.Classes.{NeedsFrame}
 use Rattle.frame_slots.specs.Spots.{At, IsUse}
+use Rattle.frame_slots.specs.Uses.{ends_of}
 use Rattle.run_laws.proofs.access.Blocks.{others_left}
 use Rattle.run_laws.specs.access.Accessed.{accessed}
 use Rattle.run_laws.specs.access.Changed.{ChangesOnly, IsFull, LeavesOthers}
@@ -41,8 +43,8 @@ use Rattle.pass_renewed_proof.proofs.Carried.{AreBelowCarried, IsCarried, IsInst
 use Rattle.pass_renewed_proof.proofs.Carried.{instances_kept, kept_slot_on, slot_kept}
 use Rattle.pass_renewed_proof.proofs.Chosen.{are_places}
 use Rattle.pass_renewed_proof.proofs.Exposing.{each_operand, spread_escapes}
-use Rattle.pass_renewed_proof.proofs.Onward.{IsQuietEdge, activation_there, left_next, no_end_here, no_start_here}
-use Rattle.pass_renewed_proof.proofs.Onward.{slot_passed, slot_used}
+use Rattle.pass_renewed_proof.proofs.Onward.{IsEdgeOf, activation_there, calm, left_next, no_end_here}
+use Rattle.pass_renewed_proof.proofs.Onward.{no_start_here, passed_next, slot_passed, slot_used}
 use Rattle.pass_renewed_proof.proofs.Ordinary.{GoesBeside, good, goes_beside, one_alloca, own_address, roots_of}
 use Rattle.pass_renewed_proof.proofs.Reading.{read_used}
 use Rattle.pass_renewed_proof.proofs.Way.{same_instr}
@@ -50,14 +52,16 @@ use Rattle.pass_renewed_proof.proofs.Others.{kept_used, loud_escaped, other_used
 use Rattle.pass_renewed_proof.proofs.SlotEnvs.{set_stand}
 use Rattle.pass_renewed_proof.proofs.Stands.{end_at_first}
 use Rattle.pass_renewed_proof.proofs.Used.{each_listed, faded_loud, is_among, lives_before, refilled_from, refilled_to}
-use Rattle.pass_renewed_proof.proofs.Used.{unused_kept, used_block, used_extends, used_home}
+use Rattle.pass_renewed_proof.proofs.Used.{gone_before, unused_kept, used_block, used_extends, used_home}
 use Rattle.pass_renewed_proof.proofs.Using.{IsGoodPlace, all_places, all_settled, all_theirs, apart, distances}
 use Rattle.pass_renewed_proof.proofs.Using.{globals_stand, good_places, reads}
+use Rattle.pass_renewed_proof.specs.Ahead.{IsNoStart}
 use Rattle.pass_renewed_proof.specs.Beside.{AreOutdone, AreSlots, Both, First, GoesOn, HasLeftSuspended}
 use Rattle.pass_renewed_proof.specs.Beside.{IsActivationBeside, IsBeside, IsInstanceBeside, IsKeptSlot, IsSlotBeside}
 use Rattle.pass_renewed_proof.specs.Beside.{NoSlots, Second, place_in}
 use Rattle.pass_renewed_proof.specs.Chosen.{IsPlaceOf, places_at}
-use Rattle.pass_renewed_proof.specs.Ledger.{AreEntered, AreTheirs, IsFresh, IsHomeOf, Ledger, LivesIn, Seat, is_quiet}
+use Rattle.pass_renewed_proof.specs.Ledger.{AreEntered, AreTheirs, IsFresh, IsGone, IsHomeOf, Ledger, LivesIn, Seat}
+use Rattle.pass_renewed_proof.specs.Ledger.{is_quiet}
 use Rattle.pass_renewed_proof.specs.Ledger.{used_ledger}
 use Rattle.pass_renewed_proof.specs.Left.{behind}
 use Rattle.pass_renewed_proof.specs.Muted.{IsShown, IsShownOperand}
@@ -298,7 +302,7 @@ module _ (m : Module) (flags : Flags) (roots : Roots) (keeps : (func : ℕ)
       unseated = λ b seen at. at;
       owners = λ d depth at. at;
       tenants = λ d depth at. refl;
-      ready = λ b d depth at old z there.
+      ready = λ b d depth seat seated at old z there.
           let y = refilled_from s.world.memory v.world.memory b z g.refilled there in
           ready_refilled t.world.memory g.other.world.memory d z y.0 g.refilled_target g.entered.full y.2 (old y.0
           y.1);
@@ -322,6 +326,9 @@ module _ (m : Module) (flags : Flags) (roots : Roots) (keeps : (func : ℕ)
 
     lives : (b : ℕ) → LivesIn v.world.memory b → LivesIn s.world.memory b
     lives b live = lives_before s.world.memory v.world.memory b g.refilled live
+
+    gone_kept : (b : ℕ) → IsGone s.world.memory b → IsGone v.world.memory b
+    gone_kept b = gone_before s.world.memory v.world.memory b g.refilled
 
     -- what is known of a place that is used
     place_known : (p : Place) → IsListed p ps → IsPlaceOf (roots s.top.func) s.top.values h.values here p
@@ -354,14 +361,19 @@ module _ (m : Module) (flags : Flags) (roots : Roots) (keeps : (func : ℕ)
     abbrev next : Point
     next = behind (place_in s.top)
 
-    onward : IsQuietEdge (function_at m s.top.func) s.top next
+    onward : IsEdgeOf (function_at m s.top.func) s.top next
     onward = record {
       edge = next_edge f s.top.block s.top.at i here_is;
-      no_start = λ slot. no_start_here f slot (place_in s.top) i here_is no_slot;
-      no_end = λ slot. no_end_here f slot (place_in s.top) i here_is no_slot;
+      passed = λ slot. passed_next f slot (place_in s.top);
       not_last = λ is last. ordinary.no_end last (end_at_first f (place_in s.top) (h.came is) last);
-      left = λ left z call by. left_next f z (place_in s.top) i here_is ordinary call by;
+      left = λ left z call by. left_next f z (place_in s.top) i here_is (calm f (place_in s.top) ordinary) call by;
     }
+
+    unstarted : (slot : ℕ) → IsNoStart (function_at m s.top.func) slot (place_in s.top)
+    unstarted slot = no_start_here f slot (place_in s.top) i here_is no_slot
+
+    unended : (slot : ℕ) → has_point (ends_of (function_at m s.top.func) slot) (place_in s.top) ≡ false
+    unended slot = no_end_here f slot (place_in s.top) i here_is no_slot
 
     abbrev top : Activation
     top = record s.top { at = s.top.at + 1; values = v.values }
@@ -378,7 +390,8 @@ module _ (m : Module) (flags : Flags) (roots : Roots) (keeps : (func : ℕ)
         ⊎_elim
         (λ p. used p.0 p.1.0 p.1.1 at' there' old)
         (λ out. slot_passed m l k s.instances s.world.memory v.world.memory t.world.memory g.other.world.memory
-        carried (length s.below) s.top next v.values onward al b d (passed b out) old)
+        carried (length s.below) s.top next v.values onward al b d (unstarted al) (λ live. unended al) (passed b
+        out) old)
         (is_among ps b)
       where
         used : (p : Place) → IsListed p ps → p.block ≡ b → value_in s.top.values al ≡ pointer_to b
@@ -399,7 +412,7 @@ module _ (m : Module) (flags : Flags) (roots : Roots) (keeps : (func : ℕ)
             known) in
             let local : ¬ NeedsFrame f al = ((keeps s.top.func).is_local al flagged).1 in
             slot_used m l k s.instances s.world.memory v.world.memory t.world.memory g.other.world.memory carried
-            (length s.below) s.top next v.values onward al b d home (lives b) u
+            (length s.below) s.top next v.values onward al b d (unended al) home (lives b) u
             (λ left live seen. used_gone m flags roots l k s.instances s.world.memory v.world.memory t.world.memory
             g.other.world.memory (length s.below) s.top t.top h ordinary al b d local u old left
             (loud_escaped m flags roots l k s.instances s.world.memory v.world.memory t.world.memory
@@ -480,7 +493,7 @@ module _ (m : Module) (flags : Flags) (roots : Roots) (keeps : (func : ℕ)
         g.other.world.memory carried below
     below_carried [] le outdone = tt
     below_carried (z ∷ below) le outdone = (
-      record { over = λ o. o; slots = slot_of z (length below) less outdone.0 },
+      record { over = λ stays o. o; slots = slot_of z (length below) less outdone.0 },
       below_carried below (omega arith) outdone.1,
     )
       where
@@ -513,7 +526,7 @@ module _ (m : Module) (flags : Flags) (roots : Roots) (keeps : (func : ℕ)
                 g.other.world.memory (length s.below) s.top t.top h ordinary known.alloca p.block p.target
                 (local_of p known) (use_of p known) ours carried
                 (used_block m l s.world.memory v.world.memory t.world.memory g.other.world.memory ps e places settle
-                aparts theirs p listed) (lives p.block)
+                aparts theirs p listed) (lives p.block) (loud_after p.block)
                 depth z al d (λ is. less_not depth (length s.below) lt is) (alone (same_instance seats)) (same_func
                 seats) (same_alloca seats) old
               where
@@ -531,7 +544,7 @@ module _ (m : Module) (flags : Flags) (roots : Roots) (keeps : (func : ℕ)
           (λ out. kept_slot_on m flags roots l k s.instances s.instances s.world.memory v.world.memory t.world.memory
           g.other.world.memory carried z p al b (passed b out) old)
           (is_among ps b);
-      lives = λ slot is flagged live. lives slot.block live;
+      gone = λ slot is flagged. gone_kept slot.block;
     }
       where
         used : (p : Point) (al : ℕ) (q : Place) → IsListed q ps → is_suspended z.status ≡ true
@@ -550,9 +563,9 @@ module _ (m : Module) (flags : Flags) (roots : Roots) (keeps : (func : ℕ)
             (length s.below) s.top t.top h ordinary known.alloca q.block q.target (local_of q known) (use_of q
             known) ours carried
             (used_block m l s.world.memory v.world.memory t.world.memory g.other.world.memory ps e places settle
-            aparts theirs q listed) (lives q.block)
+            aparts theirs q listed) (lives q.block) (loud_after q.block)
             z p al (asleep j z (sym (same_instance seats)
-            ∙ ap Some number) at suspended) (same_func seats) (same_alloca seats) (loud_after q.block) old
+            ∙ ap Some number) at suspended) (same_func seats) (same_alloca seats) old
 
     -- ---- the states
 

@@ -1,5 +1,5 @@
 -- At the start each global stands at its own number, and no slot has been made.
-use Rattle.std.proofs.Common.{◌≡◌, ◌≢◌, ℕ, zero, suc, ◌+◌, ◌^◌, ◌<◌, ◌≤◌, ◌⊎◌, inl, true, false, List, [], ◌∷◌, length}
+use Rattle.std.proofs.Common.{◌≡◌, ℕ, zero, suc, ◌+◌, ◌^◌, ◌<◌, ◌≤◌, inl, true, false, List, [], ◌∷◌, length}
 use Rattle.std.proofs.Common.{map, replicate, get_or, Option, Some, None, refl, sym, ap, ◌∙◌, subst, ⊎_elim, arith}
 use Rattle.std.proofs.Common.{nat_le, ◌==◌}
 use Rattle.std.proofs.lemmas.Bool.{cases_lt, false≢true}
@@ -14,7 +14,7 @@ use Rattle.ir_model.specs.declared.operand.Operand.{Operand}
 use Rattle.ir_tables.proofs.Tables.{first_where-within}
 use Rattle.pass_kept_proof.proofs.Same.{neither}
 use Rattle.pass_kept_proof.specs.Kept.{Keep}
-use Rattle.std.specs.List.{list_any}
+use Rattle.std.specs.List.{Contains, list_any}
 use Rattle.std.proofs.lemmas.List.{length-map}
 use Rattle.run_ints.specs.declared.num.Num.{Num}
 use Rattle.run_laws.proofs.memory.Itself.{stands_in_itself}
@@ -38,6 +38,7 @@ use Rattle.run_source.specs.declared.state.Mode.{Mode}
 use Rattle.run_step.specs.Step.{entry_values, first_world, global_block, with_params}
 use Rattle.run_step.specs.Values.{Env, access_of, address, address_from, literal, number_of_width, operand_value}
 use Rattle.run_step.specs.Values.{pointer_to, stored, value_in, value_of, with_value}
+use Rattle.run_step.specs.declared.world.Slot.{Slot}
 use Rattle.pass_renewed_proof.proofs.Made.{get_none, get_within}
 use Rattle.pass_renewed_proof.proofs.Places.{unowned_compares}
 use Rattle.pass_renewed_proof.proofs.Sets.{set_elsewhere}
@@ -294,6 +295,8 @@ module _ (m : Module) (small : AreSmallGlobals m) where
     alone = λ b about. ap Some (ap (λ (q : Home). q.block) (here b (about_within b about)));
     owned = λ c depth e. absurd (cc);
     seated = λ b seat e. absurd (cc);
+    placed = λ b seat e. absurd (cc);
+    unowned = λ c depth y e at. absurd (cc);
     mates = λ b x e at. record {
       block = b;
       home = here b (get_within (first_world m).memory b x at);
@@ -371,6 +374,9 @@ module _ (m : Module) (keep : Keep) (flags : Flags) (roots : Roots) (keeps : Kee
   unrooted v a e = params_others (replicate (length (function_at m entry).names) None) (function_at m entry).params
       (map Value.Int args) v ((keeps.each entry).no_param v a e) ∙ blank_poison (length (function_at m entry).names) v
 
+  none_in : (slot : Slot) → Contains [] slot → ⊥
+  none_in slot (k, lt, e) = absurd (omega arith)
+
   first_activation : (l : Ledger) (memory target : List MemoryBlock)
       → IsActivationBeside m flags roots l [] memory target 0 (called m entry (map Value.Int args) None Mode.Plain)
       (called m entry (map Value.Int args) None Mode.Plain)
@@ -385,9 +391,10 @@ module _ (m : Module) (keep : Keep) (flags : Flags) (roots : Roots) (keeps : Kee
     };
     listed = NoSlots;
     each = λ alloca b c flagged at there. absurd (no_pointer _ b (words alloca) at);
+    made = λ slot is. absurd (none_in slot is);
     modes = inl refl;
     came = λ e. absurd (cc);
-    begun = λ ne left. absurd (ne refl);
+    begun = λ ne. absurd (ne refl);
     begins = λ e. absurd (cc);
     left = λ e. absurd (false≢true e);
   }

@@ -12,15 +12,15 @@ use Rattle.run_laws.specs.access.Changed.{IsFull}
 use Rattle.run_laws.specs.changed.Changed.{Each}
 use Rattle.run_laws.specs.embedded.Refilled.{AreRefilled, IsRefilled}
 use Rattle.run_laws.specs.memory.Pointers.{Extends, Home, home_of, nowhere}
-use Rattle.run_memory.specs.Memory.{is_live}
+use Rattle.run_memory.specs.Memory.{is_killed, is_live}
 use Rattle.run_memory.specs.declared.block.Life.{Life}
 use Rattle.run_memory.specs.declared.block.MemoryBlock.{MemoryBlock}
 use Rattle.pass_renewed_proof.proofs.Carried.{IsSlotKept}
 use Rattle.pass_renewed_proof.proofs.Places.{muted_at, showing_it, showing_others}
 use Rattle.pass_renewed_proof.proofs.Ready.{each_map, shown_stays, still_hidden, stood_at, stood_extends, stood_length}
 use Rattle.pass_renewed_proof.proofs.Ready.{stood_others}
-use Rattle.pass_renewed_proof.specs.Ledger.{AreEntered, AreTheirs, IsAbout, IsFresh, IsHomeOf, IsMate, Ledger, Lives}
-use Rattle.pass_renewed_proof.specs.Ledger.{LivesIn, Seen, is_quiet, used_ledger}
+use Rattle.pass_renewed_proof.specs.Ledger.{AreEntered, AreTheirs, IsAbout, IsFresh, IsGone, IsHomeOf, IsMate}
+use Rattle.pass_renewed_proof.specs.Ledger.{IsTheirs, Ledger, Lives, LivesIn, Seen, is_quiet, used_ledger}
 use Rattle.pass_renewed_proof.specs.Muted.{ended_if, muted}
 use Rattle.pass_renewed_proof.specs.Places.{showing, unseen}
 use Rattle.pass_renewed_proof.specs.Ready.{ArePlacesApart, IsPlace, IsSettled, Place, faded, shown_of, stood}
@@ -199,6 +199,10 @@ lives_before m n b r l = let x = refilled_from m n b l.block r l.there in record
   is_live = ap (λ (z : MemoryBlock). is_live z.life) (sym x.2) ∙ l.is_live;
 }
 
+pub gone_before : (m n : List MemoryBlock) (b : ℕ) → AreRefilled m n → IsGone m b → IsGone n b
+gone_before m n b r gone x at = let y = refilled_from m n b x r at in ap (λ (z : MemoryBlock). is_killed z.life) y.2
+    ∙ gone y.0 y.1
+
 -- a block that isn't hidden is as it is
 lives_shown : (hides : ℕ → Bool) (m : List MemoryBlock) (b : ℕ) → LivesIn (muted hides m) b
     → (hides b ≡ false) × LivesIn m b
@@ -303,8 +307,8 @@ module _ (m : Module) (l : Ledger) (memory memory' target target' : List MemoryB
           ∙ (stood_extends l.homes l.hides memory target ps places settled apart).each b seen
 
   unlisted : (b : ℕ) → l.seats b ≡ None → Each (λ (q : Place). q.block ≢ b) ps
-  unlisted b none = each_map _ _ ps (λ q h is. let c : None ≡ Some h.0.0 = sym none ∙ ap l.seats (sym is)
-      ∙ h.0.1 in absurd (cc)) theirs
+  unlisted b none = each_map _ _ ps (λ q (h : IsTheirs l q) is. let c : None ≡ Some h.seat = sym none
+      ∙ ap l.seats (sym is) ∙ h.seated in absurd (cc)) theirs
 
   module _ (refilled : AreRefilled memory memory') (refilled' : AreRefilled target target') where
     about_before : (d : ℕ) → Each (λ (q : Place). q.block ≢ d) ps → IsAbout (used_ledger m l ps) memory' d
@@ -343,11 +347,24 @@ module _ (m : Module) (l : Ledger) (memory memory' target target' : List MemoryB
       globals = λ b lt. let g = e.globals b lt in used_extends.each b (ap (λ (q : Home). q.is_seen) g) ∙ g;
       alone = λ b about. ⊎_elim
           (λ h. subst (λ d. l.tenants (home_of (used_ledger m l ps).homes d).block ≡ Some d) h.1.1 (ap l.tenants
-          (used_block h.0 h.1.0) ∙ (each_listed _ ps h.0 theirs h.1.0).1))
+          (used_block h.0 h.1.0) ∙ (each_listed (IsTheirs l) ps h.0 theirs h.1.0).tenant))
           (λ out. ap (λ (q : Home). l.tenants q.block) (used_other b out) ∙ e.alone b (about_before b out about))
           (is_among ps b);
       owned = λ c depth h. subst (λ n. c < n) (sym (as_many target target' refilled')) (e.owned c depth h);
       seated = λ b seat h. subst (λ n. b < n) (sym (as_many memory memory' refilled)) (e.seated b seat h);
+      placed = λ b seat h. ⊎_elim
+          (λ p. let their = each_listed (IsTheirs l) ps p.0 theirs p.1.0 in (
+            their.depth,
+            subst (λ d. l.owners (home_of (used_ledger m l ps).homes d).block ≡ Some their.depth) p.1.1 (ap l.owners
+                (used_block p.0 p.1.0) ∙ their.owner),
+          ))
+          (λ out. let old = e.placed b seat h in (
+            old.0,
+            ap (λ (q : Home). l.owners q.block) (used_other b out) ∙ old.1,
+          ))
+          (is_among ps b);
+      unowned = λ c depth y h at. let z = refilled_from target target' c y refilled' at in
+          ap (λ (q : MemoryBlock). q.owned) z.2 ∙ e.unowned c depth z.0 h z.1;
       mates = mate_on;
       full = full;
       quiet = λ b h. ⊎_elim
@@ -372,4 +389,5 @@ module _ (m : Module) (l : Ledger) (memory memory' target target' : List MemoryB
         blank = λ x at live. f.blank x (sym (same f) ∙ at) live;
       };
       lives = lives_before memory memory' b refilled;
+      gone = gone_before memory memory' b refilled;
     }

@@ -19,7 +19,6 @@ use Rattle.run_laws.specs.changed.Changed.{Each}
 use Rattle.run_laws.specs.embedded.Making.{whole_home}
 use Rattle.run_laws.specs.embedded.Related.{HasBytes, HasDistance, HasNoSlot, IsSameDistance}
 use Rattle.run_laws.specs.memory.Pointers.{Home, IsValue, home_of}
-use Rattle.run_memory.specs.Memory.{is_live}
 use Rattle.run_memory.specs.Pointers.{moved, offset_of}
 use Rattle.run_memory.specs.declared.block.MemoryBlock.{MemoryBlock}
 use Rattle.run_memory.specs.declared.pointer.Pointer.{Pointer}
@@ -48,6 +47,8 @@ pub record IsGoodPlace (m : Module) (l : Ledger) (memory target : List MemoryBlo
   pub seat : Seat
   pub seated : l.seats p.block ≡ Some seat
   pub tenant : l.tenants p.target ≡ Some p.block
+  pub depth : ℕ
+  pub owner : l.owners p.target ≡ Some depth
   pub ready : (x : MemoryBlock) → slice_get memory p.block ≡ Some x → IsReady target p.target x
   pub stands : MayStand l memory p.block p.target
 
@@ -93,7 +94,13 @@ module _ (m : Module) (l : Ledger) (memory target : List MemoryBlock) (e : AreEn
   all_settled ps h = each_map _ _ ps (λ p g. settled_of p g.stands) h
 
   pub all_theirs : (ps : List Place) → Each (IsGoodPlace m l memory target) ps → AreTheirs l ps
-  all_theirs ps h = each_map _ _ ps (λ p g. ((g.seat, g.seated), g.tenant)) h
+  all_theirs ps h = each_map _ _ ps (λ p g. record {
+    seat = g.seat;
+    seated = g.seated;
+    tenant = g.tenant;
+    depth = g.depth;
+    owner = g.owner;
+  }) h
 
   -- the address of a global or a function stands for itself
   pub globals_stand : (n : Name) → IsValue l.homes (address_of m n) (address_of m n)

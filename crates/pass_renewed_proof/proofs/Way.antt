@@ -18,7 +18,7 @@ use Rattle.frame_classes.specs.Classes.{Alive, Away, MeetsLater, NeedsFrame, par
 use Rattle.frame_slots.proofs.Points.{where_sound}
 use Rattle.frame_slots.specs.Spots.{At, Comes, IsBehind, IsStart, IsUse, Later, Spot, point_at}
 use Rattle.frame_slots.specs.Uses.{ends_of}
-use Rattle.pass_kept_proof.proofs.Same.{either, neither, same_point_same}
+use Rattle.pass_kept_proof.proofs.Same.{either, same_point_same}
 use Rattle.pass_kept_proof.specs.Needed.{BranchesTo}
 use Rattle.pass_kept_proof.specs.SuspendRules.{IsCallAt, IsSwitched}
 use Rattle.run_step.specs.Step.{AtInstr, AtTerm, fetch}

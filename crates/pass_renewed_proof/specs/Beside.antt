@@ -1,8 +1,10 @@
 -- States of the meaning in which a resume hands on some values, and those beside them in which slots are made anew.
 use Rattle.std.specs.Prelude.{ℕ, Bool, true, false, List, [], ◌∷◌, length, slice_get, Some, None, Option, IsTrue, ◌≡◌}
-use Rattle.std.specs.Prelude.{◌≢◌, ◌⊎◌, ◌+◌}
+use Rattle.std.specs.Prelude.{◌≢◌, ◌⊎◌, ◌+◌, ◌<◌}
 use Rattle.std.specs.List.{Contains}
 use Rattle.ir_model.specs.Names.{function_at}
+use Rattle.ir_model.specs.Ty.{Ty}
+use Rattle.ir_model.specs.declared.instr.Instr.{Instr}
 use Rattle.ir_model.specs.declared.module.Function.{Function}
 use Rattle.ir_model.specs.declared.module.Module.{Module}
 use Rattle.ir_model.specs.declared.operand.Intrinsic.{Intrinsic}
@@ -10,15 +12,15 @@ use Rattle.ir_paths.specs.Slots.{is_escaped}
 use Rattle.ir_paths.specs.declared.point.Point.{Point}
 use Rattle.frame_classes.specs.Alive.{MayBeAlive, markers_of}
 use Rattle.pass_kept_proof.specs.SuspendRules.{IsCallAt}
-use Rattle.pass_renewed_proof.specs.Ahead.{HasAwayUse, WasUsed}
-use Rattle.pass_renewed_proof.specs.Ledger.{AreEntered, IsFresh, IsHomeOf, Ledger, LivesIn}
+use Rattle.pass_renewed_proof.specs.Ahead.{HasAwayUse, IsUsedBefore}
+use Rattle.pass_renewed_proof.specs.Ledger.{AreEntered, IsFresh, IsGone, IsHomeOf, Ledger, LivesIn}
 use Rattle.pass_renewed_proof.specs.Left.{IsLeftAt}
 use Rattle.pass_renewed_proof.specs.Places.{IsReady}
 use Rattle.pass_renewed_proof.specs.Renewed.{Flags, Roots}
 use Rattle.pass_renewed_proof.specs.SlotEnvs.{AreSlotEnvs}
 use Rattle.pass_renewed_proof.specs.Steps.{AreOver}
 use Rattle.pass_renewed_proof.specs.Way.{IsBarred, IsResumedAt, WasAlive}
-use Rattle.rule_windows.specs.Sets.{RunsOut}
+use Rattle.rule_windows.specs.Sets.{IsAfterEnd, RunsOut}
 use Rattle.run_laws.specs.embedded.Making.{whole_home}
 use Rattle.run_laws.specs.memory.Pointers.{home_of}
 use Rattle.run_memory.specs.declared.block.MemoryBlock.{MemoryBlock}
@@ -30,6 +32,7 @@ use Rattle.run_source.specs.declared.state.Mode.{Mode}
 use Rattle.run_source.specs.declared.state.Saved.{Saved}
 use Rattle.run_source.specs.declared.state.State.{State}
 use Rattle.run_source.specs.declared.state.Status.{Status}
+use Rattle.run_step.specs.Step.{AtInstr, fetch}
 use Rattle.run_step.specs.Values.{Env, pointer_to, value_in}
 use Rattle.run_step.specs.declared.world.Slot.{Slot}
 
@@ -74,9 +77,14 @@ pub data IsSlotOf (xs : List Instance) (a : Activation) (slot : Slot) : Type 0 w
   Begun : (i : ℕ) (x : Instance) → a.instance ≡ Some i → slice_get xs i ≡ Some x → Contains x.slots slot
       → IsSlotOf xs a slot
 
+-- it may have been used where an activation has left; where it lives, no pointer into it is about
+pub record IsUsedAway (l : Ledger) (m : List MemoryBlock) (f : Function) (slot b : ℕ) : Type 0 where
+  pub away : HasAwayUse f slot
+  pub unseen : LivesIn m b → (home_of l.homes b).is_seen ≡ false
+
 -- at a place the slot was used before, or is still fresh
 abbrev pub IsTold : Ledger → List MemoryBlock → Function → ℕ → ℕ → Point → Type 0
-IsTold l m f slot b p = IsFresh l m b ⊎ WasUsed f slot p
+IsTold l m f slot b p = IsFresh l m b ⊎ (IsUsedBefore f slot p ⊎ IsUsedAway l m f slot b)
 
 -- it stands in the activation's own block c, or may come there
 abbrev pub MayStand : Ledger → List MemoryBlock → ℕ → ℕ → Type 0
@@ -86,10 +94,17 @@ MayStand l m b c = IsFresh l m b ⊎ IsHomeOf l b c
 abbrev pub IsAliveAt : Activation → Function → ℕ → Point → Type 0
 IsAliveAt a f slot p = ((a.instance ≡ None) × (markers_of f slot ≡ [])) ⊎ MayBeAlive f slot p
 
+-- where the point is in the entry block, the alloca stands before it
+abbrev pub IsPassed : Function → ℕ → Point → Type 0
+IsPassed f alloca p =
+    (k : ℕ) (ty : Ty) (align : ℕ) → fetch f 0 k ≡ AtInstr (Instr.Alloca alloca ty align) → p.block ≡ 0 → k < p.at
+
 -- of the activation a, with so many below it: its slot of an alloca is the block b, and c in the second run
 pub record IsSlotBeside (m : Module) (l : Ledger) (xs : List Instance) (memory target : List MemoryBlock) (depth : ℕ)
     (a : Activation) (alloca b c : ℕ) : Type 0 where
   pub slot : IsSlotOf xs a (record { alloca = alloca; block = b })
+  -- its alloca isn't still to come
+  pub passed : IsPassed (function_at m a.func) alloca (place_in a)
   pub ramp : ℕ
   pub seat : l.seats b ≡ Some (record { func = a.func; alloca = alloca; depth = ramp; instance = a.instance })
   pub depth_is : IsFirst a → ramp ≡ depth
@@ -101,7 +116,10 @@ pub record IsSlotBeside (m : Module) (l : Ledger) (xs : List Instance) (memory t
   pub resumed : a.mode ≡ Mode.Resumed → GoesOn xs depth a
       → MayStand l memory b c ⊎ (IsBarred (function_at m a.func) alloca (place_in a) ⊎ HasAwayUse (function_at m
       a.func) alloca)
-  pub told : GoesOn xs depth a → IsTold l memory (function_at m a.func) alloca b (place_in a)
+  pub told_first : IsFirst a → GoesOn xs depth a
+      → IsFresh l memory b ⊎ IsUsedBefore (function_at m a.func) alloca (place_in a)
+  pub told : a.mode ≡ Mode.Resumed → GoesOn xs depth a
+      → IsTold l memory (function_at m a.func) alloca b (place_in a)
   pub alive : GoesOn xs depth a → LivesIn memory b → IsAliveAt a (function_at m a.func) alloca (place_in a)
   -- where the activation has left, no pointer is about into a live block that stands in its own one
   pub gone : a.has_left ≡ true → LivesIn memory b → (home_of l.homes b).is_seen ≡ true → (home_of l.homes b).block ≢ c
@@ -157,11 +175,15 @@ pub record IsActivationBeside (m : Module) (flags : Flags) (roots : Roots) (l : 
       (flags a.func) a.slots slots
   pub each : (alloca b c : ℕ) → IsTrue (flags a.func alloca) → value_in a.values alloca ≡ pointer_to b
       → value_in values alloca ≡ pointer_to c → IsSlotBeside m l xs memory target depth a alloca b c
+  -- the alloca of a slot that it has made isn't still to come
+  pub made : (slot : Slot) → Contains slots slot → IsTrue (flags a.func slot.alloca)
+      → IsPassed (function_at m a.func) slot.alloca (place_in a)
   -- no slot is being made anew
   pub modes : (a.mode ≡ Mode.Plain) ⊎ ((a.mode ≡ Mode.Ramp) ⊎ (a.mode ≡ Mode.Resumed))
   pub came : a.mode ≡ Mode.Resumed → IsResumedAt (function_at m a.func) (place_in a)
-  -- one that hasn't left its instance hasn't passed the end, or the instance is over
-  pub begun : a.instance ≢ None → a.has_left ≡ false → RunsOut (function_at m a.func) (place_in a) ⊎ IsOverOf xs a
+  -- behind begin it hasn't passed the end, or it has left, or the instance is over
+  pub begun : a.instance ≢ None → RunsOut (function_at m a.func) (place_in a) ⊎ (IsAfterEnd (function_at m a.func)
+      (place_in a) × (a.has_left ≡ false → IsOverOf xs a))
   pub begins : a.mode ≡ Mode.Resumed → a.instance ≢ None
   pub left : a.has_left ≡ true → IsLeftAt (function_at m a.func) (place_in a)
 
@@ -217,9 +239,9 @@ pub record IsInstanceBeside (m : Module) (flags : Flags) (roots : Roots) (l : Le
   pub listed : AreSlots l (IsSeated l (flags x.coroutine) x.coroutine (Some i)) (λ t. ⊥) (flags x.coroutine) x.slots
       slots
   pub statuses : IsStatusBeside m flags roots l memory x x.status status
-  -- where it is over, its slots are dead
+  -- where it is over, its slots are dead for good
   pub over : is_over x ≡ true → (slot : Slot) → Contains x.slots slot → IsTrue (flags x.coroutine slot.alloca)
-      → LivesIn memory slot.block → ⊥
+      → IsGone memory slot.block
 
 abbrev pub AreInstancesBeside : Module → Flags → Roots → Ledger → List MemoryBlock → ℕ → List Instance
     → List Instance → Type 0

@@ -2,7 +2,7 @@
 -- stand, which of them are slots that are made anew, and for whom blocks of the second were made.
 use Rattle.std.specs.Prelude.{ℕ, Bool, true, false, not, nat_le, if◌then◌else◌, ◌==◌, ◌++◌, ◌∷◌, [], List, length}
 use Rattle.std.specs.Prelude.{slice_get, Some, None, Option, ◌≡◌, ◌<◌, ◌^◌}
-use Rattle.run_memory.specs.Memory.{access_bytes, is_live}
+use Rattle.run_memory.specs.Memory.{access_bytes, is_killed, is_live}
 use Rattle.run_memory.specs.declared.block.Byte.{Byte}
 use Rattle.run_memory.specs.declared.block.MemoryBlock.{MemoryBlock}
 use Rattle.ir_model.specs.Names.{function_at}
@@ -53,6 +53,10 @@ pub record LivesIn (m : List MemoryBlock) (b : ℕ) : Type 0 where
   pub there : slice_get m b ≡ Some block
   pub is_live : is_live block.life ≡ true
 
+-- the block doesn't come back, if there is one
+abbrev pub IsGone : List MemoryBlock → ℕ → Type 0
+IsGone m b = (x : MemoryBlock) → slice_get m b ≡ Some x → is_killed x.life ≡ true
+
 -- pointers into the block may be about, or it lives and isn't hidden
 pub data IsAbout (l : Ledger) (m : List MemoryBlock) (b : ℕ) : Type 0 where
   Seen : (home_of l.homes b).is_seen ≡ true → IsAbout l m b
@@ -89,6 +93,11 @@ pub record AreEntered (m : Module) (l : Ledger) (memory target : List MemoryBloc
   pub alone : (b : ℕ) → IsAbout l memory b → l.tenants (home_of l.homes b).block ≡ Some b
   pub owned : (c depth : ℕ) → l.owners c ≡ Some depth → c < length target
   pub seated : (b : ℕ) (seat : Seat) → l.seats b ≡ Some seat → b < length memory
+  -- a slot stands in a block that an activation has made, and nobody owns such a block
+  pub placed : (b : ℕ) (seat : Seat) → l.seats b ≡ Some seat
+      → (depth : ℕ) × (l.owners (home_of l.homes b).block ≡ Some depth)
+  pub unowned : (c depth : ℕ) (y : MemoryBlock) → l.owners c ≡ Some depth → slice_get target c ≡ Some y
+      → y.owned ≡ None
   pub mates : (b : ℕ) (x : MemoryBlock) → l.seats b ≡ None → slice_get memory b ≡ Some x → IsMate l target b x
   pub full : (c : ℕ) → IsFull target c
   -- between steps no pointer is about into a slot that isn't escaped
@@ -134,10 +143,16 @@ used_ledger m l ps =
       hides = shown_of l.hides ps;
     }
 
--- each is a slot, and the only one that may stand in its place
+-- each is a slot, and the only one that may stand in its place, which an activation has made
+pub record IsTheirs (l : Ledger) (p : Place) : Type 0 where
+  pub seat : Seat
+  pub seated : l.seats p.block ≡ Some seat
+  pub tenant : l.tenants p.target ≡ Some p.block
+  pub depth : ℕ
+  pub owner : l.owners p.target ≡ Some depth
+
 abbrev pub AreTheirs : Ledger → List Place → Type 0
-AreTheirs l ps = Each (λ (p : Place). ((seat : Seat) × (l.seats p.block ≡ Some seat)) × (l.tenants p.target ≡ Some
-    p.block)) ps
+AreTheirs l ps = Each (IsTheirs l) ps
 
 -- ---- the start
 

@@ -19,3 +19,5 @@ pub mod Beside
 pub mod Between
 pub mod Chosen
 pub mod Ordinary
+pub mod Making
+pub mod Found

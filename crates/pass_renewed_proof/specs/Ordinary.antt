@@ -28,6 +28,12 @@ pub record IsOrdinary (f : Function) (p : Point) : Type 0 where
   pub no_end : p.block ≡ end_block f → p.at ≡ 0 → ⊥
   pub no_close : IsCallAt Intrinsic.CoroEnd f p → ⊥
 
+-- at a point stands neither the switch of a suspend nor the end
+pub record IsCalm (f : Function) (p : Point) : Type 0 where
+  pub no_switch : IsBehindSuspendCall f p.block p.at → ⊥
+  pub no_end : p.block ≡ end_block f → p.at ≡ 0 → ⊥
+  pub no_close : IsCallAt Intrinsic.CoroEnd f p → ⊥
+
 -- the name is the base of a getelementptr
 abbrev pub IsBase : ℕ → Instr → Type 0
 IsBase v (Instr.Gep name inbounds ty base indices) = is_local v base ≡ true

@@ -9,8 +9,13 @@
 //!
 //! The two runs are related by `IsBeside`, and at all their states by `IsBetween`. The relation holds at the start
 //! (`states_begin_beside`), and ordinary instructions keep it (`ordinary_steps_stay_beside`,
-//! `address_parts_stay_beside`). Slots that are made anew leave all as it was (`slots_made_anew_keep_all`), and are
-//! paid by the resume (`slots_made_anew_are_paid`).
+//! `address_parts_stay_beside`, `given_values_stay_beside`). So do those that make and mark blocks: allocators
+//! (`allocators_stay_beside`), allocas (`allocas_of_slots_stay_beside`, `other_allocas_stay_beside`) and markers of
+//! slots that may be made anew (`starts_of_slots_stay_beside`, `ends_of_slots_stay_beside`). A save keeps it
+//! (`saves_stay_beside`), and so does `coro.free` (`frees_stay_beside`). Instances are found in both runs
+//! (`own_instances_are_beside`, `sleepers_are_beside`).
+//! Slots that are made anew leave all as it was (`slots_made_anew_keep_all`), and are paid by the resume
+//! (`slots_made_anew_are_paid`).
 //! What a resumed activation may not use it is barred from by the path that it came
 //! (`resumed_activations_are_barred`, `left_activations_use_no_live_slot`).
 //!
@@ -20,7 +25,7 @@
 //! `left_points_go_on`).
 #![tactic(auto)]
 
-ghost use Rattle.std.specs.Prelude.{ℕ, ℤ, Bool, true, false, List, length, slice_get, Some, None, ◌≡◌, ◌≢◌, ◌≤◌, ◌<◌, ◌^◌, ◌++◌, ◌∷◌, [], ◌==◌, IsTrue, if◌then◌else◌, ◌+◌, ◌⊎◌, Option};
+ghost use Rattle.std.specs.Prelude.{Ok, ℕ, ℤ, Bool, true, false, List, length, slice_get, Some, None, ◌≡◌, ◌≢◌, ◌≤◌, ◌<◌, ◌^◌, ◌++◌, ◌∷◌, [], ◌==◌, IsTrue, if◌then◌else◌, ◌+◌, ◌⊎◌, Option};
 ghost use Rattle.run_memory.specs.Memory.{end, fresh, is_live, killed_block, same_kind, start, with_block};
 ghost use Rattle.run_memory.specs.declared.block.Kind.{Kind as TheKind};
 ghost use Rattle.run_laws.specs.memory.Standing.{blank_block};
@@ -82,7 +87,7 @@ ghost use Rattle.ir_paths.specs.Paths.{nexts};
 ghost use Rattle.pass_kept_proof.specs.Kept.{Keep};
 ghost use Rattle.pass_kept_proof.specs.SuspendRules.{IsSwitched};
 ghost use Rattle.pass_renewed_proof.specs.Ahead.{HasAwayUse, IsNoStart};
-ghost use Rattle.pass_renewed_proof.specs.Beside.{AreOutdone, HasLeftSuspended, IsBeside};
+ghost use Rattle.pass_renewed_proof.specs.Beside.{AreOutdone, HasLeftSuspended, IsBeside, place_in};
 ghost use Rattle.pass_renewed_proof.specs.Ordinary.{IsOrdinaryInstr, IsPart, with_part};
 ghost use Rattle.pass_renewed_proof.specs.Entering.{AreAligned, anew_in, price_of_all};
 ghost use Rattle.pass_renewed_proof.specs.Ledger.{AreEntered, AreSmallGlobals, Ledger};
@@ -92,6 +97,19 @@ ghost use Rattle.pass_renewed_proof.specs.SlotRules.{KeepsAllSlots, KeepsSlots};
 ghost use Rattle.pass_renewed_proof.specs.Way.{IsBarred, IsResumedAt, WasAlive};
 ghost use Rattle.run_agreement.specs.Costs.{cost_from};
 ghost use Rattle.run_source.specs.Source.{first_state};
+ghost use Rattle.ir_model.specs.declared.operand.Allocator.{Allocator};
+ghost use Rattle.ir_model.specs.declared.operand.Callee.{Callee as TheCallee};
+ghost use Rattle.pass_renewed_proof.specs.Found.{AreFound, IsSleeperBeside};
+ghost use Rattle.run_source_tables.specs.Given.{Given};
+ghost use Rattle.pass_renewed_proof.specs.Making.{IsAllocaOfOther, IsAllocaOfSlot, IsAllocating, IsGiving, IsMarkingSlot, IsSaveOf, slot_block, with_slot_of};
+ghost use Rattle.run_laws.specs.embedded.Making.{IsSmall};
+ghost use Rattle.ir_model.specs.Layout.{size_of};
+ghost use Rattle.run_source.specs.Source.{Sleeper, done_at, frame_address, is_over, release, sleeper_at};
+ghost use Rattle.run_source.specs.State.{gives, instance_at, next, own_instance, with_instance, with_left, with_slots};
+ghost use Rattle.run_source.specs.declared.state.Status.{Status as TheStatus};
+ghost use Rattle.run_source.specs.declared.state.Instance.{Instance as TheInstance};
+ghost use Rattle.run_step.specs.Step.{alloca_kind, has_markers};
+ghost use Rattle.run_step.specs.Values.{arg_values, nth};
 ghost use Rattle.pass_renewed_proof.specs.LocalSlot as local_slot;
 ghost use Rattle.pass_renewed_proof.specs.RestartedSlots as restarted_slots;
 ghost use Rattle.pass_renewed_proof.specs.EscapedRestart as escaped_restart;
@@ -284,4 +302,168 @@ pub fn slots_made_anew_keep_all()
         → (k : Ledger) × (k.homes ≡ l.homes) × (k.hides ≡ l.hides) × (k.seats ≡ l.seats)
         × AreEntered m k memory (made_all g from label s xs).world.memory
         × AreStanding k.homes (muted k.hides memory) (made_all g from label s xs).world.memory }
+{}
+
+/// An instruction that gives a value alone leads to states beside each other, where the two values stand for one
+/// another.
+pub fn given_values_stay_beside()
+    ensures { (m : Module) (flags : Flags) (roots : Roots)
+        → ((func : ℕ) → KeepsSlots m (function_at m func) (flags func) (roots func)) → (s t : TheState)
+        → (beside : IsBeside m flags roots s t) → (i : TheInstr) (result : Option ℕ) → IsGiving m roots s.top i result
+        → (p q : TheValue) → IsValue beside.ledger.homes p q
+        → IsBeside m flags roots (gives s result p) (gives t result q) }
+{}
+
+/// A call of an allocator that makes a block in the first run makes one in the second, and leads to states beside each
+/// other. A size is one of 64 bits: an allocator could be asked for more by arguments of the entry alone.
+pub fn allocators_stay_beside()
+    ensures { (m : Module) (flags : Flags) (roots : Roots)
+        → ((func : ℕ) → KeepsSlots m (function_at m func) (flags func) (roots func)) → (answers : List ℤ)
+        (s t : TheState) → IsBeside m flags roots s t → (allocator : Allocator) (result : Option ℕ) (must_tail : Bool)
+        (ty : Option Ty) (args : List TheArg) → IsAllocating m roots s.top allocator result must_tail ty args
+        → IsSmall (nth (arg_values m s.top.values args) 0) → (v : Work)
+        → action_of (record { code = m; answers = answers; rights = owner_rights; function = function_at m s.top.func })
+        (work_of s) (AtInstr (TheInstr.Call result must_tail ty (TheCallee.Allocator allocator) args)) ≡ Done v
+        → (y : Work) × (action_of (record {
+          code = m;
+          answers = answers;
+          rights = owner_rights;
+          function = function_at m s.top.func;
+        }) (work_of t) (AtInstr (TheInstr.Call result must_tail ty (TheCallee.Allocator allocator) args)) ≡ Done y)
+        × IsBeside m flags roots (settled s v) (settled t y) }
+{}
+
+/// Where a slot ends that may be made anew, the second run does nothing, and the states are beside each other.
+pub fn ends_of_slots_stay_beside()
+    ensures { (m : Module) (flags : Flags) (roots : Roots)
+        → ((func : ℕ) → KeepsSlots m (function_at m func) (flags func) (roots func)) → (answers : List ℤ)
+        (s t : TheState) → IsBeside m flags roots s t → (slot : ℕ) (result : Option ℕ) (must_tail : Bool)
+        (ty : Option Ty) (args : List TheArg)
+        → IsMarkingSlot m flags s.top TheIntrinsic.LifetimeEnd slot result must_tail ty args → (v : Work)
+        → action_of (record { code = m; answers = answers; rights = owner_rights; function = function_at m s.top.func })
+        (work_of s) (AtInstr (TheInstr.Call result must_tail ty (TheCallee.Intrinsic TheIntrinsic.LifetimeEnd) args))
+        ≡ Done v
+        → IsBeside m flags roots (settled s v) (next t) }
+{}
+
+/// Where such a slot is started, too. No activation below may go on in the topmost one's instance where that one hasn't
+/// left.
+pub fn starts_of_slots_stay_beside()
+    ensures { (m : Module) (flags : Flags) (roots : Roots)
+        → ((func : ℕ) → KeepsSlots m (function_at m func) (flags func) (roots func)) → (answers : List ℤ)
+        (s t : TheState) → IsBeside m flags roots s t → (slot : ℕ) (result : Option ℕ) (must_tail : Bool)
+        (ty : Option Ty) (args : List TheArg)
+        → IsMarkingSlot m flags s.top TheIntrinsic.LifetimeStart slot result must_tail ty args
+        → AreOutdone s.instances s.top s.below → HasLeftSuspended s.instances s.top → (v : Work)
+        → action_of (record { code = m; answers = answers; rights = owner_rights; function = function_at m s.top.func })
+        (work_of s) (AtInstr (TheInstr.Call result must_tail ty (TheCallee.Intrinsic TheIntrinsic.LifetimeStart) args))
+        ≡ Done v
+        → IsBeside m flags roots (settled s v) (next t) }
+{}
+
+/// The alloca of a slot that may be made anew makes a block in both runs, and leads to states beside each other. In the
+/// second run the block lives and is the activation's; in the first it is the activation's before begin, and then the
+/// instance's. The activation hasn't left.
+pub fn allocas_of_slots_stay_beside()
+    ensures memory { (m : Module) (s : TheState) (ty : Ty) (align : ℕ) (marked : Bool) (n : List Block)
+        → (if marked then end (fresh n (size_of m ty) align (alloca_kind (function_at m s.top.func))) (length n)
+        else fresh n (size_of m ty) align (alloca_kind (function_at m s.top.func)))
+        ≡ n ++ slot_block m s ty align marked ∷ [] }
+    ensures early { (m : Module) (flags : Flags) (roots : Roots)
+        → ((func : ℕ) → KeepsSlots m (function_at m func) (flags func) (roots func)) → (s t : TheState)
+        → IsBeside m flags roots s t → (a : ℕ) (ty : Ty) (align : ℕ) → IsAllocaOfSlot m flags s.top a ty align
+        → size_of m ty < 2 ^ 64 → (marked : Bool) → marked ≡ has_markers (function_at m s.top.func) a
+        → s.top.instance ≡ None
+        → IsBeside m flags roots (with_slots (with_slot_of s (slot_block m s ty align marked) a)
+        (record { alloca = a; block = length s.world.memory } ∷ s.top.slots))
+        (with_slots (with_slot_of t (slot_block m s ty align false) a)
+        (record { alloca = a; block = length t.world.memory } ∷ t.top.slots)) }
+    ensures begun { (m : Module) (flags : Flags) (roots : Roots)
+        → ((func : ℕ) → KeepsSlots m (function_at m func) (flags func) (roots func)) → (s t : TheState)
+        → IsBeside m flags roots s t → (a : ℕ) (ty : Ty) (align : ℕ) → IsAllocaOfSlot m flags s.top a ty align
+        → size_of m ty < 2 ^ 64 → (marked : Bool) → marked ≡ has_markers (function_at m s.top.func) a
+        → (i : ℕ) (x : TheInstance) → s.top.instance ≡ Some i → slice_get s.instances i ≡ Some x
+        → is_over x ≡ false → x.coroutine ≡ s.top.func
+        → IsBeside m flags roots (with_instance (with_slot_of s (slot_block m s ty align marked) a) i
+        (record x { slots = record { alloca = a; block = length s.world.memory } ∷ x.slots }))
+        (with_slots (with_slot_of t (slot_block m s ty align false) a)
+        (record { alloca = a; block = length t.world.memory } ∷ t.top.slots)) }
+{}
+
+/// The alloca of any other slot does the same in both runs. It becomes the activation's in both, or the instance's.
+pub fn other_allocas_stay_beside()
+    ensures own { (m : Module) (flags : Flags) (roots : Roots)
+        → ((func : ℕ) → KeepsSlots m (function_at m func) (flags func) (roots func)) → (s t : TheState)
+        → IsBeside m flags roots s t → (a : ℕ) (ty : Ty) (align : ℕ) → IsAllocaOfOther m flags roots s.top a ty align
+        → size_of m ty < 2 ^ 64 → (marked : Bool)
+        → IsBeside m flags roots (with_slots (with_slot_of s (slot_block m s ty align marked) a)
+        (record { alloca = a; block = length s.world.memory } ∷ s.top.slots))
+        (with_slots (with_slot_of t (slot_block m s ty align marked) a)
+        (record { alloca = a; block = length t.world.memory } ∷ t.top.slots)) }
+    ensures instance { (m : Module) (flags : Flags) (roots : Roots)
+        → ((func : ℕ) → KeepsSlots m (function_at m func) (flags func) (roots func)) → (s t : TheState)
+        → IsBeside m flags roots s t → (a : ℕ) (ty : Ty) (align : ℕ) → IsAllocaOfOther m flags roots s.top a ty align
+        → size_of m ty < 2 ^ 64 → (marked : Bool) → (i : ℕ) (x y : TheInstance) → slice_get s.instances i ≡ Some x
+        → slice_get t.instances i ≡ Some y → flags x.coroutine a ≡ false
+        → IsBeside m flags roots (with_instance (with_slot_of s (slot_block m s ty align marked) a) i
+        (record x { slots = record { alloca = a; block = length s.world.memory } ∷ x.slots }))
+        (with_instance (with_slot_of t (slot_block m s ty align marked) a) i
+        (record y { slots = record { alloca = a; block = length t.world.memory } ∷ y.slots })) }
+{}
+
+/// A save leaves the instance Suspended in both runs, with what the activation has in each, and the activation has
+/// left. No other activation may go on in that instance.
+pub fn saves_stay_beside()
+    ensures { (m : Module) (flags : Flags) (roots : Roots)
+        → ((func : ℕ) → KeepsSlots m (function_at m func) (flags func) (roots func)) → (s t : TheState)
+        → IsBeside m flags roots s t → (i : TheInstr) (suspend : Point) → IsSaveOf m s.top i suspend → (n : ℕ)
+        (x y : TheInstance) → s.top.instance ≡ Some n → slice_get s.instances n ≡ Some x
+        → slice_get t.instances n ≡ Some y → x.coroutine ≡ s.top.func → x.freed ≡ false
+        → AreOutdone s.instances s.top s.below
+        → IsBeside m flags roots (next (with_left (with_instance s n (record x {
+          status = TheStatus.Suspended suspend s.top.values;
+          last_save = Some (record { depth = length s.below; save = place_in s.top });
+        })) true)) (next (with_left (with_instance t n (record y {
+          status = TheStatus.Suspended suspend t.top.values;
+          last_save = Some (record { depth = length s.below; save = place_in s.top });
+        })) true)) }
+{}
+
+/// Where the topmost activation has an instance, the second run's has the one beside it, and its frame address stands
+/// for the first's. So has a frame address an instance in both.
+pub fn own_instances_are_beside()
+    ensures own { (m : Module) (flags : Flags) (roots : Roots) (s t : TheState) → (beside : IsBeside m flags roots s t)
+        → AreFound m flags roots beside.ledger s.world.memory (own_instance s) (own_instance t) }
+    ensures address { (m : Module) (flags : Flags) (roots : Roots) (s t : TheState)
+        → (beside : IsBeside m flags roots s t)
+        → IsValue beside.ledger.homes (frame_address (own_instance s)) (frame_address (own_instance t)) }
+    ensures found { (m : Module) (flags : Flags) (roots : Roots) (s t : TheState)
+        → (beside : IsBeside m flags roots s t) → (p q : TheValue) → IsValue beside.ledger.homes p q
+        → (r : ℕ × TheInstance) → instance_at s.instances p ≡ Some r
+        → AreFound m flags roots beside.ledger s.world.memory (Some r) (instance_at t.instances q) }
+{}
+
+/// coro.free marks the instance released in both runs, and gives its frame address.
+pub fn frees_stay_beside()
+    ensures { (m : Module) (flags : Flags) (roots : Roots)
+        → ((func : ℕ) → KeepsSlots m (function_at m func) (flags func) (roots func)) → (s t : TheState)
+        → IsBeside m flags roots s t → (i : TheInstr) (result : Option ℕ) → IsGiving m roots s.top i result
+        → IsBeside m flags roots (gives (release s) result (frame_address (own_instance s)))
+        (gives (release t) result (frame_address (own_instance t))) }
+{}
+
+/// The suspended instance of a frame address is suspended in both runs, at one suspend, and coro.done says the same of
+/// it.
+pub fn sleepers_are_beside()
+    ensures found { (m : Module) (flags : Flags) (roots : Roots) (s t : TheState)
+        → (beside : IsBeside m flags roots s t) → (p q : TheValue) → IsValue beside.ledger.homes p q → (y : Sleeper)
+        → sleeper_at s p ≡ Ok y
+        → (z : Sleeper) × (sleeper_at t q ≡ Ok z)
+        × IsSleeperBeside m flags roots beside.ledger s.world.memory y z }
+    ensures done { (m : Module) (flags : Flags) (roots : Roots)
+        → ((func : ℕ) → KeepsSlots m (function_at m func) (flags func) (roots func)) → (s t : TheState)
+        → (beside : IsBeside m flags roots s t) → (i : TheInstr) (result : Option ℕ) → IsGiving m roots s.top i result
+        → (g h : Given) → h.code ≡ g.code → (p q : TheValue) → IsValue beside.ledger.homes p q → (after : TheState)
+        → done_at g s result p ≡ Ok after
+        → (other : TheState) × (done_at h t result q ≡ Ok other) × IsBeside m flags roots after other }
 {}

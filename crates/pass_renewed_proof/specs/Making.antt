@@ -1,0 +1,101 @@
+-- Instructions that make or mark blocks, and those that give a value alone.
+use Rattle.std.specs.Prelude.{◌≡◌, ◌<◌, ℕ, Bool, true, false, List, [], ◌∷◌, ◌++◌, length, Option, Some, IsTrue}
+use Rattle.std.specs.Prelude.{if◌then◌else◌}
+use Rattle.ir_model.specs.Names.{function_at}
+use Rattle.ir_model.specs.Ty.{Ty}
+use Rattle.ir_model.specs.declared.instr.Instr.{Instr}
+use Rattle.ir_model.specs.declared.module.Module.{Module}
+use Rattle.ir_model.specs.declared.operand.Allocator.{Allocator}
+use Rattle.ir_model.specs.declared.operand.Arg.{Arg}
+use Rattle.ir_model.specs.declared.operand.Callee.{Callee}
+use Rattle.ir_model.specs.declared.operand.Intrinsic.{Intrinsic}
+use Rattle.ir_model.specs.declared.operand.Operand.{Operand}
+use Rattle.ir_paths.specs.Windows.{is_call_of, operand_at, suspend_of}
+use Rattle.ir_paths.specs.declared.point.Point.{Point}
+use Rattle.ir_model.specs.Layout.{size_of}
+use Rattle.run_laws.specs.memory.Standing.{blank_block}
+use Rattle.run_memory.specs.declared.block.Life.{Life}
+use Rattle.run_memory.specs.declared.block.MemoryBlock.{MemoryBlock}
+use Rattle.run_source.specs.State.{settled}
+use Rattle.run_source.specs.declared.state.Activation.{Activation}
+use Rattle.run_source.specs.declared.state.State.{State}
+use Rattle.run_step.specs.Step.{AtInstr, alloca_kind, fetch}
+use Rattle.run_step.specs.Values.{pointer_to, with_value}
+use Rattle.pass_renewed_proof.specs.Beside.{place_in}
+use Rattle.pass_renewed_proof.specs.Ordinary.{IsCalm, IsOrdinary}
+use Rattle.pass_renewed_proof.specs.Renewed.{Flags, Roots}
+
+-- ---- instructions that give a value
+
+-- an instruction that is no marker stands at the activation's place, and the name isn't one of an address in a slot
+pub record IsGiving (m : Module) (roots : Roots) (a : Activation) (i : Instr) (result : Option ℕ) : Type 0 where
+  pub place : IsCalm (function_at m a.func) (place_in a)
+  pub here : fetch (function_at m a.func) a.block a.at ≡ AtInstr i
+  pub no_start : is_call_of Intrinsic.LifetimeStart i ≡ false
+  pub no_end : is_call_of Intrinsic.LifetimeEnd i ≡ false
+  pub no_part : (v slot : ℕ) → roots a.func v ≡ Some slot → result ≡ Some v → ⊥
+
+-- ---- allocators
+
+abbrev pub allocates : Allocator → Bool
+allocates Allocator.Malloc = true
+allocates Allocator.Znwm = true
+allocates _ = false
+
+-- a call of malloc or of operator new stands at the activation's place
+pub record IsAllocating (m : Module) (roots : Roots) (a : Activation) (allocator : Allocator) (result : Option ℕ)
+    (must_tail : Bool) (ty : Option Ty) (args : List Arg) : Type 0 where
+  pub giving : IsGiving m roots a (Instr.Call result must_tail ty (Callee.Allocator allocator) args) result
+  pub is : IsTrue (allocates allocator)
+
+-- ---- markers of slots that may be made anew
+
+-- a marker of such a slot stands at the activation's place
+pub record IsMarkingSlot (m : Module) (flags : Flags) (a : Activation) (marker : Intrinsic) (slot : ℕ) (result :
+    Option ℕ) (must_tail : Bool) (ty : Option Ty) (args : List Arg) : Type 0 where
+  pub place : IsOrdinary (function_at m a.func) (place_in a)
+  pub here : fetch (function_at m a.func) a.block a.at ≡ AtInstr (Instr.Call result must_tail ty (Callee.Intrinsic
+      marker) args)
+  pub takes : operand_at args 1 ≡ Operand.Local slot
+  pub flagged : IsTrue (flags a.func slot)
+
+-- ---- allocas
+
+-- an alloca of a slot that may be made anew stands at the activation's place, and gives a name that the activation has a
+-- value of; the activation hasn't left
+pub record IsAllocaOfSlot (m : Module) (flags : Flags) (a : Activation) (name : ℕ) (ty : Ty) (align : ℕ) : Type 0 where
+  pub place : IsOrdinary (function_at m a.func) (place_in a)
+  pub here : fetch (function_at m a.func) a.block a.at ≡ AtInstr (Instr.Alloca name ty align)
+  pub flagged : IsTrue (flags a.func name)
+  pub named : name < length a.values
+  pub stays : a.has_left ≡ false
+
+-- an alloca of any other slot, which gives no address in such a slot
+pub record IsAllocaOfOther (m : Module) (flags : Flags) (roots : Roots) (a : Activation) (name : ℕ) (ty : Ty) (align :
+    ℕ) : Type 0 where
+  pub giving : IsGiving m roots a (Instr.Alloca name ty align) (Some name)
+  pub off : flags a.func name ≡ false
+
+-- the block of an alloca, which is dead at first if it has markers
+abbrev pub slot_block : Module → State → Ty → (align : ℕ) → (marked : Bool) → MemoryBlock
+slot_block m s ty align marked =
+    record (blank_block (size_of m ty) align (alloca_kind (function_at m s.top.func))) {
+      life = if marked then Life.Ended else Life.Live;
+    }
+
+-- there is a block more, whose address the alloca gives
+abbrev pub with_slot_of : State → MemoryBlock → ℕ → State
+with_slot_of s x name = settled s (record {
+  world = record s.world { memory = s.world.memory ++ x ∷ [] };
+  values = with_value s.top.values name (pointer_to (length s.world.memory));
+})
+
+-- ---- saves
+
+-- a save, which has a suspend, stands at the place of an activation that hasn't left
+pub record IsSaveOf (m : Module) (a : Activation) (i : Instr) (suspend : Point) : Type 0 where
+  pub place : IsOrdinary (function_at m a.func) (place_in a)
+  pub here : fetch (function_at m a.func) a.block a.at ≡ AtInstr i
+  pub is : is_call_of Intrinsic.CoroSave i ≡ true
+  pub takes : suspend_of (function_at m a.func) (place_in a) ≡ Some suspend
+  pub stays : a.has_left ≡ false
