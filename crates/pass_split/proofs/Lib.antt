@@ -1,3 +1,4 @@
+pub mod Called
 pub mod CalledNames
 pub mod Names
 pub mod Turns

@@ -2,6 +2,7 @@
 
 ghost use Rattle.std.specs.Prelude.{◌≡◌, IfOk, OnOk, ◌++◌};
 ghost use Rattle.pass_exits.specs.ExitBlocks.{with_exit_blocks};
+ghost use Rattle.pass_split.specs.Called.{split_by};
 ghost use Rattle.pass_split.specs.Given.{is_given_by, called_names, has_given_call};
 ghost use Rattle.pass_split.specs.Parts.{marked_parts, split_function, first_layout, other_layouts, layouts_after, split_functions, split_module};
 
@@ -14,7 +15,27 @@ use pass_exits::with_exit_blocks;
 use pass_intrinsics::shape_of;
 use std::alloc::{AllocError, Global};
 
-/// Adds what a function becomes, by the calls and the first of these layouts where it is a coroutine.
+/// Adds what a function becomes, by the first of these layouts where it is a coroutine.
+fn push_split(
+    alloc: Global,
+    all: &mut Items<Function>,
+    layouts: &[Layout],
+    given: bool,
+    function: &Function,
+) -> Result<(), AllocError>
+    ensures { OnOk result (all.new ≡ all.old ++ split_function (first_layout layouts.now) given function.now) }
+{
+    if !function.coroutine {
+        all.push(plain_of(alloc, function)?)?;
+        return Ok(());
+    }
+    match layouts {
+        [] => push_coroutine(alloc, all, &index_alone(alloc, 0, 0)?, given, function),
+        [layout, ..] => push_coroutine(alloc, all, layout, given, function),
+    }
+}
+
+/// Adds what a function becomes where these are the calls.
 fn push_function(
     alloc: Global,
     all: &mut Items<Function>,
@@ -24,15 +45,8 @@ fn push_function(
 ) -> Result<(), AllocError>
     ensures { OnOk result (all.new ≡ all.old ++ split_function (first_layout layouts.now) (is_given_by calls.now.names function.now) function.now) }
 {
-    if !function.coroutine {
-        all.push(plain_of(alloc, function)?)?;
-        return Ok(());
-    }
     let given = is_given_by(alloc, calls, function)?;
-    match layouts {
-        [] => push_coroutine(alloc, all, &index_alone(alloc, 0, 0)?, given, function),
-        [layout, ..] => push_coroutine(alloc, all, layout, given, function),
-    }
+    push_split(alloc, all, layouts, given, function)
 }
 
 /// Adds the parts of a coroutine whose edges that leave a window have blocks with marks.
@@ -75,6 +89,23 @@ fn layouts_after<'a>(function: &Function, layouts: &'a [Layout]) -> &'a [Layout]
     }
 }
 
+fn split_by(
+    alloc: Global,
+    layouts: &[Layout],
+    calls: &Calls,
+    functions: &[Function],
+) -> Result<Items<Function>, AllocError>
+    ensures { IfOk result (λ x. x ≡ split_by layouts.now calls.now.names functions.now) }
+{
+    let mut all = Items::new(alloc);
+    let mut left = layouts;
+    for function in functions {
+        push_function(alloc, &mut all, left, calls, function)?;
+        left = layouts_after(function, left);
+    }
+    Ok(all)
+}
+
 fn split_functions(
     alloc: Global,
     layouts: &[Layout],
@@ -84,13 +115,7 @@ fn split_functions(
 {
     let functions = source.functions.as_slice();
     let calls = calls_of(alloc, functions)?;
-    let mut all = Items::new(alloc);
-    let mut left = layouts;
-    for function in functions {
-        push_function(alloc, &mut all, left, &calls, function)?;
-        left = layouts_after(function, left);
-    }
-    Ok(all)
+    split_by(alloc, layouts, &calls, functions)
 }
 
 /// The module with each coroutine `f` split into its ramp `f`, `f.resume` and `f.destroy` ("Coroutines in LLVM", the pass

@@ -77,15 +77,15 @@ part_rules m n k l layout part begin f g h stands s small is given =
 pub record IsSomePart (s : Shape) (given : Bool) (f g : Function) : Type 0 where
   pub part : Part
   pub is : IsPartOf s f part g
-  pub given : part ≡ Part.GivenRamp → given ≡ true
+  pub where_given : part ≡ Part.GivenRamp → given ≡ true
 
 pub some_part : (s : Shape) (given : Bool) (f g : Function) (number : ℕ) → slice_get (parts_of s given f) number ≡ Some g → IsSomePart s given f g
-some_part s given f g zero e = let same : pruned (ramp_of s f) ≡ g = cc in record { part = Part.Ramp; is = subst (IsPartOf s f Part.Ramp) same IsRamp; given = λ d. absurd (cc) }
-some_part s given f g (suc zero) e = let same : pruned (later_part s Part.Resume s.resume_name f) ≡ g = cc in record { part = Part.Resume; is = subst (IsPartOf s f Part.Resume) same IsResume; given = λ d. absurd (cc) }
-some_part s given f g (suc (suc zero)) e = let same : pruned (later_part s Part.Destroy s.destroy_name f) ≡ g = cc in record { part = Part.Destroy; is = subst (IsPartOf s f Part.Destroy) same IsDestroy; given = λ d. absurd (cc) }
+some_part s given f g zero e = let same : pruned (ramp_of s f) ≡ g = cc in record { part = Part.Ramp; is = subst (IsPartOf s f Part.Ramp) same IsRamp; where_given = λ d. absurd (cc) }
+some_part s given f g (suc zero) e = let same : pruned (later_part s Part.Resume s.resume_name f) ≡ g = cc in record { part = Part.Resume; is = subst (IsPartOf s f Part.Resume) same IsResume; where_given = λ d. absurd (cc) }
+some_part s given f g (suc (suc zero)) e = let same : pruned (later_part s Part.Destroy s.destroy_name f) ≡ g = cc in record { part = Part.Destroy; is = subst (IsPartOf s f Part.Destroy) same IsDestroy; where_given = λ d. absurd (cc) }
 some_part s false f g (suc (suc (suc k))) e = absurd (cc)
-some_part s true f g (suc (suc (suc zero))) e = let same : pruned (later_part s Part.Cleanup s.cleanup_name f) ≡ g = cc in record { part = Part.Cleanup; is = subst (IsPartOf s f Part.Cleanup) same IsCleanup; given = λ d. absurd (cc) }
-some_part s true f g (suc (suc (suc (suc zero)))) e = let same : pruned (given_ramp_of s f) ≡ g = cc in record { part = Part.GivenRamp; is = subst (IsPartOf s f Part.GivenRamp) same IsGivenRamp; given = λ d. refl }
+some_part s true f g (suc (suc (suc zero))) e = let same : pruned (later_part s Part.Cleanup s.cleanup_name f) ≡ g = cc in record { part = Part.Cleanup; is = subst (IsPartOf s f Part.Cleanup) same IsCleanup; where_given = λ d. absurd (cc) }
+some_part s true f g (suc (suc (suc (suc zero)))) e = let same : pruned (given_ramp_of s f) ≡ g = cc in record { part = Part.GivenRamp; is = subst (IsPartOf s f Part.GivenRamp) same IsGivenRamp; where_given = λ d. refl }
 some_part s true f g (suc (suc (suc (suc (suc k))))) e = absurd (cc)
 
 module _ (ls : Layouts) (m : Module) (ready : IsReady ls m) where
@@ -105,8 +105,8 @@ module _ (ls : Layouts) (m : Module) (ready : IsReady ls m) where
       let there : slice_get (exited_module m).functions k ≡ Some h = coroutine_stands m k f stands c in
       let s : IsSplittable (exited_module m) k h r.begin = splittable_exited m k h r.begin r.splittable in
       record {
-        rules = part_rules (exited_module m) n k l layout p.part r.begin h g (parts_exited m n parts) there s small p.is (λ d. given_parts.cleanups k f stands c (p.given d));
-        names = parts_free (exited_module m) n k l layout p.part h g (parts_exited m n parts) there s.coroutine p.is (λ d. given_parts.cleanups k f stands c (p.given d)) r.names;
+        rules = part_rules (exited_module m) n k l layout p.part r.begin h g (parts_exited m n parts) there s small p.is (λ d. given_parts.cleanups k f stands c (p.where_given d));
+        names = parts_free (exited_module m) n k l layout p.part h g (parts_exited m n parts) there s.coroutine p.is (λ d. given_parts.cleanups k f stands c (p.where_given d)) r.names;
       }
 
   plain_kept : (k l : ℕ) (f g : Function) (number : ℕ) → slice_get m.functions k ≡ Some f → f.coroutine ≡ false → IsPlainReady m k f → slice_get (plain_of (plain_shape f) f ∷ []) number ≡ Some g → IsKept n l g

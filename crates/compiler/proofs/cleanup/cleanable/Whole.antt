@@ -61,7 +61,7 @@ module _ (ls : Layouts) (m : Module) (ready : IsReady ls m) where
       let s : Shape = shape_of h layout in
       let p = some_part s (has_given_call m f) h g number e in
       function_cleanable n 0 g
-      (parts_pass (is_there n) s p.part k 0 h g (part_there s.resume_name (parts.resumes k f stands c), part_there s.destroy_name (parts.destroys k f stands c), (λ d. part_there s.cleanup_name (given_parts.cleanups k f stands c (p.given d)))) p.is
+      (parts_pass (is_there n) s p.part k 0 h g (part_there s.resume_name (parts.resumes k f stands c), part_there s.destroy_name (parts.destroys k f stands c), (λ d. part_there s.cleanup_name (given_parts.cleanups k f stands c (p.where_given d)))) p.is
       (function_there m n refl k h r.splittable.rules.local.function_pointers r.names))
 
   turned_cleanable : (k : ℕ) (f g : Function) (number : ℕ) → f.coroutine ≡ false → IsPlainReady m k f → slice_get (plain_of (plain_shape f) f ∷ []) number ≡ Some g → IsCleanableFunction n g

@@ -89,9 +89,10 @@ module _ (m : Module) (k : ℕ) (f : Function) (begin : ℕ) (split : IsSplittab
       (Entry label (subst (λ (bs : List Block). IsListed label (entry_of ((bs ++ pieces) ++ done_block s ∷ []))) (sym head_is) (inl refl)))
 
   starts : (rest : List Block) × ((later_part (shape_of f layout) part name f).blocks ≡ entry_block (shape_of f layout) (reached f) part f.blocks ∷ rest)
-  starts =
-      (((none_block s ∷ back_blocks s part 0 s.suspends) ++ pieces) ++ done_block s ∷ [],
-      ap (λ (bs : List Block). (bs ++ pieces) ++ done_block s ∷ []) head_is)
+  starts = (
+    ((none_block s ∷ back_blocks s part 0 s.suspends) ++ pieces) ++ done_block s ∷ [],
+    ap (λ (bs : List Block). (bs ++ pieces) ++ done_block s ∷ []) head_is,
+  )
 
   part_that_goes_on_unused : IsUnusedIn (pruned (later_part (shape_of f layout) part name f))
   part_that_goes_on_unused =
