@@ -1,10 +1,15 @@
 pub mod Code
 pub mod Costs
 pub mod Distances
+pub mod Fetched
+pub mod Framings
 pub mod Layers
+pub mod Lines
+pub mod Loaded
 pub mod Offsets
 pub mod Passes
 pub mod Places
 pub mod Related
+pub mod Saves
 pub mod Tests
 pub mod Worked

@@ -3,7 +3,9 @@
 
 pub mod code;
 pub mod distances;
+pub mod fetched;
 pub mod layers;
+pub mod lines;
 pub mod offsets;
 pub mod start;
 pub mod tests;

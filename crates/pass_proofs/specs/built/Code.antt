@@ -1,16 +1,21 @@
 -- What each instruction of a coroutine becomes in its framed form, over all passes.
-use Rattle.std.specs.Prelude.{ℕ, Bool, List, [], ◌∷◌, ◌++◌}
+use Rattle.std.specs.Prelude.{ℕ, Bool, List, [], ◌∷◌, ◌++◌, Option}
 use Rattle.ir_model.specs.declared.instr.Instr.{Instr}
+use Rattle.ir_model.specs.declared.instr.Terminator.{Terminator}
 use Rattle.ir_parts.specs.Contents.{instr_operands, result_of}
+use Rattle.pass_addresses.specs.Placing.{slot_fetches}
 use Rattle.pass_cells.specs.Cells.{fetches_of}
 use Rattle.pass_cells.specs.Moves.{after_saved, saved_values}
 use Rattle.pass_cells.specs.Written.{distance_behind, save_row, stored_result}
 use Rattle.pass_copies.specs.BeginCopies.{behind as behind_begin}
+use Rattle.pass_fetch.specs.Blocks.{end_at}
 use Rattle.pass_fetch.specs.Fetching.{fetches_of_all}
-use Rattle.pass_fetch.specs.Instrs.{with_fetched}
+use Rattle.pass_fetch.specs.Instrs.{fetched_term, term_operands, with_fetched}
+use Rattle.pass_fetch.specs.declared.fetch.Fetch.{Fetch}
+use Rattle.pass_frames.specs.Framed.{begin_of}
 use Rattle.pass_proofs.specs.built.Layers.{IsIdle, grown, passed}
-use Rattle.pass_proofs.specs.built.Passes.{fetched_before, fetches_before, unmarked_at}
-use Rattle.pass_proofs.specs.built.Places.{Framing, Placed, addressing_layer, copies, copying_layer, marked, plan, writing_layer}
+use Rattle.pass_proofs.specs.built.Passes.{block_at, fetched_before, fetches_before, phi_ends, unmarked_at}
+use Rattle.pass_proofs.specs.built.Places.{Framing, Placed, addressing_layer, copies, copying_layer, edged, instrs_at, marked, named, offsets, placed_layer, plan, unmarked, writing_layer}
 use Rattle.run_laws.specs.changed.Changed.{Each}
 
 -- ---- the next new names of the passes, and whether begin is ahead, where an instruction is met
@@ -90,3 +95,40 @@ pub record ArePartsLeft (x : Framing) (k : ℕ) (s : Placed) (i : Instr) : Type 
   pub addressed_loads : Each (IsIdle (addressing_layer x k)) (loads x s i)
   pub addressed_wheres : Each (IsIdle (addressing_layer x k)) (wheres x s i)
   pub addressed_stores : Each (IsIdle (addressing_layer x k)) (stores x s i)
+
+-- ---- behind the last instruction: loads for phis that are entered from the block and for its terminator, and then
+-- the addresses of slots for either
+
+abbrev pub slot_table : Framing → List (Option Fetch)
+slot_table x = slot_fetches (begin_of x.function) (offsets x)
+
+-- the states behind the last instruction of a block
+abbrev pub last_state : Framing → ℕ → Placed
+last_state x k = passed (placed_layer x k) (placed_layer x k).start (instrs_at x k)
+
+abbrev pub end_loads : Framing → ℕ → Placed → List Instr
+end_loads x k s =
+    end_at (phi_ends (named x) (fetches_of (plan x))) (block_at (edged x) k).label
+    ++ fetches_of_all (fetches_of (plan x)) (load_name s) (term_operands (block_at (edged x) k).term)
+
+abbrev pub end_addresses : Framing → ℕ → Placed → List Instr
+end_addresses x k s =
+    end_at (phi_ends (unmarked x) (slot_table x)) (block_at (unmarked x) k).label
+    ++ fetches_of_all (slot_table x) (address_state s).0 (term_operands (block_at (unmarked x) k).term)
+
+abbrev pub end_code : Framing → ℕ → Placed → List Instr
+end_code x k s = end_loads x k s ++ end_addresses x k s
+
+-- the terminator with what is loaded, and then with the addresses
+abbrev pub end_term : Framing → Placed → Terminator → Terminator
+end_term x s t = fetched_term (slot_table x) (address_state s).0 (fetched_term (fetches_of (plan x)) (load_name s) t)
+
+-- ---- in front of the first instruction, before addresses are fetched: in the entry the allocas of temporaries and
+-- cells, and the stores of parameters; in a block on a resume or destroy edge addresses of slots are put into their
+-- cells, and what crosses is loaded; then phis are stored
+
+abbrev pub front_moves : Framing → ℕ → List Instr
+front_moves x k = (copying_layer x k).front ++ (writing_layer x k).front
+
+abbrev pub front_code : Framing → ℕ → List Instr
+front_code x k = addressed x k (addressing_layer x k).start (front_moves x k)

@@ -1,6 +1,6 @@
 -- The states that stand beside each other where frames are built: one of the coroutines with blocks on edges, whose
 -- resumes make slots anew, and one of the framed form.
-use Rattle.std.specs.Prelude.{◌≡◌, ◌≢◌, ◌⊎◌, ℕ, zero, suc, ◌+◌, ◌≤◌, ◌&&◌, Bool, true, false, List, [], ◌∷◌, ◌++◌, length, map, take, slice_get, Some, None, Option, option_map, if◌then◌else◌}
+use Rattle.std.specs.Prelude.{◌≡◌, ◌≢◌, ◌⊎◌, ℕ, zero, suc, ◌+◌, ◌^◌, ◌<◌, ◌≤◌, ◌&&◌, Bool, true, false, List, [], ◌∷◌, ◌++◌, length, map, take, slice_get, Some, None, Option, option_map, if◌then◌else◌}
 use Rattle.flow_solver.specs.Paths.{IsListed}
 use Rattle.frame_classes.specs.declared.class.SlotClass.{SlotClass}
 use Rattle.frame_contents.specs.Held.{position_of}
@@ -115,12 +115,13 @@ pub record AreNamed (x : Framing) (homes : List Home) (a c : Activation) : Type 
 abbrev pub root_of : Framing → ℕ → Option ℕ
 root_of x v = entry (slots_of (class_flags x.function x.contents.classes SlotClass.Local) (bases_of (edged x))) v
 
--- the number is the distance of an address in a block from the block's start, where the address isn't poison
+-- the number, of 64 bits, is the distance of an address in a block from the block's start, where the address isn't
+-- poison
 abbrev pub IsDistanceOf : Value → Value → Value → Type 0
 IsDistanceOf root v d =
     (v ≡ Value.Poison)
     ⊎ ((block : ℕ) × (o : Offset) × (root ≡ pointer_to block) × (v ≡ Value.Ptr (Pointer.At block o))
-    × (d ≡ Value.Int (record { width = 64; bits = o.bits })))
+    × (o.bits < 2 ^ 64) × (d ≡ Value.Int (record { width = 64; bits = o.bits })))
 
 -- what a field or the cell from which it is filled has of a kept value: it, or its distance from its slot
 abbrev pub IsKeptAs : List Home → Env → ℕ → KeptValue → Option ℕ → Value → Type 0

@@ -3,6 +3,7 @@
 ghost use Rattle.std.specs.Prelude.{◌≡◌, ◌≢◌, ℕ, Bool, true, false, List, Option, slice_get, Some};
 ghost use Rattle.frame_layout.specs.declared.layout.Layout.{Layout};
 ghost use Rattle.ir_model.specs.declared.instr.Instr.{Instr};
+ghost use Rattle.ir_model.specs.declared.instr.Terminator.{Terminator};
 ghost use Rattle.ir_model.specs.declared.module.Block.{Block};
 ghost use Rattle.ir_parts.specs.Contents.{instr_operands};
 ghost use Rattle.ir_model.specs.declared.module.Function.{Function};
@@ -18,11 +19,12 @@ ghost use Rattle.pass_fetch.specs.Blocks.{with_fetches};
 ghost use Rattle.pass_fetch.specs.declared.fetch.Fetch.{Fetch};
 ghost use Rattle.pass_frames.specs.Framed.{IsFramedCoroutine};
 ghost use Rattle.pass_front.specs.Front.{with_front_allocas};
-ghost use Rattle.pass_proofs.specs.built.Code.{ArePartsLeft, code_of};
-ghost use Rattle.pass_proofs.specs.built.Layers.{IsIdle, becomes, both, each, only};
+ghost use Rattle.pass_proofs.specs.built.Code.{ArePartsLeft, code_of, end_code, end_term, front_code, last_state};
+ghost use Rattle.pass_proofs.specs.built.Framings.{IsFraming};
+ghost use Rattle.pass_proofs.specs.built.Layers.{IsIdle, becomes, both, each, only, state_at};
 ghost use Rattle.pass_proofs.specs.built.Passes.{IsBlockMade, IsUnwritten, addressed_at, copying, copying_at, fetching, fetching_at, unmarked_at, writing, writing_at};
 ghost use Rattle.pass_proofs.specs.fetch.rules.Fetches.{AreUnfetched};
-ghost use Rattle.pass_proofs.specs.built.Places.{Framing, Placed, edged, entry_layer, framed, framing_of, placed_layer};
+ghost use Rattle.pass_proofs.specs.built.Places.{Framing, Placed, edged, entry_layer, framed, framing_of, instrs_at, placed_layer};
 
 /// Fetches, stores into cells, copies at begin and addresses in frames are made of each block by their layers.
 pub fn passes_make_blocks()
@@ -67,4 +69,24 @@ pub fn passes_leave_instructions()
 pub fn instructions_become_their_parts()
     ensures { (x : Framing) (k : ℕ) (s : Placed) (i : Instr) → ArePartsLeft x k s i
         → becomes (placed_layer x k) s i ≡ code_of x k s i }
+{}
+
+/// In a coroutine whose frame may be built the later passes leave what the earlier ones put in. So each instruction
+/// becomes its parts.
+pub fn parts_are_left()
+    ensures left { (x : Framing) → IsFraming x → (k at : ℕ) (i : Instr) → slice_get (instrs_at x k) at ≡ Some i
+        → ArePartsLeft x k (state_at (placed_layer x k) (instrs_at x k) at) i }
+    ensures code { (x : Framing) → IsFraming x → (k at : ℕ) (i : Instr) → slice_get (instrs_at x k) at ≡ Some i
+        → becomes (placed_layer x k) (state_at (placed_layer x k) (instrs_at x k) at) i
+        ≡ code_of x k (state_at (placed_layer x k) (instrs_at x k) at) i }
+{}
+
+/// Behind the last instruction of a block stand loads for phis and for the terminator, and addresses for both. The
+/// terminator uses them. In front of the first one stands what the passes move there, with its addresses.
+pub fn ends_become_their_parts()
+    ensures back { (x : Framing) → IsFraming x → (k : ℕ)
+        → (placed_layer x k).back (last_state x k) ≡ end_code x k (last_state x k) }
+    ensures term { (x : Framing) → IsFraming x → (k : ℕ) (t : Terminator)
+        → (placed_layer x k).term (last_state x k) t ≡ end_term x (last_state x k) t }
+    ensures front { (x : Framing) → IsFraming x → (k : ℕ) → (placed_layer x k).front ≡ front_code x k }
 {}

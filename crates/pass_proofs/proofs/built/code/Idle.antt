@@ -1,6 +1,6 @@
 -- Which instructions the passes that build frames leave as they are.
 use Rattle.std.proofs.Common.{◌≡◌, ℕ, Bool, true, false, List, [], ◌∷◌, ◌++◌, refl, ap, ◌∙◌}
-use Rattle.std.specs.Prelude.{None, Option, Some, option_to_list, if◌then◌else◌}
+use Rattle.std.specs.Prelude.{None, Option, Some, option_to_list, ◌&&◌, if◌then◌else◌}
 use Rattle.ir_model.specs.declared.instr.Instr.{Instr}
 use Rattle.ir_model.specs.declared.module.Block.{Block}
 use Rattle.ir_model.specs.declared.module.Module.{Module}
@@ -13,7 +13,7 @@ use Rattle.pass_cells.specs.Moves.{after_saved, saved_values}
 use Rattle.pass_cells.specs.Written.{after_distance, after_distance_into, distance_behind, distance_from, distance_into, stored_at, stored_result}
 use Rattle.pass_cells.specs.declared.plan.Plan.{Plan}
 use Rattle.pass_copies.specs.BeginCopies.{begin_copies, is_fetched}
-use Rattle.pass_copies.specs.Uses.{is_begin}
+use Rattle.pass_copies.specs.Uses.{is_access, is_begin}
 use Rattle.pass_copies.specs.declared.copying.Copying.{Copying}
 use Rattle.pass_fetch.specs.Fetching.{callee_by, fetch_of, fetched_args, fetched_operand, fetches_of_all, next_after_all, next_by, operand_by}
 use Rattle.pass_fetch.specs.Instrs.{next_after_instr, with_fetched}
@@ -132,6 +132,29 @@ module _ (c : Copying) (before : List Bool) (front : List Instr) (first : ℕ) (
       by_next : (n : ℕ) (y : Bool) → (if y then next_after_instr c.fetches n i else n) ≡ n
       by_next n true = next_same c.fetches n (instr_operands i) h
       by_next n false = refl
+
+  -- what accesses nothing isn't looked at
+  pub other_idle : (i : Instr) → is_begin i ≡ false → is_access i ≡ false → IsIdle layer i
+  other_idle i begins reads = record {
+    stays = λ s. (λ k. (if s.0 && reads k then fetches_of_all c.fetches s.1 (instr_operands i) else [])
+        ++ ((if s.0 && reads k then with_fetched c.fetches s.1 i else i)
+        ∷ (if begins k then begin_copies c.slots else []))) ∙ none s.0 s.1;
+    state = λ s. (λ k. (
+      if begins k then false else s.0,
+      if s.0 && reads k then next_after_instr c.fetches s.1 i else s.1,
+    )) ∙ same s.0 s.1;
+  }
+    where
+      none : (b : Bool) (n : ℕ)
+          → (if b && false then fetches_of_all c.fetches n (instr_operands i) else [])
+          ++ ((if b && false then with_fetched c.fetches n i else i) ∷ []) ≡ i ∷ []
+      none true n = refl
+      none false n = refl
+
+      same : (b : Bool) (n : ℕ)
+          → ◌≡◌ {A = Bool × ℕ} (b, if b && false then next_after_instr c.fetches n i else n) (b, n)
+      same true n = refl
+      same false n = refl
 
 -- ---- tests, and instructions that become others
 

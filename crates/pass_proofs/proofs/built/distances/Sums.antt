@@ -214,7 +214,7 @@ module _ (c : Context) (n : ℕ) (x : Operand) (d : Option ℕ) (w : Work) (low 
 
 -- ---- all of them
 
-more_below : (n k : ℕ) (x : Operand) → n ≤ k → IsBelow n x → IsBelow k x
+pub more_below : (n k : ℕ) (x : Operand) → n ≤ k → IsBelow n x → IsBelow k x
 more_below n k (Operand.Local v) le lt = omega arith
 more_below n k (Operand.Global g) le lt = tt
 more_below n k (Operand.Number z) le lt = tt

@@ -12,6 +12,15 @@ use Rattle.pass_fetch.specs.Blocks.{end_at, ends_of_blocks, ends_of_incoming, en
 use Rattle.pass_fetch.specs.Fetching.{fetch_into, fetch_of, fetches_by, fetches_of_all, next_after}
 use Rattle.pass_fetch.specs.declared.fetch.Fetch.{Fetch}
 
+-- a row that is set
+module _ (Q : Instr → Type 0) where
+  pub row_set : (ends : List (List Instr)) (label : ℕ) (row : List Instr) (l : ℕ) → Each Q row → Each Q (end_at ends l) → Each Q (end_at (slice_set ends label row) l)
+  row_set [] label row l h k = k
+  row_set (x ∷ xs) zero row zero h k = h
+  row_set (x ∷ xs) zero row (suc l) h k = k
+  row_set (x ∷ xs) (suc label) row zero h k = k
+  row_set (x ∷ xs) (suc label) row (suc l) h k = row_set xs label row l h k
+
 module _ (Q : Instr → Type 0) (t : List (Option Fetch)) (loads : (n : ℕ) (x : Operand) (fetch : Fetch) → fetch_of t x ≡ Some fetch → Q (fetch_into n fetch)) where
   one_fetched : (n : ℕ) (x : Operand) (o : Option Fetch) → fetch_of t x ≡ o → Each Q (fetches_by n o)
   one_fetched n x None e = tt
@@ -26,16 +35,9 @@ module _ (Q : Instr → Type 0) (t : List (Option Fetch)) (loads : (n : ℕ) (x 
   abbrev pub AllRows : List (List Instr) → Type 0
   AllRows ends = (l : ℕ) → Each Q (end_at ends l)
 
-  row_set : (ends : List (List Instr)) (label : ℕ) (row : List Instr) (l : ℕ) → Each Q row → Each Q (end_at ends l) → Each Q (end_at (slice_set ends label row) l)
-  row_set [] label row l h k = k
-  row_set (x ∷ xs) zero row zero h k = h
-  row_set (x ∷ xs) zero row (suc l) h k = k
-  row_set (x ∷ xs) (suc label) row zero h k = k
-  row_set (x ∷ xs) (suc label) row (suc l) h k = row_set xs label row l h k
-
   end_rows : (ends : List (List Instr)) (label n : ℕ) (x : Operand) (o : Option Fetch) → fetch_of t x ≡ o → AllRows ends → AllRows (with_end ends label n o)
   end_rows ends label n x None e h = h
-  end_rows ends label n x (Some fetch) e h = λ l. row_set ends label (end_at ends label ++ fetch_into n fetch ∷ []) l (each_behind Q (end_at ends label) (fetch_into n fetch ∷ []) (h label) (loads n x fetch e, tt)) (h l)
+  end_rows ends label n x (Some fetch) e h = λ l. row_set Q ends label (end_at ends label ++ fetch_into n fetch ∷ []) l (each_behind Q (end_at ends label) (fetch_into n fetch ∷ []) (h label) (loads n x fetch e, tt)) (h l)
 
   incoming_rows : (n : ℕ) (ends : List (List Instr)) (is : List Incoming) → AllRows ends → AllRows (ends_of_incoming t n ends is)
   incoming_rows n ends [] h = h

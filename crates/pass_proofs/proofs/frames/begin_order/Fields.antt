@@ -50,7 +50,7 @@ own_names names count links =
     let s4 = length-append (names ++ a ++ b ++ c) d in
     omega (arith, la, lb, s1, s2, s3, s4)
 
-distance_far : (first count links : ℕ) (o : Option ℕ) (c : ℕ) → IsDistanceCell first count links o c → first + 2 * count ≤ c
+pub distance_far : (first count links : ℕ) (o : Option ℕ) (c : ℕ) → IsDistanceCell first count links o c → first + 2 * count ≤ c
 distance_far first count links _ _ (OfValue at) = omega arith
 distance_far first count links _ _ (OfLink i low) = omega arith
 

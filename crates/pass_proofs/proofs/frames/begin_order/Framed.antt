@@ -194,10 +194,10 @@ module _ (m : Module) (k : ℕ) (l : Layout) (f : Function) (c : Contents) (begi
   old_at : (v d : ℕ) → slice_get old v ≡ Some (Some d) → IsSlotAt l c.held v d
   old_at v d e = ⊎_elim (λ h. absurd (none_there names v d h)) (λ y. y) (slot_at l 0 c.held (replicate names None) v d e)
 
-  old_slot : (v : ℕ) → lies_in_frame old v ≡ true → IsOfClass SlotClass.Frame c.classes 0 (allocas_of f) v
+  pub old_slot : (v : ℕ) → lies_in_frame old v ≡ true → IsOfClass SlotClass.Frame c.classes 0 (allocas_of f) v
   old_slot v e = let y = in_frame old v e in slot_held v y.0 (old_at v y.0 y.1)
 
-  slot_alloca : (v : ℕ) (class : SlotClass) → IsOfClass class c.classes 0 (allocas_of f) v → IsListed v (allocas_of F)
+  pub slot_alloca : (v : ℕ) (class : SlotClass) → IsOfClass class c.classes 0 (allocas_of f) v → IsListed v (allocas_of F)
   slot_alloca v class y = subst (IsListed v) (sym (same_allocas f)) (get_listed (allocas_of f) y.number v y.slot)
 
   class_of : (v : ℕ) (class : SlotClass) → ((o : Option SlotClass) → is_of class o ≡ true → o ≡ Some class) → (y : IsOfClass class c.classes 0 (allocas_of f) v) → IsOf f v class
@@ -214,13 +214,13 @@ module _ (m : Module) (k : ℕ) (l : Layout) (f : Function) (c : Contents) (begi
   unmarked_old : (v : ℕ) → flag_at marked v ≡ true → lies_in_frame old v ≡ true → ⊥
   unmarked_old v e o = (class_of v SlotClass.Frame frame_alone (old_slot v o)).0 (class_of v SlotClass.Ramp ramp_alone (marked_slot v e))
 
-  alloca_pointer : (v : ℕ) → IsListed v (allocas_of F) → value_kind F v ≡ Some Kind.Ptr
+  pub alloca_pointer : (v : ℕ) → IsListed v (allocas_of F) → value_kind F v ≡ Some Kind.Ptr
   alloca_pointer v h = (alloca_slot m k F v (names_once m k F x.rules c.crossing local x.cells v) x.rules.local.allocas h).kind
 
-  woven : IsWoven W m F G
+  pub woven : IsWoven W m F G
   woven = is_woven m k F x.rules c.crossing local x.cells
 
-  pointer_low : (v : ℕ) → value_kind F v ≡ Some Kind.Ptr → v < First
+  pub pointer_low : (v : ℕ) → value_kind F v ≡ Some Kind.Ptr → v < First
   pointer_low v e = valued_old W m F G woven (names_below k F x.rules.tabled) v (ap (λ (o : Option Kind). is_some o) e)
 
   -- ---- fields
@@ -244,7 +244,7 @@ module _ (m : Module) (k : ℕ) (l : Layout) (f : Function) (c : Contents) (begi
   lies : (v d : ℕ) → slice_get old v ≡ Some (Some d) → lies_in_frame old v ≡ true
   lies v d e = ap (λ (o : Option (Option ℕ)). not (is_none (unwrap_or o None))) e
 
-  in_either : (v : ℕ) → lies_in_frame offsets v ≡ true → (lies_in_frame old v ≡ true) ⊎ IsField First Count v
+  pub in_either : (v : ℕ) → lies_in_frame offsets v ≡ true → (lies_in_frame old v ≡ true) ⊎ IsField First Count v
   in_either v e = let y = in_frame offsets v e in ⊎_elim (λ a. inl (lies v y.0 a)) (λ b. inr (field_of v y.0 b)) (offset_at_of v y.0 y.1)
 
   near_by : (d place : ℕ) → d ≡ offset_at l place → d < 2 ^ 64

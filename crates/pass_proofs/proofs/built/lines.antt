@@ -1,0 +1,6 @@
+pub mod Cells
+pub mod Filled
+pub mod Loads
+pub mod Results
+pub mod Rows
+pub mod Saves
