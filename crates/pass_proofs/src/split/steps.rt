@@ -1,6 +1,6 @@
 //! Steps of a framed run, and those of its parts.
 
-ghost use Rattle.std.specs.Prelude.{ℕ, ℤ, Bool, true, ◌<◌, ◌^◌, ◌∷◌, List, Option, Ok, Some, false, ◌+◌, ◌≡◌, ◌≤◌, length, slice_get, slice_set, unwrap_or};
+ghost use Rattle.std.specs.Prelude.{ℕ, ℤ, Bool, true, ◌<◌, ◌^◌, ◌∷◌, List, None, Option, Ok, Some, false, ◌+◌, ◌≡◌, ◌≤◌, length, slice_get, slice_set, unwrap_or};
 ghost use Rattle.ir_model.specs.declared.module.Function.{Function};
 ghost use Rattle.ir_model.specs.declared.module.Module.{Module};
 ghost use Rattle.ir_base.specs.declared.outcome.Outcome.{Outcome};
@@ -47,7 +47,9 @@ ghost use Rattle.run_laws.specs.access.Lines.{Holds, StandAt, pointer_at};
 ghost use Rattle.run_memory.specs.declared.pointer.Pointer.{Pointer};
 ghost use Rattle.pass_proofs.specs.split.simulation.Followed.{IsFollowed};
 ghost use Rattle.ir_model.specs.declared.operand.Intrinsic.{Intrinsic};
+ghost use Rattle.pass_intrinsics.specs.Cuts.{goes_on};
 ghost use Rattle.pass_proofs.specs.split.steps.Called.{HasCalled};
+ghost use Rattle.run_agreement.specs.Machines.{IsFine};
 ghost use Rattle.pass_proofs.specs.split.steps.Resuming.{CanWake, IsAtWaking};
 ghost use Rattle.run_step.specs.Values.{arg_value};
 ghost use Rattle.pass_proofs.specs.split.steps.Woken.{IsWaking, IsWoken};
@@ -61,7 +63,7 @@ ghost use Rattle.run_source.specs.declared.state.Saved.{Saved as TheSaved};
 ghost use Rattle.run_source.specs.declared.state.Status.{Status as TheStatus};
 ghost use Rattle.run_step.specs.Runs.{iterate};
 ghost use Rattle.pass_proofs.specs.split.steps.Done.{IsDoneToo, ours, part_maps, theirs};
-ghost use Rattle.run_framed.specs.Framed.{FramedGiven, continue_framed, framed_context, framed_step, layout_of};
+ghost use Rattle.run_framed.specs.Framed.{FramedGiven, continue_framed, framed_context, framed_step, given_call, layout_of};
 ghost use Rattle.run_laws.specs.access.Touched.{AreTouches, touch_of};
 ghost use Rattle.run_laws.specs.embedded.Related.{HasNoSlot};
 ghost use Rattle.run_laws.specs.memory.Pointers.{IsValue};
@@ -342,4 +344,34 @@ pub fn resumes_call_in_two_steps()
         → StandAt (plain_function h t) t.top.block t.top.at (resume_call n k.arg.value)
         → IsPlace r.top.shape r.top.part (function_of g.given s) (plain_function h t) s.top.block (s.top.at + 1)
         t.top.block (t.top.at + 2) → HasCalled g h s t r w.instance Part.Resume }
+{}
+
+/// A resume in a ramp, or in a function that is no coroutine, is followed in the part. So is one of a part that goes on,
+/// where it transfers nowhere: what is asked is the same, with the code that stands there.
+pub fn resumes_of_ramps_are_followed()
+    ensures ramp { (g : FramedGiven) (h : PlainGiven) (s : TheState) (t : ThePlainState) (r : AreRelated g h s t)
+        (k : IsAtWaking g h s t r Intrinsic.CoroResume) → IsFine (framed_step g s).outcome
+        → ((w : IsWoken s (arg_value g.given.code s.top.values k.arg))
+        → is_final (function_at g.given.code w.instance.coroutine) w.suspend ≡ false
+        → CanWake g h s t (arg_value g.given.code s.top.values k.arg) w Part.Resume
+        (resume_label (function_at g.given.code w.instance.coroutine) w.suspend))
+        → goes_on r.top.part ≡ false → IsFollowed g h s t }
+    ensures stays { (g : FramedGiven) (h : PlainGiven) (s : TheState) (t : ThePlainState) (r : AreRelated g h s t)
+        (k : IsAtWaking g h s t r Intrinsic.CoroResume) → IsFine (framed_step g s).outcome
+        → ((w : IsWoken s (arg_value g.given.code s.top.values k.arg))
+        → is_final (function_at g.given.code w.instance.coroutine) w.suspend ≡ false
+        → CanWake g h s t (arg_value g.given.code s.top.values k.arg) w Part.Resume
+        (resume_label (function_at g.given.code w.instance.coroutine) w.suspend)) → (n : ℕ)
+        → AreNew (function_of g.given s) (plain_function h t) n 1
+        → StandAt (plain_function h t) t.top.block t.top.at (resume_call n k.arg.value)
+        → IsPlace r.top.shape r.top.part (function_of g.given s) (plain_function h t) s.top.block (s.top.at + 1)
+        t.top.block (t.top.at + 2) → IsFollowed g h s t }
+{}
+
+/// An ordinary instruction that the framed run does is followed in the part.
+pub fn ordinary_steps_are_followed()
+    ensures { (g : FramedGiven) (h : PlainGiven) (s : TheState) (t : ThePlainState) (r : AreRelated g h s t)
+        → s.outcome ≡ Outcome.Running → (functions : ℕ → ℕ) (i : TheInstr) → IsAtOrdinary functions g h s t r i
+        → given_call g s (AtInstr i) ≡ None → (v : Work)
+        → action_of (framed_context g s) (work_of s) (AtInstr i) ≡ Done v → IsFollowed g h s t }
 {}

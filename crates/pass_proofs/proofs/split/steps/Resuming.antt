@@ -18,6 +18,7 @@ use Rattle.pass_intrinsics.specs.Lowered.{resume_call}
 use Rattle.pass_intrinsics.specs.declared.cuts.Cut.{Cut}
 use Rattle.pass_intrinsics.specs.declared.shape.Part.{Part}
 use Rattle.pass_intrinsics.specs.declared.shape.Shape.{Shape}
+use Rattle.pass_proofs.proofs.split.places.Coded.{has_code}
 use Rattle.pass_proofs.proofs.split.states.OwnHomes.{own_pointer}
 use Rattle.pass_proofs.proofs.split.steps.Calling.{resume_calls, resume_quiet}
 use Rattle.pass_proofs.proofs.split.steps.Followed.{fine_ok, framed_does}
@@ -26,11 +27,11 @@ use Rattle.pass_proofs.proofs.split.steps.Saves.{values_extra}
 use Rattle.pass_proofs.proofs.split.steps.Waking.{index_inside}
 use Rattle.pass_proofs.proofs.split.steps.Woken.{resume_goes}
 use Rattle.pass_proofs.proofs.split.steps.WokenStates.{woken_followed}
-use Rattle.pass_proofs.specs.split.places.Places.{AreNew, IsPlace}
+use Rattle.pass_proofs.specs.split.places.Places.{AreNew, IsPlace, BeginsAgain, HasCode, IsCode, Marks, Returns, Stays, Suspends, Transfers}
 use Rattle.pass_proofs.specs.split.simulation.Followed.{IsFollowed}
 use Rattle.pass_proofs.specs.split.states.Activations.{Inside, IsBehind, RunsPart, is_entering}
 use Rattle.pass_proofs.specs.split.states.Going.{stands_at}
-use Rattle.pass_proofs.specs.split.states.Instances.{part_position}
+use Rattle.pass_proofs.specs.split.states.Instances.{part_position, address_of_part, resumer_of}
 use Rattle.pass_proofs.specs.split.states.Memories.{homes_of}
 use Rattle.pass_proofs.specs.split.states.Related.{AreRelated, fetched_at, weight}
 use Rattle.pass_proofs.specs.split.states.Values.{AreValuesOf}
@@ -39,7 +40,7 @@ use Rattle.pass_proofs.specs.split.steps.Calling.{IsCallable, calling}
 use Rattle.pass_proofs.specs.split.steps.Resuming.{CanWake, IsAtWaking}
 use Rattle.pass_proofs.specs.split.steps.Woken.{IsWoken}
 use Rattle.pass_split.specs.Pieces.{begins_again}
-use Rattle.run_agreement.specs.Machines.{iterate}
+use Rattle.run_agreement.specs.Machines.{iterate, IsFine}
 use Rattle.run_framed.specs.Framed.{FramedGiven, continue_framed, framed_step}
 use Rattle.run_laws.proofs.transfer.Sets.{set_elsewhere, set_length}
 use Rattle.run_laws.specs.access.Lines.{Holds, StandAt, pointer_at}
@@ -220,3 +221,91 @@ module _ (g : FramedGiven) (h : PlainGiven) (s : State) (t : PlainState) (r : Ar
       where
         two_more : (n : ℕ) → n + 2 ≡ n + 1 + 1
         two_more n = omega arith
+
+  -- ---- the step
+
+  module _ (fine : IsFine (framed_step g s).outcome)
+      (can : (w : IsWoken s (arg_value g.given.code s.top.values k.arg))
+      → is_final (function_at g.given.code w.instance.coroutine) w.suspend ≡ false
+      → CanWake g h s t (arg_value g.given.code s.top.values k.arg) w Part.Resume
+      (resume_label (function_at g.given.code w.instance.coroutine) w.suspend)) where
+    next : (u : State) × (resume g.given (continue_framed g) s (arg_value g.given.code s.top.values k.arg) ≡ Ok u)
+    next = fine_ok g.given s (resume g.given (continue_framed g) s p)
+        (subst (λ (x : State). IsFine x.outcome) does fine)
+
+    goes : (w : IsWoken s (arg_value g.given.code s.top.values k.arg))
+        × ((is_final (function_at g.given.code w.instance.coroutine) w.suspend ≡ false)
+        × (next.0 ≡ continue_framed g s w.number w.instance w.suspend w.values
+        (resume_label (function_at g.given.code w.instance.coroutine) w.suspend)))
+    goes = resume_goes g s next.0 p next.1
+
+    abbrev w : IsWoken s p
+    w = goes.0
+
+    abbrev label : ℕ
+    label = resume_label (function_at g.given.code w.instance.coroutine) w.suspend
+
+    wakes : CanWake g h s t p w Part.Resume label
+    wakes = can goes.0 goes.1.0
+
+    is : framed_step g s ≡ continue_framed g s w.number w.instance w.suspend w.values label
+    is = does ∙ ap (or_undefined g.given s) next.1 ∙ goes.1.1
+
+    -- the header names the part that goes on
+    resumes : resumer_of g w.instance.coroutine wakes.waking.saved.numbered.suspend
+        ≡ address_of_part g w.instance.coroutine Part.Resume
+    resumes = ap (λ (b : Bool). if b then Value.Ptr Pointer.Null
+        else address_of_part g w.instance.coroutine Part.Resume) (wakes.waking.saved.numbered.final ∙ goes.1.0)
+
+    stored : Holds owner_rights t.world.memory w.instance.block (w.instance.start + 0) 8
+        (encode 8 (Value.Ptr (Pointer.Func (part_position g w.instance.coroutine Part.Resume))))
+    stored = subst (λ (o : ℕ). Holds owner_rights t.world.memory w.instance.block o 8
+        (encode 8 (Value.Ptr (Pointer.Func (part_position g w.instance.coroutine Part.Resume)))))
+        (none_more w.instance.start)
+        (subst (λ (v : Value). Holds owner_rights t.world.memory w.instance.block w.instance.start 8 (encode 8 v))
+        resumes wakes.waking.saved.resumes)
+      where
+        none_more : (n : ℕ) → n ≡ n + 0
+        none_more n = omega arith
+
+    pub stays_followed : (n : ℕ) → AreNew f q n 1 → StandAt q t.top.block t.top.at (resume_call n k.arg.value)
+        → IsPlace r.top.shape r.top.part f q s.top.block (s.top.at + 1) t.top.block (t.top.at + 2)
+        → IsFollowed g h s t
+    stays_followed n new line place = woken_followed g h s t r k.running k.settled p w Part.Resume label wakes.waking is
+        heavy wakes.ends
+        (staying w wakes stored (r.frames.laid.known w.number w.instance w.there)
+        (small w.instance.start _ (index_inside g h s t r p w Part.Resume label wakes.waking)) n new line place)
+      where
+        small : (a b : ℕ) → a + b < 2 ^ 64 → a < 2 ^ 64
+        small a b lt = omega arith
+
+    -- by the code that stands there
+    code : HasCode r.top.shape r.top.part f q s.top.block s.top.at t.top.block t.top.at here
+    code = has_code r.top.shape r.top.part f q s.top.block s.top.at t.top.block t.top.at here k.place k.there
+
+    by_code : (after : List Instr) (term : Terminator) → cut_at r.top.shape r.top.part here after ≡ Cut.Stays
+        → IsCode r.top.shape r.top.part f q s.top.block s.top.at t.top.block t.top.at here after term
+        → IsFollowed g h s t
+    by_code after term e (Stays n begins cut new stand place) = stays_followed n new stand place
+    by_code after term e (Marks n mark begins cut new remain bare place) = absurd (other (sym cut ∙ e))
+      where
+        other : Cut.Marks mark ≡ Cut.Stays → ⊥
+        other h = absurd (cc)
+    by_code after term e (Suspends begins cut jump) = absurd (other (sym cut ∙ e))
+      where
+        other : Cut.Suspends ≡ Cut.Stays → ⊥
+        other h = absurd (cc)
+    by_code after term e (Returns begins cut ret) = absurd (other (sym cut ∙ e))
+      where
+        other : Cut.Returns ≡ Cut.Stays → ⊥
+        other h = absurd (cc)
+    by_code after term e (Transfers n j begins cut new jump bare remain) = absurd (other (sym cut ∙ e))
+      where
+        other : Cut.Transfers j ≡ Cut.Stays → ⊥
+        other h = absurd (cc)
+    by_code after term e (BeginsAgain begins jump) = absurd (false≢true (sym (not_again r.top.part) ∙ begins))
+
+    -- a ramp, or a function that is no coroutine, has no transfers
+    pub ramp_followed : goes_on r.top.part ≡ false → IsFollowed g h s t
+    ramp_followed ramp = by_code code.after code.end
+        (ap (λ (b : Bool). if b then transfers (next_suspend r.top.shape code.after) else Cut.Stays) ramp) code.code
