@@ -54,12 +54,13 @@ pub fn runs_of_parts_start_related()
         (plain_first (parted_module ls m) other args) }
 {}
 
-/// Where each step of the framed run is followed in the parts, states are kept beside each other.
+/// Where each step of framed runs is followed in the parts, states are kept beside each other.
 pub fn followed_steps_keep_states()
     ensures { (ls : Layouts) (m : Module)
         → ((entry other : ℕ) (args : List Word) (answers : List ℤ) → IsEntryOfParts ls m entry other
         → AreRelated (framed_given m ls.coroutines answers) (parts_given ls m answers) (first_state m entry args)
         (plain_first (parted_module ls m) other args))
-        → ((answers : List ℤ) → AreStepsFollowed (framed_given m ls.coroutines answers) (parts_given ls m answers))
+        → ((entry other : ℕ) (args : List Word) (answers : List ℤ) → IsEntryOfParts ls m entry other
+        → AreStepsFollowed (framed_given m ls.coroutines answers) (parts_given ls m answers) entry args)
         → PartsKeepStates ls m }
 {}

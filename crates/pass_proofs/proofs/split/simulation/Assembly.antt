@@ -13,12 +13,13 @@ use Rattle.pass_proofs.specs.split.first_exits.Parted.{parted_module}
 use Rattle.pass_proofs.specs.split.simulation.Followed.{AreStepsFollowed, IsFollowed, ShowsOn}
 use Rattle.pass_proofs.specs.split.simulation.Statement.{IsEntryOfParts, PartsKeepStates, parts_given}
 use Rattle.pass_proofs.specs.split.states.Related.{AreRelated, Follows, IsFollowing, IsOn, credit_of, fetched_at, is_behind_suspend, measure, part_price, weight}
+use Rattle.run_agreement.proofs.Costs.{weaken_by}
 use Rattle.run_agreement.proofs.PricedLockstep.{AdvanceBy, IsPassed, SimulatesBy, lockstep_by}
 use Rattle.run_agreement.proofs.Runs.{iterate-add}
 use Rattle.run_agreement.proofs.Shows.{ShowsSame}
 use Rattle.run_agreement.specs.Costs.{AgreesBy, IsNear, cost_from}
 use Rattle.run_agreement.specs.Machines.{IsFine, IsRunning, Machine, iterate}
-use Rattle.run_framed.specs.Framed.{FramedGiven, framed_advance, framed_given, framed_step}
+use Rattle.run_framed.specs.Framed.{FramedGiven, framed_advance, framed_given, framed_state_at, framed_step}
 use Rattle.run_plain.specs.Plain.{PlainGiven, plain_advance, plain_first, plain_step}
 use Rattle.run_plain.specs.declared.state.PlainState.{PlainState}
 use Rattle.run_source.specs.Source.{first_state}
@@ -110,8 +111,15 @@ module _ (ls : Layouts) (m : Module) (entry other : ℕ) (args : List Word) (ans
   steps_on : (i k n : ℕ) (t : PlainState) → i + k ≡ n → iterate step n t ≡ iterate step k (iterate step i t)
   steps_on i k n t e = ap (λ (j : ℕ). iterate step j t) (sym e) ∙ iterate-add step i k t
 
+  -- the parts follow a state that the framed run comes to
+  record IsKept (c : ℕ) (s : State) (t : PlainState) : Type 0 where
+    follows : IsFollowing g h c s t
+    index : ℕ
+    reached : s ≡ framed_state_at g entry args index
+
   module _ (c : ℕ) (s : State) (t : PlainState) (r : IsFollowing g h c s t)
-      (f : IsFollowed g h s (iterate (plain_step h) r.behind t)) where
+      (f : IsFollowed g h s (iterate (plain_step h) r.behind t)) (index : ℕ)
+      (reached : s ≡ framed_state_at (framed_given m ls.coroutines answers) entry args index) where
     abbrev b : ℕ
     b = r.behind
 
@@ -217,8 +225,10 @@ module _ (ls : Layouts) (m : Module) (entry other : ℕ) (args : List Word) (ans
         same : (k : ℕ) → k ≤ k
         same k = omega arith
 
-    pub advances : AdvanceBy ours (part_price g) theirs (λ t. 1) (IsFollowing g h) (IsNear theirs 9 (AreRelated g h))
-        (measure g) c s t
+    on_run : framed_step g s ≡ framed_state_at g entry args (index + 1)
+    on_run = ap (framed_step g) reached ∙ sym (iterate-add (framed_step g) index 1 (first_state m entry args))
+
+    advances : AdvanceBy ours (part_price g) theirs (λ t. 1) IsKept (IsNear theirs 9 (AreRelated g h)) (measure g) c s t
     advances = record {
       steps = taken;
       credit = credit_of next;
@@ -227,7 +237,7 @@ module _ (ls : Layouts) (m : Module) (entry other : ℕ) (args : List Word) (ans
           (room c s t r) r.calls);
       goes_on = ⊎_elim (λ lt. inl (some_steps b n d lt)) inr f.goes_on;
       between = λ i pos lt. inl (passed i (less b n d i lt));
-      related = following;
+      related = record { follows = following; index = index + 1; reached = on_run };
     }
       where
         less : (b n d i : ℕ) → i < (b + n) - d → i < b + n
@@ -262,7 +272,7 @@ module _ (ls : Layouts) (m : Module) (entry other : ℕ) (args : List Word) (ans
       few b le = omega arith
 
   module _ (start : AreRelated g h (first_state m entry args) (plain_first (parted_module ls m) other args))
-      (all : AreStepsFollowed g h) where
+      (all : AreStepsFollowed g h entry args) where
     begins : IsFollowing g h 0 ours.start theirs.start
     begins = record {
       behind = 0;
@@ -275,15 +285,21 @@ module _ (ls : Layouts) (m : Module) (entry other : ℕ) (args : List Word) (ans
         none : (i : ℕ) → i < 0 → ⊥
         none i lt = omega arith
 
-    simulates : SimulatesBy ours (part_price g) theirs (λ t. 1) (IsFollowing g h) (IsNear theirs 9 (AreRelated g h))
-        (measure g)
+    -- a step of the run is followed
+    followed : (s : State) (u : PlainState) (index : ℕ) → s ≡ framed_state_at g entry args index → AreRelated g h s u
+        → s.outcome ≡ Outcome.Running → IsFine (framed_step g s).outcome → IsFollowed g h s u
+    followed s u index reached = subst (λ (x : State). AreRelated g h x u → x.outcome ≡ Outcome.Running
+        → IsFine (framed_step g x).outcome → IsFollowed g h x u) (sym reached) (all index u)
+
+    simulates : SimulatesBy ours (part_price g) theirs (λ t. 1) IsKept (IsNear theirs 9 (AreRelated g h)) (measure g)
     simulates = record {
-      begin = begins;
-      same = shows;
-      counts = counts;
-      holds = near;
-      advance = λ c s t r runs fine. advances c s t r
-          (all s (iterate (plain_step h) r.behind t) r.related (running_is s.outcome runs) fine);
+      begin = record { follows = begins; index = 0; reached = refl };
+      same = λ c s t k. shows c s t k.follows;
+      counts = λ c s t k. counts c s t k.follows;
+      holds = λ c s t k. near c s t k.follows;
+      advance = λ c s t k runs fine. advances c s t k.follows
+          (followed s (iterate (plain_step h) k.follows.behind t) k.index k.reached k.follows.related
+          (running_is s.outcome runs) fine) k.index k.reached;
       stays_a = framed_stays g;
       stays_b = plain_stays h;
     }
@@ -293,15 +309,19 @@ module _ (ls : Layouts) (m : Module) (entry other : ℕ) (args : List Word) (ans
         (AreRelated (framed_given m ls.coroutines answers) (parts_given ls m answers)))
         (framed_machine m ls entry args answers) (part_price (framed_given m ls.coroutines answers))
         (plain_machine (parted_module ls m) other args answers) (λ t. 1)
-    assembled = lockstep_by ours (part_price g) theirs (λ t. 1) (IsFollowing g h) (IsNear theirs 9 (AreRelated g h))
-        (measure g) simulates
+    assembled = weaken_by (λ s t. (c : ℕ) × IsKept c s t) (IsNear theirs 9 (AreRelated g h)) (Follows g h)
+        (IsNear theirs 9 (AreRelated g h)) ours (part_price g) (part_price g) theirs (λ t. 1) (λ t. 1)
+        (λ s t k. (k.0, k.1.follows)) (λ s t v. v) (λ n fine. omega arith) (λ n. omega arith)
+        (lockstep_by ours (part_price g) theirs (λ t. 1) IsKept (IsNear theirs 9 (AreRelated g h)) (measure g)
+        simulates)
 
 -- the whole
 pub followed_keep : (ls : Layouts) (m : Module)
     → ((entry other : ℕ) (args : List Word) (answers : List ℤ) → IsEntryOfParts ls m entry other
     → AreRelated (framed_given m ls.coroutines answers) (parts_given ls m answers) (first_state m entry args)
     (plain_first (parted_module ls m) other args))
-    → ((answers : List ℤ) → AreStepsFollowed (framed_given m ls.coroutines answers) (parts_given ls m answers))
+    → ((entry other : ℕ) (args : List Word) (answers : List ℤ) → IsEntryOfParts ls m entry other
+    → AreStepsFollowed (framed_given m ls.coroutines answers) (parts_given ls m answers) entry args)
     → PartsKeepStates ls m
 followed_keep ls m starts all entry other args answers is = assembled ls m entry other args answers
-    (starts entry other args answers is) (all answers)
+    (starts entry other args answers is) (all entry other args answers is)

@@ -1,9 +1,10 @@
 -- What the parts' run does for one step of the framed run, and the account of it.
-use Rattle.std.specs.Prelude.{◌≡◌, ℕ, ◌+◌, ◌≤◌, ◌<◌, ◌⊎◌}
+use Rattle.std.specs.Prelude.{◌≡◌, ℕ, List, ◌+◌, ◌≤◌, ◌<◌, ◌⊎◌}
 use Rattle.ir_base.specs.declared.outcome.Outcome.{Outcome}
+use Rattle.ir_base.specs.declared.outcome.Word.{Word}
 use Rattle.pass_proofs.specs.split.states.Related.{AreRelated, IsOn, credit_of, fetched_at, measure, part_price, weight}
 use Rattle.run_agreement.specs.Machines.{IsFine, iterate}
-use Rattle.run_framed.specs.Framed.{FramedGiven, framed_step}
+use Rattle.run_framed.specs.Framed.{FramedGiven, framed_state_at, framed_step}
 use Rattle.run_plain.specs.Plain.{PlainGiven, plain_step}
 use Rattle.run_plain.specs.declared.state.PlainState.{PlainState}
 use Rattle.run_source.specs.declared.state.State.{State}
@@ -28,7 +29,9 @@ pub record IsFollowed (g : FramedGiven) (h : PlainGiven) (s : State) (t : PlainS
   pub passes : (i : ℕ) → i < steps → IsOn s (iterate (plain_step h) i t)
   pub related : AreRelated g h (framed_step g s) (iterate (plain_step h) steps t)
 
--- so it is with each step that isn't undefined
-abbrev pub AreStepsFollowed : FramedGiven → PlainGiven → Type 0
-AreStepsFollowed g h = (s : State) (t : PlainState) → AreRelated g h s t → s.outcome ≡ Outcome.Running
-    → IsFine (framed_step g s).outcome → IsFollowed g h s t
+-- so it is with each step of a run that isn't undefined
+abbrev pub AreStepsFollowed : FramedGiven → PlainGiven → ℕ → List Word → Type 0
+AreStepsFollowed g h entry args = (n : ℕ) (t : PlainState) → AreRelated g h (framed_state_at g entry args n) t
+    → (framed_state_at g entry args n).outcome ≡ Outcome.Running
+    → IsFine (framed_step g (framed_state_at g entry args n)).outcome
+    → IsFollowed g h (framed_state_at g entry args n) t
