@@ -5,7 +5,7 @@ ghost use Rattle.ir_model.specs.declared.module.Function.{Function};
 ghost use Rattle.ir_model.specs.declared.module.Module.{Module};
 ghost use Rattle.ir_base.specs.declared.outcome.Outcome.{Outcome};
 ghost use Rattle.ir_model.specs.Names.{function_at, position_of};
-ghost use Rattle.pass_proofs.specs.split.places.Places.{AreNew, Enters, IsPlace, StartsWithEnd};
+ghost use Rattle.pass_proofs.specs.split.places.Places.{AreNew, Enters, IsPlace, JumpsOn, StartsWithEnd};
 ghost use Rattle.pass_proofs.specs.split.states.Activations.{AreAllWaiting, IsBehind, IsPlaced, IsWaiting, is_entering};
 ghost use Rattle.pass_proofs.specs.split.states.Going.{goes_to, moved_to, placed_at, plain_returned_to, returned_to, stands_at};
 ghost use Rattle.pass_proofs.specs.split.states.Related.{AreRelated, fetched_at, weight};
@@ -46,6 +46,7 @@ ghost use Rattle.pass_proofs.specs.split.steps.Calling.{IsCallable, calling};
 ghost use Rattle.run_laws.specs.access.Lines.{Holds, StandAt, pointer_at};
 ghost use Rattle.run_memory.specs.declared.pointer.Pointer.{Pointer};
 ghost use Rattle.pass_proofs.specs.split.simulation.Followed.{IsFollowed};
+ghost use Rattle.ir_model.specs.declared.instr.Terminator.{Terminator};
 ghost use Rattle.ir_model.specs.declared.operand.Intrinsic.{Intrinsic};
 ghost use Rattle.pass_intrinsics.specs.Cuts.{goes_on};
 ghost use Rattle.pass_proofs.specs.split.steps.Called.{HasCalled};
@@ -80,7 +81,7 @@ ghost use Rattle.ir_model.specs.declared.instr.Instr.{Instr as TheInstr};
 ghost use Rattle.pass_proofs.specs.split.steps.Given.{IsAtFrame};
 ghost use Rattle.pass_proofs.specs.split.steps.Ordinary.{IsAtOrdinary, StepsBeside};
 ghost use Rattle.pass_proofs.specs.split.steps.Ready.{IsReadyInPart};
-ghost use Rattle.run_step.specs.Step.{AtInstr, Done, Fetched, Work, action_of, fetch, incoming_from, label_of, phi_values, phis_of, set_value, value_at, with_all};
+ghost use Rattle.run_step.specs.Step.{AtInstr, Done, Fetched, Work, action_of, fetch, incoming_from, label_of, phi_values, phis_of, set_value, value_at, with_all, AtTerm, GoTo};
 ghost use Rattle.run_step.specs.Values.{Env, operand_value, value_in, with_value};
 
 /// A step that is done in the framed run and makes, marks and allocates no block is done in the part. The memories stand
@@ -374,4 +375,33 @@ pub fn ordinary_steps_are_followed()
         → s.outcome ≡ Outcome.Running → (functions : ℕ → ℕ) (i : TheInstr) → IsAtOrdinary functions g h s t r i
         → given_call g s (AtInstr i) ≡ None → (v : Work)
         → action_of (framed_context g s) (work_of s) (AtInstr i) ≡ Done v → IsFollowed g h s t }
+{}
+
+/// An edge of the framed run is followed in the part: in a step where the part's leads straight there, and in two where
+/// it leads through the mark of the end. The second is a debt of the end.
+pub fn edges_are_followed()
+    ensures straight { (g : FramedGiven) (h : PlainGiven) (s : TheState) (t : ThePlainState) (r : AreRelated g h s t)
+        → s.outcome ≡ Outcome.Running → (term : Terminator) (label : ℕ)
+        → fetch (function_of g.given s) s.top.block s.top.at ≡ AtTerm term
+        → action_of (framed_context g s) (work_of s) (AtTerm term) ≡ GoTo label → IsFine (framed_step g s).outcome
+        → is_entering s.top.mode ≡ false
+        → AreReadablePhis g.given.code h.code (function_at g.given.code s.top.func)
+        (label_of (slice_get (function_at g.given.code s.top.func).blocks s.top.block)) r.top.shape.begin
+        (phis_of (slice_get (function_at g.given.code s.top.func).blocks
+        (position_of (function_at g.given.code s.top.func) label)))
+        → Enters r.top.shape r.top.part (function_at g.given.code s.top.func) (function_at h.code t.top.func)
+        s.top.block t.top.block label → plain_step h t ≡ plain_go_to h t label → IsFollowed g h s t }
+    ensures through { (g : FramedGiven) (h : PlainGiven) (s : TheState) (t : ThePlainState) (r : AreRelated g h s t)
+        → s.outcome ≡ Outcome.Running → (term : Terminator) (label : ℕ)
+        → fetch (function_of g.given s) s.top.block s.top.at ≡ AtTerm term
+        → action_of (framed_context g s) (work_of s) (AtTerm term) ≡ GoTo label → IsFine (framed_step g s).outcome
+        → is_entering s.top.mode ≡ false
+        → AreReadablePhis g.given.code h.code (function_at g.given.code s.top.func)
+        (label_of (slice_get (function_at g.given.code s.top.func).blocks s.top.block)) r.top.shape.begin
+        (phis_of (slice_get (function_at g.given.code s.top.func).blocks
+        (position_of (function_at g.given.code s.top.func) label))) → (mark : ℕ)
+        → JumpsOn (plain_function h t) mark label
+        → Enters r.top.shape r.top.part (function_at g.given.code s.top.func) (function_at h.code t.top.func)
+        s.top.block mark label → StartsWithEnd (function_at g.given.code s.top.func) label
+        → plain_step h t ≡ stands_at t mark 0 (plain_work t) → IsFollowed g h s t }
 {}
