@@ -1,2 +1,5 @@
 pub mod Agreement
+pub mod Assembly
 pub mod Started
+pub mod Starts
+pub mod Weights

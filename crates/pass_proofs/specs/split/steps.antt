@@ -1,11 +1,16 @@
 pub mod Begins
 pub mod Branches
+pub mod Called
+pub mod Calling
 pub mod Calls
+pub mod Dispatch
 pub mod Done
 pub mod Given
 pub mod Operands
 pub mod Ordinary
 pub mod Ready
+pub mod Resuming
 pub mod Saves
 pub mod Slots
 pub mod Small
+pub mod Woken

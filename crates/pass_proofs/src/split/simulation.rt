@@ -9,14 +9,15 @@ ghost use Rattle.pass_cleanup.specs.Cleaned.{plain_machine};
 ghost use Rattle.pass_intrinsics.specs.declared.shape.Part.{Part};
 ghost use Rattle.pass_proofs.specs.split.first_exits.Parted.{parted_module};
 ghost use Rattle.pass_proofs.specs.split.places.Places.{IsCodeOf, IsPlace};
-ghost use Rattle.pass_proofs.specs.split.simulation.Statement.{IsEntryOfParts, PartsKeepStates};
+ghost use Rattle.pass_proofs.specs.split.simulation.Followed.{AreStepsFollowed};
+ghost use Rattle.pass_proofs.specs.split.simulation.Statement.{IsEntryOfParts, IsPartable, PartsKeepStates, parts_given};
 ghost use Rattle.pass_proofs.specs.split.states.Instances.{part_position};
 ghost use Rattle.pass_proofs.specs.split.states.Memories.{AreContents};
 ghost use Rattle.pass_proofs.specs.split.states.Related.{AreRelated};
 ghost use Rattle.pass_split.specs.Parts.{plain_shape};
 ghost use Rattle.run_agreement.specs.Agreements.{AgreesWithin};
 ghost use Rattle.run_agreement.specs.Machines.{at};
-ghost use Rattle.run_framed.specs.Framed.{FramedGiven};
+ghost use Rattle.run_framed.specs.Framed.{FramedGiven, framed_given};
 ghost use Rattle.run_plain.specs.Plain.{PlainGiven, plain_first};
 ghost use Rattle.run_source.specs.Source.{first_state};
 ghost use Rattle.run_states.specs.moved_states.Beside.{framed_machine};
@@ -43,4 +44,23 @@ pub fn states_of_parts_bound_steps()
         (answers : List ℤ) → IsEntryOfParts ls m entry other
         → AgreesWithin 4 (at (framed_machine m ls entry args answers))
         (at (plain_machine (parted_module ls m) other args answers)) }
+{}
+
+/// The runs of a framed module and of its parts start in related states.
+pub fn runs_of_parts_start_related()
+    ensures { (ls : Layouts) (m : Module) → IsPartable ls m → (entry other : ℕ) (args : List Word) (answers : List ℤ)
+        → IsEntryOfParts ls m entry other
+        → AreRelated (framed_given m ls.coroutines answers) (parts_given ls m answers) (first_state m entry args)
+        (plain_first (parted_module ls m) other args) }
+{}
+
+/// Where each step of framed runs is followed in the parts, states are kept beside each other.
+pub fn followed_steps_keep_states()
+    ensures { (ls : Layouts) (m : Module)
+        → ((entry other : ℕ) (args : List Word) (answers : List ℤ) → IsEntryOfParts ls m entry other
+        → AreRelated (framed_given m ls.coroutines answers) (parts_given ls m answers) (first_state m entry args)
+        (plain_first (parted_module ls m) other args))
+        → ((entry other : ℕ) (args : List Word) (answers : List ℤ) → IsEntryOfParts ls m entry other
+        → AreStepsFollowed (framed_given m ls.coroutines answers) (parts_given ls m answers) entry args)
+        → PartsKeepStates ls m }
 {}

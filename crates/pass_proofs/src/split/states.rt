@@ -14,7 +14,7 @@ ghost use Rattle.pass_proofs.specs.split.states.Saved.{SavesIn};
 ghost use Rattle.pass_proofs.specs.split.states.Values.{AreValuesOf};
 ghost use Rattle.pass_intrinsics.specs.declared.shape.Part.{Part};
 ghost use Rattle.pass_proofs.specs.split.states.Begun.{BeginsIn, IsFreshBlock, IsNewInstance};
-ghost use Rattle.pass_proofs.specs.split.states.Instances.{AreFrames, AreLaidFrames, IsHeaded, IsLaidOut, in_state, is_destroyer, is_held, resumer_of};
+ghost use Rattle.pass_proofs.specs.split.states.Instances.{AreFrames, AreLaidFrames, IsHeaded, IsLaidOut, StandsThere, in_state, is_destroyer, is_held, resumer_of};
 ghost use Rattle.pass_proofs.specs.split.states.Memories.{AreBeside, AreContents, AreTwins, AreWorldsBeside, homes_of, plain_kind};
 ghost use Rattle.run_framed.specs.Framed.{FramedGiven, frame_rights, layout_of};
 ghost use Rattle.run_laws.specs.access.Changed.{KeepsFree};
@@ -76,7 +76,7 @@ pub fn coroutines_begin_beside()
         (size : ℕ) → slice_get m x.block ≡ Some u → IsFreshBlock size u → AreFrames g instances m n
         → AreBeside g instances m n → IsLaidOut g x.coroutine
         → (layout_of g.layouts x.coroutine).size ≡ size → IsNewInstance x → 16 ≤ u.size → (resumes : Value)
-        (destroyer : Part) → is_destroyer destroyer ≡ true
+        (destroyer : Part) → is_destroyer destroyer ≡ true → StandsThere g x.coroutine destroyer
         → BeginsIn g instances x (with_block m x.block (owned_to size)) n resumes destroyer }
 {}
 

@@ -1,20 +1,20 @@
 //! Steps of a framed run, and those of its parts.
 
-ghost use Rattle.std.specs.Prelude.{ℕ, ℤ, Bool, true, ◌<◌, ◌^◌, ◌∷◌, List, Option, Ok, Some, false, ◌+◌, ◌≡◌, ◌≤◌, length, slice_get, slice_set, unwrap_or};
+ghost use Rattle.std.specs.Prelude.{ℕ, ℤ, Bool, true, ◌<◌, ◌^◌, ◌∷◌, List, None, Option, Ok, Some, false, ◌+◌, ◌≡◌, ◌≤◌, length, slice_get, slice_set, unwrap_or};
 ghost use Rattle.ir_model.specs.declared.module.Function.{Function};
 ghost use Rattle.ir_model.specs.declared.module.Module.{Module};
 ghost use Rattle.ir_base.specs.declared.outcome.Outcome.{Outcome};
 ghost use Rattle.ir_model.specs.Names.{function_at, position_of};
-ghost use Rattle.pass_proofs.specs.split.places.Places.{Enters};
+ghost use Rattle.pass_proofs.specs.split.places.Places.{AreNew, Enters, IsPlace, JumpsOn, StartsWithEnd};
 ghost use Rattle.pass_proofs.specs.split.states.Activations.{AreAllWaiting, IsBehind, IsPlaced, IsWaiting, is_entering};
 ghost use Rattle.pass_proofs.specs.split.states.Going.{goes_to, moved_to, placed_at, plain_returned_to, returned_to, stands_at};
-ghost use Rattle.pass_proofs.specs.split.states.Related.{AreRelated};
+ghost use Rattle.pass_proofs.specs.split.states.Related.{AreRelated, fetched_at, weight};
 ghost use Rattle.pass_proofs.specs.split.steps.Branches.{AreReadablePhis, Entered};
 ghost use Rattle.run_laws.specs.transfer.Transfer.{given_at};
-ghost use Rattle.run_plain.specs.Plain.{PlainGiven, plain_call, plain_context, plain_function, plain_go_to, plain_settled, plain_slot, plain_step, plain_work};
+ghost use Rattle.run_plain.specs.Plain.{PlainGiven, counted, plain_call, plain_context, plain_function, plain_go_to, plain_settled, plain_slot, plain_step, plain_work};
 ghost use Rattle.run_plain.specs.declared.state.PlainState.{PlainState as ThePlainState};
 ghost use Rattle.run_source.specs.Source.{enter, go_to, is_among};
-ghost use Rattle.run_source.specs.State.{frame_address_of, gives, settled, with_slots, work_of};
+ghost use Rattle.run_source.specs.State.{frame_address_of, function_of, gives, settled, with_slots, work_of};
 ghost use Rattle.run_memory.specs.declared.pointer.Value.{Value as TheValue};
 ghost use Rattle.run_plain.specs.declared.state.PlainActivation.{PlainActivation as ThePlainActivation};
 ghost use Rattle.run_source.specs.declared.state.Activation.{Activation as TheActivation};
@@ -36,14 +36,35 @@ ghost use Rattle.pass_proofs.specs.split.rules.Reached.{IsLedTo};
 ghost use Rattle.pass_proofs.specs.split.states.Begun.{IsFreshBlock, IsNewInstance};
 ghost use Rattle.pass_proofs.specs.split.steps.Begins.{HasBeginCode, begun_to, begun_work};
 ghost use Rattle.pass_proofs.specs.split.steps.Saves.{HasSaveCode, saved_work};
-ghost use Rattle.run_laws.specs.access.Lines.{pointer_at};
-ghost use Rattle.run_memory.specs.Memory.{owned_to, with_block};
+ghost use Rattle.frame_layout.specs.declared.layout.Layout.{Layout};
+ghost use Rattle.pass_intrinsics.specs.Shapes.{back_label, shape_of};
+ghost use Rattle.pass_intrinsics.specs.declared.shape.SuspendPoint.{SuspendPoint};
+ghost use Rattle.ir_paths.specs.Windows.{destroy_label, resume_label};
+ghost use Rattle.pass_proofs.specs.split.steps.Dispatch.{IsAtIndex, indexed_work};
+ghost use Rattle.pass_intrinsics.specs.Lowered.{destroy_call, resume_call};
+ghost use Rattle.pass_proofs.specs.split.steps.Calling.{IsCallable, calling};
+ghost use Rattle.run_laws.specs.access.Lines.{Holds, StandAt, pointer_at};
+ghost use Rattle.run_memory.specs.declared.pointer.Pointer.{Pointer};
+ghost use Rattle.pass_proofs.specs.split.simulation.Followed.{IsFollowed};
+ghost use Rattle.ir_model.specs.declared.instr.Terminator.{Terminator};
+ghost use Rattle.ir_model.specs.declared.operand.Intrinsic.{Intrinsic};
+ghost use Rattle.pass_intrinsics.specs.Cuts.{goes_on};
+ghost use Rattle.pass_proofs.specs.split.steps.Called.{HasCalled};
+ghost use Rattle.run_agreement.specs.Machines.{IsFine};
+ghost use Rattle.pass_proofs.specs.split.steps.Resuming.{CanWake, IsAtWaking};
+ghost use Rattle.run_step.specs.Values.{arg_value};
+ghost use Rattle.pass_proofs.specs.split.steps.Woken.{IsWaking, IsWoken};
+ghost use Rattle.run_source.specs.Source.{destroy, resume};
+ghost use Rattle.run_source_tables.specs.Given.{is_final};
+ghost use Rattle.pass_split.specs.Parts.{or_zero};
+ghost use Rattle.pass_split.specs.Pieces.{going_on, redirected};
+ghost use Rattle.run_memory.specs.Memory.{encode, owned_to, owner_rights, with_block};
 ghost use Rattle.run_memory.specs.declared.block.MemoryBlock.{MemoryBlock};
 ghost use Rattle.run_source.specs.declared.state.Saved.{Saved as TheSaved};
 ghost use Rattle.run_source.specs.declared.state.Status.{Status as TheStatus};
 ghost use Rattle.run_step.specs.Runs.{iterate};
 ghost use Rattle.pass_proofs.specs.split.steps.Done.{IsDoneToo, ours, part_maps, theirs};
-ghost use Rattle.run_framed.specs.Framed.{FramedGiven, framed_context, layout_of};
+ghost use Rattle.run_framed.specs.Framed.{FramedGiven, continue_framed, framed_context, framed_step, given_call, layout_of};
 ghost use Rattle.run_laws.specs.access.Touched.{AreTouches, touch_of};
 ghost use Rattle.run_laws.specs.embedded.Related.{HasNoSlot};
 ghost use Rattle.run_laws.specs.memory.Pointers.{IsValue};
@@ -60,7 +81,7 @@ ghost use Rattle.ir_model.specs.declared.instr.Instr.{Instr as TheInstr};
 ghost use Rattle.pass_proofs.specs.split.steps.Given.{IsAtFrame};
 ghost use Rattle.pass_proofs.specs.split.steps.Ordinary.{IsAtOrdinary, StepsBeside};
 ghost use Rattle.pass_proofs.specs.split.steps.Ready.{IsReadyInPart};
-ghost use Rattle.run_step.specs.Step.{AtInstr, Done, Fetched, Work, action_of, fetch, incoming_from, label_of, phi_values, phis_of, set_value, value_at, with_all};
+ghost use Rattle.run_step.specs.Step.{AtInstr, Done, Fetched, Work, action_of, fetch, incoming_from, label_of, phi_values, phis_of, set_value, value_at, with_all, AtTerm, GoTo};
 ghost use Rattle.run_step.specs.Values.{Env, operand_value, value_in, with_value};
 
 /// A step that is done in the framed run and makes, marks and allocates no block is done in the part. The memories stand
@@ -242,7 +263,7 @@ pub fn begins_leave_states_related()
         → value_at (plain_context h t) (plain_work t) ptr p ≡ pointer_at x.block 0 → is_entering s.top.mode ≡ false
         → AreRelated g h (begun_to s x (with_block s.world.memory x.block (owned_to size))
         (with_value s.top.values (shape_at g s.top.func).begin (pointer_at x.block 0)))
-        (stands_at t (position_of (plain_function h t) code.mark) 0 (begun_work g (plain_work t) code.name x
+        (stands_at t (position_of (plain_function h t) code.mark) 0 (begun_work g r.top.part (plain_work t) code.name x
         s.top.func)) }
     ensures steps { (g : FramedGiven) (h : PlainGiven) (s : TheState) (t : ThePlainState) (r : AreRelated g h s t)
         (p : TheOperand) (code : HasBeginCode g h s t r p) (x : Instance) (u : MemoryBlock) (size : ℕ)
@@ -250,5 +271,137 @@ pub fn begins_leave_states_related()
         → IsLaidOut g x.coroutine → (layout_of g.layouts x.coroutine).size ≡ size → IsNewInstance x → 16 ≤ u.size
         → value_at (plain_context h t) (plain_work t) ptr p ≡ pointer_at x.block 0 → t.outcome ≡ Outcome.Running
         → iterate (plain_step h) 5 t ≡ stands_at t (position_of (plain_function h t) code.mark) 0
-        (begun_work g (plain_work t) code.name x s.top.func) }
+        (begun_work g r.top.part (plain_work t) code.name x s.top.func) }
+{}
+
+/// A part whose allocas are made goes on in four steps where its index leads: behind the suspend of that number. On the
+/// way nothing is another but its names.
+pub fn indices_lead_parts_on()
+    ensures leads { (h : PlainGiven) (t : ThePlainState) (f : Function) (layout : Layout) (part : Part)
+        (number : ℕ) (point : SuspendPoint) (block start : ℕ)
+        → IsAtIndex h t f layout part number point block start
+        → iterate (plain_step h) 4 t ≡ plain_go_to h (stands_at t (position_of (plain_function h t)
+        (back_label (shape_of f layout) number)) 0 (indexed_work (shape_of f layout) (plain_work t) block start number))
+        (redirected (shape_of f layout) (or_zero (going_on part (Some point)))) }
+    ensures quiet { (h : PlainGiven) (t : ThePlainState) (f : Function) (layout : Layout) (part : Part)
+        (number : ℕ) (point : SuspendPoint) (block start : ℕ)
+        → IsAtIndex h t f layout part number point block start → (i : ℕ) → i < 4
+        → ((iterate (plain_step h) i t).outcome ≡ Outcome.Running)
+        × ((iterate (plain_step h) i t).world ≡ t.world) }
+{}
+
+/// A resume of the framed run that isn't undefined goes on with a Suspended instance, whose frame's address it takes. Its
+/// suspend isn't final. So does a destroy, at any suspend.
+pub fn resumes_wake_suspended_instances()
+    ensures resume { (g : FramedGiven) (s u : TheState) (p : TheValue)
+        → resume g.given (continue_framed g) s p ≡ Ok u → (w : IsWoken s p)
+        × ((is_final (function_at g.given.code w.instance.coroutine) w.suspend ≡ false)
+        × (u ≡ continue_framed g s w.number w.instance w.suspend w.values
+        (resume_label (function_at g.given.code w.instance.coroutine) w.suspend))) }
+    ensures destroy { (g : FramedGiven) (s u : TheState) (p : TheValue)
+        → destroy g.given (continue_framed g) s p ≡ Ok u → (w : IsWoken s p)
+        × (u ≡ continue_framed g s w.number w.instance w.suspend w.values
+        (destroy_label (function_at g.given.code w.instance.coroutine) w.suspend)) }
+{}
+
+/// What stands in a part for a resume calls the function that a frame's header names, with the frame's address. It takes
+/// two steps, and what stands for a destroy three. On the way nothing is another but names of the part's own.
+pub fn parts_call_what_headers_name()
+    ensures resume { (h : PlainGiven) (t : ThePlainState) (x : TheOperand) (n block start func : ℕ)
+        → IsCallable h t x n 1 block start 0 func
+        → StandAt (plain_function h t) t.top.block t.top.at (resume_call n x)
+        → iterate (plain_step h) 2 t ≡ counted h func (calling h t func block start (t.top.at + 1 + 1)
+        (with_value t.top.values n (TheValue.Ptr (Pointer.Func func)))) }
+    ensures destroy { (h : PlainGiven) (t : ThePlainState) (x : TheOperand) (n block start func : ℕ)
+        → IsCallable h t x n 2 block start 8 func → start + 8 < 2 ^ 64
+        → StandAt (plain_function h t) t.top.block t.top.at (destroy_call n x)
+        → iterate (plain_step h) 3 t ≡ counted h func (calling h t func block start (t.top.at + 1 + 1 + 1)
+        (with_value (with_value t.top.values n (pointer_at block (start + 8))) (n + 1)
+        (TheValue.Ptr (Pointer.Func func)))) }
+{}
+
+/// Where a part has called the one that goes on with an instance, the step of the framed run is followed. The callee
+/// makes its allocas again, or comes to the block behind the suspend in four steps more.
+pub fn called_parts_follow()
+    ensures { (g : FramedGiven) (h : PlainGiven) (s : TheState) (t : ThePlainState) (r : AreRelated g h s t)
+        → s.outcome ≡ Outcome.Running → is_entering s.top.mode ≡ false → (p : TheValue) (w : IsWoken s p) (part : Part)
+        (label : ℕ) → IsWaking g h.code s t.world.memory p w part label
+        → framed_step g s ≡ continue_framed g s w.number w.instance w.suspend w.values label
+        → weight (fetched_at g s) ≡ 4
+        → StartsWithEnd (function_at g.given.code w.instance.coroutine) (shape_at g w.instance.coroutine).end
+        → HasCalled g h s t r w.instance part → IsFollowed g h s t }
+{}
+
+/// A resume that stays in its part has called the part that goes on, in two steps.
+pub fn resumes_call_in_two_steps()
+    ensures { (g : FramedGiven) (h : PlainGiven) (s : TheState) (t : ThePlainState) (r : AreRelated g h s t)
+        (k : IsAtWaking g h s t r Intrinsic.CoroResume) (w : IsWoken s (arg_value g.given.code s.top.values k.arg))
+        → CanWake g h s t (arg_value g.given.code s.top.values k.arg) w Part.Resume
+        (resume_label (function_at g.given.code w.instance.coroutine) w.suspend)
+        → Holds owner_rights t.world.memory w.instance.block (w.instance.start + 0) 8
+        (encode 8 (TheValue.Ptr (Pointer.Func (part_position g w.instance.coroutine Part.Resume))))
+        → w.instance.block < length s.world.memory → w.instance.start < 2 ^ 64 → (n : ℕ)
+        → AreNew (function_of g.given s) (plain_function h t) n 1
+        → StandAt (plain_function h t) t.top.block t.top.at (resume_call n k.arg.value)
+        → IsPlace r.top.shape r.top.part (function_of g.given s) (plain_function h t) s.top.block (s.top.at + 1)
+        t.top.block (t.top.at + 2) → HasCalled g h s t r w.instance Part.Resume }
+{}
+
+/// A resume in a ramp, or in a function that is no coroutine, is followed in the part. So is one of a part that goes on,
+/// where it transfers nowhere: what is asked is the same, with the code that stands there.
+pub fn resumes_of_ramps_are_followed()
+    ensures ramp { (g : FramedGiven) (h : PlainGiven) (s : TheState) (t : ThePlainState) (r : AreRelated g h s t)
+        (k : IsAtWaking g h s t r Intrinsic.CoroResume) → IsFine (framed_step g s).outcome
+        → ((w : IsWoken s (arg_value g.given.code s.top.values k.arg))
+        → is_final (function_at g.given.code w.instance.coroutine) w.suspend ≡ false
+        → CanWake g h s t (arg_value g.given.code s.top.values k.arg) w Part.Resume
+        (resume_label (function_at g.given.code w.instance.coroutine) w.suspend))
+        → goes_on r.top.part ≡ false → IsFollowed g h s t }
+    ensures stays { (g : FramedGiven) (h : PlainGiven) (s : TheState) (t : ThePlainState) (r : AreRelated g h s t)
+        (k : IsAtWaking g h s t r Intrinsic.CoroResume) → IsFine (framed_step g s).outcome
+        → ((w : IsWoken s (arg_value g.given.code s.top.values k.arg))
+        → is_final (function_at g.given.code w.instance.coroutine) w.suspend ≡ false
+        → CanWake g h s t (arg_value g.given.code s.top.values k.arg) w Part.Resume
+        (resume_label (function_at g.given.code w.instance.coroutine) w.suspend)) → (n : ℕ)
+        → AreNew (function_of g.given s) (plain_function h t) n 1
+        → StandAt (plain_function h t) t.top.block t.top.at (resume_call n k.arg.value)
+        → IsPlace r.top.shape r.top.part (function_of g.given s) (plain_function h t) s.top.block (s.top.at + 1)
+        t.top.block (t.top.at + 2) → IsFollowed g h s t }
+{}
+
+/// An ordinary instruction that the framed run does is followed in the part.
+pub fn ordinary_steps_are_followed()
+    ensures { (g : FramedGiven) (h : PlainGiven) (s : TheState) (t : ThePlainState) (r : AreRelated g h s t)
+        → s.outcome ≡ Outcome.Running → (functions : ℕ → ℕ) (i : TheInstr) → IsAtOrdinary functions g h s t r i
+        → given_call g s (AtInstr i) ≡ None → (v : Work)
+        → action_of (framed_context g s) (work_of s) (AtInstr i) ≡ Done v → IsFollowed g h s t }
+{}
+
+/// An edge of the framed run is followed in the part: in a step where the part's leads straight there, and in two where
+/// it leads through the mark of the end. The second is a debt of the end.
+pub fn edges_are_followed()
+    ensures straight { (g : FramedGiven) (h : PlainGiven) (s : TheState) (t : ThePlainState) (r : AreRelated g h s t)
+        → s.outcome ≡ Outcome.Running → (term : Terminator) (label : ℕ)
+        → fetch (function_of g.given s) s.top.block s.top.at ≡ AtTerm term
+        → action_of (framed_context g s) (work_of s) (AtTerm term) ≡ GoTo label → IsFine (framed_step g s).outcome
+        → is_entering s.top.mode ≡ false
+        → AreReadablePhis g.given.code h.code (function_at g.given.code s.top.func)
+        (label_of (slice_get (function_at g.given.code s.top.func).blocks s.top.block)) r.top.shape.begin
+        (phis_of (slice_get (function_at g.given.code s.top.func).blocks
+        (position_of (function_at g.given.code s.top.func) label)))
+        → Enters r.top.shape r.top.part (function_at g.given.code s.top.func) (function_at h.code t.top.func)
+        s.top.block t.top.block label → plain_step h t ≡ plain_go_to h t label → IsFollowed g h s t }
+    ensures through { (g : FramedGiven) (h : PlainGiven) (s : TheState) (t : ThePlainState) (r : AreRelated g h s t)
+        → s.outcome ≡ Outcome.Running → (term : Terminator) (label : ℕ)
+        → fetch (function_of g.given s) s.top.block s.top.at ≡ AtTerm term
+        → action_of (framed_context g s) (work_of s) (AtTerm term) ≡ GoTo label → IsFine (framed_step g s).outcome
+        → is_entering s.top.mode ≡ false
+        → AreReadablePhis g.given.code h.code (function_at g.given.code s.top.func)
+        (label_of (slice_get (function_at g.given.code s.top.func).blocks s.top.block)) r.top.shape.begin
+        (phis_of (slice_get (function_at g.given.code s.top.func).blocks
+        (position_of (function_at g.given.code s.top.func) label))) → (mark : ℕ)
+        → JumpsOn (plain_function h t) mark label
+        → Enters r.top.shape r.top.part (function_at g.given.code s.top.func) (function_at h.code t.top.func)
+        s.top.block mark label → StartsWithEnd (function_at g.given.code s.top.func) label
+        → plain_step h t ≡ stands_at t mark 0 (plain_work t) → IsFollowed g h s t }
 {}

@@ -69,7 +69,7 @@ module _ (n : Module) (s : Shape) (flags : List Bool) (part : Part) (x : Word) w
       on false more = more
 
 -- the index is as wide as its numbers
-wide : (n : ℕ) → n ≤ 65536 → n ≤ 2 ^ bits_of (index_width n)
+pub wide : (n : ℕ) → n ≤ 65536 → n ≤ 2 ^ bits_of (index_width n)
 wide n low = on (nat_le n 256) refl
   where
     on : (b : Bool) → nat_le n 256 ≡ b → n ≤ 2 ^ bits_of (if b then IntWidth.I8 else IntWidth.I16)

@@ -16,7 +16,7 @@ use Rattle.run_framed.specs.Framed.{framed_given}
 use Rattle.run_states.specs.moved_states.Beside.{framed_machine}
 use Rattle.run_step.specs.Step.{AtInstr, AtTerm, Fetched, Nowhere}
 
-price_within : (behind : Bool) (x : Fetched) → price_of behind x ≤ 4
+pub price_within : (behind : Bool) (x : Fetched) → price_of behind x ≤ 4
 price_within true x = omega arith
 price_within false Nowhere = omega arith
 price_within false (AtInstr i) = omega arith

@@ -95,6 +95,7 @@ module _ (g : FramedGiven) (n l : List MemoryBlock) (x : Instance) (move : Moves
   pub headed_held : IsHeaded g n x → IsHeaded g l x
   headed_held h = record {
     destroyer = h.destroyer;
+    stands = h.stands;
     is = h.is;
     destroys = pointer_held (x.start + 8) (address_of_part g x.coroutine h.destroyer) (omega arith)
         (omega arith) h.destroys;

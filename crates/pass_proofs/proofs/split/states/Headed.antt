@@ -11,7 +11,7 @@ use Rattle.pass_proofs.proofs.split.states.Judged.{get_new}
 use Rattle.pass_proofs.proofs.split.states.Twins.{twin_at}
 use Rattle.pass_proofs.proofs.split.states.Written.{range_holds}
 use Rattle.pass_proofs.specs.split.states.Begun.{BeginsIn, IsFreshBlock, IsNewInstance, with_header}
-use Rattle.pass_proofs.specs.split.states.Instances.{AreFrames, AreLaidFrames, IsControl, IsHeaded, IsLaidOut, address_of_part, is_destroyer, is_held, lives_in}
+use Rattle.pass_proofs.specs.split.states.Instances.{AreFrames, AreLaidFrames, IsControl, IsHeaded, IsLaidOut, StandsThere, address_of_part, is_destroyer, is_held, lives_in}
 use Rattle.pass_proofs.specs.split.states.Memories.{AreBeside}
 use Rattle.run_framed.specs.Framed.{FramedGiven, layout_of}
 use Rattle.run_laws.proofs.access.Ranges.{write_held}
@@ -45,7 +45,8 @@ module _ (g : FramedGiven) (xs : List Instance) (x : Instance) (m n : List Memor
     (there : slice_get m x.block ≡ Some u) (fresh : IsFreshBlock size u) (frames : AreFrames g xs m n)
     (beside : AreBeside g xs m n)
     (laid : IsLaidOut g x.coroutine) (sized : (layout_of g.layouts x.coroutine).size ≡ size) (new : IsNewInstance x)
-    (roomy : 16 ≤ u.size) (resumes : Value) (destroyer : Part) (is : is_destroyer destroyer ≡ true) where
+    (roomy : 16 ≤ u.size) (resumes : Value) (destroyer : Part) (is : is_destroyer destroyer ≡ true)
+    (standing : StandsThere g x.coroutine destroyer) where
   abbrev more : List Instance
   more = xs ++ x ∷ []
 
@@ -135,6 +136,7 @@ module _ (g : FramedGiven) (xs : List Instance) (x : Instance) (m n : List Memor
   new_headed : IsHeaded g two x
   new_headed = record {
     destroyer = destroyer;
+    stands = standing;
     is = is;
     destroys = stored;
     saved = λ suspend values e. absurd

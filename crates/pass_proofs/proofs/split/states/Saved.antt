@@ -285,6 +285,7 @@ module _ (g : FramedGiven) (xs : List Instance) (i : ℕ) (x : Instance) (m n : 
   now_headed : IsHeaded g two now
   now_headed = record {
     destroyer = header.destroyer;
+    stands = header.stands;
     is = header.is;
     destroys = destroys_stored;
     saved = λ point vs f. subst (IsSavedAt g two now) (same_suspend suspend point values vs f) saved_there;

@@ -109,6 +109,7 @@ module _ (g : FramedGiven) (xs : List Instance) (m n : List MemoryBlock) (i : �
   pub runs_headed : IsHeaded g n x → (status ≡ Status.Running) ⊎ (status ≡ Status.Finished) → IsHeaded g n now
   runs_headed h is = record {
     destroyer = h.destroyer;
+    stands = h.stands;
     is = h.is;
     destroys = h.destroys;
     saved = λ suspend values e. absurd (⊎_elim (λ s. none (sym s ∙ e)) (λ s. none' (sym s ∙ e)) is);

@@ -1,5 +1,5 @@
 -- Behind a begin, which takes five steps of the part, the states are related.
-use Rattle.std.proofs.Common.{◌≡◌, ℕ, ◌<◌, ◌≤◌, false, List, [], ◌∷◌, ◌++◌, length, Some, refl, sym, ap, ◌∙◌, subst, arith}
+use Rattle.std.proofs.Common.{◌≡◌, ℕ, ◌<◌, ◌≤◌, true, false, List, [], ◌∷◌, ◌++◌, length, Some, refl, sym, ap, ◌∙◌, subst, arith}
 use Rattle.std.specs.Prelude.{slice_get}
 use Rattle.std.proofs.lemmas.Bool.{false≢true}
 use Rattle.std.proofs.lemmas.Option.{slice_get_within}
@@ -7,7 +7,7 @@ use Rattle.ir_base.specs.declared.outcome.Outcome.{Outcome}
 use Rattle.ir_model.specs.Names.{function_at, position_of}
 use Rattle.ir_model.specs.Ty.{ptr}
 use Rattle.ir_model.specs.declared.operand.Operand.{Operand}
-use Rattle.pass_intrinsics.specs.Lowered.{begin_stores}
+use Rattle.pass_intrinsics.specs.Lowered.{begin_stores, destroyed_by}
 use Rattle.pass_intrinsics.specs.declared.shape.Part.{Part}
 use Rattle.pass_intrinsics.specs.declared.shape.Shape.{Shape}
 use Rattle.pass_proofs.proofs.split.states.Advanced.{KeepsFrames, all_beside_on}
@@ -22,7 +22,7 @@ use Rattle.pass_proofs.proofs.split.steps.Small.{address_done, pointer_stored}
 use Rattle.pass_proofs.specs.split.states.Activations.{Inside, is_entering}
 use Rattle.pass_proofs.specs.split.states.Begun.{BeginsIn, IsFreshBlock, IsNewInstance, with_header}
 use Rattle.pass_proofs.specs.split.states.Going.{stands_at}
-use Rattle.pass_proofs.specs.split.states.Instances.{IsLaidOut, address_of_part, part_position, shape_at}
+use Rattle.pass_proofs.specs.split.states.Instances.{IsLaidOut, StandsThere, address_of_part, destroyer_of, is_destroyer, part_position, shape_at}
 use Rattle.pass_proofs.specs.split.states.Memories.{homes_of}
 use Rattle.pass_proofs.specs.split.states.Related.{AreRelated}
 use Rattle.pass_proofs.specs.split.states.Values.{AreValuesOf}
@@ -70,12 +70,23 @@ module _ (g : FramedGiven) (h : PlainGiven) (s : State) (t : PlainState) (r : Ar
   abbrev source : List MemoryBlock
   source = with_block s.world.memory x.block (owned_to size)
 
-  stored : BeginsIn g s.instances x source t.world.memory resumes Part.Destroy
+  abbrev destroyer : Part
+  destroyer = destroyer_of r.top.part
+
+  stored : BeginsIn g s.instances x source t.world.memory resumes (destroyer_of r.top.part)
   stored = begins g s.instances x s.world.memory t.world.memory u size there fresh r.frames r.world.memory laid sized
-      new roomy resumes Part.Destroy refl
+      new roomy resumes destroyer (destroys r.top.part)
+      (subst (λ (k : ℕ). StandsThere g k destroyer) (sym mine) code.standing)
+    where
+      destroys : (part : Part) → is_destroyer (destroyer_of part) ≡ true
+      destroys Part.Ramp = refl
+      destroys Part.GivenRamp = refl
+      destroys Part.Resume = refl
+      destroys Part.Destroy = refl
+      destroys Part.Cleanup = refl
 
   abbrev memory_after : List MemoryBlock
-  memory_after = with_header t.world.memory x.block resumes (address_of_part g x.coroutine Part.Destroy)
+  memory_after = with_header t.world.memory x.block resumes (address_of_part g x.coroutine destroyer)
 
   -- the names of the frame and of the second pointer
   abbrev with_frame : Env
@@ -103,12 +114,12 @@ module _ (g : FramedGiven) (h : PlainGiven) (s : State) (t : PlainState) (r : Ar
   three = set_value two code.name (pointer_at x.block 8)
 
   abbrev four : Work
-  four = set_memory three (with_header t.world.memory x.block resumes (address_of_part g s.top.func Part.Destroy))
+  four = set_memory three (with_header t.world.memory x.block resumes (address_of_part g s.top.func destroyer))
 
   room_for : shape.begin < length t.top.values
   room_for = let a = r.top.values.room in let b = code.begin in omega arith
 
-  runs : Runs (plain_context h t) (begin_stores shape code.name p) (plain_work t) four
+  runs : Runs (plain_context h t) (begin_stores shape r.top.part code.name p) (plain_work t) four
   runs = (
     one,
     (
@@ -128,8 +139,8 @@ module _ (g : FramedGiven) (h : PlainGiven) (s : State) (t : PlainState) (r : Ar
               (
                 four,
                 (
-                  pointer_stored (plain_context h t) three x.block 8 8 (Operand.Global shape.destroy_name)
-                      (Operand.Local code.name) (Pointer.Func (part_position g s.top.func Part.Destroy)) stored.older
+                  pointer_stored (plain_context h t) three x.block 8 8 (Operand.Global (destroyed_by shape r.top.part))
+                      (Operand.Local code.name) (Pointer.Func (part_position g s.top.func destroyer)) stored.older
                       (set_there with_frame code.name (pointer_at x.block 8) (subst (λ (k : ℕ). code.name < k)
                       (sym (set_length t.top.values shape.begin (pointer_at x.block 0))) code.room)) code.destroys
                       stored.second stored.longer (omega arith),
@@ -146,13 +157,13 @@ module _ (g : FramedGiven) (h : PlainGiven) (s : State) (t : PlainState) (r : Ar
   -- it takes five steps
   pub begin_steps : t.outcome ≡ Outcome.Running
       → iterate (plain_step h) 5 t ≡ stands_at t (position_of (plain_function h t) code.mark) 0 after
-  begin_steps running = line_marked h t running (begin_stores shape code.name p) code.mark four code.stands code.bare
+  begin_steps running = line_marked h t running (begin_stores shape r.top.part code.name p) code.mark four code.stands code.bare
       runs
       ∙ ap (λ (f : ℕ). stands_at t (position_of (plain_function h t) code.mark) 0
       (record {
         world = record t.world {
           memory = with_header t.world.memory x.block resumes
-              (address_of_part g f Part.Destroy);
+              (address_of_part g f destroyer);
         };
         values = with_value with_frame code.name (pointer_at x.block 8);
       }))

@@ -30,7 +30,7 @@ use Rattle.run_laws.proofs.memory.Written.{same_some}
 use Rattle.run_laws.specs.changed.Changed.{Each}
 use Rattle.run_memory.specs.declared.block.MemoryBlock.{MemoryBlock}
 use Rattle.run_memory.specs.declared.pointer.Value.{Value}
-use Rattle.run_plain.specs.Plain.{PlainGiven, plain_go_to}
+use Rattle.run_plain.specs.Plain.{PlainGiven, plain_go_to, plain_work}
 use Rattle.run_plain.specs.declared.state.PlainState.{PlainState}
 use Rattle.run_source.specs.Source.{branch_leaving, enter_block, may_leave}
 use Rattle.run_source.specs.State.{frame_address_of, is_finished, is_suspended, numbered, own_instance, with_left, with_status}
@@ -108,7 +108,7 @@ module _ (g : Given) (s u : State) (label : ℕ) where
 
 -- ---- frames stay where they were
 
-left_frames : (xs ys : List Instance) → WasLeft xs ys → KeepsFrames xs ys
+pub left_frames : (xs ys : List Instance) → WasLeft xs ys → KeepsFrames xs ys
 left_frames xs _ Stayed = same_frames xs
 left_frames xs _ (Left i x e h) = record {
   each = λ j z f. ⊎_elim
@@ -127,7 +127,7 @@ left_frames xs _ (Left i x e h) = record {
 }
 
 module _ (g : FramedGiven) (m n : List MemoryBlock) where
-  left_beside : (xs ys : List Instance) → WasLeft xs ys → AreBeside g xs m n → AreBeside g ys m n
+  pub left_beside : (xs ys : List Instance) → WasLeft xs ys → AreBeside g xs m n → AreBeside g ys m n
   left_beside xs _ Stayed beside = beside
   left_beside xs _ (Left i x e h) beside = status_beside g xs m n i x e Status.Running x.last_save x.released beside
 
@@ -143,7 +143,7 @@ module _ (g : FramedGiven) (m n : List MemoryBlock) where
       unfinished (Status.Suspended p vs) e = refl
       unfinished Status.Finished e = absurd (false≢true e)
 
-  left_all : (xs ys : List Instance) → WasLeft xs ys → AreFrames g xs m n → AreFrames g ys m n
+  pub left_all : (xs ys : List Instance) → WasLeft xs ys → AreFrames g xs m n → AreFrames g ys m n
   left_all xs _ Stayed frames = frames
   left_all xs _ (Left i x e h) frames = status_frames g xs m n i x e Status.Running x.last_save x.released
       (held_before (slice_get m x.block) x h) frames
@@ -165,13 +165,13 @@ module _ (g : FramedGiven) (h : PlainGiven) (s : State) (t : PlainState) (r : Ar
   abbrev phis : List Phi
   phis = phis_of (slice_get f.blocks (position_of f label))
 
-  module _ (enters : Enters r.top.shape r.top.part f q s.top.block t.top.block label)
+  module _ (piece : ℕ) (enters : Enters r.top.shape r.top.part f q s.top.block piece label)
       (readable : AreReadablePhis g.given.code h.code f from r.top.shape.begin phis)
       (mode : is_entering s.top.mode ≡ false) where
     taken_in_part : values_in h.code (slice_get q.blocks (position_of q label))
-        (label_of (slice_get q.blocks t.top.block)) t.top.values ≡ with_all t.top.values
+        (label_of (slice_get q.blocks piece)) t.top.values ≡ with_all t.top.values
         (phi_values h.code t.top.values from phis)
-    taken_in_part = ap (with_all t.top.values) (phis_by h.code t.top.values (label_of (slice_get q.blocks t.top.block))
+    taken_in_part = ap (with_all t.top.values) (phis_by h.code t.top.values (label_of (slice_get q.blocks piece))
         (phis_of (slice_get q.blocks (position_of q label)))
         ∙ ap (map (λ (e : ℕ × (Ty × Operand)). (e.0, operand_value h.code t.top.values e.1.0 e.1.1))) enters.phis
         ∙ sym (phis_by h.code t.top.values from phis))
@@ -187,9 +187,11 @@ module _ (g : FramedGiven) (h : PlainGiven) (s : State) (t : PlainState) (r : Ar
     others [] k = tt
     others (p ∷ ps) k = (k.0, others ps k.1)
 
-    -- the framed run took the edge, and the parts' run takes it too
-    pub edges_related : (u : State) → Entered g.given s label u → AreRelated g h u (plain_go_to h t label)
-    edges_related u entered = subst (λ (x : State). AreRelated g h x (plain_go_to h t label)) (sym entered.is)
+    -- the framed run took the edge, and the parts' run takes it too, from the front of a block
+    pub edges_from : (u : State) → Entered g.given s label u
+        → AreRelated g h u (plain_go_to h (stands_at t piece 0 (plain_work t)) label)
+    edges_from u entered = subst (λ (x : State). AreRelated g h x (plain_go_to h (stands_at t piece 0 (plain_work t))
+        label)) (sym entered.is)
         (subst (λ (vs : Env). AreRelated g h (goes_to s s.world entered.instances (position_of f label) 0
         (with_all s.top.values (phi_values g.given.code s.top.values from phis)) entered.left)
         (stands_at t (position_of q label) 0 (record { world = t.world; values = vs }))) (sym taken_in_part)
@@ -211,3 +213,9 @@ module _ (g : FramedGiven) (h : PlainGiven) (s : State) (t : PlainState) (r : Ar
         (all_elsewhere t.top.values (phi_values h.code t.top.values from phis) r.top.shape.begin
         (others phis readable.others))
         (Inside s.top.mode mode enters.place)))
+
+  -- from the block in which it stands
+  pub edges_related : Enters r.top.shape r.top.part f q s.top.block t.top.block label
+      → AreReadablePhis g.given.code h.code f from r.top.shape.begin phis → is_entering s.top.mode ≡ false
+      → (u : State) → Entered g.given s label u → AreRelated g h u (plain_go_to h t label)
+  edges_related = edges_from t.top.block

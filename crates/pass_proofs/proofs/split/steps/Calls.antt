@@ -193,7 +193,8 @@ module _ (g : FramedGiven) (h : PlainGiven) (s : State) (t : PlainState) (r : Ar
       → IsReturning g beside.shape beside.part (function_at g.given.code a.func) ys n a.instance from label)
       → AreValuesOf (function_at g.given.code s.top.func) (homes_of s.world.memory) s.top.values values
       → length values ≡ length t.top.values
-      → value_in values r.top.shape.begin ≡ value_in t.top.values r.top.shape.begin
+      → ((i : ℕ) → s.top.instance ≡ Some i
+      → value_in values r.top.shape.begin ≡ value_in t.top.values r.top.shape.begin)
       → IsPlaced r.top.shape r.top.part (function_at g.given.code s.top.func) (function_at h.code t.top.func) waiting
       (placed_at t.top piece offset values) s.top.mode
       → IsBehind (function_at g.given.code s.top.func) false waiting → (a.result ≡ Some r.top.shape.begin → ⊥)
@@ -221,7 +222,8 @@ module _ (g : FramedGiven) (h : PlainGiven) (s : State) (t : PlainState) (r : Ar
           place = place;
           values = stand;
           room = room ∙ r.top.room;
-          frame = λ i own. frame_on s.instances ys s.top.func i _ _ keeps begin (r.top.frame i own);
+          frame = λ i own. frame_on s.instances ys s.top.func i _ _ keeps (begin i own)
+              (r.top.frame i own);
           result = r.top.result;
           slots = r.top.slots;
           own = r.top.own;

@@ -73,4 +73,4 @@ module _ (g : FramedGiven) (h : PlainGiven) (s : State) (t : PlainState) (r : Ar
       (callee_beside g h s.instances (homes_of s.world.memory) func args others result callee stand)
       (λ from label e. absurd (false≢true (sym (mode_settled (function_at g.given.code func).coroutine)
       ∙ ap is_entering e)))
-      r.top.values refl refl place behind free
+      r.top.values refl (λ i own. refl) place behind free

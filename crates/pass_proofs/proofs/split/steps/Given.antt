@@ -38,7 +38,7 @@ use Rattle.run_step.specs.Step.{AtInstr, Done, instr_action, set_value, value_at
 use Rattle.run_step.specs.Values.{value_in, with_value}
 
 -- an address in a block that there is stands for itself
-address_itself : (k b o : ℕ) → b < k → o < 2 ^ 64 → IsValue (own_homes 0 k) (pointer_at b o) (pointer_at b o)
+pub address_itself : (k b o : ℕ) → b < k → o < 2 ^ 64 → IsValue (own_homes 0 k) (pointer_at b o) (pointer_at b o)
 address_itself k b o lt small
     = (ap (λ (q : Home). q.is_seen) (own_home k b lt), ap Value.Ptr (sym (own_pointer k b (offset_of o) lt within)))
   where
@@ -95,8 +95,10 @@ module _ (g : FramedGiven) (h : PlainGiven) (s : State) (t : PlainState) (r : Ar
           → begins_again part (Instr.Call (Some name) k.must_tail k.ty (Callee.Intrinsic Intrinsic.CoroFrame) k.args) ≡
           false
       on Part.Ramp = refl
+      on Part.GivenRamp = refl
       on Part.Resume = refl
       on Part.Destroy = refl
+      on Part.Cleanup = refl
 
   does : instr_action (plain_context h t) (plain_work t) (address name (Operand.Local begin) (pos 0)) ≡ Done
       (set_value (plain_work t) name u)

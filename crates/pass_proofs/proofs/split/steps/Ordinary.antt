@@ -34,22 +34,22 @@ use Rattle.run_step.specs.Step.{AtInstr, Done, Work, action_of, fetch}
 
 -- ---- ordinary instructions are copied
 
-call_lowered : (s : Shape) (n : ℕ) (x : Intrinsic) (r : Option ℕ) (must_tail : Bool) (ty : Option Ty) (args : List Arg)
+call_lowered : (s : Shape) (part : Part) (n : ℕ) (x : Intrinsic) (r : Option ℕ) (must_tail : Bool) (ty : Option Ty) (args : List Arg)
     → is_ordinary (Instr.Call r must_tail ty (Callee.Intrinsic x) args) ≡ true
-    → lowered s n (Instr.Call r must_tail ty (Callee.Intrinsic x) args) ≡ Instr.Call r must_tail ty
+    → lowered s part n (Instr.Call r must_tail ty (Callee.Intrinsic x) args) ≡ Instr.Call r must_tail ty
     (Callee.Intrinsic x) args ∷ []
-call_lowered s n Intrinsic.LifetimeStart r must_tail ty args e = refl
-call_lowered s n Intrinsic.LifetimeEnd r must_tail ty args e = refl
-call_lowered s n Intrinsic.MemcpyI64 r must_tail ty args e = refl
-call_lowered s n Intrinsic.MemcpyI32 r must_tail ty args e = refl
-call_lowered s n _ r must_tail ty args e = absurd (false≢true e)
+call_lowered s part n Intrinsic.LifetimeStart r must_tail ty args e = refl
+call_lowered s part n Intrinsic.LifetimeEnd r must_tail ty args e = refl
+call_lowered s part n Intrinsic.MemcpyI64 r must_tail ty args e = refl
+call_lowered s part n Intrinsic.MemcpyI32 r must_tail ty args e = refl
+call_lowered s part n _ r must_tail ty args e = absurd (false≢true e)
 
-ordinary_lowered : (s : Shape) (n : ℕ) (i : Instr) → is_ordinary i ≡ true → lowered s n i ≡ i ∷ []
-ordinary_lowered s n (Instr.Call r must_tail ty (Callee.Intrinsic x) args) e = call_lowered s n x r must_tail ty args e
-ordinary_lowered s n (Instr.Call r must_tail ty (Callee.Named f) args) e = refl
-ordinary_lowered s n (Instr.Call r must_tail ty (Callee.Allocator a) args) e = refl
-ordinary_lowered s n (Instr.Call r must_tail ty (Callee.Local v) args) e = refl
-ordinary_lowered s n _ e = refl
+ordinary_lowered : (s : Shape) (part : Part) (n : ℕ) (i : Instr) → is_ordinary i ≡ true → lowered s part n i ≡ i ∷ []
+ordinary_lowered s part n (Instr.Call r must_tail ty (Callee.Intrinsic x) args) e = call_lowered s part n x r must_tail ty args e
+ordinary_lowered s part n (Instr.Call r must_tail ty (Callee.Named f) args) e = refl
+ordinary_lowered s part n (Instr.Call r must_tail ty (Callee.Allocator a) args) e = refl
+ordinary_lowered s part n (Instr.Call r must_tail ty (Callee.Local v) args) e = refl
+ordinary_lowered s part n _ e = refl
 
 call_stays : (s : Shape) (part : Part) (x : Intrinsic) (r : Option ℕ) (must_tail : Bool) (ty : Option Ty)
     (args : List Arg) (after : List Instr) → is_ordinary (Instr.Call r must_tail ty (Callee.Intrinsic x) args) ≡ true
@@ -94,7 +94,7 @@ ordinary_goes_on part i e = on (goes_on part)
 pub record IsAlone (s : Shape) (part : Part) (i j : Instr) : Type 0 where
   pub begins : begins_again part i ≡ false
   pub cut : (after : List Instr) → cut_at s part i after ≡ Cut.Stays
-  pub lowered : (n : ℕ) → lowered s n i ≡ j ∷ []
+  pub lowered : (n : ℕ) → lowered s part n i ≡ j ∷ []
 
 -- it stands there, and behind both is a place again
 abbrev pub IsCopied : Shape → Part → Function → Function → ℕ → ℕ → ℕ → ℕ → Instr → Type 0
@@ -147,7 +147,7 @@ module _ (functions : ℕ → ℕ) (g : FramedGiven) (h : PlainGiven) (s : State
         begins = ordinary_goes_on r.top.part i k.ordinary;
         cut = λ after. ordinary_stays r.top.shape r.top.part i after k.ordinary;
         lowered
-            = λ n. ordinary_lowered r.top.shape n i k.ordinary;
+            = λ n. ordinary_lowered r.top.shape r.top.part n i k.ordinary;
       })
       k.place k.there
 

@@ -1,6 +1,6 @@
 -- What the small instructions do that stand for coro intrinsics: addresses, pointers that are stored and loaded, and
 -- the index.
-use Rattle.std.proofs.Common.{◌≡◌, ℕ, ◌+◌, ◌*◌, ◌%◌, ◌^◌, ◌<◌, ◌≤◌, Bool, false, List, [], ◌∷◌, length, Option, Some, refl, ap, ◌∙◌, arith, if◌then◌else◌, ◌==◌, ◌&&◌}
+use Rattle.std.proofs.Common.{◌≡◌, ℕ, ◌+◌, ◌*◌, ◌%◌, ◌^◌, ◌<◌, ◌≤◌, Bool, false, List, [], ◌∷◌, length, Option, Some, refl, ap, ◌∙◌, subst, arith, if◌then◌else◌, ◌==◌, ◌&&◌}
 use Rattle.std.specs.Prelude.{pos}
 use Rattle.std.proofs.lemmas.Bool.{lt-ltb}
 use Rattle.ir_model.specs.Ty.{int, ptr}
@@ -17,7 +17,7 @@ use Rattle.run_laws.proofs.access.Done.{gep_done, load_done, store_done}
 use Rattle.run_laws.proofs.access.Loaded.{stored_back}
 use Rattle.run_laws.specs.access.Lines.{Holds, pointer_at, refilled_at}
 use Rattle.run_memory.proofs.Digits.{length-encode}
-use Rattle.run_memory.specs.Memory.{digits, encode}
+use Rattle.run_memory.specs.Memory.{decode, digits, encode}
 use Rattle.run_memory.specs.Pointers.{offset_of}
 use Rattle.run_memory.specs.declared.block.Byte.{Byte}
 use Rattle.run_memory.specs.declared.pointer.Access.{Access}
@@ -40,6 +40,28 @@ index_64 d lt = ap (λ (b : ℕ). index_of (number_of_width 64 (Value.Int (recor
   where
     small : d % 2 ^ 64 ≡ d
     small = omega arith
+
+-- numbers that an index holds
+
+byte_is : (j : ℕ) → j < 2 ^ 8 → stored (Access.Int 8) (integer 8 (pos j)) ≡ Value.Int (record { width = 8; bits = j })
+byte_is j lt = ap (λ (k : ℕ). stored (Access.Int 8) (Value.Int (record { width = 8; bits = k }))) small
+    ∙ ap (λ (t : Bool). value_of (if (8 == 8) && t then Num.Is (record { width = 8; bits = j }) else Num.Poison))
+    (lt-ltb j (2 ^ 8) lt)
+  where
+    small : j % 2 ^ 8 ≡ j
+    small = omega arith
+
+word_is : (j : ℕ) → j < 2 ^ 16
+    → stored (Access.Int 16) (integer 16 (pos j)) ≡ Value.Int (record { width = 16; bits = j })
+word_is j lt = ap (λ (k : ℕ). stored (Access.Int 16) (Value.Int (record { width = 16; bits = k }))) small
+    ∙ ap (λ (t : Bool). value_of (if (16 == 16) && t then Num.Is (record { width = 16; bits = j }) else Num.Poison))
+    (lt-ltb j (2 ^ 16) lt)
+  where
+    small : j % 2 ^ 16 ≡ j
+    small = omega arith
+
+digits_long : (n j : ℕ) → length (digits n j) ≡ n
+digits_long n j = length-encode n (Value.Int (record { width = 0; bits = j }))
 
 module _ (c : Context) (w : Work) where
   bytes_far : (d : ℕ) → d < 2 ^ 64 → distance c.code (int 8) (indices_of c.code w.values (number_arg 64 (pos d) ∷ []))
@@ -91,27 +113,30 @@ module _ (c : Context) (w : Work) where
   index_stored IntWidth.I8 b o j p old eight sixteen leads holds long is =
       store_done c w 1 b o 1 (number_arg 8 (pos j)) p old leads holds long refl (omega arith)
       ∙ ap (λ (v : Value). Done (set_memory w (refilled_at w.world.memory b o (encode 1 v)))) (byte_is j (eight refl))
-    where
-      byte_is : (j : ℕ) → j < 2 ^ 8 → stored (Access.Int 8) (integer 8 (pos j)) ≡ Value.Int
-          (record { width = 8; bits = j })
-      byte_is j lt = ap (λ (k : ℕ). stored (Access.Int 8) (Value.Int (record { width = 8; bits = k }))) small
-          ∙ ap (λ (t : Bool). value_of (if (8 == 8) && t then Num.Is (record { width = 8; bits = j }) else Num.Poison))
-          (lt-ltb j (2 ^ 8) lt)
-        where
-          small : j % 2 ^ 8 ≡ j
-          small = omega arith
   index_stored IntWidth.I16 b o j p old eight sixteen leads holds long is =
       store_done c w 2 b o 2 (number_arg 16 (pos j)) p old leads holds long refl (omega arith)
       ∙ ap (λ (v : Value). Done (set_memory w (refilled_at w.world.memory b o (encode 2 v)))) (word_is j (sixteen refl))
-    where
-      word_is : (j : ℕ) → j < 2 ^ 16 → stored (Access.Int 16) (integer 16 (pos j)) ≡ Value.Int
-          (record { width = 16; bits = j })
-      word_is j lt = ap (λ (k : ℕ). stored (Access.Int 16) (Value.Int (record { width = 16; bits = k }))) small
-          ∙ ap (λ (t : Bool). value_of (if (16 == 16) && t then Num.Is (record { width = 16; bits = j }) else
-          Num.Poison)) (lt-ltb j (2 ^ 16) lt)
-        where
-          small : j % 2 ^ 16 ≡ j
-          small = omega arith
   index_stored IntWidth.I1 b o j p old eight sixteen leads holds long is = absurd is
   index_stored IntWidth.I32 b o j p old eight sixteen leads holds long is = absurd is
   index_stored IntWidth.I64 b o j p old eight sixteen leads holds long is = absurd is
+
+  pub index_loaded : (width : IntWidth) (r b o j : ℕ) (p : Operand) → (width ≡ IntWidth.I8 → j < 2 ^ 8)
+      → (width ≡ IntWidth.I16 → j < 2 ^ 16)
+      → value_at c w ptr p ≡ pointer_at b o
+      → Holds c.rights w.world.memory b o (index_bytes width) (digits (index_bytes width) j)
+      → IsIndexWidth width
+      → instr_action c w (Instr.Load r (int (bits_of width)) p (index_bytes width)) ≡ Done
+      (set_value w r (Value.Int (record { width = bits_of width; bits = j })))
+  index_loaded IntWidth.I8 r b o j p eight sixteen leads holds is =
+      load_done c w r 1 b o 1 (int 8) p (digits 1 j) leads holds (digits_long 1 j) refl (omega arith)
+      ∙ ap (λ (v : Value). Done (set_value w r v))
+      (subst (λ (v : Value). decode (Access.Int 8) (encode 1 v) ≡ v) (byte_is j (eight refl))
+      (stored_back (Access.Int 8) (integer 8 (pos j)) (omega arith)))
+  index_loaded IntWidth.I16 r b o j p eight sixteen leads holds is =
+      load_done c w r 2 b o 2 (int 16) p (digits 2 j) leads holds (digits_long 2 j) refl (omega arith)
+      ∙ ap (λ (v : Value). Done (set_value w r v))
+      (subst (λ (v : Value). decode (Access.Int 16) (encode 2 v) ≡ v) (word_is j (sixteen refl))
+      (stored_back (Access.Int 16) (integer 16 (pos j)) (omega arith)))
+  index_loaded IntWidth.I1 r b o j p eight sixteen leads holds is = absurd is
+  index_loaded IntWidth.I32 r b o j p eight sixteen leads holds is = absurd is
+  index_loaded IntWidth.I64 r b o j p eight sixteen leads holds is = absurd is

@@ -6,6 +6,7 @@ use Rattle.flow_solver.specs.Paths.{IsListed}
 use Rattle.ir_laws.specs.facts.sound_states.Named.{AreLocalsNamed}
 use Rattle.rule_laws.specs.frames.rows.Returns.{HaveOwnReturns}
 use Rattle.rule_laws.specs.rules.function_rules.Kept.{KeepsFunctionRules}
+use Rattle.ir_model.specs.declared.module.Block.{Block}
 use Rattle.ir_model.specs.declared.module.Function.{Function}
 use Rattle.ir_model.specs.declared.module.Module.{Module}
 use Rattle.pass_cleanup.specs.Cleaned.{plain_machine}
@@ -46,6 +47,9 @@ pub record IsPartable (ls : Layouts) (m : Module) : Type 0 where
   pub coroutines : (k : ℕ) (f : Function) → slice_get m.functions k ≡ Some f → f.coroutine ≡ true
       → IsCoroutinePartable ls m k f
   pub plain : (k : ℕ) (f : Function) → slice_get m.functions k ≡ Some f → f.coroutine ≡ false → KeepsFunctionRules m k f
+  -- readers read no function without a block, and no pass leaves one
+  pub blocks : (k : ℕ) (f : Function) → slice_get m.functions k ≡ Some f
+      → (b : Block) × (slice_get f.blocks 0 ≡ Some b)
   -- Y1 of globals (their values name no functions), N1 and N3 (no global has the name of a part)
   pub globals : first_world (parted_module ls m) ≡ first_world m
   -- Y4: contents of globals have small sizes, and stand in themselves
@@ -56,7 +60,7 @@ pub record IsEntryOfParts (ls : Layouts) (m : Module) (entry other : ℕ) : Type
   pub function : Function
   pub there : slice_get m.functions entry ≡ Some function
   pub plain : function.coroutine ≡ false
-  pub moves : other ≡ moved ls.coroutines m.functions entry
+  pub moves : other ≡ moved ls.coroutines m m.functions entry
 
 -- ---- what is kept
 

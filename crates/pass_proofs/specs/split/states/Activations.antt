@@ -38,12 +38,12 @@ use Rattle.run_step.specs.declared.world.Slot.{Slot}
 
 -- ---- the part that an activation runs
 
--- a ramp runs the first part, a resumed activation the part that was called
+-- a ramp runs the first part or that which is given its frame, a resumed activation the part that was called
 abbrev pub RunsPart : Mode → Part → Type 0
 RunsPart Mode.Plain part = part ≡ Part.Ramp
 RunsPart Mode.Ramp part = part ≡ Part.Ramp
 RunsPart Mode.Resumed part = goes_on part ≡ true
-RunsPart (Mode.GivenRamp frame) part = ⊥
+RunsPart (Mode.GivenRamp frame) part = part ≡ Part.GivenRamp
 RunsPart (Mode.Entering from label) part = goes_on part ≡ true
 
 -- by what a function is split: its layout, or nothing where it is no coroutine

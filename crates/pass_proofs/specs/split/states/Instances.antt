@@ -10,8 +10,9 @@ use Rattle.pass_intrinsics.specs.declared.shape.Part.{Part}
 use Rattle.pass_intrinsics.specs.declared.shape.Shape.{Shape}
 use Rattle.pass_intrinsics.specs.declared.shape.SuspendPoint.{SuspendPoint}
 use Rattle.pass_proofs.specs.split.code.Numbers.{IsNumbered}
-use Rattle.pass_proofs.specs.split.code.Positions.{moved, number_of}
+use Rattle.pass_proofs.specs.split.code.Positions.{is_given, moved, number_of}
 use Rattle.pass_proofs.specs.split.rules.Reached.{IsLedTo}
+use Rattle.pass_split.specs.Given.{has_given_call}
 use Rattle.run_framed.specs.Framed.{FramedGiven, frame_rights, is_open_kind, layout_of}
 use Rattle.run_laws.specs.access.Lines.{Holds}
 use Rattle.run_memory.specs.Memory.{digits, encode, is_live, owner_rights, same_kind}
@@ -32,16 +33,27 @@ shape_at g func = shape_of (function_at g.given.code func) (layout_of g.layouts 
 
 -- the position of a part of a function in the module of parts
 abbrev pub part_position : FramedGiven → ℕ → Part → ℕ
-part_position g func part = moved g.layouts g.given.code.functions func + number_of part
+part_position g func part = moved g.layouts g.given.code g.given.code.functions func + number_of part
 
 -- what the address of a part is stored as
 abbrev pub address_of_part : FramedGiven → ℕ → Part → Value
 address_of_part g func part = Value.Ptr (Pointer.Func (part_position g func part))
 
--- the part that a destroy calls
+-- the parts that a destroy may call
 abbrev pub is_destroyer : Part → Bool
 is_destroyer Part.Destroy = true
+is_destroyer Part.Cleanup = true
 is_destroyer part = false
+
+-- the part that destroys an instance which began in a part
+abbrev pub destroyer_of : Part → Part
+destroyer_of Part.GivenRamp = Part.Cleanup
+destroyer_of part = Part.Destroy
+
+-- the part stands in the module of parts: some call gives a frame, if it is one of those for given frames
+abbrev pub StandsThere : FramedGiven → ℕ → Part → Type 0
+StandsThere g func part =
+    is_given part ≡ true → has_given_call g.given.code (function_at g.given.code func) ≡ true
 
 -- ---- layouts
 
@@ -116,10 +128,11 @@ pub record IsSavedAt (g : FramedGiven) (n : List MemoryBlock) (x : Instance) (su
   pub resumes : Holds owner_rights n x.block x.start 8 (encode 8 (resumer_of g x.coroutine numbered.suspend))
   pub index : IsIndexed g n x number
 
--- from begin on the header names the function that a destroy calls
+-- from begin on the header names the function that a destroy calls, which there is
 pub record IsHeaded (g : FramedGiven) (n : List MemoryBlock) (x : Instance) : Type 0 where
   pub destroyer : Part
   pub is : is_destroyer destroyer ≡ true
+  pub stands : StandsThere g x.coroutine destroyer
   pub destroys : Holds owner_rights n x.block (x.start + 8) 8 (encode 8 (address_of_part g x.coroutine destroyer))
   pub saved : (suspend : Point) (values : List (Option Value)) → x.status ≡ Status.Suspended suspend values
       → IsSavedAt g n x suspend

@@ -61,17 +61,14 @@ is_behind_suspend g s =
 abbrev pub part_price : FramedGiven → State → ℕ
 part_price g s = price_of (is_behind_suspend g s) (fetched_at g s)
 
--- how many steps of the parts a coro intrinsic takes at most, less what a resume or destroy is in debt
+-- A step may cost its price, but for the end and a terminator, before which the parts may be behind.
 abbrev pub weight_of_intrinsic : Intrinsic → ℕ
-weight_of_intrinsic Intrinsic.CoroBegin = 5
-weight_of_intrinsic Intrinsic.CoroSave = 4
-weight_of_intrinsic Intrinsic.CoroResume = 4
-weight_of_intrinsic Intrinsic.CoroDestroy = 4
-weight_of_intrinsic Intrinsic.CoroDone = 2
-weight_of_intrinsic i = 1
+weight_of_intrinsic Intrinsic.CoroEnd = 1
+weight_of_intrinsic i = 4
 
 abbrev pub weight : Fetched → ℕ
 weight (AtInstr (Instr.Call result must_tail ty (Callee.Intrinsic i) args)) = weight_of_intrinsic i
+weight (AtInstr i) = 4
 weight x = 1
 
 -- a ramp that hasn't begun has a step left of its call
@@ -92,8 +89,9 @@ credit_of s = left_of_calls (s.top ∷ s.below)
 
 -- ---- the relation
 
--- a state that shows what the framed run shows, and isn't over
+-- a state that shows what the framed run shows, where neither is over
 pub record IsOn (s : State) (t : PlainState) : Type 0 where
+  pub goes : s.outcome ≡ Outcome.Running
   pub running : t.outcome ≡ Outcome.Running
   pub events : t.world.events ≡ s.world.events
   pub allocs : t.world.allocs ≡ s.world.allocs
