@@ -1,12 +1,13 @@
 //! Sources and sinks over std's readers and writers.
 
-ghost use Rattle.std.specs.Prelude.{◌≡◌, ◌<◌, ◌≤◌, ℕ, length, take, IfOk, MatchResult, is_err, if◌then◌else◌};
+ghost use Rattle.std.specs.Prelude.{◌≡◌, ◌<◌, ◌≤◌, ℕ, length, take, true, IfOk, OnOk, MatchResult, is_err, if◌then◌else◌};
 ghost use Rattle.std.specs.Io.{ReadsAtMost, WritesAtMost};
 ghost use Rattle.std.specs.Io.KnownBytes.{Appends, ReadConsumes};
 ghost use Rattle.cli_io.specs.Faults.{HasCause, Succeeds, risen};
 ghost use Rattle.cli_io.specs.Parts.{AppendsPrefix};
 
 use crate::calls::raised;
+use crate::flushing::Flushing;
 use crate::traits::{Failed, Sink, Source};
 use std::io::{Read, Write};
 
@@ -55,7 +56,7 @@ impl<R: Read> Source for ReadSource<R> {
 /// write that takes nothing of a piece that isn't empty.
 #[derive(Drop)]
 pub struct WriteSink<W: Write> {
-    writer: W,
+    writer: Flushing<W>,
     faults: u64,
 }
 
@@ -65,7 +66,10 @@ impl<W: Write> WriteSink<W> {
         ensures held { ⟦<WriteSink<W> as Sink>⟧.held result ≡ W.contents writer }
         ensures faults { ⟦<WriteSink<W> as Sink>⟧.faults result ≡ 0 }
     {
-        WriteSink { writer, faults: 0 }
+        WriteSink {
+            writer: Flushing::new(writer),
+            faults: 0,
+        }
     }
 
     fn fail(&mut self) -> Failed
@@ -79,7 +83,7 @@ impl<W: Write> WriteSink<W> {
 }
 
 impl<W: Write> Sink for WriteSink<W> {
-    ghost held = { λ s. W.contents s.writer };
+    ghost held = { λ s. W.contents s.writer.writer };
 
     ghost faults = { λ s. s.faults };
 
@@ -89,10 +93,12 @@ impl<W: Write> Sink for WriteSink<W> {
         ensures bound { WritesAtMost result bytes.now }
         ensures some { 0 < length bytes.now → IfOk result (λ n. 0 < n) }
         ensures appended { MatchResult result
-            (λ n. Appends (W.contents self.old.writer) (W.contents self.new.writer) (take n bytes.now))
-            (λ _. AppendsPrefix (W.contents self.old.writer) (W.contents self.new.writer) bytes.now) }
+            (λ n. Appends (W.contents self.old.writer.writer) (W.contents self.new.writer.writer) (take n bytes.now))
+            (λ _. AppendsPrefix (W.contents self.old.writer.writer) (W.contents self.new.writer.writer) bytes.now) }
         ensures cause { HasCause self.old.faults self.new.faults result }
         ensures counted { self.new.faults ≡ (if is_err result then risen self.old.faults else self.old.faults) }
+        // What is told as written was flushed.
+        ensures flushed { OnOk result (self.new.writer.flushed ≡ true) }
         ensures sure { (room : ℕ) → ⊥ → length bytes.now ≤ room → Succeeds self.old.faults self.new.faults result (λ _. ⊥) }
     {
         let Ok(count) = self.writer.write(bytes) else {

@@ -11,7 +11,7 @@ returns-then-not-is_empty-clause-cause g c = raised_cause _ _ _ c.fail-then-not-
 
 pub returns-in-Err-clause-appended : goal.returns-in-Err-clause-appended
 returns-in-Err-clause-appended g c =
-    kept_prefix _ _ _ _ c.args.bytes.now c.in-Ok.count c.in-Ok.ensures.bytes c.flush.ensures.bytes (ap g.W.Write.contents c.fail-in-Err.ensures.writer)
+    kept_prefix _ _ _ _ c.args.bytes.now c.in-Ok.count c.in-Ok.ensures.bytes c.flush.ensures.bytes (ap (λ w. g.W.Write.contents w.writer) c.fail-in-Err.ensures.writer)
 
 pub returns-in-Err-clause-cause : goal.returns-in-Err-clause-cause
 returns-in-Err-clause-cause g c = raised_cause _ _ _ c.fail-in-Err.ensures.later c.fail-in-Err.ensures.faults
