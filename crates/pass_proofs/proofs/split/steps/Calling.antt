@@ -5,16 +5,12 @@ use Rattle.ir_base.specs.declared.cause.Cause.{Cause}
 use Rattle.ir_base.specs.declared.outcome.Outcome.{Outcome}
 use Rattle.ir_model.specs.Names.{function_at, is_noalloc}
 use Rattle.ir_model.specs.Ty.{Ty, ptr}
-use Rattle.ir_model.specs.declared.instr.Instr.{Instr}
-use Rattle.ir_model.specs.declared.module.Function.{Function}
-use Rattle.ir_model.specs.declared.module.Param.{Param}
 use Rattle.ir_model.specs.declared.operand.Arg.{Arg}
 use Rattle.ir_model.specs.declared.operand.Operand.{Operand}
 use Rattle.pass_intrinsics.specs.Lowered.{address, call_pointer, destroy_call, load_pointer, pointer_arg, resume_call}
 use Rattle.pass_proofs.proofs.split.steps.Saves.{set_there}
 use Rattle.pass_proofs.proofs.split.steps.Settled.{plain_does}
 use Rattle.pass_proofs.proofs.split.steps.Small.{address_done, pointer_loaded}
-use Rattle.pass_proofs.specs.split.states.Activations.{AreAllWaiting}
 use Rattle.pass_proofs.specs.split.states.Related.{AreRelated}
 use Rattle.pass_proofs.specs.split.steps.Calling.{IsCallable, calling}
 use Rattle.run_framed.specs.Framed.{FramedGiven}
@@ -22,11 +18,11 @@ use Rattle.run_laws.proofs.transfer.Sets.{set_elsewhere, set_length}
 use Rattle.run_laws.specs.access.Lines.{StandAt, pointer_at}
 use Rattle.run_memory.specs.declared.pointer.Pointer.{Pointer}
 use Rattle.run_memory.specs.declared.pointer.Value.{Value}
-use Rattle.run_plain.specs.Plain.{PlainGiven, counted, plain_call, plain_context, plain_function, plain_settled, plain_step, plain_work}
+use Rattle.run_plain.specs.Plain.{PlainGiven, counted, plain_context, plain_function, plain_settled, plain_step, plain_work}
 use Rattle.run_plain.specs.declared.state.PlainState.{PlainState}
 use Rattle.run_source.specs.declared.state.State.{State}
 use Rattle.run_step.specs.Runs.{iterate}
-use Rattle.run_step.specs.Step.{Action, AtInstr, Done, Enter, Stuck, Work, action_of, fits_function, fits_params, indirect_call, instr_action, risen, same_result, set_value, value_at}
+use Rattle.run_step.specs.Step.{AtInstr, Done, Enter, Stuck, Work, fits_function, fits_params, indirect_call, instr_action, risen, same_result, set_value}
 use Rattle.run_step.specs.Values.{Env, operand_value, value_in, with_value}
 
 -- ---- a count of calls that nobody sees

@@ -37,8 +37,8 @@ use Rattle.run_memory.specs.declared.pointer.Value.{Value}
 use Rattle.run_plain.specs.Plain.{PlainGiven, plain_context, plain_function, plain_go_to, plain_settled, plain_step, plain_work}
 use Rattle.run_plain.specs.declared.state.PlainState.{PlainState}
 use Rattle.run_step.specs.Runs.{iterate}
-use Rattle.run_step.specs.Step.{AtInstr, AtTerm, Done, GoTo, Work, fetch, label_of, phi_values, phis_of, set_value, switch, target_of, term_action, with_all}
-use Rattle.run_step.specs.Values.{literal, value_in}
+use Rattle.run_step.specs.Step.{AtInstr, AtTerm, Done, GoTo, Work, fetch, label_of, phi_values, set_value, switch, term_action, with_all}
+use Rattle.run_step.specs.Values.{literal}
 
 width_is_one : (n : ℕ) → IsIndexWidth (if nat_le n 256 then IntWidth.I8 else IntWidth.I16)
 width_is_one n = on (nat_le n 256)

@@ -1,5 +1,5 @@
 -- Steps of the framed run and what the parts' run does for them: the account of one, of none and of several.
-use Rattle.std.proofs.Common.{◌≡◌, ℕ, zero, suc, ◌+◌, ◌<◌, ◌≤◌, ◌⊎◌, inl, inr, Bool, true, false, Option, None, Some, Result, Ok, Err, refl, sym, ap, ◌∙◌, subst, arith}
+use Rattle.std.proofs.Common.{◌≡◌, ℕ, zero, suc, ◌+◌, ◌<◌, ◌≤◌, inl, inr, Bool, true, false, Option, None, Result, Ok, Err, refl, sym, ap, ◌∙◌, subst, arith}
 use Rattle.std.specs.Prelude.{slice_get, unwrap_or}
 use Rattle.ir_base.specs.declared.cause.Cause.{Cause}
 use Rattle.ir_base.specs.declared.outcome.Outcome.{Outcome}
@@ -8,12 +8,12 @@ use Rattle.ir_model.specs.declared.instr.Instr.{Instr}
 use Rattle.ir_model.specs.declared.instr.Terminator.{Terminator}
 use Rattle.ir_model.specs.declared.operand.Callee.{Callee}
 use Rattle.ir_model.specs.declared.operand.Intrinsic.{Intrinsic}
-use Rattle.pass_intrinsics.specs.Shapes.{done_label, is_end}
+use Rattle.pass_intrinsics.specs.Shapes.{is_end}
 use Rattle.pass_proofs.proofs.split.simulation.Weights.{weight_some}
 use Rattle.pass_proofs.proofs.split.steps.Branches.{edges_from, edges_related, left_by}
 use Rattle.pass_proofs.proofs.split.steps.Ordinary.{steps_beside}
 use Rattle.pass_proofs.proofs.split.steps.Settled.{plain_does}
-use Rattle.pass_proofs.specs.split.places.Places.{Enters, JumpsOn, Leads, StartsWithEnd, Straight, ThroughDone}
+use Rattle.pass_proofs.specs.split.places.Places.{Enters, JumpsOn, StartsWithEnd}
 use Rattle.pass_proofs.specs.split.simulation.Followed.{IsFollowed, ShowsOn}
 use Rattle.pass_proofs.specs.split.states.Activations.{is_entering}
 use Rattle.pass_proofs.specs.split.states.Going.{stands_at}
@@ -22,7 +22,7 @@ use Rattle.pass_proofs.specs.split.steps.Branches.{AreReadablePhis, Entered}
 use Rattle.pass_proofs.specs.split.steps.Ordinary.{IsAtOrdinary}
 use Rattle.run_agreement.specs.Machines.{IsFine, iterate}
 use Rattle.run_framed.specs.Framed.{FramedGiven, framed_act, framed_advance, framed_context, framed_next, framed_step, given_call}
-use Rattle.run_plain.specs.Plain.{PlainGiven, plain_context, plain_function, plain_go_to, plain_step, plain_work}
+use Rattle.run_plain.specs.Plain.{PlainGiven, plain_function, plain_go_to, plain_step, plain_work}
 use Rattle.run_plain.specs.declared.state.PlainState.{PlainState}
 use Rattle.run_source.specs.Source.{go_to, left_windows}
 use Rattle.run_source.specs.State.{function_of, or_undefined, settled, work_of}

@@ -1,12 +1,11 @@
 -- The part that a resume or destroy calls, beside the activation with which the framed run goes on.
-use Rattle.std.proofs.Common.{◌≡◌, ℕ, ◌+◌, ◌<◌, ◌≤◌, ◌^◌, inl, Bool, true, false, List, [], ◌∷◌, length, map, replicate, Option, None, Some, refl, sym, ap, ◌∙◌, subst, arith}
+use Rattle.std.proofs.Common.{◌≡◌, ℕ, ◌+◌, ◌<◌, ◌≤◌, ◌^◌, inl, true, false, List, [], ◌∷◌, length, replicate, Option, None, Some, refl, sym, ap, ◌∙◌, subst, arith}
 use Rattle.std.specs.Prelude.{slice_get, slice_set, not, ◌&&◌}
 use Rattle.std.proofs.lemmas.List.{length-replicate}
 use Rattle.std.proofs.lemmas.Bool.{and_parts, false≢true}
 use Rattle.std.proofs.lemmas.Option.{slice_get_within}
 use Rattle.flow_solver.proofs.Lists.{set_here}
-use Rattle.ir_base.specs.declared.outcome.Outcome.{Outcome}
-use Rattle.ir_model.specs.Names.{function_at, position_of}
+use Rattle.ir_model.specs.Names.{function_at}
 use Rattle.ir_model.specs.Ty.{ptr}
 use Rattle.ir_model.specs.declared.module.Function.{Function}
 use Rattle.ir_model.specs.declared.module.Param.{Param}
@@ -15,7 +14,7 @@ use Rattle.pass_intrinsics.specs.declared.shape.Part.{Part}
 use Rattle.pass_intrinsics.specs.declared.shape.Shape.{Shape}
 use Rattle.pass_proofs.proofs.split.states.Advanced.{KeepsFrames}
 use Rattle.pass_proofs.proofs.split.states.Twins.{twin_at}
-use Rattle.pass_proofs.proofs.split.states.Values.{entry_length, no_values, params_stand}
+use Rattle.pass_proofs.proofs.split.states.Values.{no_values, params_stand}
 use Rattle.pass_proofs.proofs.split.steps.Branches.{left_all, left_beside, left_frames}
 use Rattle.pass_proofs.proofs.split.steps.Calls.{pushes_related}
 use Rattle.pass_proofs.proofs.split.steps.Given.{address_itself}
@@ -28,12 +27,12 @@ use Rattle.pass_proofs.specs.split.states.Memories.{AreBeside, homes_of}
 use Rattle.pass_proofs.specs.split.states.Related.{AreRelated}
 use Rattle.pass_proofs.specs.split.states.Values.{AreValuesOf}
 use Rattle.pass_proofs.specs.split.steps.Branches.{Left, WasLeft}
-use Rattle.pass_proofs.specs.split.steps.Woken.{IsPartThere, IsWaking, IsWoken}
+use Rattle.pass_proofs.specs.split.steps.Woken.{IsWaking, IsWoken}
 use Rattle.run_framed.specs.Framed.{FramedGiven, layout_of, reentry_values}
 use Rattle.run_laws.specs.memory.Pointers.{Home, IsValue}
 use Rattle.run_memory.specs.declared.block.MemoryBlock.{MemoryBlock}
 use Rattle.run_memory.specs.declared.pointer.Value.{Value}
-use Rattle.run_plain.specs.Plain.{PlainGiven, plain_called}
+use Rattle.run_plain.specs.Plain.{PlainGiven}
 use Rattle.run_plain.specs.declared.state.PlainActivation.{PlainActivation}
 use Rattle.run_plain.specs.declared.state.PlainState.{PlainState}
 use Rattle.run_source.specs.State.{frame_address_of, is_finished, is_suspended}

@@ -1,17 +1,15 @@
 -- A part that a resume or destroy has called follows the framed run: among its allocas, or behind the suspend.
-use Rattle.std.proofs.Common.{◌≡◌, ℕ, zero, suc, ◌+◌, ◌-◌, ◌<◌, ◌≤◌, ◌⊎◌, inl, inr, ⊎_elim, Bool, true, false, List, [], ◌∷◌, length, map, replicate, Option, None, Some, refl, sym, ap, ◌∙◌, subst, arith, if◌then◌else◌}
+use Rattle.std.proofs.Common.{◌≡◌, ℕ, zero, suc, ◌+◌, ◌-◌, ◌<◌, ◌≤◌, ◌⊎◌, inl, inr, ⊎_elim, Bool, true, false, List, [], ◌∷◌, length, replicate, Option, None, Some, refl, sym, ap, ◌∙◌, subst, arith}
 use Rattle.std.specs.Prelude.{slice_get, slice_set, ◌||◌, ◌==◌}
 use Rattle.std.proofs.lemmas.List.{length-replicate}
 use Rattle.std.proofs.lemmas.Bool.{cases_lt, eq-eqb, or_left, or_right}
 use Rattle.ir_base.specs.declared.outcome.Outcome.{Outcome}
 use Rattle.ir_model.specs.Names.{function_at, position_of}
-use Rattle.ir_model.specs.Ty.{Ty}
 use Rattle.ir_model.specs.declared.instr.Instr.{Instr}
 use Rattle.ir_model.specs.declared.instr.Phi.{Phi}
 use Rattle.ir_model.specs.declared.instr.Terminator.{Terminator}
 use Rattle.ir_model.specs.declared.module.Block.{Block}
 use Rattle.ir_model.specs.declared.module.Function.{Function}
-use Rattle.ir_model.specs.declared.operand.Operand.{Operand}
 use Rattle.pass_front.specs.Front.{allocas_of}
 use Rattle.pass_intrinsics.specs.Shapes.{back_label, index_name, slot_name, suspends_of}
 use Rattle.pass_intrinsics.specs.declared.shape.Part.{Part}
@@ -27,11 +25,11 @@ use Rattle.pass_proofs.proofs.split.states.Values.{entry_length}
 use Rattle.pass_proofs.specs.split.code.Entry.{GoesBack}
 use Rattle.pass_proofs.specs.split.places.Places.{Enters, Leads, StartsWithEnd, Straight, ThroughDone, entering}
 use Rattle.pass_proofs.specs.split.simulation.Followed.{IsFollowed, ShowsOn}
-use Rattle.pass_proofs.specs.split.states.Activations.{Inside, IsBehind, IsPlaced, IsReturning, Making, is_entering}
+use Rattle.pass_proofs.specs.split.states.Activations.{Inside, IsReturning, Making, is_entering}
 use Rattle.pass_proofs.specs.split.states.Going.{placed_at, stands_at}
 use Rattle.pass_proofs.specs.split.states.Instances.{part_position, shape_at}
 use Rattle.pass_proofs.specs.split.states.Memories.{homes_of}
-use Rattle.pass_proofs.specs.split.states.Related.{AreRelated, IsOn, credit_of, fetched_at, is_behind_suspend, is_return_label, left_of_call, left_of_calls, part_price, price_of, weight}
+use Rattle.pass_proofs.specs.split.states.Related.{AreRelated, IsOn, credit_of, fetched_at, is_behind_suspend, is_return_label, left_of_calls, part_price, price_of, weight}
 use Rattle.pass_proofs.specs.split.states.Values.{AreValuesOf}
 use Rattle.pass_proofs.specs.split.steps.Called.{HasCalled}
 use Rattle.pass_proofs.specs.split.steps.Dispatch.{IsAtIndex, indexed_work}
@@ -45,7 +43,7 @@ use Rattle.run_laws.proofs.transfer.Sets.{set_elsewhere, set_length}
 use Rattle.run_laws.specs.access.Lines.{pointer_at}
 use Rattle.run_laws.specs.memory.Pointers.{Home}
 use Rattle.run_memory.specs.declared.pointer.Value.{Value}
-use Rattle.run_plain.specs.Plain.{PlainGiven, counted, plain_called, plain_function, plain_go_to, plain_step, plain_work}
+use Rattle.run_plain.specs.Plain.{PlainGiven, counted, plain_called, plain_go_to, plain_step}
 use Rattle.run_plain.specs.declared.state.PlainState.{PlainState}
 use Rattle.run_source.specs.Source.{push, resumed}
 use Rattle.run_source.specs.State.{frame_address_of, with_status}

@@ -1,5 +1,5 @@
 -- A resume or a destroy in both runs: what is asked of the framed module and of its parts.
-use Rattle.std.specs.Prelude.{◌≡◌, ℕ, ◌+◌, ◌<◌, Bool, true, false, List, ◌∷◌, Option, Some, length}
+use Rattle.std.specs.Prelude.{◌≡◌, ℕ, ◌<◌, Bool, false, List, ◌∷◌, Option, Some, length}
 use Rattle.ir_base.specs.declared.outcome.Outcome.{Outcome}
 use Rattle.ir_model.specs.Names.{function_at}
 use Rattle.ir_model.specs.Ty.{Ty, ptr}
@@ -9,14 +9,13 @@ use Rattle.ir_model.specs.declared.operand.Callee.{Callee}
 use Rattle.ir_model.specs.declared.operand.Intrinsic.{Intrinsic}
 use Rattle.ir_model.specs.declared.operand.Operand.{Operand}
 use Rattle.pass_intrinsics.specs.declared.shape.Part.{Part}
-use Rattle.pass_proofs.specs.split.places.Places.{IsPlace, IsStop, StartsWithEnd}
+use Rattle.pass_proofs.specs.split.places.Places.{IsPlace, StartsWithEnd}
 use Rattle.pass_proofs.specs.split.states.Activations.{is_entering}
 use Rattle.pass_proofs.specs.split.states.Instances.{part_position, shape_at}
 use Rattle.pass_proofs.specs.split.states.Related.{AreRelated}
 use Rattle.pass_proofs.specs.split.steps.Calling.{TakesPointer}
 use Rattle.pass_proofs.specs.split.steps.Operands.{IsReadable}
 use Rattle.pass_proofs.specs.split.steps.Woken.{IsWaking, IsWoken}
-use Rattle.rule_shape.specs.Suspends.{is_suspend}
 use Rattle.run_framed.specs.Framed.{FramedGiven}
 use Rattle.run_memory.specs.declared.pointer.Value.{Value}
 use Rattle.run_plain.specs.Plain.{PlainGiven}
@@ -45,9 +44,6 @@ pub record IsAtWaking (g : FramedGiven) (h : PlainGiven) (s : State) (t : PlainS
   pub known : (v : ℕ) → arg.value ≡ Operand.Local v → v < length (function_of g.given s).names
   pub own : length s.top.values ≡ length (function_of g.given s).names
   pub begin : (i : ℕ) → s.top.instance ≡ Some i → r.top.shape.begin < length (function_of g.given s).names
-  -- behind it a suspend stands last, whose switch goes to the end (`suspends_stand_last`)
-  pub stops : (i : Instr) → fetch (function_of g.given s) s.top.block (s.top.at + 1) ≡ AtInstr i → is_suspend i ≡ true
-      → IsStop (function_of g.given s) s.top.block (s.top.at + 1) i r.top.shape.end
 
 -- each Suspended instance whose frame has an address goes on in the part that the header names
 pub record CanWake (g : FramedGiven) (h : PlainGiven) (s : State) (t : PlainState) (p : Value) (w : IsWoken s p)
