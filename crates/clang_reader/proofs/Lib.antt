@@ -1,0 +1,4 @@
+mod Bounds
+mod Lines
+mod Stores
+mod Values

@@ -1,0 +1,5 @@
+pub mod Lines
+pub mod Listing
+pub mod Spaced
+pub mod Words
+pub mod Brackets
