@@ -15,6 +15,8 @@
 //! the end or behind it, and one that hasn't is in no such window (`places_stay`, `activations_of_runs_are_placed`).
 #![tactic(auto)]
 
+pub mod alive;
+
 ghost use Rattle.std.specs.Prelude.{ℕ, ℤ, List, true, false, ◌≡◌, ◌∷◌};
 ghost use Rattle.frame_layout.specs.declared.layout.Layouts.{Layouts as TheLayouts};
 ghost use Rattle.ir_base.specs.declared.outcome.Word.{Word};

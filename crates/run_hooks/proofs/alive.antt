@@ -1,0 +1,14 @@
+pub mod Lives
+pub mod Parts
+pub mod Moves
+pub mod Instrs
+pub mod Changes
+pub mod NewSlots
+pub mod Places
+pub mod Statuses
+pub mod Resumes
+pub mod Begins
+pub mod Acts
+pub mod Order
+pub mod Steps
+pub mod Says
