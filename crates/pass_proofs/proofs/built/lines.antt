@@ -1,3 +1,4 @@
+pub mod Agains
 pub mod Cells
 pub mod Filled
 pub mod Loads

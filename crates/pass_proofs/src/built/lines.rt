@@ -10,6 +10,7 @@ ghost use Rattle.pass_cells.specs.Cells.{fetches_of};
 ghost use Rattle.pass_cells.specs.Written.{row_at, stored};
 ghost use Rattle.pass_cells.specs.declared.plan.KeptValue.{KeptValue};
 ghost use Rattle.pass_intrinsics.specs.Shapes.{suspends_of};
+ghost use Rattle.pass_proofs.specs.built.Agains.{LoadsValues, MayLoadAgain};
 ghost use Rattle.pass_proofs.specs.built.Fetched.{CanFetch};
 ghost use Rattle.pass_proofs.specs.built.Framings.{IsFraming};
 ghost use Rattle.pass_proofs.specs.built.Lines.{AreAway, DifferAt, Fills, HasOwnBlocks, IsKeptType, IsNoRoot, IsStorable, LeavesCellsBut, LiesApart, LoadsCell, RunsOver, StoresCell, at_work, with_memory};
@@ -99,4 +100,13 @@ pub fn saved_fields_are_right()
         → IsListed kept.number (row_at (plan x).rows (Some suspend))
         → HoldsField x rights m block start k (IsKeptAs homes env v k k.slot))
         → AreFieldsRight x homes rights m suspend env block start }
+{}
+
+/// (not proved) In front of a block on a resume or destroy edge each value that crosses is loaded from its field, or
+/// made anew from its slot and distance, and stored into its cell. Then the cells are right.
+pub fn values_are_loaded_again()
+    ensures { (x : Framing) → IsFraming x → (homes : List Home) (c : Context) → AreByteRights c.rights
+        → (env : Env) (a : Activation) (w : Work) (block start k n m : ℕ) (row : List ℕ)
+        → length (named x).names ≤ n → MayLoadAgain x homes c w a env block start n m row
+        → LoadsValues x homes c w a env k n m row }
 {}
