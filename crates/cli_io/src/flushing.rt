@@ -6,8 +6,8 @@ ghost use Rattle.std.specs.Io.KnownBytes.{Keeps, WriteAppends};
 
 use std::io::{Result, Write};
 
-/// A writer, and whether it was flushed since it was written to. Of `flush` std says that the bytes stay, and no more; that this
-/// one flushes its writer is tested.
+/// A writer, and whether it was flushed since it was written to. Of `flush` std says that the bytes stay, and no more. So
+/// no clause says that this one flushes its writer.
 #[derive(Drop)]
 pub struct Flushing<W: Write> {
     writer: W,

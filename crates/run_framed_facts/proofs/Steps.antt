@@ -1,13 +1,14 @@
 -- Steps of framed runs whose facts say the same.
 use Rattle.std.proofs.Common.{◌≡◌, ℕ, ◌&&◌, List, refl, ap, Option, Ok}
-use Rattle.std.specs.Prelude.{ℤ, is_none, unwrap_or, map, ◌==◌}
+use Rattle.std.specs.Prelude.{ℤ, is_none, unwrap_or, map, ◌==◌, if◌then◌else◌}
 use Rattle.run_memory.specs.declared.block.Kind.{Kind}
+use Rattle.run_memory.specs.declared.pointer.Offset.{Offset}
 use Rattle.run_memory.specs.declared.pointer.Pointer.{Pointer}
 use Rattle.run_memory.specs.declared.pointer.Value.{Value}
 use Rattle.ir_base.specs.declared.cause.Cause.{Cause}
 use Rattle.ir_base.specs.declared.outcome.Outcome.{Outcome}
 use Rattle.ir_base.specs.declared.outcome.Word.{Word}
-use Rattle.run_source.specs.Source.{first_state}
+use Rattle.run_source.specs.Source.{first_state, is_live_at}
 use Rattle.run_source.specs.State.{function_of, gives, or_undefined, own_frame, work_of}
 use Rattle.run_source.specs.declared.state.Mode.{Mode}
 use Rattle.run_source.specs.declared.state.State.{State}
@@ -15,7 +16,7 @@ use Rattle.frame_layout.specs.declared.layout.Layout.{Layout}
 use Rattle.frame_layout.specs.declared.layout.Layouts.{Layouts}
 use Rattle.run_framed_facts.proofs.SameFacts.{table-same}
 use Rattle.run_framed_facts.specs.FramedFacts.{HaveFramedFacts, given_with}
-use Rattle.run_framed.specs.Framed.{FramedAt, are_finished_at, begin_given, begin_given_at, frame_of_layout, framed_act, framed_advance, framed_begin, framed_context, framed_coro, framed_facts, framed_next, framed_state_at, given_call, has_size}
+use Rattle.run_framed.specs.Framed.{FramedAt, are_finished_at, begin_given, begin_given_at, begin_in_block, begin_in_frame, frame_around, frame_of_layout, framed_act, framed_advance, framed_begin, framed_context, framed_coro, framed_facts, framed_next, framed_state_at, given_call, has_room, has_size}
 use Rattle.run_framed.specs.Machines.{FramedSeenOf}
 use Rattle.ir_model.specs.declared.module.Module.{Module}
 use Rattle.ir_model.specs.declared.operand.Arg.{Arg}
@@ -26,14 +27,24 @@ use Rattle.run_step.specs.Runs.{iterate, seen_of}
 use Rattle.run_step.specs.Step.{Action, Coro, Fetched, GoTo, action_of, fetch}
 use Rattle.run_step.specs.Values.{arg_values, nth}
 use Rattle.run_source_facts.proofs.SameFacts.{SameFacts}
-use Rattle.run_source_facts.proofs.Steps.{begin-same, begin_at-same, go_to-same}
+use Rattle.run_source_facts.proofs.Steps.{begin-same, begin_at-same, begun-same, go_to-same}
 use Rattle.run_source_tables.specs.Given.{facts_at}
 
 module _ (m : Module) (layouts : List Layout) (answers : List ℤ) (f1 f2 : List Facts) (same : (func : ℕ) → SameFacts (facts_at f1 func) (facts_at f2 func)) where
-  begin_given_at-same : (s : State) (frame : Value) → begin_given_at (given_with m layouts answers f1) s frame ≡ begin_given_at (given_with m layouts answers f2) s frame
-  begin_given_at-same s (Value.Ptr (Pointer.At b o)) = λ j.
+  begin_in_block-same : (s : State) (b : ℕ) (o : Offset) → begin_in_block (given_with m layouts answers f1) s b o ≡ begin_in_block (given_with m layouts answers f2) s b o
+  begin_in_block-same s b o = λ j.
       and_then (ok_if ((o.bits == 0) && has_size s.world.memory b (own_frame (given_with m layouts answers f1).given s).size) Cause.Begin s) (λ (t : State).
       begin_at-same m (map frame_of_layout layouts) answers f1 f2 same t (Value.Ptr (Pointer.At b o)) Kind.Stack j)
+
+  begin_in_frame-same : (s : State) (b : ℕ) (o : Offset) → begin_in_frame (given_with m layouts answers f1) s b o ≡ begin_in_frame (given_with m layouts answers f2) s b o
+  begin_in_frame-same s b o = λ j.
+      ok_if (is_live_at s.world.memory b) Cause.Begin (begun-same m (map frame_of_layout layouts) answers f1 f2 same s b o.bits j)
+
+  begin_given_at-same : (s : State) (frame : Value) → begin_given_at (given_with m layouts answers f1) s frame ≡ begin_given_at (given_with m layouts answers f2) s frame
+  begin_given_at-same s (Value.Ptr (Pointer.At b o)) = λ j.
+      if has_room (given_with m layouts answers f1) o.bits (own_frame (given_with m layouts answers f1).given s).size (frame_around (given_with m layouts answers f1) s.instances b o.bits)
+      then begin_in_frame-same s b o j
+      else begin_in_block-same s b o j
   begin_given_at-same s _ = refl
 
   begin_given-same : (s : State) (result : Option ℕ) (frame : Value) → begin_given (given_with m layouts answers f1) s result frame ≡ begin_given (given_with m layouts answers f2) s result frame

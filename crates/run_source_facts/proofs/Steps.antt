@@ -92,7 +92,7 @@ module _ (m : Module) (sizes : List Frame) (answers : List ℤ) (f1 f2 : List Fa
       (kill-same (facts_at f1 s.top.func).ramp_slots (facts_at f2 s.top.func).ramp_slots (own_instance s) s slot (same s.top.func).ramp_slots j)
       (slot ∷ []) (same s.top.func).ramp_slots j
 
-  begun-same : (s : State) (block start : ℕ) → begun (given_facts m sizes answers f1) s block start ≡ begun (given_facts m sizes answers f2) s block start
+  pub begun-same : (s : State) (block start : ℕ) → begun (given_facts m sizes answers f1) s block start ≡ begun (given_facts m sizes answers f2) s block start
   begun-same s block start =
       let x = new_instance s.top.func block start in
       let i = length s.instances in
