@@ -1,5 +1,4 @@
 pub mod addresses
-pub mod built
 pub mod cells
 pub mod copies
 pub mod early

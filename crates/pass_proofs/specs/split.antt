@@ -1,9 +1,2 @@
-pub mod code
 pub mod crossing
-pub mod first_exits
-pub mod names
-pub mod places
 pub mod rules
-pub mod simulation
-pub mod states
-pub mod steps

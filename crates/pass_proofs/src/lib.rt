@@ -3,7 +3,6 @@
 #![tactic(auto)]
 
 pub mod addresses;
-pub mod built;
 pub mod cells;
 pub mod copies;
 pub mod early;

@@ -1,0 +1,27 @@
+//! The distances of addresses from local slots, as instructions sum them.
+
+ghost use Rattle.std.specs.Prelude.{◌≡◌, ◌≤◌, ◌<◌, ◌^◌, ℕ, List, Option, Some, length};
+ghost use Rattle.ir_model.specs.Ty.{Ty, int};
+ghost use Rattle.ir_model.specs.declared.module.Module.{Module};
+ghost use Rattle.ir_model.specs.declared.operand.Arg.{Arg};
+ghost use Rattle.ir_model.specs.declared.operand.Operand.{Operand};
+ghost use Rattle.pass_distances.specs.Sums.{sum_next};
+ghost use Rattle.pass_distances.specs.Ways.{ways_of};
+ghost use Rattle.pass_distances.specs.declared.way.Way.{Way};
+ghost use Rattle.pass_frames_proof.specs.Distances.{AreFields, AreWaysBelow, IsBelow, IsNumber, SumsUp, summed};
+ghost use Rattle.run_step.specs.Step.{Context, Work, value_at};
+ghost use Rattle.run_step.specs.Values.{Env, distance, indices_of, plus};
+
+/// The instructions are done, poison or not, set new names alone, and give the sum where no index is poison.
+pub fn distances_are_summed()
+    ensures { (c : Context) (n : ℕ) (x : Operand) (d : Option ℕ) (ws : List Way) (w : Work) → IsBelow n x
+        → AreWaysBelow n ws → sum_next n ws ≤ length w.values → IsNumber d (value_at c w (int 64) x)
+        → SumsUp c n x d ws w }
+{}
+
+/// What indices add to a distance is the distance of their getelementptr, where that isn't poison.
+pub fn ways_add_the_distance()
+    ensures { (m : Module) (env : Env) (ty : Ty) (args : List Arg) (start d : ℕ) → start < 2 ^ 64
+        → AreFields m ty args → distance m ty (indices_of m env args) ≡ Some d
+        → summed m env (Some start) (ways_of m ty args) ≡ plus (Some start) (Some d) }
+{}

@@ -1,0 +1,13 @@
+//! Frames are built in one step, from the meaning in which a resumed activation makes its slots anew to that of framed
+//! forms: where the places of a coroutine are in its framed form, and what stands there.
+#![tactic(auto)]
+
+pub mod code;
+pub mod distances;
+pub mod fetched;
+pub mod layers;
+pub mod lines;
+pub mod offsets;
+pub mod start;
+pub mod tests;
+pub mod worked;

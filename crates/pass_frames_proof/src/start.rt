@@ -1,0 +1,23 @@
+//! The two runs start in states that stand beside each other.
+
+ghost use Rattle.std.specs.Prelude.{◌≡◌, ◌<◌, ◌^◌, ℕ, List, Some, false, length, slice_get};
+ghost use Rattle.ir_base.specs.declared.outcome.Word.{Word};
+ghost use Rattle.ir_model.specs.Names.{function_at};
+ghost use Rattle.ir_model.specs.declared.module.Module.{Module};
+ghost use Rattle.pass_frames_proof.specs.Related.{AreBuilt, AreBuiltOf, Building, is_coroutine};
+ghost use Rattle.run_laws.specs.memory.Standing.{Embeds, own_homes};
+ghost use Rattle.run_memory.specs.Memory.{owner_rights};
+ghost use Rattle.run_memory.specs.declared.block.MemoryBlock.{MemoryBlock};
+ghost use Rattle.run_source.specs.Source.{first_state};
+ghost use Rattle.run_step.specs.Step.{first_world};
+
+/// They do where the entry is no coroutine and the globals are the same in both, and stand in themselves.
+pub fn starts_stand_beside_each_other()
+    ensures { (b : Building) (code : Module) (entry : ℕ) (args : List Word) → AreBuilt b
+        → is_coroutine b entry ≡ false → function_at code entry ≡ function_at b.code entry
+        → first_world b.framed_code ≡ first_world code
+        → Embeds owner_rights owner_rights (own_homes 0 (length (first_world code).memory)) (first_world code).memory
+        (first_world code).memory
+        → ((n : ℕ) (x : MemoryBlock) → slice_get (first_world code).memory n ≡ Some x → x.size < 2 ^ 64)
+        → AreBuiltOf b (first_state code entry args) (first_state b.framed_code entry args) }
+{}

@@ -1,5 +1,0 @@
-use Rattle.pass_proofs.proofs.split.code.Positions.{others_stay}
-use Rattle.pass_proofs.proofs.split.code.other_names_are_no_functions.Goals as goal
-
-pub returns : goal.returns
-returns c = others_stay

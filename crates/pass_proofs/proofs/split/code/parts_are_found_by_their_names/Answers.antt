@@ -1,5 +1,0 @@
-use Rattle.pass_proofs.proofs.split.code.Positions.{found_by_name}
-use Rattle.pass_proofs.proofs.split.code.parts_are_found_by_their_names.Goals as goal
-
-pub returns : goal.returns
-returns c = found_by_name

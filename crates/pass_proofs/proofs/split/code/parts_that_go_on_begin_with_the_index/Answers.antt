@@ -1,5 +1,0 @@
-use Rattle.pass_proofs.proofs.split.code.Entries.{later_entry}
-use Rattle.pass_proofs.proofs.split.code.parts_that_go_on_begin_with_the_index.Goals as goal
-
-pub returns : goal.returns
-returns c = later_entry

@@ -1,5 +1,0 @@
-use Rattle.pass_proofs.proofs.split.places.Laws.{end_of}
-use Rattle.pass_proofs.proofs.split.places.ends_of_blocks_have_code.Goals as goal
-
-pub returns : goal.returns
-returns c = end_of

@@ -1,5 +1,0 @@
-use Rattle.pass_proofs.proofs.split.simulation.Starts.{parts_start}
-use Rattle.pass_proofs.proofs.split.simulation.runs_of_parts_start_related.Goals as goal
-
-pub returns : goal.returns
-returns c = parts_start

@@ -1,6 +1,0 @@
-use Rattle.pass_proofs.proofs.split.states.Headed.{begins}
-use Rattle.pass_proofs.proofs.split.states.coroutines_begin_beside.Goals as goal
-
-pub returns : goal.returns
-returns c g xs x m n u size there fresh frames beside laid sized new roomy resumes destroyer is standing
-    = begins g xs x m n u size there fresh frames beside laid sized new roomy resumes destroyer is standing

@@ -1,8 +1,0 @@
-use Rattle.pass_proofs.proofs.split.states.Statuses.{status_beside, status_frames}
-use Rattle.pass_proofs.proofs.split.states.instances_change_beside.Goals as goal
-
-pub returns-clause-beside : goal.returns-clause-beside
-returns-clause-beside c = status_beside
-
-pub returns-clause-frames : goal.returns-clause-frames
-returns-clause-frames c = status_frames

@@ -1,8 +1,0 @@
-use Rattle.pass_proofs.proofs.split.steps.Followed.{straight_followed, through_followed}
-use Rattle.pass_proofs.proofs.split.steps.edges_are_followed.Goals as goal
-
-pub returns-clause-straight : goal.returns-clause-straight
-returns-clause-straight c = straight_followed
-
-pub returns-clause-through : goal.returns-clause-through
-returns-clause-through c = through_followed

@@ -1,8 +1,0 @@
-use Rattle.pass_proofs.proofs.split.steps.Operands.{operand_stands, phis_stand}
-use Rattle.pass_proofs.proofs.split.steps.operands_stand_in_parts.Goals as goal
-
-pub returns-clause-operands : goal.returns-clause-operands
-returns-clause-operands c = operand_stands
-
-pub returns-clause-phis : goal.returns-clause-phis
-returns-clause-phis c = phis_stand

@@ -1,5 +1,0 @@
-use Rattle.pass_proofs.proofs.split.steps.Ordinary.{steps_beside}
-use Rattle.pass_proofs.proofs.split.steps.ordinary_steps_leave_states_related.Goals as goal
-
-pub returns : goal.returns
-returns c = steps_beside

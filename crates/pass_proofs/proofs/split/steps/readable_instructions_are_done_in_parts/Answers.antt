@@ -1,6 +1,0 @@
-use Rattle.pass_proofs.proofs.split.steps.Ready.{done}
-use Rattle.pass_proofs.proofs.split.steps.readable_instructions_are_done_in_parts.Goals as goal
-
-pub returns : goal.returns
-returns c g instances m n answers f q functions w x i v globals values k beside
-    = done g instances m n answers f q functions w x globals values i k beside v

@@ -1,0 +1,126 @@
+-- What is known of memories of twins.
+use Rattle.std.proofs.Common.{◌≡◌, ℕ, ◌<◌, ◌^◌, ◌||◌, Bool, true, false, not, List, [], ◌∷◌, length, map, Option, Some, None, refl, sym, ap, ◌∙◌, subst, arith}
+use Rattle.std.specs.Prelude.{slice_get, ◌==◌}
+use Rattle.pass_split_proof.proofs.states.OwnHomes.{own_home, own_seen}
+use Rattle.pass_split_proof.specs.states.Memories.{AreTwins, AreTwinsAt, AreWorldsBeside, IsTwin, homes_of}
+use Rattle.run_framed.specs.Framed.{FramedGiven, frame_rights}
+use Rattle.run_laws.proofs.transfer.Carried.{muted_none}
+use Rattle.run_laws.specs.embedded.Related.{AreWorlds, moved_event}
+use Rattle.run_laws.specs.memory.Pointers.{Home, home_of}
+use Rattle.run_laws.specs.memory.Standing.{AreBoundsKept, AreNullsKept, HasBounds}
+use Rattle.run_laws.specs.transfer.Transfer.{AreOver}
+use Rattle.run_memory.specs.Memory.{Rights, is_live, may_compare_at, owner_rights}
+use Rattle.run_memory.specs.Pointers.{moved}
+use Rattle.run_memory.specs.declared.block.MemoryBlock.{MemoryBlock}
+use Rattle.run_memory.specs.declared.pointer.Offset.{Offset}
+use Rattle.run_source.specs.declared.state.Instance.{Instance}
+use Rattle.ir_base.specs.declared.outcome.Event.{Event}
+use Rattle.run_step.specs.declared.world.World.{World}
+
+-- ---- a block and its twin
+
+pub record HasTwin (n : List MemoryBlock) (b : ℕ) (x : MemoryBlock) : Type 0 where
+  pub twin : MemoryBlock
+  pub there : slice_get n b ≡ Some twin
+  pub is : IsTwin x twin
+
+pub record IsTwinOf (m : List MemoryBlock) (b : ℕ) (y : MemoryBlock) : Type 0 where
+  pub source : MemoryBlock
+  pub there : slice_get m b ≡ Some source
+  pub is : IsTwin source y
+
+twin_of : (n : List MemoryBlock) (b : ℕ) (x : MemoryBlock) (o : Option MemoryBlock) → slice_get n b ≡ o
+    → AreTwinsAt (Some x) o → HasTwin n b x
+twin_of n b x None e t = absurd t
+twin_of n b x (Some y) e t = record { twin = y; there = e; is = t }
+
+source_of : (m : List MemoryBlock) (b : ℕ) (y : MemoryBlock) (o : Option MemoryBlock) → slice_get m b ≡ o
+    → AreTwinsAt o (Some y) → IsTwinOf m b y
+source_of m b y None e t = absurd t
+source_of m b y (Some x) e t = record { source = x; there = e; is = t }
+
+module _ (m n : List MemoryBlock) (t : AreTwins m n) where
+  pub twin_at : (b : ℕ) (x : MemoryBlock) → slice_get m b ≡ Some x → HasTwin n b x
+  twin_at b x e = twin_of n b x (slice_get n b) refl (subst (λ o. AreTwinsAt o (slice_get n b)) e (t.each b))
+
+  pub source_at : (b : ℕ) (y : MemoryBlock) → slice_get n b ≡ Some y → IsTwinOf m b y
+  source_at b y e = source_of m b y (slice_get m b) refl (subst (AreTwinsAt (slice_get m b)) e (t.each b))
+
+  -- nobody owns a block
+  pub unowned : (b : ℕ) (y : MemoryBlock) → slice_get n b ≡ Some y → y.owned ≡ None
+  unowned b y e = ap (λ (z : MemoryBlock). z.owned) (source_at b y e).is.is
+
+-- ---- pointers are compared, and have room
+
+or_true : (a b : Bool) → (a || (b || true)) ≡ true
+or_true true b = refl
+or_true false true = refl
+or_true false false = refl
+
+pub free_compares : (b : ℕ) (y : Option MemoryBlock) (o : Offset) → ((z : MemoryBlock) → y ≡ Some z → z.owned ≡ None)
+    → may_compare_at owner_rights b y o ≡ true
+free_compares b None o free = refl
+free_compares b (Some y) o free = compares y.owned (free y refl)
+  where
+    compares : (owner : Option ℕ) → owner ≡ None
+        → may_compare_at owner_rights b (Some (record y { owned = owner })) o ≡ true
+    compares owner e = subst (λ (w : Option ℕ). may_compare_at owner_rights b (Some (record y { owned = w })) o ≡ true)
+        (sym e) (or_true (not (is_live y.life)) (o.bits == 0))
+
+module _ (m n : List MemoryBlock) (t : AreTwins m n) where
+  pub twin_nulls : (rights : Rights) → AreNullsKept rights owner_rights (homes_of m) m n
+  twin_nulls rights = record {
+    each = λ b o seen ok. free_compares (home_of (homes_of m) b).block (slice_get n (home_of (homes_of m) b).block)
+        (moved o (home_of (homes_of m) b).offset) (λ z e. unowned m n t _ z e);
+  }
+
+  pub twin_bounds : AreBoundsKept (homes_of m) m n
+  twin_bounds = record {
+    each = λ b x seen e.
+        let lt = own_seen (length m) b seen in
+        let h = own_home (length m) b lt in
+        let y = twin_at m n t b x e in
+        let size : y.twin.size ≡ x.size = ap (λ (z : MemoryBlock). z.size) y.is.is in
+        let small = y.is.small in
+        subst (λ (q : Home). HasBounds n q x.size) (sym h) (record {
+          block = y.twin;
+          there = y.there;
+          fits = omega (arith, size);
+          small = subst (λ (k : ℕ). k < 2 ^ 64) (sym size) small;
+        });
+  }
+
+-- ---- worlds
+
+pub same_events : (es : List Event) → map (moved_event (λ d. d)) es ≡ es
+same_events [] = refl
+same_events (e ∷ es) = ap (λ rest. e ∷ rest) (same_events es)
+
+module _ (g : FramedGiven) (instances : List Instance) (s t : World) where
+  pub worlds_of : AreWorldsBeside g instances s t → AreWorlds (frame_rights g instances) owner_rights
+      (homes_of s.memory) (λ d. d) s t
+  worlds_of w = record {
+    memory = w.memory.stands;
+    nulls = twin_nulls s.memory t.memory w.memory.twins (frame_rights g instances);
+    bounds = twin_bounds s.memory t.memory w.memory.twins;
+    events = w.events ∙ sym (same_events s.events);
+    answers = w.answers;
+    allocs = w.allocs;
+  }
+
+  pub over_of : AreWorldsBeside g instances s t → AreOver (frame_rights g instances) owner_rights (homes_of s.memory)
+      (λ b. false) (λ d. d) s t
+  over_of w = subst (λ (m : List MemoryBlock). AreWorlds (frame_rights g instances) owner_rights (homes_of s.memory)
+      (λ d. d) (record s { memory = m }) t) (sym (muted_none s.memory)) (worlds_of w)
+
+  pub beside_of : AreTwins s.memory t.memory → AreOver (frame_rights g instances) owner_rights (homes_of s.memory)
+      (λ b. false) (λ d. d) s t → AreWorldsBeside g instances s t
+  beside_of twins over =
+      let w = subst (λ (m : List MemoryBlock). AreWorlds (frame_rights g instances) owner_rights (homes_of s.memory)
+      (λ d. d) (record s { memory = m }) t) (muted_none s.memory) over in
+      record {
+        memory = record { twins = twins; stands = w.memory };
+        events = w.events ∙ same_events s.events;
+        answers = w.answers;
+        allocs = w.allocs;
+      }

@@ -1,0 +1,244 @@
+-- Behind a begin, which takes five steps of the part, the states are related.
+use Rattle.std.proofs.Common.{◌≡◌, ℕ, ◌<◌, ◌≤◌, true, false, List, [], ◌∷◌, ◌++◌, length, Some, refl, sym, ap, ◌∙◌, subst, arith}
+use Rattle.std.specs.Prelude.{slice_get}
+use Rattle.std.proofs.lemmas.Bool.{false≢true}
+use Rattle.std.proofs.lemmas.Option.{slice_get_within}
+use Rattle.ir_base.specs.declared.outcome.Outcome.{Outcome}
+use Rattle.ir_model.specs.Names.{function_at, position_of}
+use Rattle.ir_model.specs.Ty.{ptr}
+use Rattle.ir_model.specs.declared.operand.Operand.{Operand}
+use Rattle.pass_intrinsics.specs.Lowered.{begin_stores, destroyed_by}
+use Rattle.pass_intrinsics.specs.declared.shape.Part.{Part}
+use Rattle.pass_intrinsics.specs.declared.shape.Shape.{Shape}
+use Rattle.pass_split_proof.proofs.states.Advanced.{KeepsFrames, all_beside_on}
+use Rattle.pass_split_proof.proofs.states.Headed.{begins}
+use Rattle.pass_split_proof.proofs.states.Judged.{get_new}
+use Rattle.pass_split_proof.proofs.states.Values.{values_set}
+use Rattle.pass_split_proof.proofs.states.Written.{length-changed}
+use Rattle.pass_split_proof.proofs.steps.Marked.{line_marked}
+use Rattle.pass_split_proof.proofs.steps.Operands.{block_itself}
+use Rattle.pass_split_proof.proofs.steps.Saves.{set_there, values_extra}
+use Rattle.pass_proofs.proofs.addresses.numbers.Done.{address_done}
+use Rattle.pass_split_proof.proofs.steps.Small.{pointer_stored}
+use Rattle.pass_split_proof.specs.states.Activations.{Inside, is_entering}
+use Rattle.pass_split_proof.specs.states.Begun.{BeginsIn, IsFreshBlock, IsNewInstance, with_header}
+use Rattle.pass_split_proof.specs.states.Going.{stands_at}
+use Rattle.pass_split_proof.specs.states.Instances.{IsLaidOut, StandsThere, address_of_part, destroyer_of, is_destroyer, part_position, shape_at}
+use Rattle.pass_split_proof.specs.states.Memories.{homes_of}
+use Rattle.pass_split_proof.specs.states.Related.{AreRelated}
+use Rattle.pass_split_proof.specs.states.Values.{AreValuesOf}
+use Rattle.pass_split_proof.specs.steps.Begins.{HasBeginCode, begun_to}
+use Rattle.run_access_worked.proofs.Begun.{get_more}
+use Rattle.run_framed.specs.Framed.{FramedGiven, layout_of}
+use Rattle.run_laws.proofs.transfer.Sets.{set_elsewhere, set_length, sets_name}
+use Rattle.run_laws.specs.access.Lines.{Runs, pointer_at, refilled_at}
+use Rattle.run_laws.specs.memory.Pointers.{Extends, Home}
+use Rattle.run_laws.specs.memory.Standing.{own_homes}
+use Rattle.run_memory.specs.Memory.{encode, owned_to, with_block}
+use Rattle.run_memory.specs.declared.block.MemoryBlock.{MemoryBlock}
+use Rattle.run_memory.specs.declared.pointer.Pointer.{Pointer}
+use Rattle.run_memory.specs.declared.pointer.Value.{Value}
+use Rattle.run_plain.specs.Plain.{PlainGiven, plain_context, plain_function, plain_step, plain_work}
+use Rattle.run_plain.specs.declared.state.PlainState.{PlainState}
+use Rattle.run_source.specs.State.{frame_address_of}
+use Rattle.run_source.specs.declared.state.Instance.{Instance}
+use Rattle.run_source.specs.declared.state.State.{State}
+use Rattle.run_step.specs.Runs.{iterate}
+use Rattle.run_step.specs.Step.{Work, set_memory, set_value, value_at}
+use Rattle.run_step.specs.Values.{Env, value_in, with_value}
+
+-- ---- one instance more
+
+got_within : (xs : List Instance) (i : ℕ) (x : Instance) → slice_get xs i ≡ Some x → i < length xs
+got_within xs i x e = slice_get_within xs i x e
+
+more_frames : (xs : List Instance) (x : Instance) → KeepsFrames xs (xs ++ x ∷ [])
+more_frames xs x = record { each = λ i z e. (z, (get_more xs x i (got_within xs i z e) ∙ e, refl, refl)) }
+
+module _ (g : FramedGiven) (h : PlainGiven) (s : State) (t : PlainState) (r : AreRelated g h s t) (p : Operand)
+    (code : HasBeginCode g h s t r p)
+    (x : Instance) (u : MemoryBlock) (size : ℕ) (mine : x.coroutine ≡ s.top.func)
+    (there : slice_get s.world.memory x.block ≡ Some u) (fresh : IsFreshBlock size u)
+    (laid : IsLaidOut g x.coroutine) (sized : (layout_of g.layouts x.coroutine).size ≡ size) (new : IsNewInstance x)
+    (roomy : 16 ≤ u.size)
+    (leads : value_at (plain_context h t) (plain_work t) ptr p ≡ pointer_at x.block 0) where
+  abbrev shape : Shape
+  shape = shape_at g s.top.func
+
+  abbrev resumes : Value
+  resumes = address_of_part g s.top.func Part.Resume
+
+  abbrev source : List MemoryBlock
+  source = with_block s.world.memory x.block (owned_to size)
+
+  abbrev destroyer : Part
+  destroyer = destroyer_of r.top.part
+
+  stored : BeginsIn g s.instances x source t.world.memory resumes (destroyer_of r.top.part)
+  stored = begins g s.instances x s.world.memory t.world.memory u size there fresh r.frames r.world.memory laid sized
+      new roomy resumes destroyer (destroys r.top.part)
+      (subst (λ (k : ℕ). StandsThere g k destroyer) (sym mine) code.standing)
+    where
+      destroys : (part : Part) → is_destroyer (destroyer_of part) ≡ true
+      destroys Part.Ramp = refl
+      destroys Part.GivenRamp = refl
+      destroys Part.Resume = refl
+      destroys Part.Destroy = refl
+      destroys Part.Cleanup = refl
+
+  abbrev memory_after : List MemoryBlock
+  memory_after = with_header t.world.memory x.block resumes (address_of_part g x.coroutine destroyer)
+
+  -- the names of the frame and of the second pointer
+  abbrev with_frame : Env
+  with_frame = with_value t.top.values shape.begin (pointer_at x.block 0)
+
+  abbrev after : Work
+  after = record {
+    world = record t.world { memory = memory_after };
+    values = with_value with_frame code.name
+        (pointer_at x.block 8);
+  }
+
+  other_name : code.name ≡ shape.begin → ⊥
+  other_name k = let a = code.new in let b = code.begin in omega arith
+
+  -- ---- the line
+
+  abbrev one : Work
+  one = set_value (plain_work t) shape.begin (pointer_at x.block 0)
+
+  abbrev two : Work
+  two = set_memory one (refilled_at t.world.memory x.block 0 (encode 8 resumes))
+
+  abbrev three : Work
+  three = set_value two code.name (pointer_at x.block 8)
+
+  abbrev four : Work
+  four = set_memory three (with_header t.world.memory x.block resumes (address_of_part g s.top.func destroyer))
+
+  room_for : shape.begin < length t.top.values
+  room_for = let a = r.top.values.room in let b = code.begin in omega arith
+
+  runs : Runs (plain_context h t) (begin_stores shape r.top.part code.name p) (plain_work t) four
+  runs = (
+    one,
+    (
+      address_done (plain_context h t) (plain_work t) shape.begin x.block 0 0 p leads (omega arith),
+      (
+        two,
+        (
+          pointer_stored (plain_context h t) one x.block 0 8 (Operand.Global shape.resume_name)
+              (Operand.Local shape.begin) (Pointer.Func (part_position g s.top.func Part.Resume)) stored.old
+              (set_there t.top.values shape.begin (pointer_at x.block 0) room_for) code.resumes stored.first
+              stored.long (omega arith),
+          (
+            three,
+            (
+              address_done (plain_context h t) two code.name x.block 0 8 (Operand.Local shape.begin)
+                  (set_there t.top.values shape.begin (pointer_at x.block 0) room_for) (omega arith),
+              (
+                four,
+                (
+                  pointer_stored (plain_context h t) three x.block 8 8 (Operand.Global (destroyed_by shape r.top.part))
+                      (Operand.Local code.name) (Pointer.Func (part_position g s.top.func destroyer)) stored.older
+                      (set_there with_frame code.name (pointer_at x.block 8) (subst (λ (k : ℕ). code.name < k)
+                      (sym (set_length t.top.values shape.begin (pointer_at x.block 0))) code.room)) code.destroys
+                      stored.second stored.longer (omega arith),
+                  refl,
+                ),
+              ),
+            ),
+          ),
+        ),
+      ),
+    ),
+  )
+
+  -- it takes five steps
+  pub begin_steps : t.outcome ≡ Outcome.Running
+      → iterate (plain_step h) 5 t ≡ stands_at t (position_of (plain_function h t) code.mark) 0 after
+  begin_steps running = line_marked h t running (begin_stores shape r.top.part code.name p) code.mark four code.stands code.bare
+      runs
+      ∙ ap (λ (f : ℕ). stands_at t (position_of (plain_function h t) code.mark) 0
+      (record {
+        world = record t.world {
+          memory = with_header t.world.memory x.block resumes
+              (address_of_part g f destroyer);
+        };
+        values = with_value with_frame code.name (pointer_at x.block 8);
+      }))
+      (sym mine)
+
+  -- ---- the states behind it
+
+  same_length : length source ≡ length s.world.memory
+  same_length = length-changed s.world.memory x.block (owned_to size)
+
+  homes_stay : homes_of s.world.memory ≡ homes_of source
+  homes_stay = ap (own_homes 0) (sym same_length)
+
+  ext : Extends (homes_of s.world.memory) (homes_of source)
+  ext = subst (Extends (homes_of s.world.memory)) homes_stay (record { each = λ b e. refl })
+
+  stand : AreValuesOf (function_at g.given.code s.top.func) (homes_of source) (with_value s.top.values shape.begin
+      (pointer_at x.block 0)) after.values
+  stand = subst (λ (hs : List Home). AreValuesOf (function_at g.given.code s.top.func) hs
+      (with_value s.top.values shape.begin (pointer_at x.block 0)) after.values) homes_stay
+      (values_extra (function_at g.given.code s.top.func) (homes_of s.world.memory)
+      (with_value s.top.values shape.begin (pointer_at x.block 0)) with_frame code.name (pointer_at x.block 8)
+      (subst (λ (k : ℕ). k ≤ code.name) (sym (set_length s.top.values shape.begin (pointer_at x.block 0))) code.new)
+      (values_set (function_at g.given.code s.top.func) (homes_of s.world.memory) (Some shape.begin) s.top.values
+      t.top.values (with_value s.top.values shape.begin (pointer_at x.block 0)) with_frame r.top.values
+      (sets_name (homes_of s.world.memory) s.top.values t.top.values r.top.values.room shape.begin
+      (pointer_at x.block 0) (pointer_at x.block 0)
+      (block_itself (length s.world.memory) x.block (slice_get_within s.world.memory x.block u there)))))
+
+  frame_is : value_in after.values r.top.shape.begin ≡ frame_address_of x
+  frame_is = ap (λ (z : Shape). value_in after.values z.begin) code.same
+      ∙ set_elsewhere with_frame code.name shape.begin (pointer_at x.block 8) other_name
+      ∙ set_there t.top.values shape.begin (pointer_at x.block 0) room_for
+      ∙ ap (pointer_at x.block) (sym new.start)
+
+  pub begin_related : is_entering s.top.mode ≡ false
+      → AreRelated g h (begun_to s x source (with_value s.top.values shape.begin (pointer_at x.block 0)))
+      (stands_at t (position_of (plain_function h t) code.mark) 0 after)
+  begin_related mode = record {
+    outcome = r.outcome;
+    globals = subst (λ (k : ℕ). length g.given.code.globals ≤ k) (sym same_length) r.globals;
+    world = record {
+      memory = stored.beside;
+      events = r.world.events;
+      answers = r.world.answers;
+      allocs = r.world.allocs;
+    };
+    frames = stored.frames;
+    top = record {
+      shape = r.top.shape;
+      part = r.top.part;
+      coded = r.top.coded;
+      shaped = r.top.shaped;
+      runs = r.top.runs;
+      func = r.top.func;
+      place = Inside s.top.mode mode code.place;
+      values = stand;
+      room = set_length with_frame code.name (pointer_at x.block 8)
+          ∙ set_length t.top.values shape.begin (pointer_at x.block 0) ∙ r.top.room;
+      frame = λ i own. record {
+        instance = x;
+        there = ap (slice_get (s.instances ++ x ∷ []))
+            (sym (number i own)) ∙ get_new s.instances x;
+        coroutine = mine;
+        is = frame_is;
+      };
+      result = r.top.result;
+      slots = r.top.slots;
+      own = r.top.own;
+    };
+    below = all_beside_on g h.code s.instances (s.instances ++ x ∷ []) (homes_of s.world.memory) (homes_of source) ext
+        (more_frames s.instances x) s.top.result s.below t.below r.below;
+    making = λ from label e. absurd (false≢true (sym mode ∙ ap is_entering e));
+  }
+    where
+      number : (i : ℕ) → Some (length s.instances) ≡ Some i → length s.instances ≡ i
+      number i e = cc

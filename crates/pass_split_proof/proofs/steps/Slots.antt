@@ -1,0 +1,179 @@
+-- An alloca makes a slot in both runs.
+use Rattle.std.proofs.Common.{◌≡◌, ℕ, suc, ◌+◌, ◌<◌, ◌≤◌, ◌^◌, Bool, true, false, List, ◌∷◌, length, Option, Some, refl, sym, ap, ◌∙◌, subst, arith}
+use Rattle.std.proofs.lemmas.Bool.{false≢true}
+use Rattle.ir_model.specs.Names.{function_at}
+use Rattle.ir_model.specs.declared.module.Function.{Function}
+use Rattle.ir_paths.specs.Slots.{allocas_of}
+use Rattle.pass_intrinsics.specs.declared.shape.Part.{Part}
+use Rattle.pass_intrinsics.specs.declared.shape.Shape.{Shape}
+use Rattle.pass_split_proof.proofs.states.Advanced.{advanced, same_frames}
+use Rattle.pass_split_proof.proofs.states.Fresh.{fresh_beside, fresh_frames, grown_length}
+use Rattle.pass_split_proof.proofs.states.Killed.{dead_beside, dead_frames, ends}
+use Rattle.pass_split_proof.proofs.states.OwnHomes.{own_extends}
+use Rattle.pass_split_proof.proofs.states.Values.{values_on, values_set}
+use Rattle.pass_split_proof.proofs.states.Written.{length-changed}
+use Rattle.pass_split_proof.proofs.steps.Calls.{result_elsewhere, result_length}
+use Rattle.pass_split_proof.proofs.steps.Operands.{block_itself}
+use Rattle.pass_split_proof.specs.states.Activations.{AtEnd, AtSuspend, AtSwitch, Inside, IsPlaced, Making, Passed, Stopping, is_entering}
+use Rattle.pass_split_proof.specs.states.Going.{moved_to, placed_at}
+use Rattle.pass_split_proof.specs.states.Instances.{AreFrames}
+use Rattle.pass_split_proof.specs.states.Memories.{AreBeside, homes_of, plain_kind}
+use Rattle.pass_split_proof.specs.states.Related.{AreRelated}
+use Rattle.pass_split_proof.specs.states.Values.{AreValuesOf}
+use Rattle.pass_split_proof.specs.steps.Slots.{slot_memory, with_made}
+use Rattle.run_framed.specs.Framed.{FramedGiven}
+use Rattle.run_laws.proofs.transfer.Sets.{sets_result}
+use Rattle.run_laws.specs.memory.Pointers.{Extends}
+use Rattle.run_laws.specs.memory.Standing.{blank_block, own_homes}
+use Rattle.run_laws.specs.transfer.Transfer.{AreSet}
+use Rattle.run_memory.specs.Memory.{end, ended, fresh}
+use Rattle.run_memory.specs.declared.block.Kind.{Kind}
+use Rattle.run_memory.specs.declared.block.MemoryBlock.{MemoryBlock}
+use Rattle.run_plain.specs.Plain.{PlainGiven, plain_settled, plain_slot, plain_work}
+use Rattle.run_plain.specs.declared.state.PlainActivation.{PlainActivation}
+use Rattle.run_plain.specs.declared.state.PlainState.{PlainState}
+use Rattle.run_source.specs.Source.{is_among}
+use Rattle.run_source.specs.State.{settled, with_slots, work_of}
+use Rattle.run_source.specs.declared.state.Activation.{Activation}
+use Rattle.run_source.specs.declared.state.Instance.{Instance}
+use Rattle.run_source.specs.declared.state.Mode.{Mode}
+use Rattle.run_source.specs.declared.state.State.{State}
+use Rattle.run_step.specs.Step.{Work}
+use Rattle.run_step.specs.Values.{pointer_to, with_result}
+use Rattle.run_step.specs.declared.world.Slot.{Slot}
+
+-- ---- a slot more
+
+more_slots : (s : Shape) (part : Part) (f q : Function) (a : Activation) (b : PlainActivation)
+    (slots others : List Slot) (mode : Mode)
+    → IsPlaced s part f q a b mode → IsPlaced s part f q (record a { slots = slots }) (record b { slots = others }) mode
+more_slots s part f q a b slots others _ (Inside mode e place) = Inside mode e place
+more_slots s part f q a b slots others _ (Stopping mode m arg cases e behind there both is jump enters)
+    = Stopping mode m arg cases e (record {
+      before = behind.before;
+      at = behind.at;
+      instr = behind.instr;
+      there = behind.there;
+      is = behind.is;
+    }) there both is jump enters
+more_slots s part f q a b slots others _ (Making from label x y z lt) = Making from label x y z lt
+more_slots s part f q a b slots others _ (Passed there (AtSuspend i here is stop))
+    = Passed there (AtSuspend i here is stop)
+more_slots s part f q a b slots others _ (Passed there (AtSwitch m arg cases behind here both is))
+    = Passed there (AtSwitch m arg cases (record {
+      before = behind.before;
+      at = behind.at;
+      instr = behind.instr;
+      there = behind.there;
+      is = behind.is;
+    }) here both is)
+more_slots s part f q a b slots others _ (Passed there (AtEnd here at)) = Passed there (AtEnd here at)
+
+module _ (g : FramedGiven) (h : PlainGiven) (s : State) (t : PlainState) (r : AreRelated g h s t) (slot : Slot) where
+  pub slot_related : ((function_at g.given.code s.top.func).coroutine ≡ true
+      → is_among (allocas_of (function_at g.given.code s.top.func)) slot ≡ true)
+      → is_entering s.top.mode ≡ false → AreRelated g h (with_slots s (slot ∷ s.top.slots)) (plain_slot t slot)
+  slot_related among mode = record {
+    outcome = r.outcome;
+    globals = r.globals;
+    world = r.world;
+    frames = r.frames;
+    top = record {
+      shape = r.top.shape;
+      part = r.top.part;
+      coded = r.top.coded;
+      shaped = r.top.shaped;
+      runs = r.top.runs;
+      func = r.top.func;
+      place = more_slots r.top.shape r.top.part (function_at g.given.code s.top.func) (function_at h.code t.top.func)
+          s.top t.top (slot ∷ s.top.slots) (slot ∷ t.top.slots) s.top.mode r.top.place;
+      values = r.top.values;
+      room = r.top.room;
+      frame = λ i own. let f = r.top.frame i own
+          in record { instance = f.instance; there = f.there; coroutine = f.coroutine; is = f.is };
+      result = r.top.result;
+      slots = ap (λ rest. slot ∷ rest) r.top.slots;
+      own = λ c. (among c, r.top.own c);
+    };
+    below = r.below;
+    making = λ from label e. absurd (false≢true (sym mode ∙ ap is_entering e));
+  }
+
+-- ---- the block of a slot, which starts dead where it has markers
+
+slot_length : (m : List MemoryBlock) (size align : ℕ) (kind : Kind) (marked : Bool)
+    → length (slot_memory m size align kind marked) ≡ suc (length m)
+slot_length m size align kind true = length-changed (fresh m size align kind) (length m) ended
+    ∙ grown_length m (blank_block size align kind)
+slot_length m size align kind false = grown_length m (blank_block size align kind)
+
+module _ (g : FramedGiven) (xs : List Instance) (m n : List MemoryBlock) (size align : ℕ) (kind : Kind)
+    (small : size < 2 ^ 64) (unlike : kind ≡ Kind.Allocator → align ≡ 16) (long : length n ≡ length m) where
+  slot_beside : (marked : Bool) → AreFrames g xs m n → AreBeside g xs m n
+      → AreBeside g xs (slot_memory m size align kind marked) (slot_memory n size align (plain_kind kind) marked)
+  slot_beside false frames beside = fresh_beside g xs m n size align kind small unlike frames.laid beside
+  slot_beside true frames beside = subst (λ (b : ℕ). AreBeside g xs (end (fresh m size align kind) (length m))
+      (end (fresh n size align (plain_kind kind)) b)) (sym long)
+      (dead_beside ended ends g xs (fresh m size align kind) (fresh n size align (plain_kind kind)) (length m)
+      (fresh_frames g xs m n size align kind small unlike frames).laid
+      (fresh_beside g xs m n size align kind small unlike frames.laid beside))
+
+  slot_frames : (marked : Bool) → AreFrames g xs m n → AreFrames g xs (slot_memory m size align kind marked)
+      (slot_memory n size align (plain_kind kind) marked)
+  slot_frames false frames = fresh_frames g xs m n size align kind small unlike frames
+  slot_frames true frames = subst (λ (b : ℕ). AreFrames g xs (end (fresh m size align kind) (length m))
+      (end (fresh n size align (plain_kind kind)) b)) (sym long)
+      (dead_frames ended ends g xs (fresh m size align kind) (fresh n size align (plain_kind kind)) (length m)
+      (fresh_frames g xs m n size align kind small unlike frames))
+
+module _ (g : FramedGiven) (h : PlainGiven) (s : State) (t : PlainState) (r : AreRelated g h s t) (result : Option ℕ)
+    (size align : ℕ) (kind : Kind) (marked : Bool) (count : ℕ) where
+  -- what comes of the works
+  abbrev made : Work
+  made = with_made (work_of s) result size align kind marked count
+
+  abbrev made_too : Work
+  made_too = with_made (plain_work t) result size align (plain_kind kind) marked count
+
+  long : length t.world.memory ≡ length s.world.memory
+  long = r.world.memory.twins.long
+
+  homes_grow : Extends (homes_of s.world.memory) (homes_of made.world.memory)
+  homes_grow = subst (λ (k : ℕ). Extends (homes_of s.world.memory) (own_homes 0 k))
+      (sym (slot_length s.world.memory size align kind marked)) (own_extends (length s.world.memory))
+
+  grows : length s.world.memory ≤ length made.world.memory
+  grows = let e = slot_length s.world.memory size align kind marked in omega arith
+
+  stand : AreValuesOf (function_at g.given.code s.top.func) (homes_of made.world.memory) made.values made_too.values
+  stand = values_set (function_at g.given.code s.top.func) (homes_of made.world.memory) result s.top.values
+      t.top.values made.values made_too.values
+      (values_on (function_at g.given.code s.top.func) (homes_of s.world.memory) (homes_of made.world.memory)
+      s.top.values t.top.values homes_grow r.top.values)
+      (subst (λ (b : ℕ). AreSet (homes_of made.world.memory) result s.top.values t.top.values made.values
+      (with_result t.top.values result (pointer_to b))) (sym long)
+      (sets_result (homes_of made.world.memory) s.top.values t.top.values r.top.values.room result
+      (pointer_to (length s.world.memory)) (pointer_to (length s.world.memory))
+      (block_itself (length made.world.memory) (length s.world.memory)
+      (let e = slot_length s.world.memory size align kind marked in omega arith))))
+
+  -- both runs go on with the block
+  pub blocks_related : size < 2 ^ 64 → (kind ≡ Kind.Allocator → align ≡ 16) → is_entering s.top.mode ≡ false
+      → (result ≡ Some r.top.shape.begin → ⊥)
+      → IsPlaced r.top.shape r.top.part (function_at g.given.code s.top.func) (function_at h.code t.top.func)
+      (moved_to s.top s.top.block (s.top.at + 1) made.values s.top.has_left) (placed_at t.top t.top.block
+      (t.top.at + 1) made_too.values) s.top.mode
+      → AreRelated g h (settled s made) (plain_settled t made_too)
+  blocks_related small unlike mode other place = advanced g h s t r made made_too s.instances s.top.block
+      (s.top.at + 1) t.top.block (t.top.at + 1) s.top.has_left mode
+      (record {
+        memory = slot_beside g s.instances s.world.memory t.world.memory size align kind small unlike long marked
+            r.frames r.world.memory;
+        events = r.world.events;
+        answers = r.world.answers;
+        allocs = refl;
+      })
+      (slot_frames g s.instances s.world.memory t.world.memory size align kind small unlike long marked r.frames)
+      (same_frames s.instances) grows homes_grow stand (result_length t.top.values result
+      (pointer_to (length t.world.memory)))
+      (result_elsewhere t.top.values result (pointer_to (length t.world.memory)) r.top.shape.begin other) place

@@ -1,0 +1,37 @@
+-- What the parts' run does for one step of the framed run, and the account of it.
+use Rattle.std.specs.Prelude.{◌≡◌, ℕ, List, ◌+◌, ◌≤◌, ◌<◌, ◌⊎◌}
+use Rattle.ir_base.specs.declared.outcome.Outcome.{Outcome}
+use Rattle.ir_base.specs.declared.outcome.Word.{Word}
+use Rattle.pass_split_proof.specs.states.Related.{AreRelated, IsOn, credit_of, fetched_at, measure, part_price, weight}
+use Rattle.run_agreement.specs.Machines.{IsFine, iterate}
+use Rattle.run_framed.specs.Framed.{FramedGiven, framed_state_at, framed_step}
+use Rattle.run_plain.specs.Plain.{PlainGiven, plain_step}
+use Rattle.run_plain.specs.declared.state.PlainState.{PlainState}
+use Rattle.run_source.specs.declared.state.State.{State}
+
+-- the framed run goes on, and shows what it showed
+pub record ShowsOn (s u : State) : Type 0 where
+  pub goes : u.outcome ≡ Outcome.Running
+  pub events : u.world.events ≡ s.world.events
+  pub allocs : u.world.allocs ≡ s.world.allocs
+
+-- From a related state so many steps of the parts lead to one that is related to the framed run's next state. The last
+-- of them may be a debt, for which the next step has room.
+pub record IsFollowed (g : FramedGiven) (h : PlainGiven) (s : State) (t : PlainState) : Type 0 where
+  pub steps : ℕ
+  pub debt : ℕ
+  pub within : debt ≤ steps
+  pub short : steps ≤ 9
+  pub few : steps + credit_of (framed_step g s) ≤ weight (fetched_at g s) + debt + credit_of s
+  pub owed : (debt ≡ 0) ⊎ ((debt + weight (fetched_at g (framed_step g s)) ≤ part_price g (framed_step g s))
+      × ShowsOn s (framed_step g s))
+  pub goes_on : (debt < steps) ⊎ (measure g (framed_step g s) < measure g s)
+  pub passes : (i : ℕ) → i < steps → IsOn s (iterate (plain_step h) i t)
+  pub related : AreRelated g h (framed_step g s) (iterate (plain_step h) steps t)
+
+-- so it is with each step of a run that isn't undefined
+abbrev pub AreStepsFollowed : FramedGiven → PlainGiven → ℕ → List Word → Type 0
+AreStepsFollowed g h entry args = (n : ℕ) (t : PlainState) → AreRelated g h (framed_state_at g entry args n) t
+    → (framed_state_at g entry args n).outcome ≡ Outcome.Running
+    → IsFine (framed_step g (framed_state_at g entry args n)).outcome
+    → IsFollowed g h (framed_state_at g entry args n) t

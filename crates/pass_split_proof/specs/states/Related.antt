@@ -1,0 +1,128 @@
+-- The states of a framed run and of the run of its parts: which stand beside each other, and how far the parts may be
+-- behind.
+use Rattle.std.specs.Prelude.{◌≡◌, ℕ, ◌+◌, ◌≤◌, ◌<◌, ◌⊎◌, Bool, true, false, List, [], ◌∷◌, length, slice_get, Some, None, Option, ◌-◌, is_none, ◌&&◌, ◌||◌, if◌then◌else◌, ◌==◌}
+use Rattle.ir_base.specs.declared.outcome.Outcome.{Outcome}
+use Rattle.ir_model.specs.declared.instr.Instr.{Instr}
+use Rattle.ir_model.specs.declared.module.Block.{Block}
+use Rattle.ir_model.specs.declared.module.Function.{Function}
+use Rattle.ir_model.specs.declared.operand.Callee.{Callee}
+use Rattle.ir_model.specs.declared.operand.Intrinsic.{Intrinsic}
+use Rattle.ir_paths.specs.Windows.{end_block}
+use Rattle.pass_intrinsics.specs.Shapes.{suspends_of}
+use Rattle.pass_intrinsics.specs.declared.shape.SuspendPoint.{SuspendPoint}
+use Rattle.pass_split_proof.specs.states.Activations.{AreAllWaiting, IsBeside, IsReturning}
+use Rattle.pass_split_proof.specs.states.Instances.{AreFrames}
+use Rattle.pass_split_proof.specs.states.Memories.{AreWorldsBeside, homes_of}
+use Rattle.run_agreement.specs.Machines.{iterate}
+use Rattle.run_framed.specs.Framed.{FramedGiven}
+use Rattle.run_plain.specs.Plain.{PlainGiven, plain_step}
+use Rattle.run_plain.specs.declared.state.PlainState.{PlainState}
+use Rattle.run_source.specs.State.{function_of}
+use Rattle.run_source.specs.declared.state.Activation.{Activation}
+use Rattle.run_source.specs.declared.state.Mode.{Mode}
+use Rattle.run_source.specs.declared.state.State.{State}
+use Rattle.run_step.specs.Step.{AtInstr, AtTerm, Fetched, Nowhere, fetch, label_of}
+
+-- the two runs are at the same place, and have the same memory, values and instances
+pub record AreRelated (g : FramedGiven) (h : PlainGiven) (s : State) (t : PlainState) : Type 0 where
+  pub outcome : t.outcome ≡ s.outcome
+  pub globals : length g.given.code.globals ≤ length s.world.memory
+  pub world : AreWorldsBeside g s.instances s.world t.world
+  pub frames : AreFrames g s.instances s.world.memory t.world.memory
+  pub top : IsBeside g h.code s.instances (homes_of s.world.memory) s.top t.top
+  pub below : AreAllWaiting g h.code s.instances (homes_of s.world.memory) s.top.result s.below t.below
+  pub making : (from label : ℕ) → s.top.mode ≡ Mode.Entering from label
+      → IsReturning g top.shape top.part (function_of g.given s) s.instances t.world.memory s.top.instance from label
+
+-- ---- what steps cost
+
+-- what stands at the place of the topmost activation
+abbrev pub fetched_at : FramedGiven → State → Fetched
+fetched_at g s = fetch (function_of g.given s) s.top.block s.top.at
+
+-- a label at which a part goes on behind a suspend
+abbrev pub is_return_label : List SuspendPoint → ℕ → Bool
+is_return_label [] label = false
+is_return_label (p ∷ ps) label = ((label == p.resume) || (label == p.destroy)) || is_return_label ps label
+
+-- A step has 4, and a terminator 2, since an edge that leaves a window has a block; but 4 where a part goes on behind
+-- a suspend.
+abbrev pub price_of : Bool → Fetched → ℕ
+price_of true x = 4
+price_of false (AtTerm t) = 2
+price_of false (AtInstr i) = 4
+price_of false Nowhere = 4
+
+abbrev pub is_behind_suspend : FramedGiven → State → Bool
+is_behind_suspend g s =
+    is_return_label (suspends_of (function_of g.given s))
+    (label_of (slice_get (function_of g.given s).blocks s.top.block))
+
+abbrev pub part_price : FramedGiven → State → ℕ
+part_price g s = price_of (is_behind_suspend g s) (fetched_at g s)
+
+-- A step may cost its price, but for the end and a terminator, before which the parts may be behind.
+abbrev pub weight_of_intrinsic : Intrinsic → ℕ
+weight_of_intrinsic Intrinsic.CoroEnd = 1
+weight_of_intrinsic i = 4
+
+abbrev pub weight : Fetched → ℕ
+weight (AtInstr (Instr.Call result must_tail ty (Callee.Intrinsic i) args)) = weight_of_intrinsic i
+weight (AtInstr i) = 4
+weight x = 1
+
+-- a ramp that hasn't begun has a step left of its call
+abbrev pub is_ramp : Mode → Bool
+is_ramp Mode.Ramp = true
+is_ramp (Mode.GivenRamp frame) = true
+is_ramp mode = false
+
+abbrev pub left_of_call : Activation → ℕ
+left_of_call a = if is_ramp a.mode && is_none a.instance then 1 else 0
+
+abbrev pub left_of_calls : List Activation → ℕ
+left_of_calls [] = 0
+left_of_calls (a ∷ below) = left_of_call a + left_of_calls below
+
+abbrev pub credit_of : State → ℕ
+credit_of s = left_of_calls (s.top ∷ s.below)
+
+-- ---- the relation
+
+-- a state that shows what the framed run shows, where neither is over
+pub record IsOn (s : State) (t : PlainState) : Type 0 where
+  pub goes : s.outcome ≡ Outcome.Running
+  pub running : t.outcome ≡ Outcome.Running
+  pub events : t.world.events ≡ s.world.events
+  pub allocs : t.world.allocs ≡ s.world.allocs
+
+-- The parts are so many steps behind, and show the same. What they are behind and the next step are paid by that
+-- step.
+pub record IsFollowing (g : FramedGiven) (h : PlainGiven) (credit : ℕ) (s : State) (t : PlainState) : Type 0 where
+  pub behind : ℕ
+  pub related : AreRelated g h s (iterate (plain_step h) behind t)
+  pub passes : (i : ℕ) → i < behind → IsOn s (iterate (plain_step h) i t)
+  pub paid : (behind ≡ 0) ⊎ (behind + weight (fetched_at g s) ≤ part_price g s)
+  pub calls : credit_of s ≤ credit
+
+-- what holds at corresponding steps
+abbrev pub Follows : FramedGiven → PlainGiven → State → PlainState → Type 0
+Follows g h s t = (credit : ℕ) × IsFollowing g h credit s t
+
+-- ---- instructions that become nothing
+
+-- a run leaves fewer instructions of its block ahead, those before the end's block more than those in it
+abbrev pub instrs_of : Option Block → List Instr
+instrs_of None = []
+instrs_of (Some b) = b.instrs
+
+abbrev pub ahead_in : List Instr → ℕ → ℕ
+ahead_in is at = length is - at
+
+abbrev pub steps_ahead : Function → ℕ → ℕ → ℕ
+steps_ahead f block at =
+    (if block == end_block f then 0 else 1 + length (instrs_of (slice_get f.blocks (end_block f))))
+    + ahead_in (instrs_of (slice_get f.blocks block)) at
+
+abbrev pub measure : FramedGiven → State → ℕ
+measure g s = steps_ahead (function_of g.given s) s.top.block s.top.at

@@ -1,0 +1,42 @@
+-- Instructions that parts have as they are, and a step in which both runs do one.
+use Rattle.std.specs.Prelude.{◌≡◌, ℕ, Bool, true, false, Some}
+use Rattle.ir_base.specs.declared.outcome.Outcome.{Outcome}
+use Rattle.ir_model.specs.Names.{function_at}
+use Rattle.ir_model.specs.declared.instr.Instr.{Instr}
+use Rattle.pass_cleanup.specs.Cleanup.{is_kept_callee}
+use Rattle.pass_split_proof.specs.places.Places.{IsPlace}
+use Rattle.pass_split_proof.specs.states.Activations.{is_entering}
+use Rattle.pass_split_proof.specs.states.Related.{AreRelated}
+use Rattle.pass_split_proof.specs.steps.Ready.{IsReadyInPart}
+use Rattle.run_framed.specs.Framed.{FramedGiven, framed_context}
+use Rattle.run_plain.specs.Plain.{PlainGiven, plain_context, plain_step}
+use Rattle.run_plain.specs.declared.state.PlainState.{PlainState}
+use Rattle.run_source.specs.State.{function_of, settled}
+use Rattle.run_source.specs.declared.state.State.{State}
+use Rattle.run_step.specs.Reads.{given_by}
+use Rattle.run_step.specs.Step.{AtInstr, Work, fetch}
+
+-- no call of a coro intrinsic
+abbrev pub is_ordinary : Instr → Bool
+is_ordinary (Instr.Call r must_tail ty callee args) = is_kept_callee callee
+is_ordinary i = true
+
+-- The framed run is at an ordinary instruction, and the part is at the same place. It may read the operands, and the
+-- name
+-- of the frame isn't set.
+pub record IsAtOrdinary (functions : ℕ → ℕ) (g : FramedGiven) (h : PlainGiven) (s : State) (t : PlainState)
+    (r : AreRelated g h s t) (i : Instr) : Type 0 where
+  pub running : t.outcome ≡ Outcome.Running
+  pub answers : h.answers ≡ g.given.answers
+  pub settled : is_entering s.top.mode ≡ false
+  pub place : IsPlace r.top.shape r.top.part (function_of g.given s) (function_at h.code t.top.func) s.top.block
+      s.top.at t.top.block t.top.at
+  pub there : fetch (function_of g.given s) s.top.block s.top.at ≡ AtInstr i
+  pub ordinary : is_ordinary i ≡ true
+  pub ready : IsReadyInPart functions (function_of g.given s) (framed_context g s) (plain_context h t) s.top.values
+      t.top.values i
+  pub others : given_by i ≡ Some r.top.shape.begin → ⊥
+
+-- a step of the parts' run leads beside the framed run that has done the instruction
+abbrev pub StepsBeside : FramedGiven → PlainGiven → State → PlainState → Work → Type 0
+StepsBeside g h s t v = AreRelated g h (settled s v) (plain_step h t)

@@ -1,0 +1,14 @@
+//! Lemmas on first exits.
+
+ghost use Rattle.std.specs.Prelude.{◌≡◌};
+ghost use Rattle.pass_split.specs.Parts.{split_module};
+ghost use Rattle.frame_layout.specs.declared.layout.Layouts.{Layouts};
+ghost use Rattle.ir_model.specs.declared.module.Module.{Module};
+ghost use Rattle.pass_proofs.specs.exits.states.Exits.{exits_split};
+ghost use Rattle.pass_split_proof.specs.first_exits.Parted.{parted_module};
+
+/// Splitting first puts these blocks, and then makes the parts.
+#[tactic(auto, using(crate::proofs::first_exits::Parted::split_parted))]
+pub fn splitting_begins_with_exit_blocks()
+    ensures { (ls : Layouts) (m : Module) → split_module ls m ≡ parted_module ls (exits_split m) }
+{}

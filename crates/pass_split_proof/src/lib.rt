@@ -1,0 +1,11 @@
+//! Splitting keeps meaning: the parts of a coroutine, called by its ramp and its resumes, do what the framed form does.
+#![tactic(auto)]
+
+pub mod code;
+pub mod first_exits;
+pub mod names;
+pub mod numbers;
+pub mod places;
+pub mod simulation;
+pub mod states;
+pub mod steps;
