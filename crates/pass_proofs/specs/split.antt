@@ -1,2 +1,3 @@
 pub mod crossing
+pub mod names
 pub mod rules

@@ -5,6 +5,7 @@ pub mod edges;
 pub mod exited;
 pub mod exits;
 pub mod front_rules;
+pub mod names;
 pub mod names_apart;
 pub mod plain_functions;
 pub mod rules;

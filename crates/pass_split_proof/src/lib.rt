@@ -3,7 +3,6 @@
 
 pub mod code;
 pub mod first_exits;
-pub mod names;
 pub mod numbers;
 pub mod places;
 pub mod simulation;

@@ -15,7 +15,7 @@ use Rattle.ir_tables.proofs.Tables.{same_name-same}
 use Rattle.pass_intrinsics.specs.Shapes.{shape_of}
 use Rattle.pass_intrinsics.specs.declared.shape.Part.{Part}
 use Rattle.pass_split_proof.proofs.first_exits.Parted.{same_own_name, split_parted}
-use Rattle.pass_split_proof.proofs.names.Parts.{has_parts, stands_named}
+use Rattle.pass_proofs.proofs.split.names.Parts.{has_parts, stands_named}
 use Rattle.pass_proofs.specs.exits.states.Exits.{exit_function, exits_split}
 use Rattle.pass_split_proof.specs.code.Positions.{is_given, layout_at, moved, number_of}
 use Rattle.pass_split_proof.specs.first_exits.Parted.{parted_function, parted_functions, parted_module}

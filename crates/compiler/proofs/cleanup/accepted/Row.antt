@@ -33,9 +33,9 @@ use Rattle.pass_proofs.proofs.split.uses.Laws.{locals_known, locals_once, uses_m
 use Rattle.pass_proofs.proofs.split.plain_functions.Whole.{turned_keeps}
 use Rattle.rule_laws.proofs.rules.plain_rules.Accepted.{accepted}
 use Rattle.rule_laws.specs.rules.plain_rules.Kept.{AllKeepPlainRules, KeepsPlainRules}
-use Rattle.pass_split_proof.proofs.names.Items.{split_keeps_items}
-use Rattle.pass_split_proof.proofs.names.Parts.{has_given_parts, has_parts}
-use Rattle.pass_split_proof.specs.names.Sources.{HasGivenParts}
+use Rattle.pass_proofs.proofs.split.names.Items.{split_keeps_items}
+use Rattle.pass_proofs.proofs.split.names.Parts.{has_given_parts, has_parts}
+use Rattle.pass_proofs.specs.split.names.Sources.{HasGivenParts}
 use Rattle.rule_laws.specs.frames.same_names.Parts.{HasPart, HasPartsOf}
 use Rattle.pass_proofs.proofs.split.rules.Instructions.{parts_kept}
 use Rattle.pass_proofs.proofs.split.rules.Laws.{parts_named}

@@ -8,8 +8,8 @@ use Rattle.pass_split.specs.Parts.{marked_parts, plain_of, plain_shape, split_mo
 use Rattle.ir_laws.proofs.facts.Truth.{and_second, holds}
 use Rattle.frame_layout.specs.declared.layout.Layout.{Layout}
 use Rattle.frame_layout.specs.declared.layout.Layouts.{Layouts}
-use Rattle.pass_split_proof.proofs.names.Parts.{has_given_parts, has_parts}
-use Rattle.pass_split_proof.specs.names.Sources.{HasGivenParts}
+use Rattle.pass_proofs.proofs.split.names.Parts.{has_given_parts, has_parts}
+use Rattle.pass_proofs.specs.split.names.Sources.{HasGivenParts}
 use Rattle.rule_laws.specs.frames.same_names.Parts.{HasPart, HasPartsOf}
 use Rattle.ir_parts.specs.Parts.{first_part, parts_of}
 use Rattle.pass_intrinsics.specs.Shapes.{shape_of}

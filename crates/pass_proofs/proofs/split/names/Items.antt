@@ -11,7 +11,7 @@ use Rattle.rule_names.specs.declared.stage.Stage.{Stage}
 use Rattle.rule_laws.proofs.rules.plain_rules.Once.{is_once}
 use Rattle.rule_laws.specs.rules.plain_rules.Items.{AreNamesFree, KeepsItemRules}
 use Rattle.rule_laws.proofs.frames.same_names.Kept.{knows_name_kept}
-use Rattle.pass_split_proof.proofs.names.Parts.{has_parts, made_is_new, name_is_made, stands_named}
+use Rattle.pass_proofs.proofs.split.names.Parts.{has_parts, made_is_new, name_is_made, stands_named}
 use Rattle.ir_laws.specs.facts.same_names.Short.{HaveShortNames}
 use Rattle.rule_types.specs.Limits.{all_fit, is_past}
 use Rattle.rule_types.specs.Depth.{is_shallow}

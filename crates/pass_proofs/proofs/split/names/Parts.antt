@@ -22,14 +22,14 @@ use Rattle.rule_laws.proofs.rules.plain_rules.Once.{once_at}
 use Rattle.rule_laws.specs.rules.plain_rules.Items.{KeepsItemRules}
 use Rattle.ir_laws.proofs.facts.same_names.Lists.{found, what_is_found}
 use Rattle.rule_laws.proofs.rules.same_names.Made.{IsFree, IsMade, IsMadeIn, Own, Part, all_distinct, all_names, cleanup_of, destroy_of, free_name, made_in, not_part, resume_of}
-use Rattle.pass_split_proof.proofs.names.Made.{all_names_split}
+use Rattle.pass_proofs.proofs.split.names.Made.{all_names_split}
 use Rattle.ir_laws.proofs.facts.Truth.{differ}
 use Rattle.rule_laws.proofs.rules.same_names.Spellings.{IsSuffix, OfCleanup, OfDestroy, OfNoalloc, OfResume, never_same}
 use Rattle.rule_laws.proofs.rules.same_names.Unreserved.{part_is_free}
 use Rattle.rule_laws.specs.frames.same_names.Parts.{HasPart, HasPartsOf, HasSignature}
 use Rattle.ir_laws.specs.facts.same_names.Short.{HaveShortNames}
 use Rattle.pass_exits.specs.ExitBlocks.{with_exit_blocks}
-use Rattle.pass_split_proof.specs.names.Sources.{HasGivenParts}
+use Rattle.pass_proofs.specs.split.names.Sources.{HasGivenParts}
 
 -- ---- where the functions that a function becomes stand
 

@@ -5,7 +5,7 @@ ghost use Rattle.pass_split.specs.Parts.{split_module};
 ghost use Rattle.frame_layout.specs.declared.layout.Layouts.{Layouts};
 ghost use Rattle.ir_model.specs.declared.module.Function.{Function};
 ghost use Rattle.ir_model.specs.declared.module.Module.{Module};
-ghost use Rattle.pass_split_proof.specs.names.Sources.{ComesFrom, HasGivenParts};
+ghost use Rattle.pass_proofs.specs.split.names.Sources.{ComesFrom, HasGivenParts};
 ghost use Rattle.rule_names.specs.declared.stage.Stage.{Stage};
 ghost use Rattle.rule_laws.specs.rules.plain_rules.Items.{KeepsItemRules};
 ghost use Rattle.rule_laws.specs.frames.same_names.Parts.{HasPartsOf};

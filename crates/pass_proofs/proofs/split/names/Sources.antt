@@ -8,7 +8,7 @@ use Rattle.frame_layout.specs.declared.layout.Layouts.{Layouts}
 use Rattle.ir_model.specs.declared.module.Function.{Function}
 use Rattle.ir_model.specs.declared.module.Module.{Module}
 use Rattle.ir_laws.proofs.facts.Lists.{of_both}
-use Rattle.pass_split_proof.specs.names.Sources.{ComesFrom}
+use Rattle.pass_proofs.specs.split.names.Sources.{ComesFrom}
 
 -- the same of a list of functions
 record IsSplitFrom (m : Module) (fs : List Function) (g : Function) : Type 0 where
