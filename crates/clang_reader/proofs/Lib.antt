@@ -1,4 +1,6 @@
 mod Bounds
+mod Chains
+mod Following
 mod Lines
 mod Stores
 mod Values

@@ -7,9 +7,9 @@ use Rattle.clang_tokens.specs.Words.{same, begins}
 use Rattle.clang_tokens.specs.declared.listing.Listed.{Listed}
 use Rattle.clang_reader.specs.Plain.{plain}
 use Rattle.clang_reader.specs.Forms.{form_of}
-use Rattle.clang_reader.specs.Written.{written_as, held_at, held_after}
-use Rattle.clang_reader.specs.declared.held.Held.{Held}
-use Rattle.clang_reader.specs.declared.form.Form.{Form}
+use Rattle.clang_reader.specs.Bitcasts.{bitcasts_at, bitcasts_of, replaced}
+use Rattle.clang_reader.specs.Written.{written_as}
+use Rattle.clang_reader.specs.declared.bitcasts.Bitcast.{Bitcast}
 use Rattle.clang_reader.specs.declared.fault.Fault.{Fault}
 use Rattle.clang_reader.specs.declared.line.LineRead.{LineRead}
 use Rattle.clang_reader.specs.declared.read.Reading.{Reading}
@@ -47,12 +47,8 @@ abbrev pub is_debug : List ℕ → Bool
 is_debug line = begins (codes "#dbg_") (behind_spaces line)
 
 -- what is written for a line without flags and `sret`
-abbrev pub plain_read : Option Held → ℕ → List (List ℕ) → LineRead
-plain_read held n p = LineRead.Gives (written_as (form_of p) n p) (held_after (form_of p) held p)
-
--- what is written for the tokens of a line
-abbrev pub begun_read : Option Held → ℕ → List (List ℕ) → LineRead
-begun_read held n ts = plain_read held n (plain held ts)
+abbrev pub plain_read : List Bitcast → ℕ → List (List ℕ) → LineRead
+plain_read all n p = LineRead.Gives (written_as (form_of p) n (replaced all p))
 
 -- a convention is told
 abbrev pub unless_convention : Option (List ℕ) → LineRead → LineRead
@@ -60,14 +56,14 @@ unless_convention None r = r
 unless_convention (Some t) r = LineRead.Stops (Fault.Convention t)
 
 -- what the tokens of a line become
-abbrev pub listed_read : Option Held → ℕ → Listed → LineRead
-listed_read held n listed =
-    if listed.whole then unless_convention (first_convention listed.tokens) (begun_read (held_at held listed.tokens) n listed.tokens)
+abbrev pub listed_read : List Bitcast → ℕ → Listed → LineRead
+listed_read all n listed =
+    if listed.whole then unless_convention (first_convention listed.tokens) (plain_read all n (plain listed.tokens))
     else LineRead.Stops Fault.NoToken
 
 -- what a line becomes: nothing where it is a debug record, a fault where no token begins or a convention is named
-abbrev pub line_read : Option Held → ℕ → List ℕ → LineRead
-line_read held n line = if is_debug line then LineRead.Gives [] held else listed_read held n (tokens_of line)
+abbrev pub line_read : List Bitcast → ℕ → List ℕ → Listed → LineRead
+line_read all n line listed = if is_debug line then LineRead.Gives [] else listed_read all n listed
 
 -- text in front of what is written
 abbrev pub behind : List ℕ → Reading → Reading
@@ -75,15 +71,17 @@ behind text (Reading.Written rest) = Reading.Written (text ++ rest)
 behind text (Reading.Refused n fault) = Reading.Refused n fault
 
 -- a line, and what the lines behind it become
-abbrev pub follow : LineRead → ℕ → (Option Held → Reading) → Reading
-follow (LineRead.Gives ts held) n rest = behind (line_of ts) (rest held)
+abbrev pub follow : LineRead → ℕ → Reading → Reading
+follow (LineRead.Gives ts) n rest = behind (line_of ts) rest
 follow (LineRead.Stops fault) n rest = Reading.Refused n fault
 
--- the lines from the n-th on
-abbrev pub read_lines : Option Held → ℕ → List (List ℕ) → Reading
-read_lines held n [] = Reading.Written []
-read_lines held n (line ∷ more) = follow (line_read held n line) n (λ h. read_lines h (n + 1) more)
+-- the lines from the n-th on, behind those of a function with these bitcasts
+abbrev pub read_lines : List Bitcast → ℕ → List (List ℕ) → Reading
+read_lines all n [] = Reading.Written []
+read_lines all n (line ∷ more) =
+    follow (line_read (bitcasts_at all (tokens_of line).tokens more) n line (tokens_of line)) n
+    (read_lines (bitcasts_at all (tokens_of line).tokens more) (n + 1) more)
 
 -- each line becomes a line, or the first line with a fault is told
 abbrev pub from_clang : List ℕ → Reading
-from_clang text = read_lines None 1 (lines text)
+from_clang text = read_lines (bitcasts_of (lines text)) 1 (lines text)

@@ -1,9 +1,8 @@
 -- What a line becomes.
-use Rattle.std.specs.Prelude.{ℕ, zero, suc, ◌+◌, Bool, true, false, List, [], ◌∷◌, ◌++◌, if◌then◌else◌, codes, drop, take, Option, Some, None, decimal}
-use Rattle.clang_tokens.specs.Words.{same, at, is_at}
-use Rattle.clang_reader.specs.Forms.{form_of, memset_place, value_of}
+use Rattle.std.specs.Prelude.{ℕ, zero, suc, ◌+◌, List, [], ◌∷◌, ◌++◌, codes, drop, take, decimal}
+use Rattle.clang_tokens.specs.Words.{at}
+use Rattle.clang_reader.specs.Forms.{memset_place, value_of}
 use Rattle.clang_reader.specs.declared.form.Form.{Form}
-use Rattle.clang_reader.specs.declared.held.Held.{Held}
 
 -- a name that no line of clang has: `%.clang.LINE.K`
 abbrev pub fresh : ℕ → ℕ → List ℕ
@@ -72,12 +71,3 @@ written_as Form.Handle line ts = handed_on (fresh line 0) ts
 written_as Form.Memset line ts = stores_at line (memset_place ts) ts
 written_as Form.Idle line ts = []
 written_as Form.Other line ts = ts
-
--- what a bitcast's result stands for: only in its function
-abbrev pub held_at : Option Held → List (List ℕ) → Option Held
-held_at held ts = if is_at 0 ts (codes "define") then None else held
-
--- and behind a line of a form
-abbrev pub held_after : Form → Option Held → List (List ℕ) → Option Held
-held_after Form.Bitcast held ts = Some (record { name = at 0 ts; value = at 4 ts })
-held_after _ held ts = held

@@ -2,7 +2,7 @@
 
 use ir_base::Text;
 
-/// Why a line isn't taken.
+/// Why a line isn't taken (LLVM Language Reference, "Identifiers" and "Calling Conventions").
 #[derive(Debug, Drop)]
 pub enum Fault {
     /// Somewhere no token begins.

@@ -31,7 +31,8 @@ fn ends(i: usize, tokens: &[Text]) -> bool
     is_at(tokens, i, b"") || is_at(tokens, i, b",")
 }
 
-fn is_bitcast(tokens: &[Text]) -> bool
+/// Whether a line is a bitcast of a pointer to a pointer.
+pub fn is_bitcast(tokens: &[Text]) -> bool
     ensures { result ≡ spec.is_bitcast tokens.now }
 {
     begins(b"%", at(tokens, 0))

@@ -3,20 +3,20 @@
 ghost use Rattle.std.specs.Prelude.{◌≡◌, IfOk, MatchOption, None, Some};
 ghost use Rattle.clang_reader.specs.Read as spec;
 
+use crate::bitcasts::{Bitcasts, replaced};
 use crate::fault::Fault;
 use crate::form::form_of;
-use crate::held::Held;
 use crate::plain::plain;
-use crate::written::{held_after, held_at, written_as};
-use clang_tokens::{Listed, begins, is, tokens_of};
+use crate::written::written_as;
+use clang_tokens::{Listed, begins, is};
 use ir_base::{Data, Items, Text};
 use std::alloc::{AllocError, Global};
 
 /// What a line becomes.
 #[derive(Drop)]
 pub enum LineRead {
-    /// These tokens, and what a bitcast's result stands for behind it.
-    Gives(Items<Text>, Option<Held>),
+    /// These tokens.
+    Gives(Items<Text>),
     /// Nothing: the line isn't taken.
     Stops(Fault),
 }
@@ -92,24 +92,24 @@ fn is_debug(line: &[u8]) -> bool
 
 fn plain_read(
     alloc: Global,
-    held: Option<Held>,
+    bitcasts: &Bitcasts,
     number: u64,
-    tokens: Items<Text>,
+    tokens: &[Text],
 ) -> Result<LineRead, AllocError>
-    ensures { IfOk result (λ r. r ≡ spec.plain_read held number tokens) }
+    ensures { IfOk result (λ r. r ≡ spec.plain_read bitcasts.now.all number tokens.now) }
 {
-    let form = form_of(tokens.as_slice());
-    let held = held_after(alloc, form, held, tokens.as_slice())?;
-    Ok(LineRead::Gives(written_as(alloc, form, number, tokens)?, held))
+    let form = form_of(tokens);
+    let tokens = replaced(alloc, bitcasts, tokens)?;
+    Ok(LineRead::Gives(written_as(alloc, form, number, tokens)?))
 }
 
 fn listed_read(
     alloc: Global,
-    held: Option<Held>,
+    bitcasts: &Bitcasts,
     number: u64,
     listed: &Listed,
 ) -> Result<LineRead, AllocError>
-    ensures { IfOk result (λ r. r ≡ spec.listed_read held number listed.now) }
+    ensures { IfOk result (λ r. r ≡ spec.listed_read bitcasts.now.all number listed.now) }
 {
     if !listed.whole {
         return Ok(LineRead::Stops(Fault::NoToken));
@@ -118,9 +118,8 @@ fn listed_read(
     match first_convention(tokens) {
         Some(word) => Ok(LineRead::Stops(Fault::Convention(word.copied(alloc)?))),
         None => {
-            let held = held_at(held, tokens);
-            let plain = plain(alloc, &held, tokens)?;
-            plain_read(alloc, held, number, plain)
+            let plain = plain(alloc, tokens)?;
+            plain_read(alloc, bitcasts, number, plain.as_slice())
         }
     }
 }
@@ -128,15 +127,15 @@ fn listed_read(
 /// What a line becomes.
 pub fn line_read(
     alloc: Global,
-    held: Option<Held>,
+    bitcasts: &Bitcasts,
     number: u64,
     line: &[u8],
+    listed: &Listed,
 ) -> Result<LineRead, AllocError>
-    ensures { IfOk result (λ r. r ≡ spec.line_read held number line.now) }
+    ensures { IfOk result (λ r. r ≡ spec.line_read bitcasts.now.all number line.now listed.now) }
 {
     if is_debug(line) {
-        return Ok(LineRead::Gives(Items::new(alloc), held));
+        return Ok(LineRead::Gives(Items::new(alloc)));
     }
-    let listed = tokens_of(alloc, line)?;
-    listed_read(alloc, held, number, &listed)
+    listed_read(alloc, bitcasts, number, listed)
 }

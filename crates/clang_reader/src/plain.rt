@@ -3,25 +3,9 @@
 ghost use Rattle.std.specs.Prelude.{◌≡◌, IfOk};
 ghost use Rattle.clang_reader.specs.Plain as spec;
 
-use crate::held::Held;
 use clang_tokens::{Sret, has, is, of_sret, push_word, sret_after};
 use ir_base::{Items, Text};
 use std::alloc::{AllocError, Global};
-
-fn stands_for<'a>(held: &'a Option<Held>, token: &'a [u8]) -> &'a [u8]
-    ensures { result.now ≡ spec.stands_for held.entry.now token.entry.now }
-{
-    match held {
-        None => token,
-        Some(held) => {
-            if token == held.name.as_bytes() {
-                held.value.as_bytes()
-            } else {
-                token
-            }
-        }
-    }
-}
 
 fn drops_flags(tokens: &[Text]) -> bool
     ensures { result ≡ spec.drops_flags tokens.now }
@@ -37,10 +21,10 @@ fn is_flag(drops: bool, token: &[u8]) -> bool
         || (drops && (is(token, b"nuw") || is(token, b"nsw")))
 }
 
-/// What is left of a line without flags and `sret`, a bitcast's value put for its result.
+/// What is left of a line without flags and `sret`.
 #[tactic(auto, using(crate::proofs::Bounds::within, crate::proofs::Bounds::next_bound))]
-pub fn plain(alloc: Global, held: &Option<Held>, tokens: &[Text]) -> Result<Items<Text>, AllocError>
-    ensures { IfOk result (λ p. p ≡ spec.plain held.now tokens.now) }
+pub fn plain(alloc: Global, tokens: &[Text]) -> Result<Items<Text>, AllocError>
+    ensures { IfOk result (λ p. p ≡ spec.plain tokens.now) }
 {
     let drops = drops_flags(tokens);
     let mut kept = Items::new(alloc);
@@ -48,7 +32,7 @@ pub fn plain(alloc: Global, held: &Option<Held>, tokens: &[Text]) -> Result<Item
     for token in tokens {
         let bytes = token.as_bytes();
         if !of_sret(sret, bytes) && !is_flag(drops, bytes) {
-            push_word(alloc, &mut kept, stands_for(held, bytes))?;
+            push_word(alloc, &mut kept, bytes)?;
         }
         sret = sret_after(sret, bytes);
     }

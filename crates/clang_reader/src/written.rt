@@ -4,9 +4,8 @@ ghost use Rattle.std.specs.Prelude.{◌≡◌, ◌≤◌, ◌++◌, IfOk, OnOk, 
 ghost use Rattle.clang_reader.specs.Written as spec;
 
 use crate::form::{Form, memset_place, value_of};
-use crate::held::Held;
-use clang_tokens::{at, copied, is_at, push_word, tokens_from, tokens_to};
-use ir_base::{Data, Items, Text};
+use clang_tokens::{at, copied, push_word, tokens_from, tokens_to};
+use ir_base::{Items, Text};
 use itoa::Buffer;
 use std::alloc::{AllocError, Global};
 
@@ -229,33 +228,4 @@ pub fn written_as(
         Form::Other => return Ok(tokens),
     }
     Ok(out)
-}
-
-/// What a bitcast's result stands for: only in its function.
-pub fn held_at(held: Option<Held>, tokens: &[Text]) -> Option<Held>
-    ensures { result ≡ spec.held_at held tokens.now }
-{
-    if is_at(tokens, 0, b"define") {
-        None
-    } else {
-        held
-    }
-}
-
-/// And behind a line of a form.
-pub fn held_after(
-    alloc: Global,
-    form: Form,
-    held: Option<Held>,
-    tokens: &[Text],
-) -> Result<Option<Held>, AllocError>
-    ensures { IfOk result (λ h. h ≡ spec.held_after form held tokens.now) }
-{
-    match form {
-        Form::Bitcast => Ok(Some(Held {
-            name: Text::from_bytes(alloc, at(tokens, 0))?,
-            value: Text::from_bytes(alloc, at(tokens, 4))?,
-        })),
-        _ => Ok(held),
-    }
 }

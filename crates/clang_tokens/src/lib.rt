@@ -1,4 +1,4 @@
-//! Lines of tokens, as clang writes its text: an instruction a line.
+//! Lines of tokens, as clang writes its text: an instruction a line (LLVM Language Reference, "Identifiers").
 #![tactic(auto)]
 
 mod brackets;
@@ -12,5 +12,5 @@ pub use lines::first_line;
 pub use listing::{Listed, tokens_of};
 pub use spaced::push_line;
 pub use words::{
-    are_digits, at, begins, copied, has, is, is_at, push_word, tokens_from, tokens_to,
+    are_digits, at, begins, copied, has, is, is_at, is_digit, push_word, tokens_from, tokens_to,
 };

@@ -1,4 +1,4 @@
-//! The lines of a text.
+//! The lines of a text: a comment ends with its line (LLVM Language Reference, "Identifiers").
 
 ghost use Rattle.std.specs.Prelude.{◌≡◌, ◌<◌, ◌≤◌, ◌+◌, ◌∷◌, drop, length};
 ghost use Rattle.clang_tokens.specs.Lines as spec;
@@ -24,7 +24,7 @@ fn behind(text: &[u8], from: usize) -> &[u8]
     rest
 }
 
-/// A text's first line, and the text behind it and its line feed.
+/// A text's first line, and the text behind it and its line feed (LLVM Language Reference, "Identifiers").
 pub fn first_line(text: &[u8]) -> (&[u8], &[u8])
     requires { 0 < length text.now }
     ensures lines { spec.lines text.now ≡ result.0.now ∷ spec.lines result.1.now }

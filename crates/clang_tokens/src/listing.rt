@@ -1,4 +1,4 @@
-//! The tokens of a line.
+//! The tokens of a line (LLVM Language Reference, "Identifiers" and "String constants").
 
 ghost use Rattle.std.specs.Prelude.{◌≡◌, IfOk};
 ghost use Rattle.clang_tokens.specs.Listing.{tokens_of};
@@ -7,7 +7,8 @@ use ir_base::{Items, Text};
 use std::alloc::{AllocError, Global};
 use text_lexer::{Next, next_token};
 
-/// The bytes of a line's tokens, and whether they are all of it but blanks and comments.
+/// The bytes of a line's tokens, and whether they are all of it but blanks and comments (LLVM Language Reference,
+/// "Identifiers").
 #[derive(Drop)]
 pub struct Listed {
     /// The bytes of each token.
@@ -16,7 +17,8 @@ pub struct Listed {
     pub whole: bool,
 }
 
-/// The bytes of a line's tokens, up to the first byte that begins none.
+/// The bytes of a line's tokens, up to the first byte that begins none (LLVM Language Reference, "Identifiers" and "String
+/// constants").
 #[tactic(auto, using(crate::proofs::Said::said_turn, crate::proofs::Said::said_end, crate::proofs::Said::said_bad))]
 pub fn tokens_of(alloc: Global, line: &[u8]) -> Result<Listed, AllocError>
     ensures { IfOk result (λ r. r ≡ tokens_of line.now) }

@@ -28,7 +28,7 @@ fn push_spaced(tokens: &[Text], out: &mut Vec<u8>) -> Result<(), AllocError>
     }
 }
 
-/// Writes tokens with spaces between, and a line feed.
+/// Writes tokens with spaces between, and a line feed (LLVM Language Reference, "Identifiers": blanks part tokens).
 pub fn push_line(tokens: &[Text], out: &mut Vec<u8>) -> Result<(), AllocError>
     ensures { OnOk result (out.new.items ≡ out.old.items ++ line_of tokens.now) }
 {

@@ -1,4 +1,4 @@
-//! What single tokens are.
+//! What single tokens are (LLVM Language Reference, "Identifiers").
 
 ghost use Rattle.std.specs.Prelude.{◌≡◌, ◌++◌, ◌∷◌, [], IfOk, OnOk, drop, take};
 ghost use Rattle.std.specs.List.{list_all};
@@ -67,7 +67,8 @@ pub fn has(word: &[u8], tokens: &[Text]) -> bool
     false
 }
 
-fn is_digit(byte: u8) -> bool
+/// Whether a byte is a decimal digit.
+pub fn is_digit(byte: u8) -> bool
     ensures { result ≡ is_digit byte }
 {
     b'0' <= byte && byte <= b'9'

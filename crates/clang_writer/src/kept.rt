@@ -12,7 +12,8 @@ use ir_base::{Items, Name, Text};
 use ir_tables::Named;
 use std::alloc::{AllocError, Global};
 
-/// What is kept of a function or a global.
+/// What is kept of a function or a global (LLVM Language Reference, "Linkage Types", "Visibility Styles", "Runtime
+/// Preemption Specifiers" and "Parameter Attributes").
 #[derive(Debug, Drop)]
 pub struct Kept {
     /// Its name, as it is spelled.

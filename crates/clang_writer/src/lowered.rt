@@ -16,7 +16,7 @@ use ir_base::{Items, Name, Text};
 use ir_tables::{NameTable, find, table_of};
 use std::alloc::{AllocError, Global};
 
-/// What a lowered text is written as.
+/// What a lowered text is written as (LLVM Language Reference, "Module Structure").
 #[derive(Drop)]
 pub enum Writing {
     /// A text for clang.
@@ -122,7 +122,8 @@ fn push_lowered(
     push_line(line.as_slice(), out)
 }
 
-/// The original's machine, and the lowered lines with what is kept of the original's functions and globals.
+/// The original's machine, and the lowered lines with what is kept of the original's functions and globals (LLVM
+/// Language Reference, "Data Layout", "Target Triple", "Linkage Types" and "Parameter Attributes").
 #[tactic(auto, using(crate::proofs::Lines::line_stop))]
 pub fn to_clang(alloc: Global, original: &[u8], lowered: &[u8]) -> Result<Writing, AllocError>
     ensures { IfOk result (λ r. r ≡ spec.to_clang original.now lowered.now) }

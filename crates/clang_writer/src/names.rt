@@ -1,18 +1,11 @@
-//! Numbers become texts, since LLVM wants numbers in order.
+//! Numbers become texts, since LLVM wants numbers in order (LLVM Language Reference, "Identifiers").
 
 ghost use Rattle.std.specs.Prelude.{◌≡◌, ◌++◌, ◌∷◌, [], IfOk, OnOk, drop};
-ghost use Rattle.text_lexer.specs.Bytes.{is_digit};
 ghost use Rattle.clang_writer.specs.Dressed as spec;
 
-use clang_tokens::{are_digits as all_digits, push_word};
+use clang_tokens::{are_digits as all_digits, is_digit, push_word};
 use ir_base::{Items, Text};
 use std::alloc::{AllocError, Global};
-
-fn is_digit(byte: u8) -> bool
-    ensures { result ≡ is_digit byte }
-{
-    b'0' <= byte && byte <= b'9'
-}
 
 fn are_digits(bytes: &[u8]) -> bool
     ensures { result ≡ spec.are_digits bytes.now }
@@ -82,7 +75,7 @@ fn push_renamed(alloc: Global, token: &[u8], out: &mut Items<Text>) -> Result<()
     }
 }
 
-/// The tokens, a text for each number.
+/// The tokens, a text for each number (LLVM Language Reference, "Identifiers").
 pub fn all_renamed(alloc: Global, tokens: &[Text]) -> Result<Items<Text>, AllocError>
     ensures { IfOk result (λ r. r ≡ spec.all_renamed tokens.now) }
 {

@@ -5,7 +5,7 @@ use Rattle.clang_reader.proofs.read.from_clang.Given as goal
 
 abbrev pub invariant-loop-rest : goal.invariant-loop-rest
 invariant-loop-rest l = record {
-  read : from_clang l.text ≡ behind l.out.items (read_lines l.held l.number (lines l.rest));
+  read : from_clang l.text ≡ behind l.out.items (read_lines l.bitcasts.all l.number (lines l.rest));
   count : l.number + length l.rest ≤ length l.text + 1;
 }
 
