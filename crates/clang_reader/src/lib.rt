@@ -1,5 +1,5 @@
-//! A text of clang as a text of the subset: each line becomes a line (Clang, "C++20 Coroutines" in "C++ Support in Clang";
-//! "Coroutines in LLVM", "Intrinsics").
+//! A text of clang as a text of the subset: each line becomes a line (Clang, "C++20 Coroutines" in "C++ Support in
+//! Clang"; "Coroutines in LLVM", "Intrinsics").
 //!
 //! `from_clang` is equal to its definition, which speaks of the tokens of each line.
 #![tactic(auto)]

@@ -19,9 +19,9 @@ pub enum Reading {
     Refused(u64, Fault),
 }
 
-/// Each line becomes a line, or the first line with a fault is told ("Coroutines in LLVM", "llvm.coro.await.suspend.void",
-/// "llvm.coro.await.suspend.bool", "llvm.coro.await.suspend.handle"; LLVM Language Reference, "bitcast .. to",
-/// "llvm.memset.*", "llvm.assume").
+/// Each line becomes a line, or the first line with a fault is told ("Coroutines in LLVM",
+/// "llvm.coro.await.suspend.void", "llvm.coro.await.suspend.bool", "llvm.coro.await.suspend.handle"; LLVM Language
+/// Reference, "bitcast .. to", "llvm.memset.*", "llvm.assume").
 #[tactic(auto, using(crate::proofs::Lines::line_turn, crate::proofs::Lines::line_stop, crate::proofs::Lines::line_end))]
 pub fn from_clang(alloc: Global, text: &[u8]) -> Result<Reading, AllocError>
     ensures { IfOk result (λ r. r ≡ from_clang text.now) }
