@@ -1,10 +1,9 @@
 -- What calls give, returns, and the way from a save to its suspend.
-use Rattle.std.proofs.Common.{◌≡◌, ◌<◌, ◌≤◌, ◌⊎◌, inl, inr, ℕ, zero, suc, ◌+◌, Bool, true, false, List, [], ◌∷◌, length}
+use Rattle.std.proofs.Common.{◌≡◌, ◌<◌, ◌⊎◌, inl, inr, ℕ, Bool, true, false, List, [], ◌∷◌, length}
 use Rattle.std.proofs.Common.{Option, Some, None, Result, Ok, Err, refl, sym, ap, ◌∙◌, subst, arith}
-use Rattle.std.specs.Prelude.{if◌then◌else◌, slice_get, unwrap_or, ◌||◌}
+use Rattle.std.specs.Prelude.{if◌then◌else◌, slice_get, unwrap_or}
 use Rattle.ir_base.specs.declared.cause.Cause.{Cause}
 use Rattle.ir_base.specs.declared.ops.Pred.{Pred}
-use Rattle.ir_base.specs.declared.outcome.Outcome.{Outcome}
 use Rattle.ir_base.specs.declared.outcome.Word.{Word}
 use Rattle.ir_model.specs.Names.{declaration_named, function_at, function_named}
 use Rattle.ir_model.specs.Ty.{Ty, array, int, named, ptr, structure, token}
@@ -33,16 +32,15 @@ use Rattle.run_hooks.proofs.alive.Lives.{same_fewer, without_fewer}
 use Rattle.run_hooks.proofs.alive.Moves.{fewer_for, fewer_instance, later_instance, longer_kept, owned_of}
 use Rattle.run_hooks.proofs.alive.Parts.{AllIn, all_both, in_any, later_all}
 use Rattle.run_hooks.specs.Away.{point_in, spot_by, spot_of}
-use Rattle.run_hooks.specs.alive.Alive.{Account, GoesOn, IsAliveState, IsThere, KeepsAliveRules, MayLeave, Stays, StaysAlive}
+use Rattle.run_hooks.specs.alive.Alive.{GoesOn, IsAliveState, KeepsAliveRules, MayLeave, Stays, StaysAlive}
 use Rattle.run_hooks.specs.alive.Alive.{account_of}
 use Rattle.run_hooks.specs.alive.Slots.{IsAliveSlot, IsHeld, IsSlotOf, Ramp}
 use Rattle.rule_windows.specs.Sets.{IsAfterEnd}
 use Rattle.run_memory.specs.Memory.{compare}
-use Rattle.run_memory.specs.declared.block.MemoryBlock.{MemoryBlock}
 use Rattle.run_memory.specs.declared.pointer.Pointer.{Pointer}
 use Rattle.run_memory.specs.declared.pointer.Value.{Value}
 use Rattle.run_source.specs.Source.{is_over, pop, return, returned}
-use Rattle.run_source.specs.State.{gives, is_finished, settled, with_memory, with_slots, work_of}
+use Rattle.run_source.specs.State.{gives, work_of}
 use Rattle.run_source.specs.declared.state.Activation.{Activation}
 use Rattle.run_source.specs.declared.state.Instance.{Instance}
 use Rattle.run_source.specs.declared.state.Mode.{Mode}
@@ -50,8 +48,8 @@ use Rattle.run_source.specs.declared.state.State.{State}
 use Rattle.run_source.specs.declared.state.Status.{Status}
 use Rattle.run_step.specs.Effects.{is_alloca}
 use Rattle.run_step.specs.Results.{and_then}
-use Rattle.run_step.specs.Step.{Action, AtInstr, Context, Coro, Deallocate, Done, Enter, GoTo, NewSlot, Return, Stuck, Work, allocator_call}
-use Rattle.run_step.specs.Step.{block_of, by_pred, compared, copied_bytes, done, fetch, fits_function, if_alignment, indirect_call, instr_action}
+use Rattle.run_step.specs.Step.{Action, AtInstr, Context, Enter, GoTo, NewSlot, Return, Stuck, Work, allocator_call}
+use Rattle.run_step.specs.Step.{block_of, compared, copied_bytes, done, fetch, fits_function, if_alignment, indirect_call, instr_action}
 use Rattle.run_step.specs.Step.{intrinsic_call, is_alignment, named_call, observed, outcome_of, set_result, with_length, without_slots, words_of}
 use Rattle.run_step.specs.Step.{branch, switch, term_action, value_at}
 use Rattle.run_step.specs.Values.{address, arg_value, arg_values, nth, value_in, with_result}

@@ -1,28 +1,24 @@
 -- A begin leaves a state in which live slots may be alive: the slots of the ramp go to its instance.
-use Rattle.std.proofs.Common.{◌≡◌, ◌<◌, ◌≤◌, ◌⊎◌, inl, inr, ℕ, zero, suc, ◌+◌, Bool, true, false, not, List, [], ◌∷◌, ◌++◌, length}
+use Rattle.std.proofs.Common.{◌≡◌, ◌<◌, inl, inr, ℕ, zero, suc, Bool, true, false, not, List, [], ◌∷◌, ◌++◌, length}
 use Rattle.std.proofs.Common.{Option, Some, None, refl, sym, ap, ◌∙◌, subst, arith}
 use Rattle.std.specs.List.{AllByRecursion}
-use Rattle.std.specs.Prelude.{IsTrue, filter, if◌then◌else◌, slice_get, slice_set, ◌==◌}
+use Rattle.std.specs.Prelude.{filter, if◌then◌else◌, slice_get, slice_set, ◌==◌}
 use Rattle.ir_model.specs.Names.{function_at}
 use Rattle.ir_model.specs.declared.module.Function.{Function}
 use Rattle.ir_model.specs.declared.module.Module.{Module}
-use Rattle.ir_paths.specs.Slots.{IsRampSlot, has_name}
-use Rattle.ir_paths.specs.declared.point.Point.{Point}
-use Rattle.rule_windows.specs.Sets.{IsAfterEnd, RunsOut}
-use Rattle.run_hooks.proofs.alive.Parts.{AllIn, all_append, all_both, all_map, all_passing, in_map}
+use Rattle.ir_paths.specs.Slots.{IsRampSlot}
+use Rattle.rule_windows.specs.Sets.{RunsOut}
+use Rattle.run_hooks.proofs.alive.Parts.{AllIn, all_append, all_both, all_map, all_passing}
 use Rattle.run_hooks.specs.Away.{spot_of}
-use Rattle.run_hooks.specs.alive.Alive.{Account, AreAliveAt, AreAliveIn, GoesOn, IsAliveAsleep, IsAliveIn, IsAliveInstance}
+use Rattle.run_hooks.specs.alive.Alive.{Account, AreAliveAt, AreAliveIn, IsAliveIn, IsAliveInstance}
 use Rattle.run_hooks.specs.alive.Alive.{IsAliveState, IsEnded, IsThere, KeepsAliveRules, account_of}
-use Rattle.run_hooks.specs.alive.Slots.{AreAliveSlots, Home, IsAliveSlot, IsMetSlot, IsSlotOf, IsTagged, Own, Ramp, Tag, Tags, home_of}
-use Rattle.run_source.specs.Source.{begun, is_among, is_over, new_instance}
+use Rattle.run_hooks.specs.alive.Slots.{Home, IsAliveSlot, IsMetSlot, IsSlotOf, IsTagged, Own, Ramp, Tag, Tags, home_of}
+use Rattle.run_source.specs.Source.{begun, is_among, new_instance}
 use Rattle.run_source.specs.State.{is_finished, own_facts}
 use Rattle.run_source.specs.declared.state.Activation.{Activation}
 use Rattle.run_source.specs.declared.state.Instance.{Instance}
 use Rattle.run_source.specs.declared.state.State.{State}
-use Rattle.run_source.specs.declared.state.Status.{Status}
 use Rattle.run_source_tables.specs.Given.{Given}
-use Rattle.run_step.specs.Step.{block_of}
-use Rattle.run_step.specs.Values.{value_in}
 use Rattle.run_step.specs.declared.world.Slot.{Slot}
 
 -- ---- instances that there were, and the new one

@@ -1,35 +1,32 @@
 -- What stays of a state where an activation comes or goes, an instance changes, or a block is entered.
-use Rattle.std.proofs.Common.{◌≡◌, ◌<◌, ◌≤◌, ◌⊎◌, inl, inr, ℕ, zero, suc, ◌+◌, Bool, true, false, List, [], ◌∷◌, ◌++◌, length, map}
+use Rattle.std.proofs.Common.{◌≡◌, inl, inr, ℕ, zero, suc, Bool, true, false, List, [], ◌∷◌, length}
 use Rattle.std.proofs.Common.{Option, Some, None, refl, sym, ap, ◌∙◌, subst, arith}
 use Rattle.std.specs.List.{AllByRecursion, list_any}
-use Rattle.std.specs.Prelude.{IsFalse, IsTrue, replicate, slice_get, slice_set, ◌==◌, ◌||◌}
-use Rattle.ir_base.specs.declared.outcome.Outcome.{Outcome}
+use Rattle.std.specs.Prelude.{replicate, slice_get, slice_set, ◌==◌}
 use Rattle.ir_model.specs.Names.{function_at, position_of}
 use Rattle.ir_model.specs.declared.instr.Phi.{Phi}
 use Rattle.ir_model.specs.declared.instr.Terminator.{Terminator}
 use Rattle.ir_model.specs.declared.module.Function.{Function}
 use Rattle.ir_model.specs.declared.module.Module.{Module}
 use Rattle.ir_model.specs.declared.module.Param.{Param}
-use Rattle.ir_model.specs.declared.operand.Intrinsic.{Intrinsic}
 use Rattle.ir_paths.specs.Paths.{entry_point, has_point, nexts}
 use Rattle.ir_paths.specs.declared.point.Point.{Point}
 use Rattle.pass_kept_proof.proofs.Same.{neither}
 use Rattle.pass_kept_proof.specs.Needed.{BranchesTo, phis_give}
-use Rattle.pass_kept_proof.specs.SuspendRules.{IsCallAt}
 use Rattle.pass_renewed_proof.proofs.Ahead.{branch_edge}
 use Rattle.pass_renewed_proof.proofs.Left.{after_edge}
 use Rattle.pass_renewed_proof.proofs.Sets.{result_elsewhere, set_elsewhere}
-use Rattle.pass_renewed_proof.specs.SlotRules.{IsMadeOnce, IsMarkerAt}
+use Rattle.pass_renewed_proof.specs.SlotRules.{IsMadeOnce}
 use Rattle.run_hooks.proofs.alive.Instrs.{ended_on, held_on, runs_on, spot_is}
 use Rattle.run_hooks.proofs.alive.Lives.{AreFewer, same_fewer}
-use Rattle.run_hooks.proofs.alive.Moves.{AreOwned, IsLaterInstance, IsOfOwn, fewer_for, fewer_instance, later_instance, longer_kept}
+use Rattle.run_hooks.proofs.alive.Moves.{IsOfOwn, fewer_for, fewer_instance, later_instance, longer_kept}
 use Rattle.run_hooks.proofs.alive.Moves.{moved_in, moves_on, owned_of}
-use Rattle.run_hooks.proofs.alive.Parts.{AllIn, AreKept, Here, IsLaterFor, IsMoved, IsSet, Other, WasThere, all_both, all_map, get_set}
+use Rattle.run_hooks.proofs.alive.Parts.{AllIn, AreKept, Here, IsLaterFor, IsMoved, IsSet, Other, WasThere, get_set}
 use Rattle.run_hooks.proofs.alive.Parts.{in_any, later_all, later_in}
-use Rattle.run_hooks.specs.Away.{point_in, spot_by, spot_of}
+use Rattle.run_hooks.specs.Away.{point_in, spot_by}
 use Rattle.run_hooks.specs.alive.Alive.{Account, AreAliveIn, GoesOn, IsAliveIn, IsAliveInstance, IsAliveState, IsApart}
 use Rattle.run_hooks.specs.alive.Alive.{IsThere, KeepsAliveRules, MayLeave, Stays, account_of}
-use Rattle.run_hooks.specs.alive.Slots.{IsHeld, IsSlotOf, Own, home_of}
+use Rattle.run_hooks.specs.alive.Slots.{IsSlotOf, Own}
 use Rattle.run_memory.specs.declared.block.MemoryBlock.{MemoryBlock}
 use Rattle.run_memory.specs.declared.pointer.Value.{Value}
 use Rattle.run_source.specs.Source.{called, is_over}
@@ -39,10 +36,9 @@ use Rattle.run_source.specs.declared.state.Instance.{Instance}
 use Rattle.run_source.specs.declared.state.Mode.{Mode}
 use Rattle.run_source.specs.declared.state.State.{State}
 use Rattle.run_source.specs.declared.state.Status.{Status}
-use Rattle.run_step.specs.Step.{AtInstr, AtTerm, block_of, entry_values, fetch, incoming_from, label_of, phi_values, phis_of, values_in, with_all}
+use Rattle.run_step.specs.Step.{AtInstr, AtTerm, block_of, entry_values, fetch, incoming_from, phi_values, phis_of, values_in, with_all}
 use Rattle.run_step.specs.Step.{with_params}
 use Rattle.run_step.specs.Values.{Env, operand_value, value_in, with_result, with_value}
-use Rattle.run_step.specs.declared.world.World.{World}
 
 -- ---- values
 

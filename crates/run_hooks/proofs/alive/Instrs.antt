@@ -2,10 +2,10 @@
 use Rattle.std.proofs.Common.{◌≡◌, ◌<◌, ◌≤◌, ◌⊎◌, inl, inr, ℕ, zero, suc, ◌+◌, Bool, true, false, List, [], ◌∷◌, length}
 use Rattle.std.proofs.Common.{Option, Some, None, refl, sym, ap, ◌∙◌, subst, arith}
 use Rattle.std.specs.List.{AllByRecursion}
-use Rattle.std.specs.Prelude.{IsTrue, if◌then◌else◌, slice_get, ◌==◌, ◌&&◌, replicate}
+use Rattle.std.specs.Prelude.{if◌then◌else◌, slice_get, ◌==◌, ◌&&◌, replicate}
 use Rattle.frame_slots.proofs.Points.{where_complete}
-use Rattle.frame_slots.specs.Uses.{ends_of, is_marker_of, starts_of}
-use Rattle.ir_model.specs.Names.{function_at, is_local, same_intrinsic}
+use Rattle.frame_slots.specs.Uses.{ends_of, is_marker_of}
+use Rattle.ir_model.specs.Names.{function_at, is_local}
 use Rattle.ir_model.specs.declared.module.Block.{Block}
 use Rattle.ir_model.specs.declared.instr.Instr.{Instr}
 use Rattle.ir_model.specs.declared.module.Function.{Function}
@@ -14,29 +14,29 @@ use Rattle.ir_model.specs.declared.operand.Arg.{Arg}
 use Rattle.ir_model.specs.declared.operand.Callee.{Callee}
 use Rattle.ir_model.specs.declared.operand.Intrinsic.{Intrinsic}
 use Rattle.ir_model.specs.declared.operand.Operand.{Operand}
-use Rattle.ir_paths.specs.Paths.{Leads, has_point, nexts}
+use Rattle.ir_paths.specs.Paths.{has_point, nexts}
 use Rattle.ir_paths.specs.Slots.{IsRampSlot}
-use Rattle.ir_paths.specs.Windows.{call_operand, instr_at, instr_in, is_call_of, operand_at, points_where}
+use Rattle.ir_paths.specs.Windows.{call_operand, instr_at, instr_in, is_call_of, operand_at}
 use Rattle.ir_paths.specs.declared.point.Point.{Point}
 use Rattle.pass_kept_proof.specs.SuspendRules.{IsCallAt}
 use Rattle.pass_renewed_proof.proofs.Ahead.{leads_more, next_edge}
 use Rattle.pass_renewed_proof.proofs.History.{no_marker}
-use Rattle.pass_renewed_proof.proofs.Left.{after_edge, call_listed}
+use Rattle.pass_renewed_proof.proofs.Left.{after_edge}
 use Rattle.pass_renewed_proof.proofs.Sets.{step_sets}
 use Rattle.pass_renewed_proof.specs.SlotRules.{IsMadeOnce, IsMarkerAt}
 use Rattle.pass_renewed_proof.specs.Steps.{SetsOnly, given_at}
 use Rattle.rule_slots.specs.Closed.{IsClosed}
 use Rattle.rule_windows.specs.Points.{ends}
 use Rattle.rule_windows.specs.Sets.{IsAfterEnd, RunsOut}
-use Rattle.run_hooks.proofs.alive.Lives.{AreFewer, StaysFewer, ended_fewer, instr_fewer, not_gone, same_fewer}
-use Rattle.run_hooks.proofs.alive.Moves.{IsLaterInstance, IsOfOwn, MovesOn, fewer_for, fewer_instance, longer_kept, moves_on}
+use Rattle.run_hooks.proofs.alive.Lives.{AreFewer, StaysFewer, instr_fewer, not_gone, same_fewer}
+use Rattle.run_hooks.proofs.alive.Moves.{IsLaterInstance, IsOfOwn, fewer_for, fewer_instance, longer_kept, moves_on}
 use Rattle.run_hooks.proofs.alive.Moves.{owned_of}
 use Rattle.run_hooks.proofs.alive.Open.{after, not_listed, open_behind}
 use Rattle.run_hooks.proofs.alive.Parts.{AllIn, IsLaterFor, IsMoved, IsNew, all_both, all_map, in_any, in_map, met_by, own_number, ramp_depth}
 use Rattle.run_hooks.proofs.alive.Parts.{same_alloca, same_home}
 use Rattle.run_hooks.proofs.alive.Ramps.{is_ramp_or_not}
 use Rattle.run_hooks.specs.Away.{point_in, spot_by, spot_of}
-use Rattle.run_hooks.specs.alive.Alive.{Account, GoesOn, IsAliveState, IsEnd, IsEnded, IsMarker, IsStart, KeepsAliveRules, MayLeave}
+use Rattle.run_hooks.specs.alive.Alive.{Account, GoesOn, IsAliveState, IsEnded, IsMarker, IsStart, KeepsAliveRules, MayLeave}
 use Rattle.run_hooks.specs.alive.Alive.{Stays, account_of}
 use Rattle.run_hooks.specs.alive.Slots.{AreAliveSlots, AreMet, Home, IsAliveSlot, IsHeld, IsMetSlot, IsOpen, IsSlotOf, IsTagged, Own}
 use Rattle.run_hooks.specs.alive.Slots.{Ramp, home_of, is_gone, lives}
@@ -51,13 +51,11 @@ use Rattle.run_source.specs.declared.state.Activation.{Activation}
 use Rattle.run_source.specs.declared.state.Instance.{Instance}
 use Rattle.run_source.specs.declared.state.Mode.{Mode}
 use Rattle.run_source.specs.declared.state.State.{State}
-use Rattle.run_source.specs.declared.state.Status.{Status}
 use Rattle.run_step.specs.Effects.{is_alloca}
-use Rattle.run_step.specs.Step.{Action, AtInstr, Context, Coro, Done, Fetched, Work, action_of, block_of, fetch, fetch_in, fetch_or, instr_action}
+use Rattle.run_step.specs.Step.{AtInstr, Context, Done, Work, block_of, fetch, fetch_in, fetch_or, instr_action}
 use Rattle.run_step.specs.Step.{on_block, set_memory}
 use Rattle.run_step.specs.Values.{Env, arg_values, nth, operand_value, value_in}
 use Rattle.run_step.specs.declared.world.Slot.{Slot}
-use Rattle.run_step.specs.declared.world.World.{World}
 
 -- ---- points
 

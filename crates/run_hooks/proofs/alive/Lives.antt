@@ -1,7 +1,7 @@
 -- Which blocks live where memory changes, and that ordinary steps start none.
-use Rattle.std.proofs.Common.{◌≡◌, ◌<◌, ◌≤◌, ℕ, zero, suc, ◌+◌, Bool, true, false, List, [], ◌∷◌, ◌++◌, length}
-use Rattle.std.proofs.Common.{Option, Some, None, Result, Ok, Err, refl, sym, ap, ◌∙◌, subst, arith}
-use Rattle.std.specs.Prelude.{if◌then◌else◌, slice_get, not, replicate, ◌==◌, ◌&&◌}
+use Rattle.std.proofs.Common.{◌≡◌, ◌<◌, ◌≤◌, ℕ, zero, suc, Bool, true, false, List, [], ◌∷◌, ◌++◌, length}
+use Rattle.std.proofs.Common.{Option, Some, None, Result, Ok, Err, refl, subst, arith}
+use Rattle.std.specs.Prelude.{if◌then◌else◌, slice_get, not, ◌==◌, ◌&&◌}
 use Rattle.ir_base.specs.declared.cause.Cause.{Cause}
 use Rattle.ir_base.specs.declared.ops.Pred.{Pred}
 use Rattle.ir_base.specs.declared.outcome.Word.{Word}
@@ -26,7 +26,7 @@ use Rattle.run_memory.specs.declared.pointer.Access.{Access}
 use Rattle.run_memory.specs.declared.pointer.Pointer.{Pointer}
 use Rattle.run_memory.specs.declared.pointer.Spot.{Spot}
 use Rattle.run_memory.specs.declared.pointer.Value.{Value}
-use Rattle.run_step.specs.Step.{Action, Context, Coro, Deallocate, Done, Enter, GoTo, NewSlot, Return, Stuck, Work}
+use Rattle.run_step.specs.Step.{Action, Context, Done, Enter, Stuck, Work}
 use Rattle.run_step.specs.Step.{allocator_call, block_of, by_pred, compared, copied_bytes, deallocated, done, fits_function, if_alignment}
 use Rattle.run_step.specs.Step.{indirect_call, instr_action, intrinsic_call, is_alignment, named_call, observed, on_block, set_memory}
 use Rattle.run_step.specs.Step.{set_value, value_at, with_length, without_slots, words_of}

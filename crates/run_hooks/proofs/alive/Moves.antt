@@ -1,22 +1,20 @@
 -- What stays of a state where its topmost activation moves on in another memory.
-use Rattle.std.proofs.Common.{◌≡◌, ◌<◌, ◌≤◌, ◌⊎◌, inl, inr, ℕ, zero, suc, ◌+◌, Bool, true, false, List, [], ◌∷◌, length}
-use Rattle.std.proofs.Common.{Option, Some, None, refl, sym, ap, ◌∙◌, subst, arith}
+use Rattle.std.proofs.Common.{◌≡◌, ◌<◌, ◌≤◌, ◌⊎◌, inl, inr, ℕ, Bool, true, List, ◌∷◌, length}
+use Rattle.std.proofs.Common.{Some, None, refl, sym, ap, ◌∙◌, subst, arith}
 use Rattle.std.specs.List.{AllByRecursion}
 use Rattle.std.specs.Prelude.{slice_get}
 use Rattle.ir_model.specs.Names.{function_at}
 use Rattle.ir_model.specs.declared.module.Module.{Module}
 use Rattle.ir_paths.specs.declared.point.Point.{Point}
 use Rattle.run_hooks.proofs.alive.Lives.{AreFewer}
-use Rattle.run_hooks.proofs.alive.Parts.{AllIn, AreKept, IsLaterFor, IsMoved, IsNew, WasThere, all_both, all_map, later_all, met_by, slot_later}
+use Rattle.run_hooks.proofs.alive.Parts.{AllIn, AreKept, IsLaterFor, IsMoved, IsNew, all_both, all_map, later_all, met_by, slot_later}
 use Rattle.run_hooks.proofs.alive.Parts.{tagged_later}
-use Rattle.run_hooks.specs.Away.{point_in, spot_by, spot_of}
-use Rattle.run_hooks.specs.alive.Alive.{Account, AreAliveAt, AreAliveIn, GoesOn, IsAliveAsleep, IsAliveIn, IsAliveInstance}
-use Rattle.run_hooks.specs.alive.Alive.{IsAliveState, IsApart, IsThere, MayLeave, Stays, account_of}
+use Rattle.run_hooks.specs.Away.{spot_by, spot_of}
+use Rattle.run_hooks.specs.alive.Alive.{Account, GoesOn, IsAliveIn, IsAliveInstance}
+use Rattle.run_hooks.specs.alive.Alive.{IsAliveState, IsThere, MayLeave, Stays, account_of}
 use Rattle.pass_renewed_proof.specs.SlotRules.{IsMadeOnce}
-use Rattle.run_hooks.specs.alive.Slots.{AreAliveSlots, AreMet, IsAliveSlot, IsHeld, IsSlotOf, IsTagged, Own, Ramp, home_of, is_gone, lives}
+use Rattle.run_hooks.specs.alive.Slots.{AreAliveSlots, AreMet, IsAliveSlot, IsSlotOf, IsTagged, Own, Ramp, home_of, is_gone, lives}
 use Rattle.run_memory.specs.declared.block.MemoryBlock.{MemoryBlock}
-use Rattle.run_source.specs.Source.{is_over}
-use Rattle.run_source.specs.State.{is_finished}
 use Rattle.run_source.specs.declared.state.Activation.{Activation}
 use Rattle.run_source.specs.declared.state.Instance.{Instance}
 use Rattle.run_source.specs.declared.state.Mode.{Mode}
@@ -24,7 +22,6 @@ use Rattle.run_source.specs.declared.state.State.{State}
 use Rattle.run_source.specs.declared.state.Status.{Status}
 use Rattle.run_step.specs.Step.{block_of}
 use Rattle.run_step.specs.Values.{Env, value_in}
-use Rattle.run_step.specs.declared.world.Slot.{Slot}
 use Rattle.run_step.specs.declared.world.World.{World}
 
 module _ (m : Module) (counts : ℕ → ℕ → Bool) (k : Account) where

@@ -1,45 +1,38 @@
 -- A new slot leaves a state in which live slots may be alive.
-use Rattle.std.proofs.Common.{◌≡◌, ◌<◌, ◌≤◌, ◌⊎◌, inl, inr, ℕ, zero, suc, ◌+◌, Bool, true, false, List, [], ◌∷◌, ◌++◌, length}
-use Rattle.std.proofs.Common.{Option, Some, None, refl, sym, ap, ◌∙◌, subst, arith}
-use Rattle.std.specs.List.{AllByRecursion}
-use Rattle.std.specs.Prelude.{if◌then◌else◌, slice_get, slice_set, ◌==◌}
+use Rattle.std.proofs.Common.{◌≡◌, ◌<◌, ◌⊎◌, inl, inr, ℕ, zero, suc, ◌+◌, Bool, true, false, List, [], ◌∷◌, ◌++◌, length}
+use Rattle.std.proofs.Common.{Some, refl, sym, ap, ◌∙◌, subst, arith}
+use Rattle.std.specs.Prelude.{if◌then◌else◌, slice_get, ◌==◌}
 use Rattle.ir_model.specs.Names.{function_at}
 use Rattle.ir_model.specs.Ty.{Ty}
 use Rattle.ir_model.specs.declared.instr.Instr.{Instr}
 use Rattle.ir_model.specs.declared.module.Function.{Function}
 use Rattle.ir_model.specs.declared.module.Module.{Module}
 use Rattle.ir_model.specs.declared.operand.Intrinsic.{Intrinsic}
-use Rattle.ir_paths.specs.Paths.{has_point, nexts}
-use Rattle.ir_paths.specs.Slots.{IsRampSlot}
 use Rattle.ir_paths.specs.Windows.{is_call_of}
 use Rattle.ir_paths.specs.declared.point.Point.{Point}
-use Rattle.pass_kept_proof.specs.SuspendRules.{IsCallAt}
 use Rattle.pass_renewed_proof.proofs.Sets.{set_elsewhere}
-use Rattle.pass_renewed_proof.specs.SlotRules.{IsMadeOnce, IsMarkerAt}
+use Rattle.pass_renewed_proof.specs.SlotRules.{IsMadeOnce}
 use Rattle.pass_renewed_proof.specs.Steps.{given_at}
-use Rattle.run_hooks.proofs.alive.Changes.{changed, others_later}
-use Rattle.run_hooks.proofs.alive.Instrs.{IsInOrder, IsLower, core, edge, ended_dead, held_on, same_length, spot_is}
+use Rattle.run_hooks.proofs.alive.Instrs.{IsInOrder, core, edge, ended_dead, held_on, same_length, spot_is}
 use Rattle.run_hooks.proofs.alive.Open.{after}
 use Rattle.run_hooks.proofs.alive.Lives.{AreFewer, changed_fewer, ended_fewer, more_fewer, then_fewer}
 use Rattle.run_hooks.proofs.alive.Moves.{fewer_for, fewer_instance, later_instance, moves_on, owned_of}
-use Rattle.run_hooks.proofs.alive.Parts.{AllIn, AreKept, IsLaterFor, IsMoved, IsNew, all_map, in_any, in_map, later_all, later_in, met_by}
-use Rattle.run_hooks.specs.Away.{point_in, spot_by, spot_of}
-use Rattle.run_hooks.specs.alive.Alive.{Account, GoesOn, IsAliveIn, IsAliveInstance, IsAliveState, IsThere, KeepsAliveRules}
-use Rattle.run_hooks.specs.alive.Alive.{MayLeave, Stays, account_of}
-use Rattle.run_hooks.specs.alive.Slots.{Home, IsAliveSlot, IsHeld, IsSlotOf, IsTagged, Own, Ramp, Tag, Tags, home_of, is_gone}
+use Rattle.run_hooks.proofs.alive.Parts.{AreKept, IsLaterFor, IsNew, all_map, in_any, later_all, met_by}
+use Rattle.run_hooks.specs.Away.{point_in, spot_of}
+use Rattle.run_hooks.specs.alive.Alive.{Account, IsAliveInstance, IsAliveState, KeepsAliveRules}
+use Rattle.run_hooks.specs.alive.Alive.{account_of}
+use Rattle.run_hooks.specs.alive.Slots.{Home, IsHeld, IsSlotOf, IsTagged, Own, Tag, Tags, home_of}
 use Rattle.run_hooks.specs.alive.Slots.{lives}
-use Rattle.run_memory.specs.Memory.{end, ended, fresh, with_block}
+use Rattle.run_memory.specs.Memory.{end, ended, fresh}
 use Rattle.run_memory.specs.declared.block.Kind.{Kind}
 use Rattle.run_memory.specs.declared.block.MemoryBlock.{MemoryBlock}
 use Rattle.run_memory.specs.declared.pointer.Value.{Value}
-use Rattle.run_source.specs.Source.{is_over}
-use Rattle.run_source.specs.State.{is_finished, settled, work_of}
+use Rattle.run_source.specs.State.{settled, work_of}
 use Rattle.run_source.specs.declared.state.Activation.{Activation}
 use Rattle.run_source.specs.declared.state.Instance.{Instance}
 use Rattle.run_source.specs.declared.state.Mode.{Mode}
 use Rattle.run_source.specs.declared.state.State.{State}
-use Rattle.run_source.specs.declared.state.Status.{Status}
-use Rattle.run_step.specs.Step.{AtInstr, Work, block_of, fetch, has_markers, set_memory, set_value}
+use Rattle.run_step.specs.Step.{AtInstr, block_of, fetch, has_markers, set_memory, set_value}
 use Rattle.run_step.specs.Values.{Env, pointer_to, value_in, with_value}
 use Rattle.run_step.specs.declared.world.Slot.{Slot}
 

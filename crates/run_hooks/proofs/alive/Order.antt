@@ -1,8 +1,8 @@
 -- What is known of a state's activations, by what is reached, who is last and where they are placed.
-use Rattle.std.proofs.Common.{◌≡◌, ◌<◌, ◌≤◌, ◌⊎◌, inl, inr, ℕ, zero, suc, ◌+◌, Bool, true, false, List, [], ◌∷◌, length}
+use Rattle.std.proofs.Common.{◌≡◌, ◌<◌, ◌≤◌, ◌⊎◌, inl, inr, ℕ, ◌+◌, Bool, true, false, List, [], ◌∷◌, length}
 use Rattle.std.proofs.Common.{Option, Some, None, refl, sym, ap, ◌∙◌, subst, arith, ◌&&◌}
 use Rattle.std.specs.Prelude.{option_and_then, slice_get}
-use Rattle.ir_model.specs.Names.{function_at, intrinsic_number, is_local, position_of}
+use Rattle.ir_model.specs.Names.{intrinsic_number, is_local}
 use Rattle.ir_model.specs.declared.instr.Instr.{Instr}
 use Rattle.ir_model.specs.declared.module.Function.{Function}
 use Rattle.ir_model.specs.declared.operand.Intrinsic.{Intrinsic}
@@ -14,30 +14,29 @@ use Rattle.pass_kept_proof.proofs.Rules.{suspend_is_suspend, where_is}
 use Rattle.pass_kept_proof.specs.Related.{coroutines}
 use Rattle.pass_kept_proof.specs.SuspendRules.{IsCallAt}
 use Rattle.pass_renewed_proof.proofs.Left.{left_closed}
-use Rattle.pass_renewed_proof.specs.Ahead.{IsBehindSuspendCall}
 use Rattle.pass_renewed_proof.specs.Left.{AtEnd, AtSuspend, AtSwitch, Behind, Between, IsLeftAt, IsLeftBy}
 use Rattle.pass_renewed_proof.specs.SlotRules.{IsMarkerAt}
 use Rattle.rule_slots.specs.Closed.{IsClosed}
 use Rattle.rule_windows.specs.Sets.{IsAfterEnd}
 use Rattle.run_hooks.proofs.Left.{sleepers_left, sleeps_at}
 use Rattle.run_hooks.proofs.PlacedSteps.{left_at}
-use Rattle.run_hooks.proofs.Points.{no_call_at_term, not_both, save_no_end, save_no_suspend, suspend_no_end}
+use Rattle.run_hooks.proofs.Points.{no_call_at_term, not_both, save_no_suspend, suspend_no_end}
 use Rattle.run_hooks.proofs.Reached.{get_coroutine}
 use Rattle.run_hooks.proofs.alive.Instrs.{IsInOrder, IsLower}
 use Rattle.run_hooks.proofs.alive.Parts.{AllIn, in_any, in_map}
 use Rattle.run_hooks.specs.Away as away
 use Rattle.run_hooks.specs.Away.{HasStop, IsBehind, IsClear, IsPair, IsPlacedState, KeepsAllPlaceRules, KeepsPlaceRules, point_in}
 use Rattle.run_hooks.specs.Hooks.{Hooks}
-use Rattle.run_hooks.specs.Left.{AreLast, HaveLeft, IsLastState, sleeps}
+use Rattle.run_hooks.specs.Left.{AreLast, HaveLeft, IsLastState}
 use Rattle.run_hooks.specs.Reached.{AreReachedActivations, IsReachedActivation, IsReachedState}
-use Rattle.run_hooks.specs.alive.Alive.{IsEnd, IsMarker, IsStart, KeepsAliveRules}
+use Rattle.run_hooks.specs.alive.Alive.{IsEnd, IsMarker, IsStart}
 use Rattle.run_source.specs.State.{function_of, is_suspended}
 use Rattle.run_source.specs.declared.state.Activation.{Activation}
 use Rattle.run_source.specs.declared.state.Instance.{Instance}
 use Rattle.run_source.specs.declared.state.Mode.{Mode}
 use Rattle.run_source.specs.declared.state.State.{State}
 use Rattle.run_source_tables.specs.Given.{Given}
-use Rattle.run_step.specs.Step.{AtInstr, AtTerm, fetch}
+use Rattle.run_step.specs.Step.{AtInstr, fetch}
 
 -- ---- each activation with the number of those below it
 

@@ -1,5 +1,5 @@
 -- What stays of slots and activations where memory and instances change.
-use Rattle.std.proofs.Common.{◌≡◌, ◌<◌, ◌≤◌, ◌⊎◌, inl, inr, ℕ, zero, suc, ◌+◌, Bool, true, false, List, [], ◌∷◌, ◌++◌, length}
+use Rattle.std.proofs.Common.{◌≡◌, ◌<◌, ◌≤◌, ◌⊎◌, ℕ, zero, suc, Bool, true, false, List, [], ◌∷◌, ◌++◌, length}
 use Rattle.std.proofs.Common.{Option, Some, None, refl, sym, ap, ◌∙◌, subst, arith}
 use Rattle.std.specs.List.{AllByRecursion}
 use Rattle.std.specs.Prelude.{filter, if◌then◌else◌, slice_get, slice_set}
@@ -9,18 +9,17 @@ use Rattle.ir_model.specs.declared.module.Module.{Module}
 use Rattle.ir_paths.specs.declared.point.Point.{Point}
 use Rattle.pass_renewed_proof.specs.SlotRules.{IsMadeOnce}
 use Rattle.rule_windows.specs.Sets.{IsAfterEnd, RunsOut}
-use Rattle.run_hooks.specs.Away.{point_in, spot_by, spot_of}
-use Rattle.run_hooks.specs.alive.Alive.{Account, AreAliveAt, AreAliveIn, GoesOn, IsAliveIn, IsApart, IsEnded, IsThere, MayLeave, Stays}
-use Rattle.run_hooks.specs.alive.Slots.{AreAliveSlots, AreMet, AreTagged, Home, IsAliveSlot, IsHeld, IsMetSlot, IsSlotOf, IsTagged}
+use Rattle.run_hooks.specs.Away.{point_in, spot_of}
+use Rattle.run_hooks.specs.alive.Alive.{Account, AreAliveIn, GoesOn, IsAliveIn, IsEnded}
+use Rattle.run_hooks.specs.alive.Slots.{AreAliveSlots, AreMet, Home, IsAliveSlot, IsHeld, IsMetSlot, IsSlotOf, IsTagged}
 use Rattle.run_hooks.specs.alive.Slots.{Own, Ramp, Tags}
-use Rattle.run_hooks.specs.alive.Slots.{home_of, is_gone, lives}
+use Rattle.run_hooks.specs.alive.Slots.{home_of, lives}
 use Rattle.run_memory.specs.declared.block.MemoryBlock.{MemoryBlock}
 use Rattle.run_source.specs.Source.{is_over}
 use Rattle.run_source.specs.State.{is_finished}
 use Rattle.run_source.specs.declared.state.Activation.{Activation}
 use Rattle.run_source.specs.declared.state.Instance.{Instance}
-use Rattle.run_source.specs.declared.state.Mode.{Mode}
-use Rattle.run_step.specs.Step.{block_of, has_markers}
+use Rattle.run_step.specs.Step.{block_of}
 use Rattle.run_step.specs.Values.{Env, value_in}
 use Rattle.run_step.specs.declared.world.Slot.{Slot}
 

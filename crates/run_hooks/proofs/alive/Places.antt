@@ -1,33 +1,30 @@
 -- Where a new slot goes, in the meaning of a source.
-use Rattle.std.proofs.Common.{◌≡◌, ◌<◌, ◌≤◌, ◌⊎◌, inl, inr, ℕ, zero, suc, ◌+◌, Bool, true, false, not, List, [], ◌∷◌, ◌++◌, length}
-use Rattle.std.proofs.Common.{Option, Some, None, refl, sym, ap, ◌∙◌, subst, arith}
+use Rattle.std.proofs.Common.{◌≡◌, ℕ, zero, suc, Bool, true, false, not, List, [], ◌∷◌, ◌++◌, length}
+use Rattle.std.proofs.Common.{Option, Some, None, refl, sym, ap, ◌∙◌, subst}
 use Rattle.std.specs.List.{AllByRecursion}
-use Rattle.std.specs.Prelude.{IsTrue, filter, if◌then◌else◌, option_and_then, option_map, slice_get, slice_set, ◌&&◌}
+use Rattle.std.specs.Prelude.{if◌then◌else◌, option_and_then, option_map, slice_get, slice_set, ◌&&◌}
 use Rattle.ir_model.specs.Names.{function_at}
 use Rattle.ir_model.specs.declared.module.Module.{Module}
-use Rattle.ir_paths.specs.Slots.{IsRampSlot, has_name}
-use Rattle.ir_paths.specs.declared.point.Point.{Point}
+use Rattle.ir_paths.specs.Slots.{IsRampSlot}
 use Rattle.run_hooks.proofs.alive.Changes.{changed, others_later, restack}
 use Rattle.run_hooks.proofs.alive.Instrs.{IsInOrder, IsLower}
 use Rattle.run_hooks.proofs.alive.Lives.{AreFewer, changed_fewer, killed_fewer, killed_gone}
 use Rattle.run_hooks.proofs.alive.Moves.{fewer_for, fewer_instance, later_instance, longer_kept, owned_of}
 use Rattle.run_hooks.proofs.alive.NewSlots.{HasNewSlot}
-use Rattle.run_hooks.proofs.alive.Parts.{AllIn, IsLaterFor, WasThere, all_both, in_any, in_map, later_all, later_in, slot_later}
+use Rattle.run_hooks.proofs.alive.Parts.{IsLaterFor, in_any, in_map, later_all, later_in, slot_later}
 use Rattle.run_hooks.specs.Away.{spot_of}
-use Rattle.run_hooks.specs.alive.Alive.{Account, GoesOn, IsAliveIn, IsAliveInstance, IsAliveState, KeepsAliveRules, MayLeave}
+use Rattle.run_hooks.specs.alive.Alive.{Account, GoesOn, IsAliveInstance, IsAliveState, KeepsAliveRules, MayLeave}
 use Rattle.run_hooks.specs.alive.Alive.{Stays, account_of}
-use Rattle.run_hooks.specs.alive.Slots.{AreAliveSlots, AreMet, IsAliveSlot, IsSlotOf, Own, Ramp, home_of, is_gone, lives}
+use Rattle.run_hooks.specs.alive.Slots.{AreAliveSlots, AreMet, IsSlotOf, Own, Ramp, home_of, is_gone, lives}
 use Rattle.run_memory.specs.Memory.{killed, killed_block}
 use Rattle.run_memory.specs.declared.block.MemoryBlock.{MemoryBlock}
 use Rattle.run_source.specs.Source.{is_among, is_over, kill_late, new_slot, with_new_slots}
-use Rattle.run_source.specs.State.{is_finished, numbered, own_facts, own_instance, with_instance, with_memory, with_slots}
+use Rattle.run_source.specs.State.{numbered, own_facts, own_instance, with_instance, with_memory, with_slots}
 use Rattle.run_source.specs.declared.state.Activation.{Activation}
 use Rattle.run_source.specs.declared.state.Instance.{Instance}
 use Rattle.run_source.specs.declared.state.State.{State}
-use Rattle.run_source.specs.declared.state.Status.{Status}
 use Rattle.run_source_tables.specs.Given.{Given}
 use Rattle.run_step.specs.Step.{has_markers}
-use Rattle.run_step.specs.Values.{Env}
 use Rattle.run_step.specs.declared.world.Slot.{Slot}
 
 -- an element that is set to itself

@@ -1,7 +1,6 @@
 -- A resume or destroy leaves a state in which live slots may be alive.
-use Rattle.std.proofs.Common.{◌≡◌, ◌<◌, ◌≤◌, ◌⊎◌, inl, inr, ℕ, zero, suc, ◌+◌, Bool, true, false, List, [], ◌∷◌, length}
-use Rattle.std.proofs.Common.{Option, Some, None, refl, sym, ap, ◌∙◌, subst, arith}
-use Rattle.std.specs.List.{AllByRecursion}
+use Rattle.std.proofs.Common.{◌≡◌, inl, inr, ℕ, ◌+◌, Bool, true, false, List, [], ◌∷◌, length}
+use Rattle.std.proofs.Common.{Some, None, refl, sym, ap, ◌∙◌, subst}
 use Rattle.std.specs.Prelude.{slice_get, slice_set}
 use Rattle.ir_model.specs.Names.{function_at, position_of}
 use Rattle.ir_model.specs.declared.instr.Instr.{Instr}
@@ -17,17 +16,15 @@ use Rattle.pass_kept_proof.specs.Needed.{BranchesTo}
 use Rattle.pass_kept_proof.specs.SuspendRules.{IsCallAt}
 use Rattle.pass_renewed_proof.proofs.Ahead.{branch_edge, next_edge}
 use Rattle.pass_renewed_proof.specs.SlotRules.{IsMadeOnce, IsMarkerAt}
-use Rattle.rule_windows.specs.Sets.{IsAfterEnd, RunsOut}
-use Rattle.run_hooks.proofs.alive.Changes.{others_later, phis_other, restack}
+use Rattle.rule_windows.specs.Sets.{RunsOut}
+use Rattle.run_hooks.proofs.alive.Changes.{others_later, phis_other}
 use Rattle.run_hooks.proofs.alive.Instrs.{held_on, runs_on}
 use Rattle.run_hooks.proofs.alive.Open.{after}
 use Rattle.run_hooks.proofs.alive.Parts.{AllIn, Here, IsLaterFor, IsSet, Other, all_both, get_set, in_map, later_all}
 use Rattle.run_hooks.proofs.alive.Statuses.{suspended_over}
-use Rattle.run_hooks.specs.Away.{spot_of}
 use Rattle.run_hooks.specs.alive.Alive.{Account, AreAliveAt, GoesOn, IsAliveAsleep, IsAliveIn, IsAliveInstance, IsAliveState}
-use Rattle.run_hooks.specs.alive.Alive.{IsEnded, IsThere, KeepsAliveRules, MayLeave, Stays, account_of}
-use Rattle.run_hooks.specs.alive.Slots.{AreAliveSlots, IsAliveSlot, IsHeld, IsSlotOf, IsTagged, Own}
-use Rattle.run_source.specs.Source.{is_over}
+use Rattle.run_hooks.specs.alive.Alive.{IsEnded, KeepsAliveRules, MayLeave, Stays, account_of}
+use Rattle.run_hooks.specs.alive.Slots.{IsAliveSlot, IsHeld, IsSlotOf, Own}
 use Rattle.run_source.specs.State.{is_finished, is_suspended}
 use Rattle.run_source.specs.declared.state.Activation.{Activation}
 use Rattle.run_source.specs.declared.state.Instance.{Instance}

@@ -1,11 +1,11 @@
 -- What is said of live slots, in the words of the analysis of slots.
-use Rattle.std.proofs.Common.{◌≡◌, ◌⊎◌, inl, inr, ℕ, zero, suc, ◌+◌, Bool, true, false, List, [], ◌∷◌, ◌++◌, length}
-use Rattle.std.proofs.Common.{Option, Some, None, refl, sym, ap, ◌∙◌, subst, ◌&&◌, ◌||◌}
-use Rattle.std.specs.List.{AllByRecursion, list_any}
+use Rattle.std.proofs.Common.{◌≡◌, inl, inr, ℕ, zero, suc, Bool, true, false, List, [], ◌∷◌, ◌++◌, length}
+use Rattle.std.proofs.Common.{Some, None, refl, sym, ap, ◌∙◌, ◌&&◌, ◌||◌}
+use Rattle.std.specs.List.{list_any}
 use Rattle.std.specs.Prelude.{if◌then◌else◌, slice_get}
 use Rattle.frame_classes.specs.Alive.{MayBeAlive, Started, Unmarked, markers_of}
-use Rattle.frame_slots.specs.Uses.{ends_of, is_marker_of as marks, starts_of}
-use Rattle.ir_model.specs.Names.{function_at, is_local, same_intrinsic}
+use Rattle.frame_slots.specs.Uses.{ends_of, is_marker_of as marks}
+use Rattle.ir_model.specs.Names.{is_local, same_intrinsic}
 use Rattle.ir_model.specs.declared.instr.Instr.{Instr}
 use Rattle.ir_model.specs.declared.module.Block.{Block}
 use Rattle.ir_model.specs.declared.module.Function.{Function}
@@ -13,14 +13,13 @@ use Rattle.ir_model.specs.declared.module.Module.{Module}
 use Rattle.ir_model.specs.declared.operand.Arg.{Arg}
 use Rattle.ir_model.specs.declared.operand.Callee.{Callee}
 use Rattle.ir_model.specs.declared.operand.Intrinsic.{Intrinsic}
-use Rattle.ir_model.specs.declared.operand.Operand.{Operand}
-use Rattle.ir_paths.specs.Paths.{IsPath, Leads}
-use Rattle.ir_paths.specs.Windows.{is_call_of, operand_at, points_from, points_in, points_where}
+use Rattle.ir_paths.specs.Paths.{IsPath}
+use Rattle.ir_paths.specs.Windows.{operand_at, points_from, points_in}
 use Rattle.ir_paths.specs.declared.point.Point.{Point}
 use Rattle.pass_kept_proof.specs.Kept.{kept}
 use Rattle.run_hooks.specs.alive.Alive.{Account, AreAliveAt, AreAliveIn, IsAliveIn, IsAliveSomewhere, IsAliveState, IsThere, Stays}
 use Rattle.run_hooks.specs.alive.Alive.{account_of}
-use Rattle.run_hooks.specs.alive.Slots.{AreAliveSlots, IsAliveSlot, lives}
+use Rattle.run_hooks.specs.alive.Slots.{IsAliveSlot, lives}
 use Rattle.run_memory.specs.declared.block.MemoryBlock.{MemoryBlock}
 use Rattle.run_source.specs.Source.{is_over}
 use Rattle.run_source.specs.State.{is_finished}

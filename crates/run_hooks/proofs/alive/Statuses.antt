@@ -1,21 +1,19 @@
 -- A save, a leaving edge, the end and a deallocation leave a state in which live slots may be alive.
-use Rattle.std.proofs.Common.{◌≡◌, ◌<◌, ◌≤◌, ◌⊎◌, inl, inr, ℕ, zero, suc, ◌+◌, Bool, true, false, List, [], ◌∷◌, ◌++◌, length}
+use Rattle.std.proofs.Common.{◌≡◌, ◌<◌, ◌≤◌, ◌⊎◌, inl, inr, ℕ, zero, suc, Bool, true, false, List, [], ◌∷◌, length}
 use Rattle.std.proofs.Common.{Option, Some, None, refl, sym, ap, ◌∙◌, subst, arith}
 use Rattle.std.proofs.lemmas.Bool.{cases_lt}
 use Rattle.std.specs.List.{AllByRecursion}
 use Rattle.std.specs.Prelude.{slice_get, slice_set, ◌||◌}
 use Rattle.ir_model.specs.Names.{function_at}
 use Rattle.ir_model.specs.declared.module.Module.{Module}
-use Rattle.ir_model.specs.declared.operand.Intrinsic.{Intrinsic}
 use Rattle.ir_paths.specs.Slots.{IsRampSlot}
 use Rattle.ir_paths.specs.declared.point.Point.{Point}
-use Rattle.pass_kept_proof.specs.SuspendRules.{IsCallAt}
 use Rattle.rule_windows.specs.Sets.{IsAfterEnd, RunsOut}
 use Rattle.run_hooks.proofs.alive.Changes.{changed, others_later}
 use Rattle.run_hooks.proofs.alive.Instrs.{IsInOrder, IsLower, same_length}
-use Rattle.run_hooks.proofs.alive.Lives.{AreFewer, killed_gone}
+use Rattle.run_hooks.proofs.alive.Lives.{killed_gone}
 use Rattle.run_hooks.proofs.alive.Lives.{without_fewer}
-use Rattle.run_hooks.proofs.alive.Parts.{Here, IsLaterFor, IsSet, Other, WasThere, all_both, all_map, get_set, in_any, in_map, later_in}
+use Rattle.run_hooks.proofs.alive.Parts.{Here, IsLaterFor, IsSet, Other, all_both, get_set, in_any, in_map, later_in}
 use Rattle.run_hooks.specs.Away.{point_in, spot_of}
 use Rattle.run_hooks.specs.alive.Alive.{Account, AreAliveAt, GoesOn, IsAliveAsleep, IsAliveIn, IsAliveInstance, IsAliveState, IsEnded, IsThere}
 use Rattle.run_hooks.specs.alive.Alive.{MayLeave, Stays, account_of}

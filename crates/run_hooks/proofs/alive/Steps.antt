@@ -1,12 +1,12 @@
 -- A step of a source leaves a state in which live slots may be alive, and so does a run.
-use Rattle.std.proofs.Common.{◌≡◌, ◌<◌, ◌≤◌, ◌⊎◌, inl, inr, ℕ, zero, suc, ◌+◌, Bool, true, false, not, List, [], ◌∷◌, length, Option, Some, None, Result, Ok, Err, refl, sym, ap, ◌∙◌, subst, arith, ◌&&◌}
+use Rattle.std.proofs.Common.{◌≡◌, ◌<◌, ◌⊎◌, inl, inr, ℕ, zero, suc, Bool, true, false, not, List, [], ◌∷◌, length, Option, Some, None, Result, Ok, Err, refl, sym, ap, ◌∙◌, subst, arith, ◌&&◌}
 use Rattle.std.specs.List.{AllByRecursion, list_all}
-use Rattle.std.specs.Prelude.{IsTrue, if◌then◌else◌, is_none, negsuc, slice_get, slice_set, ◌==◌, map, option_and_then, option_map, ◌||◌}
+use Rattle.std.specs.Prelude.{if◌then◌else◌, is_none, negsuc, slice_get, slice_set, ◌==◌, map, option_and_then, option_map, ◌||◌}
 use Rattle.ir_base.specs.declared.cause.Cause.{Cause}
 use Rattle.ir_base.specs.declared.outcome.Outcome.{Outcome}
 use Rattle.ir_base.specs.declared.outcome.Word.{Word}
 use Rattle.ir_model.specs.Layout.{size_of}
-use Rattle.ir_model.specs.Names.{function_at, position_of}
+use Rattle.ir_model.specs.Names.{function_at}
 use Rattle.ir_model.specs.Ty.{Ty}
 use Rattle.ir_model.specs.declared.instr.Instr.{Instr}
 use Rattle.ir_model.specs.declared.instr.Terminator.{Terminator}
@@ -17,14 +17,14 @@ use Rattle.ir_model.specs.declared.operand.Callee.{Callee}
 use Rattle.ir_model.specs.declared.operand.Intrinsic.{Intrinsic}
 use Rattle.ir_model.specs.declared.operand.Operand.{Operand}
 use Rattle.ir_paths.specs.Facts.{IsWindow}
-use Rattle.ir_paths.specs.Paths.{entry_point, has_point, nexts}
-use Rattle.ir_paths.specs.Windows.{IsInWindow, call_operand, destroy_label, is_call_of, leaves, operand_at, resume_label, suspend_of}
+use Rattle.ir_paths.specs.Paths.{entry_point}
+use Rattle.ir_paths.specs.Windows.{IsInWindow, call_operand, is_call_of, leaves, operand_at, suspend_of}
 use Rattle.ir_paths.specs.declared.point.Point.{Point}
 use Rattle.ir_paths.specs.declared.point.Window.{Window}
 use Rattle.pass_kept_proof.proofs.Actions.{SameAction, action_same}
 use Rattle.pass_kept_proof.proofs.Rules.{leads_between, suspend_is_suspend}
 use Rattle.pass_kept_proof.proofs.Same.{same_all}
-use Rattle.pass_kept_proof.specs.Needed.{BranchesTo, given_by, given_by_call, given_by_intrinsic}
+use Rattle.pass_kept_proof.specs.Needed.{BranchesTo, given_by, given_by_intrinsic}
 use Rattle.pass_kept_proof.specs.Related.{IsSuspendedAt, IsSoundStatus}
 use Rattle.pass_kept_proof.specs.SuspendRules.{IsCallAt, IsSwitched}
 use Rattle.pass_renewed_proof.specs.SlotRules.{IsMadeOnce, IsMarkerAt}
@@ -32,48 +32,46 @@ use Rattle.pass_renewed_proof.specs.Steps.{given_at}
 use Rattle.rule_windows.specs.Sets.{IsAfterEnd, RunsOut}
 use Rattle.run_hooks.proofs.Placing.{each_is, first_kept, window_pair, term_no_instr}
 use Rattle.run_hooks.proofs.Points.{after_path, save_no_end, suspend_no_end}
-use Rattle.run_hooks.proofs.Reached.{at_is, found_is, sound_get}
+use Rattle.run_hooks.proofs.Reached.{at_is, sound_get}
 use Rattle.run_hooks.proofs.alive.Acts.{enters_by, gives_alive, past_end, return_alive, then_alive, walked, never_returns, returns_by, slots_by}
 use Rattle.run_hooks.proofs.alive.Begins.{begun_alive}
 use Rattle.run_hooks.proofs.alive.Changes.{called_in, entered, pushed}
-use Rattle.run_hooks.proofs.alive.Instrs.{IsInOrder, IsLower, done_goes, goes_fewer, held_on, not_made, runs_on, spot_is}
+use Rattle.run_hooks.proofs.alive.Instrs.{IsInOrder, IsLower, done_goes, held_on, not_made, runs_on, spot_is}
 use Rattle.run_hooks.proofs.alive.Open.{after}
-use Rattle.run_hooks.proofs.alive.Lives.{changed_fewer, deallocated_fewer, owned_fewer, same_fewer, then_fewer, without_fewer, AreFewer}
-use Rattle.run_hooks.proofs.alive.NewSlots.{HasNewSlot, new_block}
+use Rattle.run_hooks.proofs.alive.Lives.{changed_fewer, deallocated_fewer, owned_fewer, then_fewer, without_fewer, AreFewer}
+use Rattle.run_hooks.proofs.alive.NewSlots.{new_block}
 use Rattle.run_hooks.proofs.alive.Order.{all_left, low, order, saves, shut, still, suspends, shut_in}
 use Rattle.run_hooks.proofs.alive.Parts.{AllIn, Here, IsSet, Other, get_set, in_map, all_both}
 use Rattle.run_hooks.proofs.alive.Places.{own_there, placed, with_fewer}
 use Rattle.run_hooks.proofs.alive.Resumes.{resumed_alive}
 use Rattle.run_hooks.proofs.alive.Statuses.{finished_alive, freed_alive, released_alive, saved_alive, without_gone, woken_alive}
 use Rattle.run_hooks.specs.Away.{IsPair, IsPlacedState, KeepsAllPlaceRules, KeepsPlaceRules, point_in, spot_by, spot_of, KeepsPlaced}
-use Rattle.run_hooks.specs.Hooks.{Hooks, hooked_act, hooked_advance, hooked_context, hooked_coro, hooked_next, step_of}
+use Rattle.run_hooks.specs.Hooks.{hooked_act, hooked_advance, hooked_context, hooked_coro, hooked_next, step_of}
 use Rattle.run_hooks.specs.Left.{IsLastState, KeepsLast}
-use Rattle.run_hooks.specs.Meanings.{hooks_by}
 use Rattle.run_hooks.specs.Reached.{AllHaveSwitches, IsReachedState, KeepsReached}
-use Rattle.run_hooks.specs.alive.Alive.{AreAliveAt, HandsOver, IsAliveState, IsEnded, KeepsAllAliveRules, KeepsAliveRules, StaysAlive, handing, IsEnd, IsMarker, Stays}
+use Rattle.run_hooks.specs.alive.Alive.{HandsOver, IsAliveState, IsEnded, KeepsAllAliveRules, KeepsAliveRules, StaysAlive, handing, IsEnd, IsMarker, Stays}
 use Rattle.run_hooks.specs.alive.Slots.{IsHeld, IsSlotOf, Own, is_gone}
 use Rattle.pass_renewed_proof.proofs.Ahead.{next_edge}
 use Rattle.pass_renewed_proof.proofs.Left.{call_listed}
 use Rattle.ir_paths.specs.Slots.{IsRampSlot}
-use Rattle.rule_windows.specs.Points.{begins, ends}
 use Rattle.run_memory.specs.Memory.{disown, disowned, own}
 use Rattle.run_memory.specs.declared.block.Kind.{Kind}
 use Rattle.run_memory.specs.declared.block.MemoryBlock.{MemoryBlock}
 use Rattle.run_memory.specs.declared.pointer.Value.{Value}
-use Rattle.run_source.specs.Source.{Sleeper, after_end, begin, begin_at, begun, branch_leaving, called, done_at, end_of, enter_block, finish, first_state, go_to, if_let_go, is_over, is_save, leave, left_windows, let_go, may_be_freed, may_leave, mode_of, promise, release, return, save, save_for, sleeper_at, sleeper_of, suspend, change_own, slots_of, deallocate, enter, continue}
-use Rattle.run_source.specs.State.{function_of, gives, instance_at, is_finished, is_suspended, next, or_undefined, own_facts, own_frame, own_instance, settled, with_instance, with_left, with_memory, with_status, work_of, numbered}
+use Rattle.run_source.specs.Source.{Sleeper, after_end, begin, begin_at, begun, branch_leaving, called, end_of, enter_block, finish, first_state, go_to, if_let_go, is_over, is_save, left_windows, let_go, may_be_freed, may_leave, mode_of, promise, release, return, save, save_for, sleeper_at, sleeper_of, suspend, change_own, slots_of, deallocate, enter}
+use Rattle.run_source.specs.State.{function_of, gives, instance_at, is_finished, is_suspended, next, or_undefined, own_facts, own_frame, own_instance, with_instance, with_left, with_memory, with_status, work_of, numbered}
 use Rattle.run_source.specs.declared.state.Activation.{Activation}
 use Rattle.run_source.specs.declared.state.Instance.{Instance}
 use Rattle.run_source.specs.declared.state.Mode.{Mode}
 use Rattle.run_source.specs.declared.state.Saved.{Saved}
 use Rattle.run_source.specs.declared.state.State.{State}
 use Rattle.run_source.specs.declared.state.Status.{Status}
-use Rattle.run_source_tables.specs.Given.{Given, facts_at, has_final, is_final}
+use Rattle.run_source_tables.specs.Given.{Given, facts_at}
 use Rattle.run_step.specs.Effects.{is_alloca}
 use Rattle.run_step.specs.Results.{and_then, found, ok_if}
 use Rattle.run_step.specs.Runs.{iterate}
-use Rattle.run_step.specs.Step.{Action, AtInstr, AtTerm, Context, Coro, Deallocate, Done, Enter, Fetched, GoTo, NewSlot, Nowhere, Return, Stuck, Work, action_of, alloca, alloca_kind, block_of, deallocated, fetch, has_markers, if_alignment, instr_action, is_alignment, label_of, set_memory, set_value, without_slots, done, intrinsic_call, with_length}
-use Rattle.run_step.specs.Values.{Env, arg_values, integer, nth, truth_value, value_in, with_result}
+use Rattle.run_step.specs.Step.{Action, AtInstr, AtTerm, Context, Coro, Deallocate, Done, Enter, Fetched, GoTo, NewSlot, Nowhere, Return, Stuck, action_of, alloca, alloca_kind, block_of, deallocated, fetch, instr_action, is_alignment, label_of, set_memory, without_slots, done, intrinsic_call, with_length}
+use Rattle.run_step.specs.Values.{Env, arg_values, integer, nth, truth_value}
 use Rattle.run_step.specs.declared.world.Slot.{Slot}
 use Rattle.run_hooks.proofs.Left.{step_last}
 use Rattle.run_hooks.proofs.Reaching.{step_stays}

@@ -1,5 +1,5 @@
 -- In each state of a run by hooks a live slot may be alive where its instance is.
-use Rattle.std.specs.Prelude.{◌≡◌, ◌⊎◌, ◌+◌, ℕ, Bool, true, false, List, [], ◌∷◌, length, slice_get, Some, None, Option}
+use Rattle.std.specs.Prelude.{◌≡◌, ◌⊎◌, ℕ, Bool, true, false, List, [], ◌∷◌, length, slice_get, Some, None, Option}
 use Rattle.std.specs.Prelude.{IsTrue, Result, Ok, Err}
 use Rattle.std.specs.List.{AllByRecursion}
 use Rattle.ir_base.specs.declared.cause.Cause.{Cause}
@@ -23,7 +23,7 @@ use Rattle.rule_windows.specs.Sets.{IsAfterEnd, RunsOut}
 use Rattle.run_hooks.specs.Away.{point_in, spot_of}
 use Rattle.run_hooks.specs.Hooks.{Hooks}
 use Rattle.run_hooks.specs.Meanings.{hooks_by}
-use Rattle.run_hooks.specs.alive.Slots.{AreAliveSlots, AreMet, AreTagged, ArePast, Home, IsSlotOf, Own, Ramp, Tags, home_of, is_gone}
+use Rattle.run_hooks.specs.alive.Slots.{AreAliveSlots, AreMet, AreTagged, ArePast, IsSlotOf, Own, Ramp, Tags, home_of, is_gone}
 use Rattle.run_memory.specs.declared.block.MemoryBlock.{MemoryBlock}
 use Rattle.run_source.specs.Source.{continue, is_over}
 use Rattle.run_source.specs.State.{is_finished, is_suspended}

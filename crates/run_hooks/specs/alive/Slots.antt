@@ -1,5 +1,5 @@
 -- Whose slots blocks are, and from where a live slot with markers may be alive.
-use Rattle.std.specs.Prelude.{◌≡◌, ◌≢◌, ◌<◌, ℕ, Bool, true, false, List, length, slice_get, Some, None, Option, IsTrue}
+use Rattle.std.specs.Prelude.{◌≡◌, ◌≢◌, ◌<◌, ℕ, Bool, true, List, slice_get, Some, None, Option, IsTrue}
 use Rattle.std.specs.List.{AllByRecursion}
 use Rattle.ir_model.specs.declared.module.Function.{Function}
 use Rattle.flow_reach.specs.Reached.{IsPointOf}

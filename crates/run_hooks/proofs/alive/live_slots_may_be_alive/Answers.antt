@@ -14,7 +14,7 @@ use Rattle.run_hooks.proofs.alive.Steps.{first_alive, states_alive, step_alive}
 use Rattle.run_hooks.proofs.alive.live_slots_may_be_alive.Goals as goal
 use Rattle.run_hooks.specs.Hooks.{step_of}
 use Rattle.run_hooks.specs.Meanings.{kept_hooks}
-use Rattle.run_hooks.specs.alive.Alive.{IsAliveState, handing}
+use Rattle.run_hooks.specs.alive.Alive.{IsAliveState}
 use Rattle.run_source.specs.Source.{first_state, step_by}
 
 pub returns-clause-first : goal.returns-clause-first
