@@ -1,5 +1,5 @@
 -- Steps by hooks keep it that an activation that hasn't left is the last one of its instance, which isn't Suspended.
-use Rattle.std.proofs.Common.{◌≡◌, ◌<◌, ℕ, zero, suc, ◌+◌, Bool, true, false, List, [], ◌∷◌}
+use Rattle.std.proofs.Common.{◌≡◌, ◌<◌, ℕ, zero, suc, Bool, true, false, List, [], ◌∷◌}
 use Rattle.std.proofs.Common.{◌++◌, length, Option, Some, None, Result, Ok, Err, refl, sym, ap, ◌∙◌, subst, arith}
 use Rattle.std.specs.Prelude.{if◌then◌else◌, not, option_and_then, option_map, slice_get, slice_set}
 use Rattle.std.specs.Prelude.{unwrap_or}

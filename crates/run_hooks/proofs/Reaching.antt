@@ -12,7 +12,6 @@ use Rattle.pass_kept_proof.proofs.Actions.{SameAction, action_same}
 use Rattle.pass_kept_proof.proofs.Same.{same_all}
 use Rattle.pass_kept_proof.proofs.Rules.{suspend_is_suspend}
 use Rattle.pass_kept_proof.proofs.Walks.{destroy_reached, path_reached, resume_reached}
-use Rattle.run_memory.specs.Memory.{own}
 use Rattle.run_memory.specs.declared.pointer.Value.{Value}
 use Rattle.ir_base.specs.declared.cause.Cause.{Cause}
 use Rattle.ir_base.specs.declared.outcome.Outcome.{Outcome}

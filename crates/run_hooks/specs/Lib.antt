@@ -3,3 +3,4 @@ pub mod Meanings
 pub mod Reached
 pub mod Left
 pub mod Away
+pub mod alive

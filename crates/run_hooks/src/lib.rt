@@ -13,7 +13,11 @@
 //!
 //! The third says where they stand: one that has left is between a save and its suspend, at that or its switch, or at
 //! the end or behind it, and one that hasn't is in no such window (`places_stay`, `activations_of_runs_are_placed`).
+//!
+//! The fourth says where live slots may be alive, and that two of one instance conflict (module `alive`).
 #![tactic(auto)]
+
+pub mod alive;
 
 ghost use Rattle.std.specs.Prelude.{ℕ, ℤ, List, true, false, ◌≡◌, ◌∷◌};
 ghost use Rattle.frame_layout.specs.declared.layout.Layouts.{Layouts as TheLayouts};

@@ -11,3 +11,4 @@ pub mod Suspends
 pub mod Tokens
 pub mod Whole
 pub mod Windows
+pub mod Closed

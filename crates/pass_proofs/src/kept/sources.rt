@@ -10,13 +10,18 @@
 //! and K7 (`coroutines_keep_suspend_rules`). Blocks on edges leave these (`edge_blocks_keep_suspend_rules`). It also
 //! holds by N1, K1, K2, Y1 and Y2 (`functions_have_plain_names`).
 
-ghost use Rattle.std.specs.Prelude.{ℕ, ◌≡◌, None, true, Some, List, ℤ};
+ghost use Rattle.std.specs.Prelude.{ℕ, ◌≡◌, None, true, Some, List, ℤ, Option};
 ghost use Rattle.rule_laws.specs.rules.function_rules.Kept.{KeepsFunctionRules};
 ghost use Rattle.ir_model.specs.declared.module.Function.{Function};
 ghost use Rattle.ir_model.specs.declared.module.Module.{Module};
 ghost use Rattle.pass_kept_proof.specs.Crossing.{IsDefinite, AreDefinite};
 ghost use Rattle.rule_shape.specs.Switches.{wrong_switch};
+ghost use Rattle.ir_model.specs.declared.instr.Terminator.{Terminator};
+ghost use Rattle.ir_model.specs.declared.operand.Arg.{Arg};
 ghost use Rattle.ir_model.specs.declared.operand.Intrinsic.{Intrinsic};
+ghost use Rattle.ir_paths.specs.Windows.{IsInWindow, suspend_of};
+ghost use Rattle.rule_windows.specs.Sets.{IsAfterEnd, RunsOut};
+ghost use Rattle.run_step.specs.Step.{AtTerm, fetch};
 ghost use Rattle.ir_paths.specs.declared.point.Point.{Point};
 ghost use Rattle.pass_kept_proof.specs.SuspendRules.{IsCallAt, IsSwitched, KeepsSuspendRules, AllKeepSuspendRules, KeepsNeeded};
 ghost use Rattle.pass_kept_proof.specs.Needed.{IsNeededBehind, given_by};
@@ -57,6 +62,23 @@ pub fn results_of_suspends_are_unread()
 /// A coroutine that breaks none of the rules of functions, of its calls and of paths keeps what is asked of saves, suspends and windows.
 pub fn coroutines_keep_suspend_rules()
     ensures { (m : Module) (k : ℕ) (f : Function) → f.coroutine ≡ true → KeepsFunctionRules m k f → KeepsShape k f → KeepsPaths k f → KeepsSuspendRules f }
+{}
+
+/// In a coroutine that breaks none of these rules no save and no suspend stands behind the end, and no return where a
+/// path from begin leads without the end. No other save and no suspend stands in a window.
+pub fn coroutines_keep_places_closed()
+    ensures save_behind { (k : ℕ) (f : Function) → f.coroutine ≡ true → KeepsPaths k f → (p : Point) → IsAfterEnd f p
+        → IsCallAt Intrinsic.CoroSave f p → ⊥ }
+    ensures suspend_behind { (k : ℕ) (f : Function) → f.coroutine ≡ true → KeepsPaths k f → (p : Point)
+        → IsAfterEnd f p → IsCallAt Intrinsic.CoroSuspend f p → ⊥ }
+    ensures returning { (k : ℕ) (f : Function) → f.coroutine ≡ true → KeepsPaths k f → (p : Point) (arg : Option Arg)
+        → fetch f p.block p.at ≡ AtTerm (Terminator.Ret arg) → RunsOut f p → ⊥ }
+    ensures save_inside { (m : Module) (k : ℕ) (f : Function) → f.coroutine ≡ true → KeepsFunctionRules m k f
+        → KeepsShape k f → KeepsPaths k f → (save s p : Point) → IsCallAt Intrinsic.CoroSave f save
+        → suspend_of f save ≡ Some s → IsInWindow f save s p → IsCallAt Intrinsic.CoroSave f p → ⊥ }
+    ensures suspend_inside { (m : Module) (k : ℕ) (f : Function) → f.coroutine ≡ true → KeepsFunctionRules m k f
+        → KeepsShape k f → KeepsPaths k f → (save s p : Point) → IsCallAt Intrinsic.CoroSave f save
+        → suspend_of f save ≡ Some s → IsInWindow f save s p → IsCallAt Intrinsic.CoroSuspend f p → ⊥ }
 {}
 
 /// A function that breaks none of the rules of functions, and as a coroutine none of its calls, keeps what is asked of names and of the end's block.

@@ -1,5 +1,4 @@
 use Rattle.std.proofs.Common.{ap}
-use Rattle.run_agreement.specs.Machines.{Seen}
 use Rattle.run_source.specs.declared.state.State.{State}
 use Rattle.run_step.specs.Runs.{seen_of}
 use Rattle.run_source.specs.Source.{continue, first_state, given, step}

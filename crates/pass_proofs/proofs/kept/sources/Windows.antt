@@ -86,7 +86,7 @@ module _ (k : ℕ) (f : Function) (coroutine : f.coroutine ≡ true) (once : fir
     one_suspend : suspends_of f save ≡ s ∷ []
     one_suspend = only_one (suspends_of f save) s pair (λ h. not_broken (NotOne h))
 
-    not_wrong : IsWrong f save s → ⊥
+    pub not_wrong : IsWrong f save s → ⊥
     not_wrong w = not_broken (Between s one_suspend w)
 
     -- K6: a path leads from the save to the suspend

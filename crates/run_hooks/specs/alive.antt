@@ -1,0 +1,4 @@
+pub mod Slots
+pub mod Alive
+pub mod Apart
+pub mod Worked

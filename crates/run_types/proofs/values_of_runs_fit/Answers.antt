@@ -1,0 +1,42 @@
+use Rattle.std.proofs.Common.{subst, sym}
+use Rattle.pass_kept_proof.specs.Kept.{continue_keeping}
+use Rattle.pass_renewed_proof.specs.Renewed.{renewed_step}
+use Rattle.run_framed.specs.Framed.{framed_step}
+use Rattle.run_hooks.proofs.Keeping.{framed_keeps, kept_keeps, renewed_keeps, source_keeps}
+use Rattle.run_hooks.proofs.Steps.{framed_steps, renewed_steps, same_runs, source_step}
+use Rattle.run_hooks.specs.Hooks.{step_of}
+use Rattle.run_hooks.specs.Meanings.{framed_hooks, kept_hooks, renewed_hooks, source_hooks}
+use Rattle.run_source.specs.Source.{continue, first_state, step, step_by}
+use Rattle.run_types.proofs.Meanings.{framed_keeps_fitting, kept_keeps_fitting, renewed_keeps_fitting}
+use Rattle.run_types.proofs.Meanings.{source_keeps_fitting}
+use Rattle.run_types.proofs.Runs.{states_fit}
+use Rattle.run_types.proofs.values_of_runs_fit.Goals as goal
+use Rattle.run_types.specs.States.{IsFittingState}
+
+pub returns-clause-source : goal.returns-clause-source
+returns-clause-source c = λ g entry args n ok rules given.
+    let e = same_runs (step g) (step_of (source_hooks g)) (source_step g (continue g)) n
+    (first_state g.code entry args) in
+    subst (IsFittingState g.code) (sym e)
+    (states_fit (source_hooks g) ok (source_keeps g) rules (source_keeps_fitting g rules) entry args n given)
+
+pub returns-clause-kept : goal.returns-clause-kept
+returns-clause-kept c = λ g keep entry args n ok rules given.
+    let e = same_runs (step_by g (continue_keeping g keep)) (step_of (kept_hooks g keep))
+    (source_step g (continue_keeping g keep)) n (first_state g.code entry args) in
+    subst (IsFittingState g.code) (sym e)
+    (states_fit (kept_hooks g keep) ok (kept_keeps g keep) rules (kept_keeps_fitting g keep rules) entry args n given)
+
+pub returns-clause-renewed : goal.returns-clause-renewed
+returns-clause-renewed c = λ g entry args n ok rules given.
+    let e = same_runs (renewed_step g) (step_of (renewed_hooks g)) (renewed_steps g) n
+    (first_state g.given.code entry args) in
+    subst (IsFittingState g.given.code) (sym e)
+    (states_fit (renewed_hooks g) ok (renewed_keeps g) rules (renewed_keeps_fitting g rules) entry args n given)
+
+pub returns-clause-framed : goal.returns-clause-framed
+returns-clause-framed c = λ g entry args n ok rules types given.
+    let e = same_runs (framed_step g) (step_of (framed_hooks g)) (framed_steps g) n
+    (first_state g.given.code entry args) in
+    subst (IsFittingState g.given.code) (sym e)
+    (states_fit (framed_hooks g) ok (framed_keeps g) rules (framed_keeps_fitting g rules types) entry args n given)

@@ -1,0 +1,4 @@
+pub mod Fitting
+pub mod Rules
+pub mod States
+pub mod Worked
