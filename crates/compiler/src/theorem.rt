@@ -9,6 +9,7 @@ ghost use Rattle.ir_model.specs.declared.module.Module.{Module};
 ghost use Rattle.frame_layout.specs.declared.layout.Layouts.{Layouts};
 ghost use Rattle.pass_frames.specs.Framed.{IsFramedForm};
 ghost use Rattle.std.specs.Prelude.{ℕ};
+ghost use Rattle.run_types.specs.States.{AreArguments};
 ghost use Rattle.pass_renewed_proof.specs.Prices.{Prices};
 ghost use Rattle.compiler.specs.theorem.Theorem.{KeepsMeaning, Steps};
 ghost use Rattle.compiler.specs.theorem.Elision.{ElidedSteps, ElidesCalls};
@@ -42,7 +43,8 @@ pub fn allocas_stand_first_in_framed_forms()
 pub fn lowering_keeps_meaning<P: Relates>()
     ensures { (a : Anew) (p : Prices) (l : Lowered) → IsLowered l
         → Steps P.renewed P.renewing P.framed P.framing a p l → (r : Run) (other : ℕ)
-        → IsEntry l.source (printed_from l l.framed) r.entry other → KeepsMeaning l r other }
+        → IsEntry l.source (printed_from l l.framed) r.entry other → AreArguments l.source r.entry r.args
+        → KeepsMeaning l r other }
 {}
 
 /// So it does where calls are elided, with the most sites of one function in the step factor; it makes as many
@@ -51,5 +53,6 @@ pub fn elision_keeps_meaning<P: Relates, Q: RelatesElided>()
     ensures { (a : Anew) (p : Prices) (l : Lowered) → IsLowered l
         → Steps P.renewed P.renewing P.framed P.framing a p l → (n : Module) (sites : ℕ)
         → ElidedSteps Q.elided Q.eliding l n sites → (r : Run) (other : ℕ)
-        → IsEntry l.source (printed_from l n) r.entry other → ElidesCalls l n sites r other }
+        → IsEntry l.source (printed_from l n) r.entry other → AreArguments l.source r.entry r.args
+        → ElidesCalls l n sites r other }
 {}

@@ -15,11 +15,12 @@ use Rattle.compiler.proofs.theorem.Stack.{gives_no_stack_back}
 use Rattle.compiler.proofs.theorem.Whole.{entry_split}
 use Rattle.compiler.specs.theorem.Anew.{Anew}
 use Rattle.compiler.specs.theorem.Elision.{CountsElided, ElidedSteps, ElidesCalls, NamesNoPart, given_frames, uncounted}
-use Rattle.compiler.specs.theorem.Entries.{IsEntry, Run}
+use Rattle.compiler.specs.theorem.Entries.{IsEntry, IsEntryCall, Run}
 use Rattle.compiler.specs.theorem.Lowered.{IsLowered, Lowered, framed_run, lowered_from, plain_run, printed_from, source_run, split_from}
 use Rattle.pass_renewed_proof.specs.Prices.{Prices}
 use Rattle.compiler.specs.theorem.Theorem.{Steps}
 use Rattle.ir_model.specs.declared.module.Module.{Module}
+use Rattle.run_types.specs.States.{AreArguments}
 use Rattle.run_plain.specs.declared.state.PlainState.{PlainState}
 use Rattle.compiler.proofs.order.meaning.Main.{order_agrees}
 use Rattle.compiler.proofs.whole.printed_order.Main.{order_corresponds}
@@ -54,7 +55,10 @@ composed j k a b c g h =
 module _ (R V Q W : Lowered → Anew → Run → State → State → Type 0)
     (X Y : Lowered → Module → Run → State → State → Type 0) (a : Anew) (p : Prices) (l : Lowered) (low : IsLowered l)
     (h : Steps R V Q W a p l) (n : Module) (sites : ℕ) (g : ElidedSteps X Y l n sites) (r : Run) (other : ℕ)
-    (entry : IsEntry l.source (printed_from l n) r.entry other) where
+    (entry : IsEntry l.source (printed_from l n) r.entry other) (fits : AreArguments l.source r.entry r.args) where
+  call : IsEntryCall l.source r
+  call = record { callable = entry.callable; fits = fits }
+
   abbrev here : IsEntry l.source (split_from l n) r.entry other
   here = entry_split l n r.entry other entry
 
@@ -74,14 +78,14 @@ module _ (R V Q W : Lowered → Anew → Run → State → State → Type 0)
   f = 4 * (4 * size_factor l.source)
 
   first : AgreesWithin f source framed
-  first = framed_within R V Q W a p l low h r entry.callable
+  first = framed_within R V Q W a p l low h r call
 
   second : Agrees (1 + sites) 0 framed elided
   second =
       counted (1 + sites) (framed_run l l.framed r) (framed_run l n r)
       (agrees_within (X l n r) (Y l n r) (uncounted (framed_run l l.framed r)) (λ s. 1 + sites)
       (uncounted (framed_run l n r)) (λ t. 1) (1 + sites)
-      (λ k fine. flat k) (at_least (uncounted (framed_run l n r))) (g.eliding r entry.callable)).runs
+      (λ k fine. flat k) (at_least (uncounted (framed_run l n r))) (g.eliding r call)).runs
     where
       flat : (k : ℕ) → cost_at (uncounted (framed_run l l.framed r)) (λ s. 1 + sites) k ≤ (1 + sites) * k
       flat k = cost_below (uncounted (framed_run l l.framed r)).step (λ s. 1 + sites) (1 + sites) (λ s. omega arith) k
@@ -91,7 +95,7 @@ module _ (R V Q W : Lowered → Anew → Run → State → State → Type 0)
   third =
       compose_within (4 * 1) 1 elided (at (plain_run (lowered_from l n) r other)) printed
       (compose_within 4 1 elided (at (plain_run (split_from l n) r other)) (at (plain_run (lowered_from l n) r other))
-      (g.parting r other g.allocas here)
+      (g.parting r other g.allocas call here)
       (clean_agrees (split_from l n) g.cleanable other r.args r.answers))
       (order_agrees (lowered_from l n) g.shaped g.apart other r.args r.answers)
 
@@ -108,7 +112,7 @@ module _ (R V Q W : Lowered → Anew → Run → State → State → Type 0)
       let split : Machine PlainState = plain_run (split_from l n) r other in
       let lowered : Machine PlainState = plain_run (lowered_from l n) r other in
       let last : Machine PlainState = plain_run (printed_from l n) r other in
-      let x = (g.parting r other g.allocas here).runs.prefix i (returned_fine (elided i).outcome ri) in
+      let x = (g.parting r other g.allocas call here).runs.prefix i (returned_fine (elided i).outcome ri) in
       let rx : IsReturned (at split x.steps).outcome = follows_returned (elided i) (at split x.steps) x.follows ri in
       let y = counted_on (IsCleanedOf (split_from l n)) (IsCleanedOf (split_from l n)) split (λ s. 1) lowered (λ t. 1)
       (λ s t e. ap (λ (u : PlainState). u.elided) e) (clean_corresponds (split_from l n) g.cleanable other r.args
@@ -135,7 +139,7 @@ module _ (R V Q W : Lowered → Anew → Run → State → State → Type 0)
         number = number y.steps j ry rj;
         counts =
             first.counts i x.steps ri rx
-            ∙ g.losing r entry.callable x.steps y.steps rx ry
+            ∙ g.losing r call x.steps y.steps rx ry
             ∙ ap (λ (k : ℕ). k + given_frames (state_at (framed_run l n r) y.steps)) (third.counts y.steps j ry rj);
       }
 

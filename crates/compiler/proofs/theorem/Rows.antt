@@ -8,7 +8,7 @@ use Rattle.run_agreement.specs.Factor.{size_factor}
 use Rattle.run_agreement.specs.Machines.{IsFine, Machine, at, state_at}
 use Rattle.run_source.specs.declared.state.State.{State}
 use Rattle.compiler.specs.theorem.Anew.{Anew}
-use Rattle.compiler.specs.theorem.Entries.{IsCallable, Run}
+use Rattle.compiler.specs.theorem.Entries.{IsEntryCall, Run}
 use Rattle.compiler.specs.theorem.Lowered.{IsLowered, Lowered, early, edged, framed_run, kept_run, price_kept, price_renewed, renewed_run, sizes_of, source_run}
 use Rattle.pass_renewed_proof.specs.Prices.{Prices}
 use Rattle.compiler.specs.theorem.Theorem.{IsSomewhereShown, Steps}
@@ -26,7 +26,7 @@ at_least b n = least n (cost_at b (λ t. 1) n) (cost_above b.step (λ t. 1) 1 (�
     least n x h = omega arith
 
 module _ (R V Q W : Lowered → Anew → Run → State → State → Type 0) (a : Anew) (p : Prices) (l : Lowered)
-    (low : IsLowered l) (h : Steps R V Q W a p l) (r : Run) (callable : IsCallable l.source r.entry) where
+    (low : IsLowered l) (h : Steps R V Q W a p l) (r : Run) (call : IsEntryCall l.source r) where
   abbrev Handed : State → State → Type 0
   Handed = IsKeptOf l.source (sizes_of l) r.answers
 
@@ -48,7 +48,7 @@ module _ (R V Q W : Lowered → Anew → Run → State → State → Type 0) (a 
   to_framed =
       compose_by (R l a r) (V l a r) (Q l a r) (W l a r) (kept_run l a r) (price_kept l a r p) (renewed_run l a r)
       (price_renewed l a r p) (framed_run l l.framed r) (λ t. 1)
-      (h.renewing h.slots locals r) (h.framing low.source h.good low.is_framed h.anew h.slots r callable)
+      (h.renewing h.slots locals r call) (h.framing low.source h.good low.is_framed h.anew h.slots r call)
 
   -- Source to Framed
   pub framed_within : AgreesWithin (4 * (4 * size_factor l.source)) (at (source_run l r))
@@ -60,7 +60,7 @@ module _ (R V Q W : Lowered → Anew → Run → State → State → Type 0) (a 
       (λ s. omega arith) (λ t. omega arith) to_kept)
       (agrees_within (Through (R l a r) (Q l a r)) (Through (V l a r) (W l a r)) (kept_run l a r) (price_kept l a r p)
       (framed_run l l.framed r) (λ t. 1) (4 * size_factor l.source)
-      (λ n fine. h.paid r n callable fine) (at_least (framed_run l l.framed r)) to_framed)
+      (λ n fine. h.paid r n call fine) (at_least (framed_run l l.framed r)) to_framed)
 
   -- what is shown in frames
   pub somewhere_shown : (n : ℕ) → IsFine (at (source_run l r) n).outcome → IsSomewhereShown l r n

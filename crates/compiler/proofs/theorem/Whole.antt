@@ -10,11 +10,12 @@ use Rattle.compiler.proofs.theorem.Entries.{entry_before}
 use Rattle.compiler.proofs.theorem.Fronts.{allocas_stand_first}
 use Rattle.compiler.proofs.theorem.Rows.{framed_within, somewhere_shown}
 use Rattle.compiler.specs.theorem.Anew.{Anew}
-use Rattle.compiler.specs.theorem.Entries.{IsEntry, Run}
+use Rattle.compiler.specs.theorem.Entries.{IsEntry, IsEntryCall, Run}
 use Rattle.compiler.specs.theorem.Lowered.{AreAllocasFirst, IsLowered, Lowered, early, framed_run, lowered_from, plain_run, printed_from, source_run, split_from}
 use Rattle.pass_renewed_proof.specs.Prices.{Prices}
 use Rattle.compiler.specs.theorem.Theorem.{KeepsMeaning, Steps}
 use Rattle.ir_model.specs.declared.module.Module.{Module}
+use Rattle.run_types.specs.States.{AreArguments}
 use Rattle.compiler.proofs.whole.lowered_sources.Row.{is_ready}
 use Rattle.compiler.specs.cleanup.accepted.Ready.{IsReady}
 use Rattle.text_canonical.specs.order.Order.{function_order}
@@ -33,7 +34,10 @@ whole_factor s = grind arith
 
 module _ (R V Q W : Lowered → Anew → Run → State → State → Type 0) (a : Anew) (p : Prices) (l : Lowered)
     (low : IsLowered l) (h : Steps R V Q W a p l) (r : Run) (other : ℕ)
-    (entry : IsEntry l.source (printed_from l l.framed) r.entry other) where
+    (entry : IsEntry l.source (printed_from l l.framed) r.entry other) (fits : AreArguments l.source r.entry r.args) where
+  call : IsEntryCall l.source r
+  call = record { callable = entry.callable; fits = fits }
+
   abbrev split_entry : IsEntry l.source (split_from l l.framed) r.entry other
   split_entry = entry_split l l.framed r.entry other entry
 
@@ -55,8 +59,8 @@ module _ (R V Q W : Lowered → Anew → Run → State → State → Type 0) (a 
       (at (plain_run (lowered_from l l.framed) r other))
       (compose_within f 4 (at (source_run l r)) (at (framed_run l l.framed r))
       (at (plain_run (split_from l l.framed) r other))
-      (framed_within R V Q W a p l low h r entry.callable)
-      (h.parting h.good ready fronts r other split_entry))
+      (framed_within R V Q W a p l low h r call)
+      (h.parting h.good ready fronts r other call split_entry))
       (cleaned_agrees l.text l.source low.source.stands low.source.accepted l.share l.layouts low.laid l.framed
       low.is_framed other
       r.args r.answers))
@@ -78,6 +82,6 @@ module _ (R V Q W : Lowered → Anew → Run → State → State → Type 0) (a 
         (at (source_run l r)) (at (plain_run (printed_from l l.framed) r other)) (omega arith) (omega arith)
         within.runs;
     agrees = within;
-    shared = somewhere_shown R V Q W a p l low h r entry.callable;
-    apart = λ n fine. h.apart r n entry.callable fine;
+    shared = somewhere_shown R V Q W a p l low h r call;
+    apart = λ n fine. h.apart r n call fine;
   }

@@ -13,7 +13,7 @@ use Rattle.text_canonical.specs.canonical.Items.{module_text}
 use Rattle.ir_base.specs.declared.outcome.Outcome.{Outcome}
 use Rattle.pass_cleanup.specs.Cleanable.{IsCleanable}
 use Rattle.run_source.specs.declared.state.State.{State}
-use Rattle.compiler.specs.theorem.Entries.{IsCallable, IsEntry, Run}
+use Rattle.compiler.specs.theorem.Entries.{IsEntry, IsEntryCall, Run}
 use Rattle.compiler.specs.theorem.Lowered.{AreAllocasFirst, Lowered, framed_run, lowered_from, plain_run, printed_from, source_run, split_from}
 use Rattle.run_framed.specs.Framed.{is_given}
 use Rattle.text_grammar.specs.Text.{StandsFor}
@@ -74,16 +74,16 @@ GivesNoStackBack m r other =
 pub record ElidedSteps (X Y : Lowered → Module → Run → State → State → Type 0) (l : Lowered) (n : Module)
     (sites : ℕ) : Type 0 where
   -- waits for: the pass that elides, and its simulation
-  pub eliding : (r : Run) → IsCallable l.source r.entry
+  pub eliding : (r : Run) → IsEntryCall l.source r
       → AgreesBy (X l n r) (Y l n r) (uncounted (framed_run l l.framed r)) (λ s. 1 + sites)
       (uncounted (framed_run l n r)) (λ t. 1)
   -- waits for: the same; the source's call allocates once
-  pub losing : (r : Run) → IsCallable l.source r.entry → LosesCalls (framed_run l l.framed r) (framed_run l n r)
+  pub losing : (r : Run) → IsEntryCall l.source r → LosesCalls (framed_run l l.framed r) (framed_run l n r)
   -- waits for: the same; in its coroutines the allocas of entries stay first
   pub allocas : AreAllocasFirst n
   -- waits for: the simulation of parts, those without allocation among them
-  pub parting : (r : Run) (other : ℕ) → AreAllocasFirst n → IsEntry l.source (split_from l n) r.entry other
-      → AgreesWithin 4 (at (framed_run l n r)) (at (plain_run (split_from l n) r other))
+  pub parting : (r : Run) (other : ℕ) → AreAllocasFirst n → IsEntryCall l.source r
+      → IsEntry l.source (split_from l n) r.entry other → AgreesWithin 4 (at (framed_run l n r)) (at (plain_run (split_from l n) r other))
   -- waits for: the same; parts without allocation are called where calls are elided alone
   pub numbering : NamesNoPart l.source → (r : Run) (other : ℕ) → IsEntry l.source (split_from l n) r.entry other
       → NumbersCalls (framed_run l n r) (plain_run (split_from l n) r other)

@@ -3,6 +3,7 @@ use Rattle.std.specs.Prelude.{◌≡◌, ℕ, ℤ, false, List, Some, slice_get}
 use Rattle.ir_base.specs.declared.outcome.Word.{Word}
 use Rattle.ir_model.specs.declared.module.Function.{Function}
 use Rattle.ir_model.specs.declared.module.Module.{Module}
+use Rattle.run_types.specs.States.{AreArguments}
 
 -- the function at a position, its arguments, and the answers to the calls that the run observes
 pub record Run : Type 0 where
@@ -15,6 +16,11 @@ pub record IsCallable (m : Module) (entry : ℕ) : Type 0 where
   pub function : Function
   pub there : slice_get m.functions entry ≡ Some function
   pub plain : function.coroutine ≡ false
+
+-- a call that a run may begin with: its arguments are words of its parameters' widths
+pub record IsEntryCall (m : Module) (r : Run) : Type 0 where
+  pub callable : IsCallable m r.entry
+  pub fits : AreArguments m r.entry r.args
 
 -- in the other module the function of that name is at the other position
 pub record IsEntry (m n : Module) (entry other : ℕ) : Type 0 where

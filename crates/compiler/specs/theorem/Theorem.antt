@@ -8,7 +8,7 @@ use Rattle.run_agreement.specs.Machines.{IsFine, at, state_at}
 use Rattle.text_canonical.specs.canonical.Items.{module_text}
 use Rattle.run_source.specs.declared.state.State.{State}
 use Rattle.compiler.specs.theorem.Anew.{Anew, IsAnewOf}
-use Rattle.compiler.specs.theorem.Entries.{IsCallable, IsEntry, Run}
+use Rattle.compiler.specs.theorem.Entries.{IsEntry, IsEntryCall, Run}
 use Rattle.compiler.specs.theorem.GoodLayouts.{AreGoodLayouts}
 use Rattle.compiler.specs.theorem.Lowered.{AreAllocasFirst, IsAccepted, Lowered, early, edged, framed_run, kept_run, lowered_from, plain_run, price_kept, price_renewed, printed_from, renewed_run, sizes_of, source_run, split_from}
 use Rattle.pass_renewed_proof.specs.Prices.{Prices}
@@ -38,24 +38,24 @@ pub record Steps (R V Q W : Lowered → Anew → Run → State → State → Typ
   pub needed : KeepsNeeded (edged l) a.keep
   -- waits for: the simulation of slots made anew
   pub renewing : KeepsAllSlots (edged l) a.keep a.flags a.roots → AreLocalsNamed (edged l) → (r : Run)
-      → AgreesBy (R l a r) (V l a r) (kept_run l a r) (price_kept l a r p) (renewed_run l a r) (price_renewed l a r p)
+      → IsEntryCall l.source r → AgreesBy (R l a r) (V l a r) (kept_run l a r) (price_kept l a r p) (renewed_run l a r) (price_renewed l a r p)
   -- waits for: the simulation of frames
   pub framing : IsAccepted l → AreGoodLayouts (early l) l.layouts.coroutines
       → IsFramedForm l.layouts (early l) l.framed → IsAnewOf (early l) a
-      → KeepsAllSlots (edged l) a.keep a.flags a.roots → (r : Run) → IsCallable l.source r.entry
+      → KeepsAllSlots (edged l) a.keep a.flags a.roots → (r : Run) → IsEntryCall l.source r
       → AgreesBy (Q l a r) (W l a r) (renewed_run l a r) (price_renewed l a r p) (framed_run l l.framed r) (λ t. 1)
   -- waits for: prices counted by names and operands, a resume with the jump behind it
-  pub paid : (r : Run) (n : ℕ) → IsCallable l.source r.entry → IsFine (at (kept_run l a r) n).outcome
+  pub paid : (r : Run) (n : ℕ) → IsEntryCall l.source r → IsFine (at (kept_run l a r) n).outcome
       → cost_at (kept_run l a r) (price_kept l a r p) n ≤ (4 * size_factor l.source) * n
   -- waits for: the simulation of parts
   pub parting : AreGoodLayouts (early l) l.layouts.coroutines → IsReady l.layouts l.framed → AreAllocasFirst l.framed
-      → (r : Run) (other : ℕ) → IsEntry l.source (split_from l l.framed) r.entry other
-      → AgreesWithin 4 (at (framed_run l l.framed r)) (at (plain_run (split_from l l.framed) r other))
+      → (r : Run) (other : ℕ) → IsEntryCall l.source r
+      → IsEntry l.source (split_from l l.framed) r.entry other → AgreesWithin 4 (at (framed_run l l.framed r)) (at (plain_run (split_from l l.framed) r other))
   -- waits for: the relations of these two over those that stand, byte for byte
   pub shown : (r : Run) (s t : State) → Through (IsKeptOf l.source (sizes_of l) r.answers)
       (Through (R l a r) (Q l a r)) s t → AreShown l.source l.layouts.coroutines s t
   -- waits for: who may be alive, over source states
-  pub apart : (r : Run) (n : ℕ) → IsCallable l.source r.entry → IsFine (at (source_run l r) n).outcome
+  pub apart : (r : Run) (n : ℕ) → IsEntryCall l.source r → IsFine (at (source_run l r) n).outcome
       → LiveAreApart l.source (state_at (source_run l r) n)
 
 -- a state of the framed run in which the slots and values of a state of the source stand
