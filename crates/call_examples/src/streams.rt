@@ -126,8 +126,12 @@ fn adapters_tell_each_fault(rt: HostRuntime) -> Result<(), Fail> {
     assert_eq!(rt; all.as_slice(), b"abc".as_slice());
     let read = read_all(rt.alloc(), &mut ReadSource::new(Broken), 3);
     assert_eq!(rt; read.err(), Some(ReadAllError::ReadFault));
-    let cases: [(u64, u64, &[u8]); 3] = [(0, 0, b"abcd"), (3, 0, b"ab"), (0, 3, b"abc")];
-    for (failing_write, failing_flush, held) in cases {
+    let cases: [(u64, u64, &[u8], u64); 3] = [
+        (0, 0, b"abcd", 4),
+        (3, 0, b"ab", 2),
+        (0, 3, b"abc", 3),
+    ];
+    for (failing_write, failing_flush, held, flushes) in cases {
         let mut writer = Flawed {
             bytes: Vec::new(rt.alloc()),
             writes: 0,
@@ -143,6 +147,7 @@ fn adapters_tell_each_fault(rt: HostRuntime) -> Result<(), Fail> {
         };
         assert_eq!(rt; written, wanted);
         assert_eq!(rt; writer.bytes.as_slice(), held);
+        assert_eq!(rt; writer.flushes, flushes);
     }
     let mut room = [0u8; 2];
     let written = write_all(&mut WriteSink::new(room.as_mut_slice()), b"abcd");

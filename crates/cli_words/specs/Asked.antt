@@ -1,9 +1,12 @@
 -- What the words ask for.
-use Rattle.std.specs.Prelude.{ℕ, ℤ, Bool, false, ◌||◌, if◌then◌else◌, List, [], ◌∷◌, take, Option, Some, None, codes, unwrap_or, option_and_then}
+use Rattle.std.specs.Prelude.{ℕ, ℤ, Bool, true, false, ◌||◌, if◌then◌else◌, List, [], ◌∷◌, take, Option, Some, None, codes, unwrap_or, option_and_then}
+use Rattle.std.specs.List.{list_any}
 use Rattle.std.specs.Str.{bytes_eq}
 use Rattle.std.specs.Option.{option_map_or}
 use Rattle.std.specs.Str.Parse.{without_leading_plus}
 use Rattle.clap.specs.Words.{Kinds, Row, Text, fault_of, first_of, subcommand_of}
+use Rattle.clap.specs.declared.error.kind.ErrorKind.{ErrorKind}
+use Rattle.clap.specs.declared.error.kind.ErrorKind.TheVariants as kind
 use Rattle.cli_words.specs.App.{the_app}
 use Rattle.cli_words.specs.Lists.{magnitude, list}
 use Rattle.cli_words.specs.declared.words.Form.{Form}
@@ -95,9 +98,32 @@ abbrev pub read_unless : Kinds → Option (Text × List Row) → Reading
 read_unless [] found = command_read found
 read_unless (k ∷ ks) found = Reading.Refused
 
+-- what clap may find at fault at these words
+unfoldable pub faults : List Text → Kinds
+faults words = fault_of the_app words
+
 -- the words after the program's name are words of the command set, or one of their lists isn't a list, or they are refused
-abbrev pub asked : List Text → Reading
+unfoldable pub asked : List Text → Reading
 asked words = read_unless (fault_of the_app words) (subcommand_of the_app words)
+
+-- ---- help
+
+abbrev pub is_help : ErrorKind → Bool
+is_help kind.DisplayHelp = true
+is_help _ = false
+
+abbrev pub is_help_alone : Kinds → Bool
+is_help_alone [] = false
+is_help_alone (k ∷ []) = is_help k
+is_help_alone (k ∷ l ∷ ks) = false
+
+-- clap may show help at these words
+abbrev pub may_show_help : List Text → Bool
+may_show_help words = list_any is_help (faults words)
+
+-- clap shows help at these words, as where `-h` or `--help` stands among a command's options
+abbrev pub shows_help : List Text → Bool
+shows_help words = is_help_alone (faults words)
 
 -- `help`, `--help`, or what begins with `-h`
 abbrev pub asks_help : Text → Bool

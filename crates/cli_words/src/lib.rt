@@ -1,7 +1,8 @@
 //! The words of the command line: which are taken, and what they ask for.
 //!
 //! `take_words` is the written definition of the commands over `clap`'s own contract. A list that isn't one is named,
-//! `--args` before `--answers`. Help comes only where a word asks for it. `read_list` reads such a list.
+//! `--args` before `--answers`. Help comes only where a word asks for it, and always where `clap` then shows it, as at
+//! `-h`; of the word `help` its contract leaves open whether it does. `read_list` reads such a list.
 #![tactic(auto)]
 
 mod answer;

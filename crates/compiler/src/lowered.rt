@@ -18,7 +18,7 @@ use text_printer::{FrameLine, print_frames, print_module};
 
 /// What the lowering of an accepted module gives: its text (a frame line per coroutine, then the canonical text of the
 /// lowered module), the lowered module, the source, its framed form, the layouts of its frames, and the calls whose frames lie
-/// in their callers, of which there are none yet.
+/// in their callers.
 #[derive(Drop)]
 pub struct Lowered {
     pub text: Items<u8>,

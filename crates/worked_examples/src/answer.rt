@@ -13,6 +13,15 @@ pub struct Answer {
     pub err: Vec<u8>,
 }
 
+impl Answer {
+    /// Whether the other one has the same status and the same bytes.
+    pub fn is_same(&self, other: &Answer) -> bool {
+        self.code == other.code
+            && self.out.as_slice() == other.out.as_slice()
+            && self.err.as_slice() == other.err.as_slice()
+    }
+}
+
 /// The words of a line with a space between them.
 fn words_of(alloc: Global, line: &str) -> Result<Vec<String>, AllocError> {
     let mut words = Vec::new(alloc);
@@ -49,19 +58,73 @@ pub fn ask(alloc: Global, line: &str, text: &[u8]) -> Result<Answer, AllocError>
     answer_over(alloc, line, input, out, err)
 }
 
-/// The same over a source and sinks of 16 bytes a call, where a read and a write to standard output fail, each named by the
-/// number of its call, 0 for none.
+/// The calls that fail, each by its number from 1, 0 for none: of reads, and of writes to standard output and standard error.
+#[derive(Clone, Copy, Drop)]
+pub struct Failing {
+    pub read: usize,
+    pub out: usize,
+    pub err: usize,
+}
+
+impl Failing {
+    /// No call fails.
+    pub fn none() -> Self {
+        Failing {
+            read: 0,
+            out: 0,
+            err: 0,
+        }
+    }
+
+    /// This read fails.
+    pub fn read(call: usize) -> Self {
+        Failing {
+            read: call,
+            out: 0,
+            err: 0,
+        }
+    }
+
+    /// This read fails, and the first write to standard error.
+    pub fn read_untold(call: usize) -> Self {
+        Failing {
+            read: call,
+            out: 0,
+            err: 1,
+        }
+    }
+
+    /// These writes fail.
+    pub fn write(out: usize, err: usize) -> Self {
+        Failing { read: 0, out, err }
+    }
+}
+
+fn fails_at(alloc: Global, call: usize) -> Result<Vec<u64>, AllocError> {
+    Vec::from_slice(alloc, &[call as u64])
+}
+
+/// The same over a source and sinks of 16 bytes a call, of which some fail.
 pub fn ask_failing(
     alloc: Global,
     line: &str,
     text: &[u8],
-    read: usize,
-    write: usize,
+    failing: Failing,
 ) -> Result<Answer, AllocError> {
-    let reads = Vec::from_slice(alloc, &[read as u64])?;
-    let writes = Vec::from_slice(alloc, &[write as u64])?;
-    let input = ByteSource::new(Vec::from_slice(alloc, text)?, 16, reads);
-    let out = ByteSink::with_room(alloc, 65_536, 16, writes)?;
-    let err = ByteSink::with_room(alloc, 65_536, 16, Vec::new(alloc))?;
+    ask_in_room(alloc, line, text, failing, 65_536)
+}
+
+/// The same, where standard output has room for so many bytes.
+pub fn ask_in_room(
+    alloc: Global,
+    line: &str,
+    text: &[u8],
+    failing: Failing,
+    room: usize,
+) -> Result<Answer, AllocError> {
+    let bytes = Vec::from_slice(alloc, text)?;
+    let input = ByteSource::new(bytes, 16, fails_at(alloc, failing.read)?);
+    let out = ByteSink::with_room(alloc, room, 16, fails_at(alloc, failing.out)?)?;
+    let err = ByteSink::with_room(alloc, 65_536, 16, fails_at(alloc, failing.err)?)?;
     answer_over(alloc, line, input, out, err)
 }

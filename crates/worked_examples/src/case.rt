@@ -1,7 +1,7 @@
 //! The cases of worked examples as a text of lines.
 //!
 //! A case begins with a line `> WORDS < FILE`. Lines `out TEXT` and `err TEXT` follow, of which standard output and standard
-//! error are made; a line `more` where standard output goes on behind them; and a line `status N`, which ends the case.
+//! error are made, `out` or `err` alone being an empty line; a line `more` where standard output goes on behind them; and a line `status N`, which ends the case.
 //! `> again < FILE` asks that the module of the file is printed and read again as the same module, and `> lower then WORDS < FILE`
 //! gives the words what `lower` writes of the file (`> lower --plain then WORDS < FILE` what it writes with plain frames).
 //! `> forms WORDS < FILE` asks for the same answer of `run` with these words in all forms, with plain frames and with those that
@@ -80,6 +80,10 @@ impl Case {
             add(&mut self.out, text)?;
         } else if let Some(text) = line.strip_prefix("err ") {
             add(&mut self.err, text)?;
+        } else if line == "out" {
+            add(&mut self.out, "")?;
+        } else if line == "err" {
+            add(&mut self.err, "")?;
         } else if line == "more" {
             self.goes_on = true;
         } else if !line.is_empty() && !line.starts_with("#") {

@@ -1,7 +1,7 @@
 //! Runs the worked examples: the cases of the file `cases`, each words, a module and what the program answers to them, the
-//! one-line modules of the file `refusals`, those that the file `limits` describes, the public calls of the file `calls`, and
-//! the words of the file `faults` with failing reads and writes, and the modules of the file `cuts`, cut behind each token. Writes
-//! which are answered otherwise, and how many there were.
+//! one-line modules of the file `refusals`, those that the file `limits` describes, the public calls of the file `calls`,
+//! the words of the file `faults` with failing reads and writes, those of the file `sinks` with small sinks, and the modules of
+//! the file `cuts`, cut behind each token. Writes which are answered otherwise, and how many there were.
 #![tactic(auto)]
 
 mod again;
@@ -13,6 +13,7 @@ mod fault;
 mod limit;
 mod refusal;
 mod sight;
+mod sink;
 
 use crate::case::Cases;
 use anyhow::Result;
@@ -80,6 +81,18 @@ fn faults(rt: &HostRuntime) -> Result<usize> {
     Ok(count)
 }
 
+/// Runs the words of the file `sinks` with small sinks, and gives how many there were.
+fn sinks(rt: &HostRuntime) -> Result<usize> {
+    let text = fs::read_to_string(rt, "sinks")?;
+    let mut count = 0usize;
+    for line in text.lines() {
+        if sink::run(rt, line)? {
+            count = count.saturating_add(1);
+        }
+    }
+    Ok(count)
+}
+
 /// Cuts the modules that the file `cuts` names, and gives how many there were.
 fn cuts(rt: &HostRuntime) -> Result<usize> {
     let text = fs::read_to_string(rt, "cuts")?;
@@ -98,8 +111,11 @@ fn main(rt: HostRuntime) -> Result<()> {
     let limits = limits(&rt)?;
     let calls = calls(&rt)?;
     let faults = faults(&rt)?;
+    let sinks = sinks(&rt)?;
     let cuts = cuts(&rt)?;
     println!(rt; "{cases} cases, {lines} modules of a line, {limits} at or above a limit")?;
-    println!(rt; "{calls} calls, {faults} with faults, {cuts} cut behind each token")?;
+    println!(rt;
+        "{calls} calls, {faults} with faults, {sinks} small sinks, {cuts} cut behind each token"
+    )?;
     Ok(())
 }

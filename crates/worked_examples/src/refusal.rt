@@ -6,6 +6,11 @@
 use crate::answer::ask;
 use anyhow::Result;
 
+/// The status with which standard error gets this line: that of a fault of the input, or of a refusal.
+fn code_of(told: &str) -> u8 {
+    if told.starts_with("input ") { 8 } else { 1 }
+}
+
 /// Whether a module that is checked is answered so.
 pub fn is_told(rt: &HostRuntime, words: &str, text: &[u8], told: &str) -> Result<bool> {
     let given = ask(rt.alloc(), words, text)?;
@@ -15,7 +20,11 @@ pub fn is_told(rt: &HostRuntime, words: &str, text: &[u8], told: &str) -> Result
         );
     }
     let wanted = format!(in rt.alloc(); "{told}\n")?;
-    Ok(given.err.as_slice() == wanted.as_bytes() && given.out.is_empty() && given.code == 1)
+    Ok(
+        given.err.as_slice() == wanted.as_bytes()
+            && given.out.is_empty()
+            && given.code == code_of(told),
+    )
 }
 
 /// Checks the module of a line, and writes where it is answered otherwise. Whether the line has a module.

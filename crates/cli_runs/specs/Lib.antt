@@ -1,0 +1,4 @@
+pub mod Verdicts
+pub mod Entries
+pub mod Machines
+pub mod Runs
