@@ -46,7 +46,8 @@ use Rattle.pass_renewed_proof.proofs.Stands.{end_at_first}
 use Rattle.pass_renewed_proof.proofs.Starting.{first_or_resumed}
 use Rattle.pass_renewed_proof.proofs.Way.{alive_more, barred_more, resumed_more, same_instr}
 use Rattle.pass_renewed_proof.specs.Ahead.{IsNoStart, IsUsedBefore}
-use Rattle.pass_renewed_proof.specs.Beside.{AreInstancesBeside, AreKeptBeside, AreOutdone, Begun, Early, GoesOn}
+use Rattle.pass_renewed_proof.specs.Beside.{AreInstancesBeside, AreKeptBeside, AreOthers, AreOutdone, Begun, Early}
+use Rattle.pass_renewed_proof.specs.Beside.{GoesOn}
 use Rattle.pass_renewed_proof.specs.Beside.{IsActivationBeside, IsBeside, IsInstanceBeside}
 use Rattle.pass_renewed_proof.specs.Beside.{IsKeptSlot, IsOverOf, IsSlotBeside, IsSlotOf, IsTold, Leaves}
 use Rattle.pass_renewed_proof.specs.Beside.{NotLeft, place_in}
@@ -242,6 +243,8 @@ module _ (m : Module) (flags : Flags) (roots : Roots) (keeps : (func : ℕ)
     is_call = subst (λ g. IsCallAt Intrinsic.CoroSuspend (function_at m g) u) (sym same_func) suspend_call;
     runs_out = subst (λ g. RunsOut (function_at m g) u) (sym same_func) runs_there;
     envs = subst (λ g. AreSlotEnvs l.homes (roots g) s.top.values h.values) (sym same_func) h.envs;
+    others = subst (λ g. AreOthers l (function_at m g) (flags g) (roots g) s.top.values h.values) (sym same_func)
+        h.others;
     each = λ al b flagged at.
         let mine = subst (λ g. IsTrue (flags g al)) same_func flagged in
         ⊎_elim
@@ -406,6 +409,7 @@ module _ (m : Module) (flags : Flags) (roots : Roots) (keeps : (func : ℕ)
     is = ap (λ (z : Activation). record z { at = z.at + 1; has_left = true }) h.is;
     envs = h.envs;
     listed = h.listed;
+    others = h.others;
     each = λ al b c flagged at at'. slot_saved al b c flagged (h.each al b c flagged at at');
     made = λ slot is_in flagged. passed_next f slot.alloca k (h.made slot is_in flagged);
     modes = h.modes;

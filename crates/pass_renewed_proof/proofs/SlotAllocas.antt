@@ -101,6 +101,13 @@ module _ (m : Module) (flags : Flags) (roots : Roots) (keeps : (func : ℕ)
       on true = refl
       on false = refl
 
+  other : same_kind (alloca_kind (function_at m s.top.func)) Kind.Allocator ≡ false
+  other = on f.coroutine
+    where
+      on : (u : Bool) → same_kind (if u then Kind.Slot else Kind.Stack) Kind.Allocator ≡ false
+      on true = refl
+      on false = refl
+
   abbrev seat : Seat
   seat = record { func = s.top.func; alloca = a; depth = length s.below; instance = s.top.instance }
 
@@ -128,7 +135,7 @@ module _ (m : Module) (flags : Flags) (roots : Roots) (keeps : (func : ℕ)
         s.below) seat) (s.world.memory ++ first u ∷ []) (fresh t.world.memory (size_of m ty) align (alloca_kind
         (function_at m s.top.func)))
     entered = slot_entered m l s.world.memory t.world.memory (first u) kind (length s.below) seat st beside.entered
-        small refl writable
+        small refl writable other
 
     -- both have the block, and nobody has its address
     abbrev made : IsBeside m flags roots (record s { world = record s.world { memory = s.world.memory ++ first u ∷ [] } })
@@ -139,12 +146,12 @@ module _ (m : Module) (flags : Flags) (roots : Roots) (keeps : (func : ℕ)
         })
     made =
         let stands = slot_stands m l s.world.memory t.world.memory (first u) kind (length s.below) seat st
-        beside.entered small refl writable in
+        beside.entered small refl writable other in
         worlds_beside m flags roots s t beside k w v
         (slot_carried m l s.world.memory t.world.memory (first u) kind (length s.below) seat st beside.entered small
-        refl writable)
+        refl writable other)
         (slot_kept_on m l s.world.memory t.world.memory (first u) kind (length s.below) seat st beside.entered small
-        refl writable)
+        refl writable other)
         (record {
           memory = stands.memory;
           nulls = stands.nulls;
@@ -212,7 +219,6 @@ module _ (m : Module) (flags : Flags) (roots : Roots) (keeps : (func : ℕ)
         block = length s.world.memory;
       }) (record {
         flagged = is.flagged;
-        depth = length s.below;
         seat = seat_is ∙ ap (λ o. Some (record seat { instance = o })) early;
       })
 

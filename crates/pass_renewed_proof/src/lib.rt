@@ -12,8 +12,10 @@
 //! `address_parts_stay_beside`, `given_values_stay_beside`). So do those that make and mark blocks: allocators
 //! (`allocators_stay_beside`), allocas (`allocas_of_slots_stay_beside`, `other_allocas_stay_beside`) and markers of
 //! slots that may be made anew (`starts_of_slots_stay_beside`, `ends_of_slots_stay_beside`). A save keeps it
-//! (`saves_stay_beside`), and so does `coro.free` (`frees_stay_beside`). Instances are found in both runs
-//! (`own_instances_are_beside`, `sleepers_are_beside`).
+//! (`saves_stay_beside`), and so do `coro.free` (`frees_stay_beside`), markers of other slots
+//! (`other_markers_stay_beside`), deallocations (`deallocations_stay_beside`) and the end
+//! (`coroutine_ends_stay_beside`). Instances are found in both runs (`own_instances_are_beside`,
+//! `sleepers_are_beside`).
 //! Slots that are made anew leave all as it was (`slots_made_anew_keep_all`), and are paid by the resume
 //! (`slots_made_anew_are_paid`).
 //! What a resumed activation may not use it is barred from by the path that it came
@@ -101,10 +103,10 @@ ghost use Rattle.ir_model.specs.declared.operand.Allocator.{Allocator};
 ghost use Rattle.ir_model.specs.declared.operand.Callee.{Callee as TheCallee};
 ghost use Rattle.pass_renewed_proof.specs.Found.{AreFound, IsSleeperBeside};
 ghost use Rattle.run_source_tables.specs.Given.{Given};
-ghost use Rattle.pass_renewed_proof.specs.Making.{IsAllocaOfOther, IsAllocaOfSlot, IsAllocating, IsGiving, IsMarkingSlot, IsSaveOf, slot_block, with_slot_of};
+ghost use Rattle.pass_renewed_proof.specs.Making.{HasInstance, IsAllocaOfOther, IsAllocaOfSlot, IsAllocating, IsEndOf, IsGiving, IsMarkingOther, IsMarkingSlot, IsSaveOf, slot_block, with_slot_of};
 ghost use Rattle.run_laws.specs.embedded.Making.{IsSmall};
 ghost use Rattle.ir_model.specs.Layout.{size_of};
-ghost use Rattle.run_source.specs.Source.{Sleeper, done_at, frame_address, is_over, release, sleeper_at};
+ghost use Rattle.run_source.specs.Source.{Sleeper, deallocate, done_at, end_of, finish, frame_address, is_over, release, sleeper_at};
 ghost use Rattle.run_source.specs.State.{gives, instance_at, next, own_instance, with_instance, with_left, with_slots};
 ghost use Rattle.run_source.specs.declared.state.Status.{Status as TheStatus};
 ghost use Rattle.run_source.specs.declared.state.Instance.{Instance as TheInstance};
@@ -466,4 +468,61 @@ pub fn sleepers_are_beside()
         → (g h : Given) → h.code ≡ g.code → (p q : TheValue) → IsValue beside.ledger.homes p q → (after : TheState)
         → done_at g s result p ≡ Ok after
         → (other : TheState) × (done_at h t result q ≡ Ok other) × IsBeside m flags roots after other }
+{}
+
+// ---- markers of other slots, deallocations and the end
+
+/// Where a slot is started or ends that isn't made anew, both runs do it, and the states are beside each other.
+pub fn other_markers_stay_beside()
+    ensures starts { (m : Module) (flags : Flags) (roots : Roots) (answers : List ℤ) (s t : TheState)
+        → IsBeside m flags roots s t → (slot : ℕ) (result : Option ℕ) (must_tail : Bool) (ty : Option Ty)
+        (args : List TheArg) → IsMarkingOther m flags roots s.top TheIntrinsic.LifetimeStart slot result must_tail ty args
+        → (v : Work)
+        → action_of (record { code = m; answers = answers; rights = owner_rights; function = function_at m s.top.func })
+        (work_of s) (AtInstr (TheInstr.Call result must_tail ty (TheCallee.Intrinsic TheIntrinsic.LifetimeStart) args))
+        ≡ Done v
+        → (y : Work) × (action_of (record {
+          code = m;
+          answers = answers;
+          rights = owner_rights;
+          function = function_at m s.top.func;
+        }) (work_of t) (AtInstr (TheInstr.Call result must_tail ty (TheCallee.Intrinsic TheIntrinsic.LifetimeStart) args))
+        ≡ Done y)
+        × IsBeside m flags roots (settled s v) (settled t y) }
+    ensures ends { (m : Module) (flags : Flags) (roots : Roots) (answers : List ℤ) (s t : TheState)
+        → IsBeside m flags roots s t → (slot : ℕ) (result : Option ℕ) (must_tail : Bool) (ty : Option Ty)
+        (args : List TheArg) → IsMarkingOther m flags roots s.top TheIntrinsic.LifetimeEnd slot result must_tail ty args
+        → (v : Work)
+        → action_of (record { code = m; answers = answers; rights = owner_rights; function = function_at m s.top.func })
+        (work_of s) (AtInstr (TheInstr.Call result must_tail ty (TheCallee.Intrinsic TheIntrinsic.LifetimeEnd) args))
+        ≡ Done v
+        → (y : Work) × (action_of (record {
+          code = m;
+          answers = answers;
+          rights = owner_rights;
+          function = function_at m s.top.func;
+        }) (work_of t) (AtInstr (TheInstr.Call result must_tail ty (TheCallee.Intrinsic TheIntrinsic.LifetimeEnd) args))
+        ≡ Done y)
+        × IsBeside m flags roots (settled s v) (settled t y) }
+{}
+
+/// A deallocation that isn't undefined in the first run is none in the second. The block of an allocator dies in both,
+/// and with its frame an instance is let go.
+pub fn deallocations_stay_beside()
+    ensures { (m : Module) (flags : Flags) (roots : Roots)
+        → ((func : ℕ) → KeepsSlots m (function_at m func) (flags func) (roots func)) → (i : TheInstr) (s t : TheState)
+        → (beside : IsBeside m flags roots s t) → IsGiving m roots s.top i None → (p q : TheValue)
+        → IsValue beside.ledger.homes p q → (after : TheState) → deallocate s p ≡ Ok after
+        → (other : TheState) × (deallocate t q ≡ Ok other) × IsBeside m flags roots after other }
+{}
+
+/// At the end the instance is over in both runs, and its slots die. An activation that wasn't resumed goes on behind it.
+pub fn coroutine_ends_stay_beside()
+    ensures finished { (m : Module) (flags : Flags) (roots : Roots) (s t : TheState) → IsBeside m flags roots s t
+        → IsBeside m flags roots (finish s) (finish t) }
+    ensures goes_on { (m : Module) (flags : Flags) (roots : Roots)
+        → ((func : ℕ) → KeepsSlots m (function_at m func) (flags func) (roots func)) → (s t : TheState)
+        → IsBeside m flags roots s t → (i : TheInstr) (result : Option ℕ) → IsEndOf m roots s.top i result
+        → HasInstance s.instances s.top → (after : TheState) → end_of s finish result ≡ Ok after
+        → (other : TheState) × (end_of t finish result ≡ Ok other) × IsBeside m flags roots after other }
 {}
