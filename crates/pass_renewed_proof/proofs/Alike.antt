@@ -1,8 +1,8 @@
 -- A block that isn't one that may be made anew becomes the same in both runs.
-use Rattle.std.proofs.Common.{◌≡◌, ◌≢◌, ℕ, ◌<◌, Bool, true, false, List, length, Option, Some, None}
+use Rattle.std.proofs.Common.{◌≡◌, ◌≢◌, ℕ, ◌<◌, Bool, true, false, List, length, Some, None}
 use Rattle.std.proofs.Common.{refl, sym, ap, ◌∙◌, subst, ⊎_elim, nat_le}
-use Rattle.std.proofs.lemmas.Bool.{cases_eq, false≢true}
-use Rattle.std.specs.Prelude.{option_map, slice_get}
+use Rattle.std.proofs.lemmas.Bool.{cases_eq}
+use Rattle.std.specs.Prelude.{slice_get}
 use Rattle.ir_model.specs.declared.module.Module.{Module}
 use Rattle.run_laws.proofs.memory.Written.{changed_elsewhere, changed_here}
 use Rattle.run_laws.specs.access.Changed.{IsFull}
@@ -15,9 +15,8 @@ use Rattle.run_memory.specs.declared.block.MemoryBlock.{MemoryBlock}
 use Rattle.pass_renewed_proof.proofs.Carried.{IsCarried, IsSlotKept}
 use Rattle.pass_renewed_proof.proofs.Marked.{length_with, shown_with, with_from}
 use Rattle.pass_renewed_proof.proofs.Muted.{muted_change}
-use Rattle.pass_renewed_proof.proofs.Places.{muted_at}
 use Rattle.pass_renewed_proof.specs.Ledger.{AreEntered, IsAbout, IsMate, Ledger, Lives, Seat, Seen}
-use Rattle.pass_renewed_proof.specs.Muted.{ended_if, muted}
+use Rattle.pass_renewed_proof.specs.Muted.{muted}
 use Rattle.pass_renewed_proof.specs.Places.{IsReady}
 use Rattle.pass_renewed_proof.specs.Shown.{AreShownBlocks, AreShownBytes}
 

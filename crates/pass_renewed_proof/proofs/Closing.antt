@@ -1,8 +1,8 @@
 -- At the end the instance of an activation that hasn't left is over, and one that wasn't resumed goes on.
-use Rattle.std.proofs.Common.{◌≡◌, ◌≢◌, ℕ, ◌+◌, inl, inr, Bool, true, false, List, [], length, Option, Some, None, refl}
-use Rattle.std.proofs.Common.{Result, Ok, Err, sym, ap, ◌∙◌, subst, ⊎_elim, if◌then◌else◌}
+use Rattle.std.proofs.Common.{◌≡◌, ◌≢◌, ℕ, ◌+◌, inr, Bool, true, false, [], length, Option, Some, None, refl}
+use Rattle.std.proofs.Common.{Result, Ok, sym, ap, ◌∙◌, subst, ⊎_elim, if◌then◌else◌}
 use Rattle.std.proofs.lemmas.Bool.{false≢true}
-use Rattle.std.specs.Prelude.{IsTrue, option_and_then, option_map, slice_get, slice_set}
+use Rattle.std.specs.Prelude.{IsTrue, option_and_then, option_map, slice_get}
 use Rattle.ir_base.specs.declared.cause.Cause.{Cause}
 use Rattle.ir_model.specs.Names.{function_at}
 use Rattle.ir_model.specs.declared.instr.Instr.{Instr}
@@ -12,7 +12,6 @@ use Rattle.ir_model.specs.declared.operand.Callee.{Callee}
 use Rattle.ir_model.specs.declared.operand.Intrinsic.{Intrinsic}
 use Rattle.ir_paths.specs.Paths.{has_point, nexts}
 use Rattle.ir_paths.specs.Windows.{is_call_of}
-use Rattle.frame_slots.specs.Uses.{ends_of}
 use Rattle.pass_kept_proof.specs.SuspendRules.{IsCallAt}
 use Rattle.rule_windows.specs.Sets.{IsAfterEnd}
 use Rattle.run_memory.specs.declared.pointer.Value.{Value}
@@ -25,12 +24,11 @@ use Rattle.run_source.specs.declared.state.State.{State}
 use Rattle.run_source.specs.declared.state.Status.{Status}
 use Rattle.run_step.specs.Step.{without_slots}
 use Rattle.run_step.specs.declared.world.Slot.{Slot}
-use Rattle.run_step.specs.Values.{pointer_to, truth_value, value_in, with_result}
+use Rattle.run_step.specs.Values.{truth_value, with_result}
 use Rattle.pass_renewed_proof.proofs.Ahead.{next_edge}
 use Rattle.pass_renewed_proof.proofs.Carried.{same_carried, same_kept, slots_on}
 use Rattle.pass_renewed_proof.proofs.Finishing.{finished_beside}
 use Rattle.pass_renewed_proof.proofs.Giving.{IsGivenName, envs, others, unset}
-use Rattle.pass_renewed_proof.proofs.History.{no_marker, no_start}
 use Rattle.pass_renewed_proof.proofs.Left.{call_listed}
 use Rattle.pass_renewed_proof.proofs.Listing.{set_here}
 use Rattle.pass_renewed_proof.proofs.Onward.{IsEdgeOf, activation_begun, passed_next, slot_passed}

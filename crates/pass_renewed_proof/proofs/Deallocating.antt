@@ -1,5 +1,5 @@
 -- A deallocation that isn't undefined in the first run is none in the second.
-use Rattle.std.proofs.Common.{◌≡◌, ℕ, zero, suc, ◌+◌, ◌%◌, ◌^◌, Bool, true, false, not, List, length, Option, Some}
+use Rattle.std.proofs.Common.{◌≡◌, ℕ, Bool, true, false, List, Option, Some}
 use Rattle.std.proofs.Common.{None, Result, Ok, Err, refl, sym, ap, ◌∙◌, subst, ◌&&◌, ◌==◌, if◌then◌else◌}
 use Rattle.std.proofs.lemmas.Bool.{eqb-true, false≢true}
 use Rattle.std.specs.Prelude.{slice_get}
@@ -22,7 +22,7 @@ use Rattle.run_source.specs.declared.state.State.{State}
 use Rattle.run_step.specs.Results.{and_then}
 use Rattle.run_step.specs.Step.{deallocated, without_slots}
 use Rattle.pass_renewed_proof.proofs.Finishing.{found_in}
-use Rattle.pass_renewed_proof.proofs.Freeing.{IsKilledAt, both_found, found_passes, killed_at, let_go_beside, may'}
+use Rattle.pass_renewed_proof.proofs.Freeing.{both_found, found_passes, killed_at, let_go_beside, may'}
 use Rattle.pass_renewed_proof.proofs.Freeing.{may_same, plain_home, plain_kill}
 use Rattle.pass_renewed_proof.proofs.Giving.{gives_beside}
 use Rattle.pass_renewed_proof.proofs.Owning.{found_beside}

@@ -1,12 +1,11 @@
 -- The slots of an instance die: those that may be made anew in the first run alone, the others in both.
-use Rattle.std.proofs.Common.{◌≡◌, ℕ, zero, suc, Bool, true, false, List, [], ◌∷◌, length, Option, Some, None, refl}
+use Rattle.std.proofs.Common.{◌≡◌, ℕ, zero, suc, Bool, true, List, [], ◌∷◌, Option, Some, None, refl}
 use Rattle.std.proofs.Common.{sym, ap, ◌∙◌, subst, arith}
 use Rattle.std.specs.List.{Contains}
-use Rattle.std.specs.Prelude.{slice_get}
 use Rattle.ir_model.specs.declared.module.Module.{Module}
 use Rattle.run_laws.specs.embedded.Making.{whole_home}
 use Rattle.run_laws.specs.memory.Pointers.{Home, home_of}
-use Rattle.run_memory.specs.Memory.{is_killed, killed, killed_block, with_block}
+use Rattle.run_memory.specs.Memory.{is_killed, killed, killed_block}
 use Rattle.run_memory.specs.declared.block.MemoryBlock.{MemoryBlock}
 use Rattle.run_step.specs.Step.{without_slots}
 use Rattle.run_step.specs.declared.world.Slot.{Slot}
@@ -17,7 +16,7 @@ use Rattle.pass_renewed_proof.proofs.Carried.{IsCarried, IsSlotKept, same_carrie
 use Rattle.pass_renewed_proof.proofs.Marked.{IsMark, dead_carried, dead_entered, dead_kept, dead_stand, with_from}
 use Rattle.pass_renewed_proof.proofs.Ready.{trans_extends}
 use Rattle.pass_renewed_proof.specs.Beside.{AreSlots, Both, First, NoSlots, Second}
-use Rattle.pass_renewed_proof.specs.Ledger.{AreEntered, IsGone, IsMate, Ledger, Seat}
+use Rattle.pass_renewed_proof.specs.Ledger.{AreEntered, IsGone, Ledger, Seat}
 use Rattle.pass_renewed_proof.specs.Muted.{muted}
 use Rattle.pass_renewed_proof.specs.Places.{AreStanding}
 

@@ -1,9 +1,9 @@
 -- An instance is over in both runs, and its slots die.
-use Rattle.std.proofs.Common.{◌≡◌, ℕ, ◌+◌, Bool, true, false, List, length, Option, Some, None, refl, sym, ap, ◌∙◌}
+use Rattle.std.proofs.Common.{◌≡◌, ℕ, ◌+◌, Bool, true, false, List, Option, Some, None, refl, sym, ap, ◌∙◌}
 use Rattle.std.proofs.Common.{subst, ⊎_elim, arith}
 use Rattle.std.proofs.lemmas.Bool.{cases_eq, false≢true}
 use Rattle.std.specs.List.{Contains}
-use Rattle.std.specs.Prelude.{IsTrue, option_and_then, option_map, slice_get, slice_set}
+use Rattle.std.specs.Prelude.{option_and_then, option_map, slice_get, slice_set}
 use Rattle.ir_model.specs.declared.module.Module.{Module}
 use Rattle.run_laws.proofs.memory.Written.{same_some}
 use Rattle.run_memory.specs.declared.block.MemoryBlock.{MemoryBlock}
@@ -22,9 +22,7 @@ use Rattle.pass_renewed_proof.proofs.Owning.{own_beside}
 use Rattle.pass_renewed_proof.specs.Beside.{Begun, Early, GoesOn, IsBeside, IsInstanceBeside, IsOverOf, IsSeated}
 use Rattle.pass_renewed_proof.specs.Beside.{IsSlotOf, IsStatusBeside, Leaves, NotLeft}
 use Rattle.pass_renewed_proof.specs.Found.{AreFound}
-use Rattle.pass_renewed_proof.specs.Ledger.{AreEntered, IsGone, Ledger}
-use Rattle.pass_renewed_proof.specs.Muted.{muted}
-use Rattle.pass_renewed_proof.specs.Places.{AreStanding}
+use Rattle.pass_renewed_proof.specs.Ledger.{IsGone, Ledger}
 use Rattle.pass_renewed_proof.specs.Renewed.{Flags, Roots}
 
 -- what is found has the number

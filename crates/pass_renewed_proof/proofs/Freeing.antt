@@ -1,16 +1,16 @@
 -- A deallocation kills the same block in both runs, and an instance is let go with its frame.
-use Rattle.std.proofs.Common.{◌≡◌, ℕ, zero, suc, ◌+◌, ◌%◌, ◌^◌, Bool, true, false, not, List, [], ◌∷◌, length, Option}
+use Rattle.std.proofs.Common.{◌≡◌, ℕ, zero, suc, ◌+◌, ◌%◌, ◌^◌, Bool, true, false, not, List, [], ◌∷◌, Option}
 use Rattle.std.proofs.Common.{Some, None, Result, Ok, Err, refl, sym, ap, ◌∙◌, subst, ◌&&◌, ◌||◌, ◌==◌, if◌then◌else◌}
 use Rattle.std.proofs.Common.{arith}
 use Rattle.std.proofs.lemmas.Bool.{eqb-true, false≢true}
-use Rattle.std.specs.Prelude.{option_and_then, option_map, slice_get, slice_set}
+use Rattle.std.specs.Prelude.{option_and_then, option_map, slice_get}
 use Rattle.ir_base.specs.declared.cause.Cause.{Cause}
 use Rattle.ir_model.specs.Names.{function_at}
 use Rattle.ir_model.specs.declared.instr.Instr.{Instr}
 use Rattle.ir_model.specs.declared.module.Module.{Module}
 use Rattle.run_laws.proofs.memory.Written.{changed_here, same_some}
 use Rattle.run_laws.specs.embedded.Making.{whole_home}
-use Rattle.run_laws.specs.memory.Pointers.{Home, IsValue, home_of}
+use Rattle.run_laws.specs.memory.Pointers.{Home, home_of}
 use Rattle.run_memory.specs.Memory.{disown, disowned, is_owned, is_unkilled, kill, killed, killed_block, with_block}
 use Rattle.run_memory.specs.Pointers.{moved}
 use Rattle.run_memory.specs.declared.block.Kind.{Kind}
@@ -18,8 +18,8 @@ use Rattle.run_memory.specs.declared.block.MemoryBlock.{MemoryBlock}
 use Rattle.run_memory.specs.declared.pointer.Offset.{Offset}
 use Rattle.run_memory.specs.declared.pointer.Pointer.{Pointer}
 use Rattle.run_memory.specs.declared.pointer.Value.{Value}
-use Rattle.run_source.specs.Source.{deallocate, if_let_go, is_over, let_go, may_be_freed}
-use Rattle.run_source.specs.State.{began_at, gives, instance_at, is_finished, is_suspended, last_from, last_where, next}
+use Rattle.run_source.specs.Source.{let_go, may_be_freed}
+use Rattle.run_source.specs.State.{began_at, instance_at, is_finished, is_suspended, last_from, last_where, next}
 use Rattle.run_source.specs.State.{numbered, or_else, with_instance, with_memory}
 use Rattle.run_source.specs.declared.state.Instance.{Instance}
 use Rattle.run_source.specs.declared.state.State.{State}
@@ -27,11 +27,11 @@ use Rattle.run_source.specs.declared.state.Status.{Status}
 use Rattle.run_step.specs.Results.{and_then}
 use Rattle.run_step.specs.Step.{deallocated, without_slots}
 use Rattle.pass_renewed_proof.proofs.Anew.{present_block}
-use Rattle.pass_renewed_proof.proofs.Dying.{AreCarriedOver, both_die}
-use Rattle.pass_renewed_proof.proofs.Finishing.{found_in, over_beside, status_awake}
+use Rattle.pass_renewed_proof.proofs.Dying.{both_die}
+use Rattle.pass_renewed_proof.proofs.Finishing.{over_beside, status_awake}
 use Rattle.pass_renewed_proof.proofs.Giving.{gives_beside}
 use Rattle.pass_renewed_proof.proofs.Listing.{instance_beside, set_here, worlds_beside}
-use Rattle.pass_renewed_proof.proofs.Owning.{found_at, found_beside}
+use Rattle.pass_renewed_proof.proofs.Owning.{found_at}
 use Rattle.pass_renewed_proof.specs.Beside.{IsBeside, IsInstanceBeside, IsStatusBeside}
 use Rattle.pass_renewed_proof.specs.Found.{AreFound}
 use Rattle.pass_renewed_proof.specs.Ledger.{AreEntered, IsMate, Ledger, Seat}

@@ -17,7 +17,7 @@ use Rattle.run_memory.specs.declared.pointer.Value.{Value}
 use Rattle.run_source.specs.State.{gives, settled}
 use Rattle.run_source.specs.declared.state.Activation.{Activation}
 use Rattle.run_source.specs.declared.state.State.{State}
-use Rattle.run_step.specs.Step.{AtInstr, block_of, fetch}
+use Rattle.run_step.specs.Step.{AtInstr, fetch}
 use Rattle.run_step.specs.Values.{Env, arg_values, nth, operand_value, value_in, with_result, with_value}
 use Rattle.run_step.specs.declared.world.World.{World}
 use Rattle.pass_renewed_proof.proofs.Carried.{IsCarried, IsSlotKept, same_carried, same_kept, seen_block}

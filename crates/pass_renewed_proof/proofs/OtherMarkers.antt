@@ -1,8 +1,8 @@
 -- A marker of a slot that isn't made anew does the same in both runs.
-use Rattle.std.proofs.Common.{◌≡◌, ℕ, ◌⊎◌, Bool, true, false, List, length, Option, Some, None, refl, sym, ap, ◌∙◌}
-use Rattle.std.proofs.Common.{subst, ⊎_elim}
-use Rattle.std.proofs.lemmas.Bool.{cases_eq, false≢true}
-use Rattle.std.specs.Prelude.{IsTrue, slice_get, ℤ}
+use Rattle.std.proofs.Common.{◌≡◌, ℕ, Bool, true, false, List, length, Option, Some, None, refl, sym, ap, ◌∙◌}
+use Rattle.std.proofs.Common.{subst}
+use Rattle.std.proofs.lemmas.Bool.{false≢true}
+use Rattle.std.specs.Prelude.{IsTrue, ℤ}
 use Rattle.ir_model.specs.Names.{function_at}
 use Rattle.ir_model.specs.Ty.{Ty}
 use Rattle.ir_model.specs.declared.instr.Instr.{Instr}
@@ -22,19 +22,19 @@ use Rattle.run_source.specs.State.{settled, work_of}
 use Rattle.run_source.specs.declared.state.Activation.{Activation}
 use Rattle.run_source.specs.declared.state.State.{State}
 use Rattle.run_step.specs.Step.{Action, AtInstr, Done, Work, action_of, block_of, on_block, set_memory}
-use Rattle.run_step.specs.Values.{Env, arg_values, nth, pointer_to, value_in}
+use Rattle.run_step.specs.Values.{Env, arg_values, nth, value_in}
 use Rattle.run_step.specs.declared.world.World.{World}
 use Rattle.pass_renewed_proof.proofs.Alike.{IsAlike, alike_carried, alike_entered, alike_kept}
 use Rattle.pass_renewed_proof.proofs.AlikeMarks.{dies_alike, ended_alike, started_alike, starts_alike}
 use Rattle.pass_renewed_proof.proofs.Anew.{present_block}
-use Rattle.pass_renewed_proof.proofs.Carried.{IsCarried, IsSlotKept, others_on, same_carried, same_kept, seen_block}
+use Rattle.pass_renewed_proof.proofs.Carried.{IsCarried, IsSlotKept, others_on, same_carried, same_kept}
 use Rattle.pass_renewed_proof.proofs.History.{no_marker, no_start}
 use Rattle.pass_renewed_proof.proofs.Markers.{ended_dead, ends, marked_value, marks_alone}
 use Rattle.pass_renewed_proof.proofs.Onward.{calm}
 use Rattle.pass_renewed_proof.proofs.Passing.{edge_on, passed_beside}
 use Rattle.pass_renewed_proof.specs.Ahead.{IsNoStart}
 use Rattle.pass_renewed_proof.specs.Beside.{IsBeside, place_in}
-use Rattle.pass_renewed_proof.specs.Ledger.{AreEntered, IsMate, Ledger, LivesIn, Seat}
+use Rattle.pass_renewed_proof.specs.Ledger.{AreEntered, IsMate, Ledger, Seat}
 use Rattle.pass_renewed_proof.specs.Making.{IsMarkingOther}
 use Rattle.pass_renewed_proof.specs.Muted.{muted}
 use Rattle.pass_renewed_proof.specs.Places.{AreStanding}

@@ -1,20 +1,19 @@
 -- Comparisons at offsets of 64 bits alone: an instruction whose pointers have such offsets does the same by either
 -- rights.
-use Rattle.std.proofs.Common.{◌≡◌, ◌≢◌, ℕ, zero, suc, ◌+◌, ◌^◌, ◌<◌, ◌≤◌, ◌||◌, Bool, true, false, not, List, Option}
+use Rattle.std.proofs.Common.{◌≡◌, ℕ, zero, suc, ◌+◌, ◌^◌, ◌<◌, ◌≤◌, ◌||◌, Bool, true, false, not, List, Option}
 use Rattle.std.proofs.Common.{Some, None, refl}
-use Rattle.std.proofs.Common.{sym, ap, ◌∙◌, subst, if◌then◌else◌, ◌&&◌, ◌==◌, Result, Ok, Err, arith}
+use Rattle.std.proofs.Common.{ap, ◌∙◌, if◌then◌else◌, ◌&&◌, ◌==◌, Result, Ok, arith}
 use Rattle.std.specs.Prelude.{nat_lt, slice_get}
 use Rattle.ir_base.specs.declared.cause.Cause.{Cause}
 use Rattle.ir_base.specs.declared.ops.Pred.{Pred}
 use Rattle.ir_model.specs.Ty.{Ty, array, int, named, ptr, structure, token}
 use Rattle.ir_model.specs.declared.instr.Instr.{Instr}
-use Rattle.ir_model.specs.declared.operand.Allocator.{Allocator}
 use Rattle.ir_model.specs.declared.operand.Arg.{Arg}
 use Rattle.ir_model.specs.declared.operand.Callee.{Callee}
 use Rattle.ir_model.specs.declared.operand.Intrinsic.{Intrinsic}
 use Rattle.run_laws.proofs.memory.Itself.{owner_rights_fit}
 use Rattle.run_laws.specs.memory.Pointers.{Home, home_of}
-use Rattle.run_laws.specs.memory.Standing.{AreByteRights, Embeds, HasRights}
+use Rattle.run_laws.specs.memory.Standing.{AreByteRights, Embeds}
 use Rattle.run_memory.specs.Memory.{access_bytes, both, check, compare, copied, copy, decode, encode, is_compared}
 use Rattle.run_memory.specs.Memory.{is_inside, is_live, is_within, bytes_at, load, may_compare, may_compare_at, on_ok}
 use Rattle.run_memory.specs.Memory.{owner_rights, range, range_at, store, unless_constant, write}
@@ -25,7 +24,7 @@ use Rattle.run_memory.specs.declared.pointer.Offset.{Offset}
 use Rattle.run_memory.specs.declared.pointer.Pointer.{Pointer}
 use Rattle.run_memory.specs.declared.pointer.Spot.{Spot}
 use Rattle.run_memory.specs.declared.pointer.Value.{Value}
-use Rattle.run_step.specs.Step.{Action, AtInstr, AtTerm, Context, Fetched, Nowhere, Work, action_of, compared}
+use Rattle.run_step.specs.Step.{AtInstr, AtTerm, Context, Fetched, Nowhere, Work, action_of, compared}
 use Rattle.run_step.specs.Step.{copied_bytes}
 use Rattle.run_step.specs.Step.{done, if_alignment, set_memory, set_value, by_pred, value_at, with_length}
 use Rattle.run_step.specs.Values.{access_of, address, arg_value, arg_values, nth, stored, truth_value}

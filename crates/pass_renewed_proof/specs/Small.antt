@@ -1,5 +1,5 @@
 -- Offsets of 64 bits: a run's pointers have no others.
-use Rattle.std.specs.Prelude.{ℕ, nat_lt, ◌&&◌, ◌^◌, ◌<◌}
+use Rattle.std.specs.Prelude.{nat_lt, ◌&&◌, ◌^◌, ◌<◌}
 use Rattle.ir_model.specs.declared.instr.Instr.{Instr}
 use Rattle.ir_model.specs.declared.module.Module.{Module}
 use Rattle.run_memory.specs.Memory.{Rights, owner_rights}
