@@ -61,3 +61,4 @@ pub mod Finishing
 pub mod Freeing
 pub mod Deallocating
 pub mod Closing
+pub mod Promising

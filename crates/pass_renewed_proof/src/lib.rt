@@ -13,8 +13,8 @@
 //! (`allocators_stay_beside`), allocas (`allocas_of_slots_stay_beside`, `other_allocas_stay_beside`) and markers of
 //! slots that may be made anew (`starts_of_slots_stay_beside`, `ends_of_slots_stay_beside`). A save keeps it
 //! (`saves_stay_beside`), and so do `coro.free` (`frees_stay_beside`), markers of other slots
-//! (`other_markers_stay_beside`), deallocations (`deallocations_stay_beside`) and the end
-//! (`coroutine_ends_stay_beside`). Instances are found in both runs (`own_instances_are_beside`,
+//! (`other_markers_stay_beside`), deallocations (`deallocations_stay_beside`), the promise (`promises_stay_beside`)
+//! and the end (`coroutine_ends_stay_beside`). Instances are found in both runs (`own_instances_are_beside`,
 //! `sleepers_are_beside`).
 //! Slots that are made anew leave all as it was (`slots_made_anew_keep_all`), and are paid by the resume
 //! (`slots_made_anew_are_paid`).
@@ -101,12 +101,13 @@ ghost use Rattle.run_agreement.specs.Costs.{cost_from};
 ghost use Rattle.run_source.specs.Source.{first_state};
 ghost use Rattle.ir_model.specs.declared.operand.Allocator.{Allocator};
 ghost use Rattle.ir_model.specs.declared.operand.Callee.{Callee as TheCallee};
+ghost use Rattle.ir_model.specs.declared.operand.Operand.{Operand};
 ghost use Rattle.pass_renewed_proof.specs.Found.{AreFound, IsSleeperBeside};
 ghost use Rattle.run_source_tables.specs.Given.{Given};
 ghost use Rattle.pass_renewed_proof.specs.Making.{HasInstance, IsAllocaOfOther, IsAllocaOfSlot, IsAllocating, IsEndOf, IsGiving, IsMarkingOther, IsMarkingSlot, IsSaveOf, slot_block, with_slot_of};
 ghost use Rattle.run_laws.specs.embedded.Making.{IsSmall};
 ghost use Rattle.ir_model.specs.Layout.{size_of};
-ghost use Rattle.run_source.specs.Source.{Sleeper, deallocate, done_at, end_of, finish, frame_address, is_over, release, sleeper_at};
+ghost use Rattle.run_source.specs.Source.{Sleeper, deallocate, done_at, end_of, finish, frame_address, is_over, promise, release, sleeper_at};
 ghost use Rattle.run_source.specs.State.{gives, instance_at, next, own_instance, with_instance, with_left, with_slots};
 ghost use Rattle.run_source.specs.declared.state.Status.{Status as TheStatus};
 ghost use Rattle.run_source.specs.declared.state.Instance.{Instance as TheInstance};
@@ -525,4 +526,14 @@ pub fn coroutine_ends_stay_beside()
         → IsBeside m flags roots s t → (i : TheInstr) (result : Option ℕ) → IsEndOf m roots s.top i result
         → HasInstance s.instances s.top → (after : TheState) → end_of s finish result ≡ Ok after
         → (other : TheState) × (end_of t finish result ≡ Ok other) × IsBeside m flags roots after other }
+{}
+
+/// coro.promise gives what stands for the first run's address, from a frame to its promise and back.
+pub fn promises_stay_beside()
+    ensures { (m : Module) (flags : Flags) (roots : Roots)
+        → ((func : ℕ) → KeepsSlots m (function_at m func) (flags func) (roots func)) → (s t : TheState)
+        → (beside : IsBeside m flags roots s t) → (g h : Given) → g.code ≡ m → h.code ≡ m → (i : TheInstr)
+        (result : Option ℕ) → IsGiving m roots s.top i result → (p q : TheValue) → IsValue beside.ledger.homes p q
+        → (from : Operand) (v : TheValue) → promise g s p from ≡ Ok v
+        → (w : TheValue) × (promise h t q from ≡ Ok w) × IsBeside m flags roots (gives s result v) (gives t result w) }
 {}
