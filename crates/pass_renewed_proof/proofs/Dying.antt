@@ -88,7 +88,7 @@ two_over m l a b c d e f p q = record {
   kept = λ n seat is. two_kept l a b c n (p.kept n seat is) (q.kept n seat is);
 }
 
-kills : IsMark killed_block
+pub kills : IsMark killed_block
 kills = record {
   size = λ x. refl;
   align = λ x. refl;

@@ -49,6 +49,7 @@ pub mod NewName
 pub mod Unmarked
 pub mod SlotAllocas
 pub mod OtherAllocas
+pub mod SavePoints
 pub mod Saving
 pub mod Owning
 pub mod Releasing
@@ -62,3 +63,4 @@ pub mod Freeing
 pub mod Deallocating
 pub mod Closing
 pub mod Promising
+pub mod LateAllocas

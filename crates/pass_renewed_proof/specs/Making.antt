@@ -119,6 +119,12 @@ pub record IsSaveOf (m : Module) (a : Activation) (i : Instr) (suspend : Point) 
   pub takes : suspend_of (function_at m a.func) (place_in a) ≡ Some suspend
   pub stays : a.has_left ≡ false
 
+-- a suspend without a token stands at the place of an activation that hasn't left
+pub record IsSuspendOf (m : Module) (roots : Roots) (a : Activation) (i : Instr) (result : Option ℕ) : Type 0 where
+  pub giving : IsGiving m roots a i result
+  pub is : is_call_of Intrinsic.CoroSuspend i ≡ true
+  pub stays : a.has_left ≡ false
+
 -- ---- the end
 
 -- an end stands at the place of an activation that wasn't resumed; its name isn't one of an address in a slot, nor that

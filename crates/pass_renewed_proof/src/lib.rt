@@ -10,9 +10,10 @@
 //! The two runs are related by `IsBeside`, and at all their states by `IsBetween`. The relation holds at the start
 //! (`states_begin_beside`), and ordinary instructions keep it (`ordinary_steps_stay_beside`,
 //! `address_parts_stay_beside`, `given_values_stay_beside`). So do those that make and mark blocks: allocators
-//! (`allocators_stay_beside`), allocas (`allocas_of_slots_stay_beside`, `other_allocas_stay_beside`) and markers of
+//! (`allocators_stay_beside`), allocas (`allocas_of_slots_stay_beside`, `other_allocas_stay_beside`,
+//! `late_allocas_stay_beside`) and markers of
 //! slots that may be made anew (`starts_of_slots_stay_beside`, `ends_of_slots_stay_beside`). A save keeps it
-//! (`saves_stay_beside`), and so do `coro.free` (`frees_stay_beside`), markers of other slots
+//! (`saves_stay_beside`), and so do a suspend without a token (`suspends_stay_beside`), `coro.free` (`frees_stay_beside`), markers of other slots
 //! (`other_markers_stay_beside`), deallocations (`deallocations_stay_beside`), the promise (`promises_stay_beside`)
 //! and the end (`coroutine_ends_stay_beside`). Instances are found in both runs (`own_instances_are_beside`,
 //! `sleepers_are_beside`).
@@ -27,8 +28,8 @@
 //! `left_points_go_on`).
 #![tactic(auto)]
 
-ghost use Rattle.std.specs.Prelude.{Ok, ℕ, ℤ, Bool, true, false, List, length, slice_get, Some, None, ◌≡◌, ◌≢◌, ◌≤◌, ◌<◌, ◌^◌, ◌++◌, ◌∷◌, [], ◌==◌, IsTrue, if◌then◌else◌, ◌+◌, ◌⊎◌, Option};
-ghost use Rattle.run_memory.specs.Memory.{end, fresh, is_live, killed_block, same_kind, start, with_block};
+ghost use Rattle.std.specs.Prelude.{Ok, ℕ, ℤ, negsuc, Bool, true, false, List, length, slice_get, Some, None, ◌≡◌, ◌≢◌, ◌≤◌, ◌<◌, ◌^◌, ◌++◌, ◌∷◌, [], ◌==◌, IsTrue, if◌then◌else◌, ◌+◌, ◌⊎◌, Option};
+ghost use Rattle.run_memory.specs.Memory.{end, fresh, is_live, killed, killed_block, same_kind, start, with_block};
 ghost use Rattle.run_memory.specs.declared.block.Kind.{Kind as TheKind};
 ghost use Rattle.run_laws.specs.memory.Standing.{blank_block};
 ghost use Rattle.run_memory.specs.declared.block.MemoryBlock.{MemoryBlock as Block};
@@ -104,15 +105,15 @@ ghost use Rattle.ir_model.specs.declared.operand.Callee.{Callee as TheCallee};
 ghost use Rattle.ir_model.specs.declared.operand.Operand.{Operand};
 ghost use Rattle.pass_renewed_proof.specs.Found.{AreFound, IsSleeperBeside};
 ghost use Rattle.run_source_tables.specs.Given.{Given};
-ghost use Rattle.pass_renewed_proof.specs.Making.{HasInstance, IsAllocaOfOther, IsAllocaOfSlot, IsAllocating, IsEndOf, IsGiving, IsMarkingOther, IsMarkingSlot, IsSaveOf, slot_block, with_slot_of};
+ghost use Rattle.pass_renewed_proof.specs.Making.{HasInstance, IsAllocaOfOther, IsAllocaOfSlot, IsAllocating, IsEndOf, IsGiving, IsMarkingOther, IsMarkingSlot, IsSaveOf, IsSuspendOf, slot_block, with_slot_of};
 ghost use Rattle.run_laws.specs.embedded.Making.{IsSmall};
 ghost use Rattle.ir_model.specs.Layout.{size_of};
 ghost use Rattle.run_source.specs.Source.{Sleeper, deallocate, done_at, end_of, finish, frame_address, is_over, promise, release, sleeper_at};
-ghost use Rattle.run_source.specs.State.{gives, instance_at, next, own_instance, with_instance, with_left, with_slots};
+ghost use Rattle.run_source.specs.State.{gives, instance_at, next, own_instance, with_instance, with_left, with_memory, with_slots};
 ghost use Rattle.run_source.specs.declared.state.Status.{Status as TheStatus};
 ghost use Rattle.run_source.specs.declared.state.Instance.{Instance as TheInstance};
 ghost use Rattle.run_step.specs.Step.{alloca_kind, has_markers};
-ghost use Rattle.run_step.specs.Values.{arg_values, nth};
+ghost use Rattle.run_step.specs.Values.{arg_values, integer, nth};
 ghost use Rattle.pass_renewed_proof.specs.LocalSlot as local_slot;
 ghost use Rattle.pass_renewed_proof.specs.RestartedSlots as restarted_slots;
 ghost use Rattle.pass_renewed_proof.specs.EscapedRestart as escaped_restart;
@@ -536,4 +537,36 @@ pub fn promises_stay_beside()
         (result : Option ℕ) → IsGiving m roots s.top i result → (p q : TheValue) → IsValue beside.ledger.homes p q
         → (from : Operand) (v : TheValue) → promise g s p from ≡ Ok v
         → (w : TheValue) × (promise h t q from ≡ Ok w) × IsBeside m flags roots (gives s result v) (gives t result w) }
+{}
+
+/// A suspend without a token leaves the instance Suspended at itself in both runs, and gives -1.
+pub fn suspends_stay_beside()
+    ensures { (m : Module) (flags : Flags) (roots : Roots)
+        → ((func : ℕ) → KeepsSlots m (function_at m func) (flags func) (roots func)) → (s t : TheState)
+        → IsBeside m flags roots s t → (i : TheInstr) (result : Option ℕ) → IsSuspendOf m roots s.top i result → (n : ℕ)
+        (x y : TheInstance) → s.top.instance ≡ Some n → slice_get s.instances n ≡ Some x
+        → slice_get t.instances n ≡ Some y → x.coroutine ≡ s.top.func → x.freed ≡ false
+        → AreOutdone s.instances s.top s.below
+        → IsBeside m flags roots (gives (with_left (with_instance s n (record x {
+          status = TheStatus.Suspended (place_in s.top) s.top.values;
+          last_save = Some (record { depth = length s.below; save = place_in s.top });
+        })) true) result (integer 8 (negsuc 0))) (gives (with_left (with_instance t n (record y {
+          status = TheStatus.Suspended (place_in s.top) t.top.values;
+          last_save = Some (record { depth = length s.below; save = place_in s.top });
+        })) true) result (integer 8 (negsuc 0))) }
+{}
+
+/// The alloca of a slot that may be made anew may come to an instance that is over. The slot is dead at once in the first
+/// run. In the second its block lives, and is the activation's.
+pub fn late_allocas_stay_beside()
+    ensures { (m : Module) (flags : Flags) (roots : Roots)
+        → ((func : ℕ) → KeepsSlots m (function_at m func) (flags func) (roots func)) → (s t : TheState)
+        → IsBeside m flags roots s t → (a : ℕ) (ty : Ty) (align : ℕ) → IsAllocaOfSlot m flags s.top a ty align
+        → size_of m ty < 2 ^ 64 → (marked : Bool) → (i : ℕ) (x : TheInstance) → s.top.instance ≡ Some i
+        → slice_get s.instances i ≡ Some x → x.coroutine ≡ s.top.func
+        → IsBeside m flags roots (with_memory (with_instance (with_slot_of s (slot_block m s ty align marked) a) i
+        (record x { slots = record { alloca = a; block = length s.world.memory } ∷ x.slots }))
+        (killed (s.world.memory ++ slot_block m s ty align marked ∷ []) (length s.world.memory)))
+        (with_slots (with_slot_of t (slot_block m s ty align false) a)
+        (record { alloca = a; block = length t.world.memory } ∷ t.top.slots)) }
 {}
