@@ -64,3 +64,4 @@ pub mod Deallocating
 pub mod Closing
 pub mod Promising
 pub mod LateAllocas
+pub mod RampSlots

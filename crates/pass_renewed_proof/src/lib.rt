@@ -11,12 +11,13 @@
 //! (`states_begin_beside`), and ordinary instructions keep it (`ordinary_steps_stay_beside`,
 //! `address_parts_stay_beside`, `given_values_stay_beside`). So do those that make and mark blocks: allocators
 //! (`allocators_stay_beside`), allocas (`allocas_of_slots_stay_beside`, `other_allocas_stay_beside`,
-//! `late_allocas_stay_beside`) and markers of
-//! slots that may be made anew (`starts_of_slots_stay_beside`, `ends_of_slots_stay_beside`). A save keeps it
-//! (`saves_stay_beside`), and so do a suspend without a token (`suspends_stay_beside`), `coro.free` (`frees_stay_beside`), markers of other slots
-//! (`other_markers_stay_beside`), deallocations (`deallocations_stay_beside`), the promise (`promises_stay_beside`)
-//! and the end (`coroutine_ends_stay_beside`). Instances are found in both runs (`own_instances_are_beside`,
-//! `sleepers_are_beside`).
+//! `late_allocas_stay_beside`) and markers of slots that may be made anew (`starts_of_slots_stay_beside`,
+//! `ends_of_slots_stay_beside`). A save keeps it (`saves_stay_beside`), and so do a suspend without a token
+//! (`suspends_stay_beside`), `coro.free` (`frees_stay_beside`), markers of other slots (`other_markers_stay_beside`),
+//! deallocations (`deallocations_stay_beside`), the promise (`promises_stay_beside`) and the end
+//! (`coroutine_ends_stay_beside`). Instances are found in both runs (`own_instances_are_beside`,
+//! `sleepers_are_beside`). Slots that may be made anew are ramp slots in the second run alone
+//! (`renewed_slots_are_ramp_slots`).
 //! Slots that are made anew leave all as it was (`slots_made_anew_keep_all`), and are paid by the resume
 //! (`slots_made_anew_are_paid`).
 //! What a resumed activation may not use it is barred from by the path that it came
@@ -60,13 +61,15 @@ ghost use Rattle.run_source.specs.declared.state.Mode.{Mode as TheMode};
 ghost use Rattle.run_source.specs.declared.state.State.{State as TheState};
 ghost use Rattle.pass_renewed_proof.specs.Entering.{Anew, AreNext, is_named, made_all, made_anew};
 ghost use Rattle.run_agreement.specs.Machines.{iterate};
-ghost use Rattle.pass_renewed_proof.specs.Renewed.{RenewedGiven, renew_after, renewed_from, renewed_step, renewed_values};
+ghost use Rattle.pass_renewed_proof.specs.Renewed.{RenewedGiven, renew_after, renewed_facts, renewed_from, renewed_step, renewed_values};
+ghost use Rattle.run_step.specs.declared.world.Slot.{Slot as TheSlot};
 ghost use Rattle.pass_renewed_proof.specs.SlotEnvs.{AreMadeAnew, AreRoots, AreSlotEnvs};
 ghost use Rattle.pass_renewed_proof.specs.SlotRules.{AreSteady, IsMarkerAt};
 ghost use Rattle.run_laws.specs.embedded.Related.{HasNoSlot, IsSameDistance};
 ghost use Rattle.ir_model.specs.declared.instr.Instr.{Instr as TheInstr};
 ghost use Rattle.ir_model.specs.declared.operand.Intrinsic.{Intrinsic as TheIntrinsic};
-ghost use Rattle.ir_paths.specs.Facts.{IsWindow};
+ghost use Rattle.ir_paths.specs.Facts.{AreFactsOf, IsWindow};
+ghost use Rattle.ir_paths.specs.declared.point.Facts.{Facts as TheFacts};
 ghost use Rattle.ir_paths.specs.declared.point.Window.{Window as TheWindow};
 ghost use Rattle.pass_kept_proof.specs.SuspendRules.{IsCallAt};
 ghost use Rattle.pass_renewed_proof.specs.Left.{IsLeftBy, behind};
@@ -108,7 +111,7 @@ ghost use Rattle.run_source_tables.specs.Given.{Given};
 ghost use Rattle.pass_renewed_proof.specs.Making.{HasInstance, IsAllocaOfOther, IsAllocaOfSlot, IsAllocating, IsEndOf, IsGiving, IsMarkingOther, IsMarkingSlot, IsSaveOf, IsSuspendOf, slot_block, with_slot_of};
 ghost use Rattle.run_laws.specs.embedded.Making.{IsSmall};
 ghost use Rattle.ir_model.specs.Layout.{size_of};
-ghost use Rattle.run_source.specs.Source.{Sleeper, deallocate, done_at, end_of, finish, frame_address, is_over, promise, release, sleeper_at};
+ghost use Rattle.run_source.specs.Source.{Sleeper, deallocate, done_at, end_of, finish, frame_address, is_among, is_over, promise, release, sleeper_at};
 ghost use Rattle.run_source.specs.State.{gives, instance_at, next, own_instance, with_instance, with_left, with_memory, with_slots};
 ghost use Rattle.run_source.specs.declared.state.Status.{Status as TheStatus};
 ghost use Rattle.run_source.specs.declared.state.Instance.{Instance as TheInstance};
@@ -569,4 +572,17 @@ pub fn late_allocas_stay_beside()
         (killed (s.world.memory ++ slot_block m s ty align marked ∷ []) (length s.world.memory)))
         (with_slots (with_slot_of t (slot_block m s ty align false) a)
         (record { alloca = a; block = length t.world.memory } ∷ t.top.slots)) }
+{}
+
+/// A slot that may be made anew is no ramp slot in the first run, so it becomes its instance's. It is one in the second.
+/// Of any other slot both say the same.
+pub fn renewed_slots_are_ramp_slots()
+    ensures first { (m : Module) (f : Function) (flags : ℕ → Bool) (roots : ℕ → Option ℕ) → KeepsSlots m f flags roots
+        → (slot : TheSlot) → IsTrue (flags slot.alloca) → (facts : TheFacts) → AreFactsOf f facts
+        → is_among facts.ramp_slots slot ≡ false }
+    ensures second { (m : Module) (f : Function) (flags : ℕ → Bool) (roots : ℕ → Option ℕ) → KeepsSlots m f flags roots
+        → (facts : TheFacts) (slot : TheSlot) → IsTrue (flags slot.alloca)
+        → is_among (renewed_facts flags f facts).ramp_slots slot ≡ true }
+    ensures others { (f : Function) (flags : ℕ → Bool) (facts : TheFacts) (slot : TheSlot) → flags slot.alloca ≡ false
+        → is_among (renewed_facts flags f facts).ramp_slots slot ≡ is_among facts.ramp_slots slot }
 {}
