@@ -521,7 +521,8 @@ pub fn deallocations_stay_beside()
         → (other : TheState) × (deallocate t q ≡ Ok other) × IsBeside m flags roots after other }
 {}
 
-/// At the end the instance is over in both runs, and its slots die. An activation that wasn't resumed goes on behind it.
+/// At the end the instance is over in both runs, and its slots die. An activation that wasn't resumed goes on behind
+/// it.
 pub fn coroutine_ends_stay_beside()
     ensures finished { (m : Module) (flags : Flags) (roots : Roots) (s t : TheState) → IsBeside m flags roots s t
         → IsBeside m flags roots (finish s) (finish t) }
@@ -559,8 +560,8 @@ pub fn suspends_stay_beside()
         })) true) result (integer 8 (negsuc 0))) }
 {}
 
-/// The alloca of a slot that may be made anew may come to an instance that is over. The slot is dead at once in the first
-/// run. In the second its block lives, and is the activation's.
+/// The alloca of a slot that may be made anew may come to an instance that is over. The slot is dead at once in the
+/// first run. In the second its block lives, and is the activation's.
 pub fn late_allocas_stay_beside()
     ensures { (m : Module) (flags : Flags) (roots : Roots)
         → ((func : ℕ) → KeepsSlots m (function_at m func) (flags func) (roots func)) → (s t : TheState)
@@ -574,8 +575,8 @@ pub fn late_allocas_stay_beside()
         (record { alloca = a; block = length t.world.memory } ∷ t.top.slots)) }
 {}
 
-/// A slot that may be made anew is no ramp slot in the first run, so it becomes its instance's. It is one in the second.
-/// Of any other slot both say the same.
+/// A slot that may be made anew is no ramp slot in the first run, so it becomes its instance's. It is one in the
+/// second. Of any other slot both say the same.
 pub fn renewed_slots_are_ramp_slots()
     ensures first { (m : Module) (f : Function) (flags : ℕ → Bool) (roots : ℕ → Option ℕ) → KeepsSlots m f flags roots
         → (slot : TheSlot) → IsTrue (flags slot.alloca) → (facts : TheFacts) → AreFactsOf f facts
