@@ -29,7 +29,7 @@ use Rattle.run_step.specs.Step.{Action, AtInstr, Done, Stuck, Work, action_of, a
 use Rattle.run_step.specs.Step.{with_length}
 use Rattle.run_step.specs.Values.{arg_values, nth, pointer_to}
 use Rattle.run_step.specs.declared.world.World.{World}
-use Rattle.pass_renewed_proof.proofs.Giving.{given_beside, same_nth}
+use Rattle.pass_renewed_proof.proofs.Giving.{of_giving, given_beside, same_nth}
 use Rattle.pass_renewed_proof.proofs.Grown.{block_stands, home_now}
 use Rattle.pass_renewed_proof.proofs.NewBlock.{block_carried, block_entered, block_kept}
 use Rattle.pass_renewed_proof.specs.Beside.{IsBeside}
@@ -98,8 +98,9 @@ module _ (m : Module) (flags : Flags) (roots : Roots) (keeps : (func : ℕ)
         Byte.Undefined))
         (block_kept m l s.world.memory t.world.memory x x st beside.entered refl refl (length-replicate size
         Byte.Undefined))
-        (Instr.Call result must_tail ty (Callee.Allocator allocator) args) result is.giving (pointer_to (length
-        s.world.memory)) (pointer_to (length t.world.memory)) address_stands over
+        (Instr.Call result must_tail ty (Callee.Allocator allocator) args) result (pointer_to (length
+        s.world.memory)) (pointer_to (length t.world.memory)) (of_giving m flags roots k s.top _ result _ _ is.giving)
+        address_stands over
         (block_entered m l s.world.memory t.world.memory x x st beside.entered refl refl (length-replicate size
         Byte.Undefined))
 

@@ -10,7 +10,7 @@ use Rattle.run_laws.specs.access.Changed.{IsFull}
 use Rattle.run_laws.specs.memory.Pointers.{Home, home_of}
 use Rattle.run_memory.specs.declared.block.MemoryBlock.{MemoryBlock}
 use Rattle.pass_renewed_proof.proofs.Carried.{IsCarried, IsSlotKept}
-use Rattle.pass_renewed_proof.proofs.Made.{get_last, get_none, get_other, get_within}
+use Rattle.pass_renewed_proof.proofs.Made.{get_last, get_none, get_other, get_there, get_within}
 use Rattle.pass_renewed_proof.proofs.Places.{muted_at}
 use Rattle.pass_renewed_proof.specs.Ledger.{AreEntered, IsAbout, IsMate, Ledger, Lives, Seen, anew_ledger, updated}
 use Rattle.pass_renewed_proof.specs.Muted.{ended_if, muted}
@@ -57,6 +57,13 @@ seen_somewhere l m b known seen none = ⊎_elim
     on lt None e h = get_none m b e (omega arith)
     on lt (Some x) e h = let c : Some (ended_if (l.hides b) x) ≡ None = sym (ap (option_map (ended_if (l.hides b))) e)
         ∙ h in absurd (cc)
+
+pub present_block : (l : Ledger) (m : List MemoryBlock) → length l.homes ≡ length m → (b : ℕ)
+    → (home_of l.homes b).is_seen ≡ true → (x : MemoryBlock) × (slice_get m b ≡ Some x)
+present_block l m known b seen = get_there m b (subst (λ k. b < k) known (⊎_elim
+    (λ lt. lt)
+    (λ le. absurd (false≢true (sym (home_past l.homes b le) ∙ seen)))
+    (cases_lt b (length l.homes))))
 
 pub about_there : (l : Ledger) (m n : List MemoryBlock) (b : ℕ) → AreStanding l.homes (muted l.hides m) n
     → length l.homes ≡ length m → IsAbout l m b → (home_of l.homes b).block < length n
@@ -107,6 +114,7 @@ module _ (m : Module) (l : Ledger) (memory target : List MemoryBlock) (y : Memor
         ∙ h) in let more = longer in omega arith)
         (cases_eq c (length target));
     seated = e.seated;
+    kinds = e.kinds;
     placed = λ b seat h. let old = e.placed b seat h in (
       old.0,
       updated_other l.owners (length target) (Some depth) _ (below_other _ (length target) (e.owned _ old.0 old.1))

@@ -3,26 +3,35 @@ use Rattle.std.proofs.Common.{◌≡◌, ℕ, suc, ◌+◌, inl, inr, Bool, true
 use Rattle.std.proofs.Common.{refl, sym, ap, ◌∙◌, subst, ⊎_elim, arith}
 use Rattle.std.specs.Prelude.{slice_get, IsTrue}
 use Rattle.std.specs.List.{Contains}
+use Rattle.ir_model.specs.Names.{function_at}
+use Rattle.ir_model.specs.declared.instr.Instr.{Instr}
 use Rattle.ir_model.specs.declared.module.Function.{Function}
 use Rattle.ir_model.specs.declared.module.Module.{Module}
 use Rattle.ir_paths.specs.declared.point.Point.{Point}
 use Rattle.run_laws.proofs.memory.Homes.{value_on}
-use Rattle.run_laws.specs.memory.Pointers.{Extends, Home, home_of}
+use Rattle.run_laws.specs.embedded.Related.{HasNoSlot}
+use Rattle.run_laws.specs.memory.Pointers.{Extends, Home, IsValue, home_of}
 use Rattle.run_memory.specs.declared.block.MemoryBlock.{MemoryBlock}
 use Rattle.run_source.specs.declared.state.Activation.{Activation}
 use Rattle.run_source.specs.declared.state.Instance.{Instance}
 use Rattle.run_source.specs.declared.state.Status.{Status}
 use Rattle.run_source.specs.State.{is_suspended}
-use Rattle.run_step.specs.Values.{Env}
+use Rattle.run_memory.specs.declared.pointer.Pointer.{Pointer}
+use Rattle.run_memory.specs.declared.pointer.Value.{Value}
+use Rattle.run_step.specs.Step.{AtInstr, block_of, fetch}
+use Rattle.run_step.specs.Values.{Env, value_in}
 use Rattle.run_step.specs.declared.world.Slot.{Slot}
-use Rattle.pass_renewed_proof.specs.Beside.{AreBelow, AreInstancesBeside, AreSlots, Both, First, GoesOn}
-use Rattle.pass_renewed_proof.specs.Beside.{IsActivationBeside, IsInstanceBeside, IsKeptSlot, IsOverOf, IsOwn}
+use Rattle.pass_renewed_proof.specs.Beside.{AreBelow, AreInstancesBeside, AreOthers, AreSlots, Both, First, GoesOn}
+use Rattle.pass_renewed_proof.specs.Beside.{IsActivationBeside, IsEarly, IsInstanceBeside, IsKeptSlot, IsOther}
+use Rattle.pass_renewed_proof.specs.Beside.{IsOverOf, IsOwn}
 use Rattle.pass_renewed_proof.specs.Beside.{IsSeated, IsSlotBeside, IsSlotOf, IsStatusBeside, IsTold, MayStand}
 use Rattle.pass_renewed_proof.specs.Beside.{NoSlots, Second}
 use Rattle.pass_renewed_proof.specs.Ledger.{IsFresh, IsGone, IsHomeOf, Ledger, LivesIn, Seat}
 use Rattle.pass_renewed_proof.specs.Places.{IsReady}
 use Rattle.pass_renewed_proof.specs.Renewed.{Flags, Roots}
 use Rattle.pass_renewed_proof.specs.SlotEnvs.{AreSlotEnvs}
+use Rattle.pass_renewed_proof.specs.SlotRules.{IsMadeOnce}
+use Rattle.pass_renewed_proof.specs.Steps.{given_at}
 
 -- ---- values where more homes are known
 
@@ -86,6 +95,45 @@ same_carried l m target = record {
 pub same_kept : (l : Ledger) (m : List MemoryBlock) (b : ℕ) → IsSlotKept l l m m b
 same_kept l m b = record { home = refl; hides = refl; fresh = λ z. z; lives = λ z. z; gone = λ z. z }
 
+-- ---- names of other allocas
+
+-- pointers are about into the block of a value that stands for another one
+pub seen_block : (homes : List Home) (v w : Value) (b : ℕ) → IsValue homes v w → block_of v ≡ Some b
+    → (home_of homes b).is_seen ≡ true
+seen_block homes Value.Poison w b h e = absurd (cc)
+seen_block homes (Value.Int n) w b h e = absurd (cc)
+seen_block homes (Value.Ptr Pointer.Null) w b h e = absurd (cc)
+seen_block homes (Value.Ptr (Pointer.Func g)) w b h e = absurd (cc)
+seen_block homes (Value.Ptr (Pointer.At d o)) w b h e = subst (λ n. (home_of homes n).is_seen ≡ true) (same d b e) h.0
+  where
+    same : (i j : ℕ) → Some i ≡ Some j → i ≡ j
+    same i j k = cc
+
+-- an instruction that makes no slot gives no such name
+pub made_no_slot : (f : Function) (al : ℕ) → IsMadeOnce f al → (block at : ℕ) (i : Instr)
+    → fetch f block at ≡ AtInstr i → HasNoSlot (AtInstr i) → given_at (fetch f block at) ≡ Some al → ⊥
+made_no_slot f al made block at i here no_slot given =
+    let alone = made.alone block at given in
+    let is : AtInstr i ≡ AtInstr (Instr.Alloca al made.ty made.align) = sym here ∙ (λ k. fetch f (alone.0 k) (alone.1
+    k)) ∙ made.stands in
+    subst HasNoSlot is no_slot
+
+-- they lead to no slot either where they have what they had
+pub others_on : (l k : Ledger) (m n target after : List MemoryBlock) → IsCarried l k m n target after → (f : Function)
+    (flags : ℕ → Bool) (roots : ℕ → Option ℕ) (env other vs ws : Env) → AreSlotEnvs l.homes roots env other
+    → ((v : ℕ) → IsOther f flags roots v
+    → (value_in vs v ≡ value_in env v) × (value_in ws v ≡ value_in other v)) → AreOthers l f flags roots env other
+    → AreOthers k f flags roots vs ws
+others_on l k m n target after c f flags roots env other vs ws envs same h v is =
+    let e = same v is in
+    let old = h v is in
+    record {
+      unseated = λ b at.
+          let at_old : block_of (value_in env v) ≡ Some b = ap block_of (sym e.0) ∙ at in
+          c.unseated b (seen_block l.homes _ _ b (envs.plain v is.no_part) at_old) (old.unseated b at_old);
+      nowhere = λ none. ap block_of e.1 ∙ old.nowhere (ap block_of (sym e.0) ∙ none);
+    }
+
 -- the instances behind a step: an activation that may go on might before, and slots are still those of it
 pub record AreInstancesOn (xs ys : List Instance) (depth : ℕ) (a : Activation) : Type 0 where
   pub goes_on : GoesOn ys depth a → GoesOn xs depth a
@@ -122,6 +170,10 @@ module _ (m : Module) (flags : Flags) (roots : Roots) (l k : Ledger) (xs ys : Li
   seated_on : (flags : ℕ → Bool) (func : ℕ) (i : Option ℕ) (slot : Slot) → IsSeated l flags func i slot
       → IsSeated k flags func i slot
   seated_on flags func i slot s = record { flagged = s.flagged; depth = s.depth; seat = c.seats slot.block _ s.seat }
+
+  early_on : (flags : ℕ → Bool) (func depth : ℕ) (slot : Slot) → IsEarly l flags func depth slot
+      → IsEarly k flags func depth slot
+  early_on flags func depth slot s = record { flagged = s.flagged; seat = c.seats slot.block _ s.seat }
 
   own_on : (flags : ℕ → Bool) (depth : ℕ) (env other : Env) (slot : Slot) → IsOwn l flags depth env other slot
       → IsOwn k flags depth env other slot
@@ -160,8 +212,10 @@ module _ (m : Module) (flags : Flags) (roots : Roots) (l k : Ledger) (xs ys : Li
     slots = h.slots;
     is = h.is;
     envs = envs_on l.homes k.homes (roots a.func) a.values h.values c.extends h.envs;
-    listed = slots_on _ _ _ _ (flags a.func) (seated_on (flags a.func) a.func None) (own_on (flags a.func) depth
+    listed = slots_on _ _ _ _ (flags a.func) (early_on (flags a.func) a.func depth) (own_on (flags a.func) depth
         a.values h.values) a.slots h.slots h.listed;
+    others = others_on l k memory memory' target target' c (function_at m a.func) (flags a.func) (roots a.func)
+        a.values h.values a.values h.values h.envs (λ v is. (refl, refl)) h.others;
     each = λ alloca b d flagged at there. on.slots alloca b d flagged (h.each alloca b d flagged at there);
     made = h.made;
     modes = h.modes;
@@ -214,6 +268,8 @@ module _ (m : Module) (flags : Flags) (roots : Roots) (l k : Ledger) (xs ys : Li
       is_call = h.2.is_call;
       runs_out = h.2.runs_out;
       envs = envs_on l.homes k.homes (roots x.coroutine) env h.0 c.extends h.2.envs;
+      others = others_on l k memory memory' target target' c (function_at m x.coroutine) (flags x.coroutine) (roots
+          x.coroutine) env h.0 env h.0 h.2.envs (λ v is. (refl, refl)) h.2.others;
       each = λ alloca b flagged at. on.slots s alloca b (ap is_suspended is) flagged (h.2.each alloca b flagged at);
     },
   )

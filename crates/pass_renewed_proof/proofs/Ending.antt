@@ -22,7 +22,7 @@ use Rattle.run_source.specs.declared.state.State.{State}
 use Rattle.run_step.specs.Step.{AtInstr, Done, Work, action_of, block_of, on_block, set_memory}
 use Rattle.run_step.specs.Values.{Env, pointer_to, value_in}
 use Rattle.run_step.specs.declared.world.World.{World}
-use Rattle.pass_renewed_proof.proofs.Carried.{IsCarried, IsSlotKept, same_carried, same_kept}
+use Rattle.pass_renewed_proof.proofs.Carried.{IsCarried, IsSlotKept, others_on, same_carried, same_kept}
 use Rattle.pass_renewed_proof.proofs.History.{no_marker}
 use Rattle.pass_renewed_proof.proofs.Marked.{dead_carried, dead_entered, dead_kept, dead_stand, dies}
 use Rattle.pass_renewed_proof.proofs.Markers.{ended_dead, ends, marked_value, marks_alone}
@@ -73,12 +73,14 @@ module _ (m : Module) (flags : Flags) (roots : Roots) (keeps : (func : ℕ)
           beside.top.values
           (edge_on m flags roots l s.instances s.world.memory t.world.memory (length s.below) s.top t.top beside.top
           (calm f (place_in s.top) is.place) i is.here)
-          (λ al b at. unstarted f (place_in s.top) i is.here refl al)
+          (λ al b flagged at. unstarted f (place_in s.top) i is.here refl al)
           (λ al b flagged at live. ⊎_elim
           (λ same. absurd (dead b (ap (value_in s.top.values) (sym same) ∙ at) live))
           (no_end_of al)
           (cases_eq al slot))
-          (calm f (place_in s.top) is.place) beside.top.envs (λ al flagged. (refl, refl)) over entered)
+          (calm f (place_in s.top) is.place) beside.top.envs (others_on l l s.world.memory w.memory t.world.memory
+          t.world.memory carried f (flags s.top.func) (roots s.top.func) s.top.values beside.top.values s.top.values
+          beside.top.values beside.top.envs (λ v other. (refl, refl)) beside.top.others) (λ al flagged. (refl, refl)) over entered)
 
   abbrev memory_behind : Value → List MemoryBlock
   memory_behind u = on_block end s.world.memory (block_of u)

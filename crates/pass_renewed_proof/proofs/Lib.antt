@@ -3,6 +3,7 @@ pub mod MutedSteps
 pub mod Shown
 pub mod ShownSteps
 pub mod Sets
+pub mod Small
 pub mod Steps
 pub mod Places
 pub mod Ahead
@@ -48,7 +49,19 @@ pub mod NewName
 pub mod Unmarked
 pub mod SlotAllocas
 pub mod OtherAllocas
+pub mod SavePoints
 pub mod Saving
 pub mod Owning
 pub mod Releasing
 pub mod Sleeping
+pub mod Alike
+pub mod AlikeMarks
+pub mod OtherMarkers
+pub mod Dying
+pub mod Finishing
+pub mod Freeing
+pub mod Deallocating
+pub mod Closing
+pub mod Promising
+pub mod LateAllocas
+pub mod RampSlots

@@ -23,7 +23,8 @@ use Rattle.pass_renewed_proof.proofs.Carried.{activation_kept, below_kept, insta
 use Rattle.pass_renewed_proof.proofs.Carried.{slot_kept}
 use Rattle.pass_renewed_proof.proofs.Passing.{below_passed, instance_passed}
 use Rattle.pass_renewed_proof.specs.Beside.{AreInstancesBeside, Begun, Both, Early, First, GoesOn}
-use Rattle.pass_renewed_proof.specs.Beside.{IsActivationBeside, IsBeside, IsInstanceBeside, IsOverOf}
+use Rattle.pass_renewed_proof.specs.Beside.{AreOthers, IsActivationBeside, IsBeside, IsEarly, IsInstanceBeside}
+use Rattle.pass_renewed_proof.specs.Beside.{IsOverOf}
 use Rattle.pass_renewed_proof.specs.Beside.{IsPassed, IsSeated, IsSlotBeside, IsSlotOf, IsStatusBeside, IsTold, Leaves}
 use Rattle.pass_renewed_proof.specs.Beside.{NotLeft, place_in}
 use Rattle.pass_renewed_proof.specs.Ledger.{AreEntered, IsGone, Ledger, Seat}
@@ -144,7 +145,7 @@ module _ (m : Module) (flags : Flags) (roots : Roots) (s t : State) (beside : Is
       of_it (Begun i x own at is) = Begun i x own at is
 
   -- in the first run alone, a slot that may be made anew
-  abbrev pub first_listed : (slot : Slot) → IsSeated beside.ledger (flags s.top.func) s.top.func None slot
+  abbrev pub first_listed : (slot : Slot) → IsEarly beside.ledger (flags s.top.func) s.top.func (length s.below) slot
       → IsBeside m flags roots (with_slots s (slot ∷ s.top.slots)) t
   first_listed slot seated = record {
     ledger = beside.ledger;
@@ -158,6 +159,7 @@ module _ (m : Module) (flags : Flags) (roots : Roots) (s t : State) (beside : Is
       is = h.is;
       envs = h.envs;
       listed = First slot s.top.slots h.slots seated h.listed;
+      others = h.others;
       each = λ al b c flagged at there. slot_more slot al b c (h.each al b c flagged at there);
       made = h.made;
       modes = h.modes;
@@ -205,6 +207,7 @@ module _ (m : Module) (flags : Flags) (roots : Roots) (s t : State) (beside : Is
       is = ap (λ (z : Activation). record z { slots = record { alloca = al; block = c } ∷ z.slots }) h.is;
       envs = h.envs;
       listed = Both al b c s.top.slots h.slots off home none h.listed;
+      others = h.others;
       each = λ a d e flagged at there. slot_more (record { alloca = al; block = b }) a d e (h.each a d e flagged at
           there);
       made = λ slot is flagged. both_made al c off slot is flagged;
@@ -389,6 +392,7 @@ module _ (m : Module) (flags : Flags) (roots : Roots) (l : Ledger) (memory : Lis
       is_call = subst (λ g. IsCallAt Intrinsic.CoroSuspend (function_at m g) p) (sym same) h.2.is_call;
       runs_out = subst (λ g. RunsOut (function_at m g) p) (sym same) h.2.runs_out;
       envs = subst (λ g. AreSlotEnvs l.homes (roots g) env h.0) (sym same) h.2.envs;
+      others = subst (λ g. AreOthers l (function_at m g) (flags g) (roots g) env h.0) (sym same) h.2.others;
       each = λ al b flagged at.
           let o = h.2.each al b (subst (λ g. IsTrue (flags g al)) same flagged) at in
           record {

@@ -6,8 +6,9 @@ use Rattle.std.specs.Prelude.{slice_get, option_map}
 use Rattle.ir_model.specs.declared.module.Module.{Module}
 use Rattle.run_laws.proofs.memory.Written.{changed_elsewhere, changed_here, same_some}
 use Rattle.run_laws.specs.memory.Pointers.{home_of}
-use Rattle.run_memory.specs.Memory.{is_killed, is_live, may_compare_at, owner_rights, with_block}
+use Rattle.run_memory.specs.Memory.{is_killed, is_live, may_compare_at, owner_rights, same_kind, with_block}
 use Rattle.run_memory.specs.Pointers.{moved}
+use Rattle.run_memory.specs.declared.block.Kind.{Kind}
 use Rattle.run_memory.specs.declared.block.MemoryBlock.{MemoryBlock}
 use Rattle.run_memory.specs.declared.pointer.Offset.{Offset}
 use Rattle.pass_renewed_proof.proofs.Carried.{IsCarried, IsSlotKept}
@@ -22,7 +23,7 @@ length_with [] b f = refl
 length_with (x ∷ m) zero f = refl
 length_with (x ∷ m) (suc b) f = ap suc (length_with m b f)
 
-shown_with : (hides : ℕ → Bool) (m : List MemoryBlock) (b : ℕ) (f : MemoryBlock → MemoryBlock)
+pub shown_with : (hides : ℕ → Bool) (m : List MemoryBlock) (b : ℕ) (f : MemoryBlock → MemoryBlock)
     → ((x : MemoryBlock) → AreShownBytes hides x.bytes → AreShownBytes hides (f x).bytes) → AreShownBlocks hides m
     → AreShownBlocks hides (with_block m b f)
 shown_with hides [] b f on h = tt
@@ -40,6 +41,7 @@ with_from (x ∷ m) (suc b) f y e = with_from m b f y e
 pub record IsMark (f : MemoryBlock → MemoryBlock) : Type 0 where
   pub size : (x : MemoryBlock) → (f x).size ≡ x.size
   pub align : (x : MemoryBlock) → (f x).align ≡ x.align
+  pub kind : (x : MemoryBlock) → (f x).kind ≡ x.kind
   pub gone : (x : MemoryBlock) → is_killed x.life ≡ true → is_killed (f x).life ≡ true
   pub shown : (hides : ℕ → Bool) (x : MemoryBlock) → AreShownBytes hides x.bytes → AreShownBytes hides (f x).bytes
 
@@ -106,6 +108,7 @@ module _ (m : Module) (l : Ledger) (memory target : List MemoryBlock) (b : ℕ) 
         (cases_eq d b);
     owned = e.owned;
     seated = λ d z h. subst (λ n. d < n) (sym (length_with memory b f)) (e.seated d z h);
+    kinds = kinds_on;
     placed = e.placed;
     unowned = e.unowned;
     mates = λ d z none at.
@@ -125,6 +128,17 @@ module _ (m : Module) (l : Ledger) (memory target : List MemoryBlock) (b : ℕ) 
     future = subst (λ n. AreShownBlocks (λ d. nat_le n d) (with_block memory b f)) (sym (length_with memory b f))
         (shown_with _ memory b f (mark.shown _) e.future);
   }
+    where
+      kinds_on : (d : ℕ) (z : Seat) (x : MemoryBlock) → l.seats d ≡ Some z → slice_get (with_block memory b f) d ≡ Some x
+          → same_kind x.kind Kind.Allocator ≡ false
+      kinds_on d z x h at = ⊎_elim
+          (λ is.
+          let from = with_from memory b f x (ap (slice_get (with_block memory b f)) (sym is) ∙ at) in
+          ap (λ (q : MemoryBlock). same_kind q.kind Kind.Allocator) from.2
+          ∙ ap (λ k. same_kind k Kind.Allocator) (mark.kind from.0)
+          ∙ e.kinds b seat from.0 seated from.1)
+          (λ ne. e.kinds d z x h (sym (changed_elsewhere memory b d f ne) ∙ at))
+          (cases_eq d b)
 
   pub marked_carried : IsCarried l (record l { hides = hides }) memory (with_block memory b f) target target
   marked_carried = record {

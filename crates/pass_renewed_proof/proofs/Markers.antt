@@ -42,6 +42,15 @@ module _ (x : MemoryBlock) where
   end_align true = refl
   end_align false = refl
 
+  end_kind : (t : Bool) → (if t then x else record x { life = Life.Ended }).kind ≡ x.kind
+  end_kind true = refl
+  end_kind false = refl
+
+  start_kind : (t : Bool)
+      → (if t then x else record x { life = Life.Live; bytes = replicate x.size Byte.Undefined }).kind ≡ x.kind
+  start_kind true = refl
+  start_kind false = refl
+
   end_shown : (hides : ℕ → Bool) (t : Bool) → AreShownBytes hides x.bytes
       → AreShownBytes hides (if t then x else record x { life = Life.Ended }).bytes
   end_shown hides true h = h
@@ -83,6 +92,7 @@ pub ends : IsMark ended
 ends = record {
   size = λ x. end_size x (is_killed x.life);
   align = λ x. end_align x (is_killed x.life);
+  kind = λ x. end_kind x (is_killed x.life);
   gone = λ x h. ap (λ t. is_killed (if t then x else record x { life = Life.Ended }).life) h ∙ h;
   shown = λ hides x h. end_shown x hides (is_killed x.life) h;
 }
@@ -91,6 +101,7 @@ pub starts : IsMark started
 starts = record {
   size = λ x. start_size x (is_killed x.life);
   align = λ x. start_align x (is_killed x.life);
+  kind = λ x. start_kind x (is_killed x.life);
   gone = λ x h. ap (λ t. is_killed (if t then x else record x {
     life = Life.Live;
     bytes = replicate x.size

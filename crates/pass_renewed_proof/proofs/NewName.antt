@@ -19,14 +19,15 @@ use Rattle.run_source.specs.declared.state.State.{State}
 use Rattle.run_step.specs.Step.{AtInstr, fetch}
 use Rattle.run_step.specs.Values.{Env, pointer_to, value_in, with_value}
 use Rattle.run_step.specs.declared.world.Slot.{Slot}
-use Rattle.pass_renewed_proof.proofs.Carried.{same_carried, same_kept}
+use Rattle.pass_renewed_proof.proofs.Carried.{others_on, same_carried, same_kept}
 use Rattle.pass_renewed_proof.proofs.EnteredValues.{set_here, set_length}
-use Rattle.pass_renewed_proof.proofs.Onward.{IsEdgeOf, activation_listed, calm, slot_passed, slot_there}
+use Rattle.pass_renewed_proof.proofs.Onward.{IsEdgeOf, activation_begun, begun_on, calm, slot_passed, slot_there}
 use Rattle.pass_renewed_proof.proofs.Ordinary.{own_address, roots_of}
 use Rattle.pass_renewed_proof.proofs.Passing.{edge_on, unended, unstarted}
 use Rattle.pass_renewed_proof.proofs.Sets.{set_elsewhere}
 use Rattle.pass_renewed_proof.specs.Beside.{AreSlots, Both, First, IsActivationBeside, IsAliveAt, IsBeside}
-use Rattle.pass_renewed_proof.specs.Beside.{IsOwn, IsPassed, IsSlotBeside, IsSlotOf, NoSlots, Second, place_in}
+use Rattle.pass_renewed_proof.specs.Beside.{IsOther, IsOwn, IsPassed, IsSlotBeside, IsSlotOf, NoSlots, Second}
+use Rattle.pass_renewed_proof.specs.Beside.{place_in}
 use Rattle.pass_renewed_proof.specs.Ledger.{IsFresh, Ledger, LivesIn}
 use Rattle.pass_renewed_proof.specs.Left.{behind}
 use Rattle.pass_renewed_proof.specs.Making.{IsAllocaOfSlot}
@@ -301,15 +302,20 @@ module _ (m : Module) (flags : Flags) (roots : Roots) (keeps : (func : ℕ)
   made_now slot (zero, lt, e) flagged = passed_it slot.alloca (ap (λ (z : Slot). z.alloca) (sym e))
   made_now slot (suc n, lt, e) flagged = onward.passed slot.alloca (h.made slot (n, omega arith, e) flagged)
 
+  not_other : (v : ℕ) → IsOther (function_at m s.top.func) (flags s.top.func) (roots s.top.func) v → a ≡ v → ⊥
+  not_other v other same = false≢true (sym other.off ∙ ap (flags s.top.func) (sym same) ∙ is.flagged)
+
   top_now : IsActivationBeside m flags roots beside.ledger s.instances s.world.memory t.world.memory (length s.below)
       (record s.top { at = s.top.at + 1; values = with_value s.top.values a (pointer_to b) }) (record t.top {
         at = t.top.at + 1;
         values = with_value beside.top.values a (pointer_to c);
         slots = record { alloca = a; block = c } ∷ beside.top.slots;
       })
-  top_now = activation_listed m l l s.instances s.world.memory s.world.memory t.world.memory t.world.memory
+  top_now = activation_begun m l l s.instances s.world.memory s.world.memory t.world.memory t.world.memory
       (same_carried l s.world.memory t.world.memory) (length s.below) s.top (behind (place_in s.top)) vs onward flags
-      roots t.top h is.place.no_close (record t.top {
+      roots t.top h (begun_on m l l s.instances s.world.memory s.world.memory t.world.memory t.world.memory (same_carried l
+      s.world.memory t.world.memory) (length s.below) s.top (behind (place_in s.top)) vs onward flags roots t.top h
+      is.place.no_close) (record t.top {
         at = t.top.at + 1;
         values = ws;
         slots = record { alloca = a; block = c } ∷ h.slots;
@@ -319,7 +325,12 @@ module _ (m : Module) (flags : Flags) (roots : Roots) (keeps : (func : ℕ)
         slots = record { alloca = a; block = c } ∷ h.slots;
       }) h.is) envs
       (Second (record { alloca = a; block = c }) s.top.slots h.slots own_new (own_on l _ _ _ (flags s.top.func)
-      s.top.slots h.slots own_still h.listed)) slots_now made_now
+      s.top.slots h.slots own_still h.listed)) (others_on l l s.world.memory s.world.memory t.world.memory
+      t.world.memory (same_carried l s.world.memory t.world.memory) f (flags s.top.func) (roots s.top.func)
+      s.top.values h.values vs ws h.envs (λ v other. (
+        set_elsewhere s.top.values a v (pointer_to b) (not_other v other),
+        set_elsewhere h.values a v (pointer_to c) (not_other v other),
+      )) h.others) slots_now made_now
 
   pub named_beside : IsBeside m flags roots (settled s (record {
     world = s.world;

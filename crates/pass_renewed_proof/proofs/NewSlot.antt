@@ -3,8 +3,10 @@ use Rattle.std.proofs.Common.{◌≡◌, ◌≢◌, ℕ, ◌+◌, ◌<◌, ◌^�
 use Rattle.std.proofs.Common.{length-append, Some, None, refl, sym, ap, ◌∙◌, subst, ⊎_elim, arith, nat_le}
 use Rattle.std.proofs.lemmas.Bool.{cases_eq, cases_lt, false≢true}
 use Rattle.std.proofs.lemmas.List.{length-replicate}
+use Rattle.std.specs.Prelude.{slice_get}
 use Rattle.ir_model.specs.declared.module.Module.{Module}
 use Rattle.run_laws.proofs.memory.Homes.{append_extends}
+use Rattle.run_laws.proofs.memory.Written.{same_some}
 use Rattle.run_laws.specs.embedded.Making.{whole_home}
 use Rattle.run_laws.specs.memory.Pointers.{Home, home_of}
 use Rattle.run_laws.specs.memory.Standing.{blank_block}
@@ -17,7 +19,7 @@ use Rattle.pass_renewed_proof.proofs.Anew.{updated_other}
 use Rattle.pass_renewed_proof.proofs.Carried.{IsCarried, IsSlotKept}
 use Rattle.pass_renewed_proof.proofs.Grown.{block_stands, either_shown, future_more, home_before, home_now}
 use Rattle.pass_renewed_proof.proofs.Grown.{kept_before, le_itself, longer, muted_was, shown_append}
-use Rattle.pass_renewed_proof.proofs.Made.{get_other, get_within, home_last, home_other}
+use Rattle.pass_renewed_proof.proofs.Made.{get_last, get_other, get_within, home_last, home_other}
 use Rattle.pass_renewed_proof.proofs.Places.{forgotten}
 use Rattle.pass_renewed_proof.proofs.Ready.{blocks_only}
 use Rattle.pass_renewed_proof.specs.Ledger.{AreEntered, IsAbout, IsMate, Ledger, Lives, Seat, Seen}
@@ -27,7 +29,8 @@ use Rattle.pass_renewed_proof.specs.Places.{AreStanding, IsBlank, IsReady, unsee
 
 module _ (m : Module) (l : Ledger) (memory target : List MemoryBlock) (x : MemoryBlock) (kind : Kind) (depth : ℕ)
     (seat : Seat) (st : AreStanding l.homes (muted l.hides memory) target) (e : AreEntered m l memory target) (small :
-    x.size < 2 ^ 64) (blank : IsBlank x) (writable : same_kind kind Kind.Constant ≡ false) where
+    x.size < 2 ^ 64) (blank : IsBlank x) (writable : same_kind kind Kind.Constant ≡ false) (other : same_kind x.kind
+    Kind.Allocator ≡ false) where
   abbrev first : ℕ
   first = length memory
 
@@ -108,6 +111,12 @@ module _ (m : Module) (l : Ledger) (memory target : List MemoryBlock) (x : Memor
           old.0,
           ap (λ (q : Home). updated l.owners (length target) (Some depth) q.block) (before b ne) ∙ old.1,
         ))
+        (cases_eq b (length memory));
+    kinds = λ b z u h at. ⊎_elim
+        (λ is. ap (λ (q : MemoryBlock). same_kind q.kind Kind.Allocator) (same_some u x (sym at ∙ ap (slice_get (memory ++
+        x ∷ [])) is ∙ get_last memory x)) ∙ other)
+        (λ ne. e.kinds b z u (sym (updated_other l.seats (length memory) (Some seat) b ne) ∙ h) (sym (get_other memory
+        x b ne) ∙ at))
         (cases_eq b (length memory));
     unowned = base.unowned;
     mates = λ b z none at. ⊎_elim

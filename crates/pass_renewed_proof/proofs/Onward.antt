@@ -1,5 +1,5 @@
 -- What is said of an activation's slots goes on along an edge on which no marker stands.
-use Rattle.std.proofs.Common.{◌≡◌, ℕ, inl, inr, Bool, true, false, List, refl, sym, ap, ◌∙◌, subst, ⊎_elim}
+use Rattle.std.proofs.Common.{◌≡◌, ◌≢◌, ◌⊎◌, ℕ, inl, inr, Bool, true, false, List, refl, sym, ap, ◌∙◌, subst, ⊎_elim}
 use Rattle.std.proofs.Common.{None, arith}
 use Rattle.std.specs.Prelude.{IsTrue}
 use Rattle.std.specs.List.{Contains}
@@ -32,8 +32,9 @@ use Rattle.pass_renewed_proof.proofs.History.{fetch_is, no_marker, no_start}
 use Rattle.pass_renewed_proof.proofs.Left.{after_edge, window_next}
 use Rattle.pass_renewed_proof.proofs.Way.{alive_more, barred_more, resumed_more, same_instr, suspend_called}
 use Rattle.pass_renewed_proof.specs.Ahead.{IsBehindSuspendCall, IsNoStart}
-use Rattle.pass_renewed_proof.specs.Beside.{AreSlots, Begun, Early, GoesOn, IsActivationBeside, IsAliveAt, IsOwn}
-use Rattle.pass_renewed_proof.specs.Beside.{IsPassed, IsSeated, IsSlotBeside, IsSlotOf, IsTold, Leaves, NotLeft}
+use Rattle.pass_renewed_proof.specs.Beside.{AreOthers, AreSlots, Begun, Early, GoesOn, IsActivationBeside, IsAliveAt}
+use Rattle.pass_renewed_proof.specs.Beside.{IsEarly, IsOverOf, IsOwn, IsPassed, IsSlotBeside, IsSlotOf, IsTold}
+use Rattle.pass_renewed_proof.specs.Beside.{Leaves, NotLeft}
 use Rattle.pass_renewed_proof.specs.Beside.{place_in}
 use Rattle.pass_renewed_proof.specs.Ordinary.{IsCalm, IsOrdinary}
 use Rattle.pass_renewed_proof.specs.Ledger.{IsHomeOf, Ledger, LivesIn}
@@ -41,7 +42,7 @@ use Rattle.pass_renewed_proof.specs.Left.{AtEnd, AtSuspend, AtSwitch, Behind, Be
 use Rattle.pass_renewed_proof.specs.Renewed.{Flags, Roots}
 use Rattle.pass_renewed_proof.specs.SlotEnvs.{AreSlotEnvs}
 use Rattle.rule_windows.specs.Points.{ends}
-use Rattle.rule_windows.specs.Sets.{RunsOut}
+use Rattle.rule_windows.specs.Sets.{IsAfterEnd, RunsOut}
 use Rattle.pass_renewed_proof.specs.Way.{WasAlive}
 
 -- ---- an instruction that isn't a marker
@@ -227,15 +228,16 @@ module _ (m : Module) (l k : Ledger) (xs : List Instance) (memory memory' target
         by false e = e
 
     -- with values and slots of which the same is said
-    pub activation_listed : (IsCallAt Intrinsic.CoroEnd (function_at m a.func) (place_in a)
-        → ⊥) → (z : Activation) (ws : Env) (slots : List Slot) → z ≡ record a {
+    pub activation_begun : (a.instance ≢ None → RunsOut (function_at m a.func) q ⊎ (IsAfterEnd (function_at m a.func)
+        q × (a.has_left ≡ false → IsOverOf xs a))) → (z : Activation) (ws : Env) (slots : List Slot) → z ≡ record a {
           block = q.block;
           at = q.at;
           values = ws;
           slots = slots;
         } → AreSlotEnvs k.homes (roots a.func) vs ws
-        → AreSlots k (IsSeated k (flags a.func) a.func None) (IsOwn k (flags a.func) depth vs ws) (flags a.func)
+        → AreSlots k (IsEarly k (flags a.func) a.func depth) (IsOwn k (flags a.func) depth vs ws) (flags a.func)
         a.slots slots
+        → AreOthers k (function_at m a.func) (flags a.func) (roots a.func) vs ws
         → ((slot d e : ℕ) → IsTrue (flags a.func slot) → value_in vs slot ≡ pointer_to d
         → value_in ws slot ≡ pointer_to e
         → IsSlotBeside m k xs memory' target' depth (record a {
@@ -250,18 +252,19 @@ module _ (m : Module) (l k : Ledger) (xs : List Instance) (memory memory' target
           at = q.at;
           values = vs;
         }) z
-    activation_listed no_close z ws slots is envs listed each made = record {
+    activation_begun begun z ws slots is envs listed others each made = record {
       values = ws;
       slots = slots;
       is = is;
       envs = envs;
       listed = listed;
+      others = others;
       each = each;
       made = made;
       modes = h.modes;
       came = λ is. resumed_more (function_at m a.func) (place_in a) q (h.came is) (on.not_last is) on.edge;
-      begun = λ some. ⊎_elim (λ r. inl (runs_on no_close r)) (λ o. inr (
-        after_edge (function_at m a.func) (place_in a) q o.0 on.edge,
+      begun = λ some. ⊎_elim (λ r. inl r) (λ o. inr (
+        o.0,
         λ stays. let w = o.1 stays in record {
           number = w.number;
           own = w.own;
@@ -269,7 +272,7 @@ module _ (m : Module) (l k : Ledger) (xs : List Instance) (memory memory' target
           there = w.there;
           over = w.over;
         },
-      )) (h.begun some);
+      )) (begun some);
       begins = h.begins;
       left = λ left. let at = h.left left in record {
         suspend = at.suspend;
@@ -277,6 +280,16 @@ module _ (m : Module) (l k : Ledger) (xs : List Instance) (memory memory' target
         by = on.left left at.suspend at.is_call at.by;
       };
     }
+
+    -- where no end stands at the place
+    pub begun_on : (IsCallAt Intrinsic.CoroEnd (function_at m a.func) (place_in a) → ⊥) → a.instance ≢ None
+        → RunsOut (function_at m a.func) q ⊎ (IsAfterEnd (function_at m a.func) q × (a.has_left ≡ false
+        → IsOverOf xs a))
+    begun_on no_close some = ⊎_elim (λ r. inl (runs_on no_close r)) (λ o. inr (
+      after_edge (function_at m a.func) (place_in
+          a) q o.0 on.edge,
+      o.1,
+    )) (h.begun some)
 
     module _ (ws : Env) (envs : AreSlotEnvs k.homes (roots a.func) vs ws)
         (same : (slot : ℕ) → IsTrue (flags a.func slot)
@@ -291,6 +304,7 @@ module _ (m : Module) (l k : Ledger) (xs : List Instance) (memory memory' target
       }
 
       pub activation_there : (IsCallAt Intrinsic.CoroEnd (function_at m a.func) (place_in a) → ⊥)
+          → AreOthers k (function_at m a.func) (flags a.func) (roots a.func) vs ws
           → ((slot d e : ℕ) → IsTrue (flags a.func slot) → value_in a.values slot ≡ pointer_to d
           → value_in h.values slot ≡ pointer_to e
           → IsSlotBeside m k xs memory' target' depth (record a {
@@ -303,17 +317,14 @@ module _ (m : Module) (l k : Ledger) (xs : List Instance) (memory memory' target
             at = q.at;
             values = vs;
           }) (record b { block = q.block; at = q.at; values = ws })
-      activation_there no_close slots = activation_listed no_close (record b {
+      activation_there no_close others slots = activation_begun (begun_on no_close) (record b {
         block = q.block;
         at = q.at;
         values = ws;
       }) ws h.slots (ap (λ (z : Activation). record z { block = q.block; at = q.at; values = ws }) h.is) envs
           (slots_on m flags roots l k xs xs memory memory' target target' c _ _ _ _ (flags a.func) (λ slot z.
-          record {
-            flagged = z.flagged;
-            depth = z.depth;
-            seat = c.seats slot.block _ z.seat;
-          }) own_there a.slots h.slots h.listed)
+          record { flagged = z.flagged; seat = c.seats slot.block _ z.seat }) own_there a.slots h.slots h.listed)
+          others
           (λ slot d e flagged at there. slots slot d e flagged (sym (same slot flagged).0
           ∙ at) (sym (same slot flagged).1 ∙ there))
           (λ slot is flagged. on.passed slot.alloca (h.made slot is flagged))

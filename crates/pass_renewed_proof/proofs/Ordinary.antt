@@ -42,6 +42,7 @@ use Rattle.pass_renewed_proof.specs.Renewed.{Flags, Roots}
 use Rattle.pass_renewed_proof.specs.Shown.{AreShownBlocks, IsShownAction, KeepsShown, spread_at}
 use Rattle.pass_renewed_proof.specs.SlotEnvs.{AreRoots}
 use Rattle.pass_renewed_proof.specs.SlotRules.{KeepsSlots}
+use Rattle.pass_renewed_proof.specs.Small.{ComparesSmall}
 use Rattle.pass_renewed_proof.specs.Steps.{AreOver, AreSet, GoesOver, given_at}
 
 -- a slot's own name is one of its addresses
@@ -148,7 +149,8 @@ module _ (m : Module) (flags : Flags) (roots : Roots) (keeps : (func : ℕ)
     answers = answers;
     rights = owner_rights;
     function = function_at m a.func;
-  }) a.values h.values (fetch (function_at m a.func) a.block a.at)) (no_slot :
+  }) a.values h.values (fetch (function_at m a.func) a.block a.at)) (small : ComparesSmall m a.values (fetch (function_at
+      m a.func) a.block a.at)) (no_slot :
       HasNoSlot (fetch (function_at m a.func) a.block a.at)) (bytes : HasBytes (fetch (function_at m a.func) a.block
       a.at)) where
     idem : AreRoots (roots a.func)
@@ -156,7 +158,7 @@ module _ (m : Module) (flags : Flags) (roots : Roots) (keeps : (func : ℕ)
 
     using : IsUsing l.homes l.hides (λ d. is_quiet m (l.seats d)) ps c w x here
     using = uses m l s.memory t.memory e c refl w x (roots a.func) here refl refl over idem h.envs one_alloca (good
-        no_slot) distance no_slot bytes
+        no_slot) distance small no_slot bytes
 
     goods : Each (IsGoodPlace m l s.memory t.memory) ps
     goods = good_places m l s.memory t.memory e c refl w x (roots a.func) here refl refl over idem h.envs one_alloca

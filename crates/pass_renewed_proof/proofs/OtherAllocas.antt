@@ -33,7 +33,7 @@ use Rattle.run_step.specs.Step.{alloca_kind}
 use Rattle.run_step.specs.Values.{pointer_to}
 use Rattle.run_step.specs.declared.world.World.{World}
 use Rattle.pass_renewed_proof.proofs.Anew.{about_there}
-use Rattle.pass_renewed_proof.proofs.Giving.{gives_beside}
+use Rattle.pass_renewed_proof.proofs.Giving.{gives_at}
 use Rattle.pass_renewed_proof.proofs.Grown.{block_stands, home_before, home_now, muted_was, not_hidden}
 use Rattle.pass_renewed_proof.proofs.Listing.{both_listed, both_more, instance_beside, instances_grown, instances_set}
 use Rattle.pass_renewed_proof.proofs.Listing.{one_grown, worlds_beside}
@@ -41,7 +41,7 @@ use Rattle.pass_renewed_proof.proofs.Made.{get_last}
 use Rattle.pass_renewed_proof.proofs.Muted.{muted_append, muted_length}
 use Rattle.pass_renewed_proof.proofs.NewBlock.{block_carried, block_entered, block_kept, no_seat}
 use Rattle.pass_renewed_proof.proofs.Places.{changed_last}
-use Rattle.pass_renewed_proof.specs.Beside.{AreInstancesBeside, IsBeside, IsInstanceBeside}
+use Rattle.pass_renewed_proof.specs.Beside.{AreInstancesBeside, IsBeside, IsInstanceBeside, IsOtherValue}
 use Rattle.pass_renewed_proof.specs.Ledger.{Ledger, Lives, block_ledger}
 use Rattle.pass_renewed_proof.specs.Making.{IsAllocaOfOther, slot_block, with_slot_of}
 use Rattle.pass_renewed_proof.specs.Muted.{muted}
@@ -124,6 +124,9 @@ module _ (m : Module) (flags : Flags) (roots : Roots) (keeps : (func : ℕ)
         on : (u : Bool) → same_kind (if u then Kind.Slot else Kind.Stack) Kind.Constant ≡ false
         on true = refl
         on false = refl
+
+    same_name : {i j : ℕ} → Some i ≡ Some j → i ≡ j
+    same_name e = cc
 
     abbrev k : Ledger
     k = block_ledger beside.ledger (length s.world.memory) (length t.world.memory)
@@ -214,6 +217,12 @@ module _ (m : Module) (flags : Flags) (roots : Roots) (keeps : (func : ℕ)
       unseated : beside.ledger.seats (length s.world.memory) ≡ None
       unseated = no_seat m l s.world.memory t.world.memory x x st beside.entered refl refl whole
 
+      new_value : IsOtherValue k (pointer_to (length s.world.memory)) (pointer_to (length t.world.memory))
+      new_value = record {
+        unseated = λ b e. ap beside.ledger.seats (sym (same_name e)) ∙ unseated;
+        nowhere = λ e. absurd (cc);
+      }
+
       address_stands : IsValue (beside.ledger.homes ++ whole_home (length t.world.memory) ∷ []) (pointer_to (length
           s.world.memory)) (pointer_to (length t.world.memory))
       address_stands = (
@@ -230,20 +239,24 @@ module _ (m : Module) (flags : Flags) (roots : Roots) (keeps : (func : ℕ)
         alloca = a;
         block = length t.world.memory;
       } ∷ t.top.slots))
-      own_slot = gives_beside m flags roots keeps (with_slots (record s { world = w }) (record {
+      own_slot = gives_at m flags roots keeps (with_slots (record s { world = w }) (record {
         alloca = a;
         block = length s.world.memory;
       } ∷ s.top.slots)) (with_slots (record t { world = v }) (record {
         alloca = a;
         block = length t.world.memory;
       } ∷ t.top.slots)) (both_listed m flags roots (record s { world = w }) (record t { world = v }) made a (length
-          s.world.memory) (length t.world.memory) is.off (now u) unseated) (Instr.Alloca a ty align) (Some a) (record {
-            place = is.giving.place;
-            here = is.giving.here;
+          s.world.memory) (length t.world.memory) is.off (now u) unseated) (Instr.Alloca a ty align) (Some a) (pointer_to
+          (length s.world.memory)) (pointer_to (length t.world.memory)) (record {
+            place = is.place;
+            here = is.here;
             no_start = refl;
             no_end = refl;
-            no_part = is.giving.no_part;
-          }) (pointer_to (length s.world.memory)) (pointer_to (length t.world.memory)) address_stands
+            name = record {
+              no_part = λ v slot root e. is.no_part v slot root (same_name e);
+              others = λ v other e. (subst (λ n. n < length s.top.values) (same_name e) is.named, new_value);
+            };
+          }) address_stands
 
       -- ---- the instance's
 
@@ -276,14 +289,18 @@ module _ (m : Module) (flags : Flags) (roots : Roots) (keeps : (func : ℕ)
             t (slot_block m s ty align u) a) i (record y {
               slots = record { alloca = a; block = length t.world.memory } ∷ y.slots;
             }))
-        instance_slot = gives_beside m flags roots keeps (record s { world = w; instances = ys }) (record t {
+        instance_slot = gives_at m flags roots keeps (record s { world = w; instances = ys }) (record t {
           world = v;
           instances = zs;
         }) (instances_grown m flags roots (record s { world = w }) (record t { world = v }) made ys zs (one_grown
-            s.instances i z _ there) instances) (Instr.Alloca a ty align) (Some a) (record {
-              place = is.giving.place;
-              here = is.giving.here;
+            s.instances i z _ there) instances) (Instr.Alloca a ty align) (Some a) (pointer_to (length s.world.memory))
+            (pointer_to (length t.world.memory)) (record {
+              place = is.place;
+              here = is.here;
               no_start = refl;
               no_end = refl;
-              no_part = is.giving.no_part;
-            }) (pointer_to (length s.world.memory)) (pointer_to (length t.world.memory)) address_stands
+              name = record {
+                no_part = λ v slot root e. is.no_part v slot root (same_name e);
+                others = λ v other e. (subst (λ n. n < length s.top.values) (same_name e) is.named, new_value);
+              };
+            }) address_stands

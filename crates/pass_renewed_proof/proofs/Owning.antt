@@ -165,7 +165,7 @@ module _ (m : Module) (flags : Flags) (roots : Roots) (s t : State) (beside : Is
 
   -- ---- by a frame address
 
-  found_at : (b c : ℕ) → home_of beside.ledger.homes b ≡ whole_home c
+  pub found_at : (b c : ℕ) → home_of beside.ledger.homes b ≡ whole_home c
       → AreFound m flags roots beside.ledger s.world.memory (last_where (began_at b 0) s.instances) (last_where (began_at
       c 0) t.instances)
   found_at b c home = on (last_from (began_at b 0) 0 s.instances) refl

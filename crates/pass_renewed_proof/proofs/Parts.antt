@@ -29,7 +29,7 @@ use Rattle.run_step.specs.Step.{AtInstr, Context, Fetched, Work, fetch}
 use Rattle.run_step.specs.Values.{Env, distance, element, indices_of, is_in_bounds, pointer_to, value_in, with_value}
 use Rattle.run_step.specs.declared.world.World.{World}
 use Rattle.pass_renewed_proof.proofs.Ahead.{next_edge}
-use Rattle.pass_renewed_proof.proofs.Carried.{same_carried, same_kept}
+use Rattle.pass_renewed_proof.proofs.Carried.{others_on, same_carried, same_kept}
 use Rattle.pass_renewed_proof.proofs.Chosen.{beyond, placed, target_of}
 use Rattle.pass_renewed_proof.proofs.EnteredValues.{set_here, set_length}
 use Rattle.pass_renewed_proof.proofs.Onward.{IsEdgeOf, activation_there, calm, left_next, no_end_here}
@@ -39,7 +39,7 @@ use Rattle.pass_renewed_proof.proofs.Ready.{part_placed}
 use Rattle.pass_renewed_proof.proofs.Sets.{set_elsewhere}
 use Rattle.pass_renewed_proof.proofs.Stands.{end_at_first}
 use Rattle.pass_renewed_proof.proofs.Using.{IsGoodPlace, distances, uses}
-use Rattle.pass_renewed_proof.specs.Beside.{IsActivationBeside, IsBeside, place_in}
+use Rattle.pass_renewed_proof.specs.Beside.{IsActivationBeside, IsBeside, IsOther, place_in}
 use Rattle.pass_renewed_proof.specs.Chosen.{IsPlaceOf, places_at}
 use Rattle.pass_renewed_proof.specs.Ledger.{AreEntered, Ledger, is_quiet}
 use Rattle.pass_renewed_proof.specs.Left.{behind}
@@ -48,6 +48,7 @@ use Rattle.pass_renewed_proof.specs.Ready.{IsUsing, Place}
 use Rattle.pass_renewed_proof.specs.Renewed.{Flags, Roots}
 use Rattle.pass_renewed_proof.specs.SlotEnvs.{AreRoots, AreSlotEnvs, IsAddress}
 use Rattle.pass_renewed_proof.specs.SlotRules.{KeepsSlots}
+use Rattle.pass_renewed_proof.specs.Small.{ComparesSmall}
 use Rattle.pass_renewed_proof.specs.Steps.{AreOver, given_at}
 
 -- ---- an element lies in the block of its base
@@ -209,7 +210,7 @@ module _ (m : Module) (flags : Flags) (roots : Roots) (keeps : (func : ℕ)
 
   using : IsUsing l.homes l.hides (λ d. is_quiet m (l.seats d)) ps c w x here
   using = uses m l s.memory t.memory e c refl w x (roots a.func) here refl refl over idem h.envs one good_here
-      distance_here none (subst HasBytes (sym here_is) tt)
+      distance_here (subst (ComparesSmall m a.values) (sym here_is) tt) none (subst HasBytes (sym here_is) tt)
 
   -- an alloca's name isn't given here
   pub not_root : (z : ℕ) → roots a.func z ≡ Some z → name ≡ z → ⊥
@@ -298,6 +299,11 @@ module _ (m : Module) (flags : Flags) (roots : Roots) (keeps : (func : ℕ)
       h beside.world beside.entered is.place name r is.slot inbounds ty indices is.here is.root is.of_slot slot
       ((keeps s.top.func).addresses slot slot flagged (own_address func slot))
 
+  not_other : (v : ℕ) → IsOther func (flags s.top.func) (roots s.top.func) v → name ≡ v → ⊥
+  not_other v other same =
+      let c : None ≡ Some is.slot = sym other.no_part ∙ ap (roots s.top.func) (sym same) ∙ is.root in
+      absurd (cc)
+
   pub top_part : IsActivationBeside m flags roots l s.instances s.world.memory t.world.memory (length s.below) (record
       s.top { at = s.top.at + 1; values = with_value s.top.values name first }) (record t.top {
         block = s.top.block;
@@ -314,6 +320,12 @@ module _ (m : Module) (flags : Flags) (roots : Roots) (keeps : (func : ℕ)
         set_elsewhere h.values name slot second (unset slot flagged),
       ))
       is.place.no_close
+      (others_on l l s.world.memory s.world.memory t.world.memory t.world.memory (same_carried l s.world.memory
+      t.world.memory) func (flags s.top.func) (roots s.top.func) s.top.values h.values (with_value s.top.values name
+      first) (with_value h.values name second) h.envs (λ v other. (
+        set_elsewhere s.top.values name v first (λ same. not_other v other same),
+        set_elsewhere h.values name v second (λ same. not_other v other same),
+      )) h.others)
       (λ slot d e flagged at there. slot_passed m l l s.instances s.world.memory s.world.memory t.world.memory
       t.world.memory (same_carried l s.world.memory t.world.memory) (length s.below) s.top next (with_value s.top.values name first) onward slot d e
       (no_start_here func slot (place_in s.top) i is.here tt) (λ live. no_end_here func slot (place_in s.top) i

@@ -29,7 +29,8 @@ use Rattle.pass_renewed_proof.proofs.Settled.{seated_in}
 use Rattle.pass_renewed_proof.proofs.Stands.{end_at_first}
 use Rattle.pass_renewed_proof.proofs.Way.{same_instr}
 use Rattle.pass_renewed_proof.specs.Ahead.{IsNoStart}
-use Rattle.pass_renewed_proof.specs.Beside.{IsActivationBeside, IsBeside, IsInstanceBeside, IsSlotBeside, place_in}
+use Rattle.pass_renewed_proof.specs.Beside.{AreOthers, IsActivationBeside, IsBeside, IsInstanceBeside, IsSlotBeside}
+use Rattle.pass_renewed_proof.specs.Beside.{place_in}
 use Rattle.pass_renewed_proof.specs.Ledger.{AreEntered, Ledger, LivesIn, Seat}
 use Rattle.pass_renewed_proof.specs.Left.{behind}
 use Rattle.pass_renewed_proof.specs.Ordinary.{IsCalm}
@@ -105,12 +106,13 @@ module _ (m : Module) (flags : Flags) (roots : Roots) (s t : State) (beside : Is
   }
 
   module _ (vs ws : Env) (onward : IsEdgeOf (function_at m s.top.func) s.top (behind (place_in s.top)))
-      (no_start : (slot b : ℕ) → value_in s.top.values slot ≡ pointer_to b
+      (no_start : (slot b : ℕ) → IsTrue (flags s.top.func slot) → value_in s.top.values slot ≡ pointer_to b
       → IsNoStart (function_at m s.top.func) slot (place_in s.top))
       (no_end : (slot b : ℕ) → IsTrue (flags s.top.func slot) → value_in s.top.values slot ≡ pointer_to b
       → LivesIn w.memory b → has_point (ends_of (function_at m s.top.func) slot) (place_in s.top) ≡ false)
       (calm : IsCalm (function_at m s.top.func) (place_in s.top))
       (envs : AreSlotEnvs k.homes (roots s.top.func) vs ws)
+      (others : AreOthers k (function_at m s.top.func) (flags s.top.func) (roots s.top.func) vs ws)
       (same : (slot : ℕ) → IsTrue (flags s.top.func slot)
       → (value_in vs slot ≡ value_in s.top.values slot) × (value_in ws slot ≡ value_in beside.top.values slot)) where
     top_passed : IsActivationBeside m flags roots k s.instances w.memory v.memory (length s.below) (record s.top {
@@ -120,12 +122,12 @@ module _ (m : Module) (flags : Flags) (roots : Roots) (s t : State) (beside : Is
     top_passed = subst (λ (z : Activation). IsActivationBeside m flags roots k s.instances w.memory v.memory (length
         s.below) (record s.top { at = s.top.at + 1; values = vs }) z) same_place
         (activation_there m l k s.instances s.world.memory w.memory t.world.memory v.memory carried (length s.below)
-        s.top (behind (place_in s.top)) vs onward flags roots t.top beside.top ws envs same calm.no_close
+        s.top (behind (place_in s.top)) vs onward flags roots t.top beside.top ws envs same calm.no_close others
         (λ slot d e flagged at there.
         let old : IsSlotBeside m l s.instances s.world.memory t.world.memory (length s.below) s.top slot d
         e = beside.top.each slot d e flagged at there in
         slot_passed m l k s.instances s.world.memory w.memory t.world.memory v.memory carried (length s.below)
-        s.top (behind (place_in s.top)) vs onward slot d e (no_start slot d at) (no_end slot d flagged
+        s.top (behind (place_in s.top)) vs onward slot d e (no_start slot d flagged at) (no_end slot d flagged
         at) (kept d _ old.seat) old))
       where
         same_place : record t.top {

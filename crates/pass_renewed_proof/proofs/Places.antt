@@ -17,6 +17,7 @@ use Rattle.run_laws.specs.memory.Pointers.{Extends, Home, IsByte, IsSeen, home_o
 use Rattle.run_laws.specs.memory.Standing.{HasBounds, HasRights, IsAlignment, IsOpen, Stands, byte_of}
 use Rattle.pass_renewed_proof.specs.Muted.{IsShown, ended_if, muted}
 use Rattle.pass_renewed_proof.specs.Places.{AreStanding, HasFewer, IsBlank, IsFree, IsReady, hiding, showing, unseen}
+use Rattle.pass_renewed_proof.specs.Small.{small_rights}
 use Rattle.pass_renewed_proof.specs.Shown.{AreShownBlocks, AreShownBytes, IsShownByte}
 use Rattle.run_laws.specs.embedded.Making.{whole_home}
 
@@ -56,7 +57,7 @@ fewer_stand homes m k n fewer st = record {
   };
   nulls = record {
     each = λ b o seen e. ⊎_elim
-        (λ same. st.nulls.each b o seen (ap (λ z. may_compare_at owner_rights b z o) (sym same) ∙ e))
+        (λ same. st.nulls.each b o seen (ap (λ z. may_compare_at small_rights b z o) (sym same) ∙ e))
         (λ h. h.each o)
         (fewer.nulls b seen);
   };
@@ -93,14 +94,14 @@ seated homes more m k n b c y ext long within others here there owner small same
           allowed = subst (λ (q : Home). HasRights owner_rights owner_rights q b x r.block) (sym here) (unowned_allows c b x r.block r.owner r.align);
         })
 
-    nulls : (d : ℕ) (o : Offset) → (home_of more d).is_seen ≡ true → may_compare_at owner_rights d (slice_get k d) o ≡ true → may_compare_at owner_rights (home_of more d).block (slice_get n (home_of more d).block) (moved o (home_of more d).offset) ≡ true
+    nulls : (d : ℕ) (o : Offset) → (home_of more d).is_seen ≡ true → may_compare_at small_rights d (slice_get k d) o ≡ true → may_compare_at owner_rights (home_of more d).block (slice_get n (home_of more d).block) (moved o (home_of more d).offset) ≡ true
     nulls d o seen e = ⊎_elim
         (λ is. subst (λ i. may_compare_at owner_rights (home_of more i).block (slice_get n (home_of more i).block) (moved o (home_of more i).offset) ≡ true) (sym is)
         (subst (λ (q : Home). may_compare_at owner_rights q.block (slice_get n q.block) (moved o q.offset) ≡ true) (sym here)
         (ap (λ z. may_compare_at owner_rights c z (moved o 0)) there ∙ unowned_compares c y (moved o 0) owner)))
         (λ ne.
         subst (λ (q : Home). may_compare_at owner_rights q.block (slice_get n q.block) (moved o q.offset) ≡ true) (sym (others d ne))
-        (st.nulls.each d o (ap (λ (q : Home). q.is_seen) (sym (others d ne)) ∙ seen) (ap (λ z. may_compare_at owner_rights d z o) (sym (same d ne)) ∙ e)))
+        (st.nulls.each d o (ap (λ (q : Home). q.is_seen) (sym (others d ne)) ∙ seen) (ap (λ z. may_compare_at small_rights d z o) (sym (same d ne)) ∙ e)))
         (cases_eq d b)
 
     bounds : (d : ℕ) (x : MemoryBlock) → (home_of more d).is_seen ≡ true → slice_get k d ≡ Some x → HasBounds n (home_of more d) x.size

@@ -254,6 +254,7 @@ module _ (homes : List Home) (hides quiet : ℕ → Bool) (ps : List Place) (c :
     room = u.room;
     globals = λ k. value_on homes (stood homes ps) extends _ _ (u.globals k);
     distance = u.distance;
+    small = u.small;
     no_slot = u.no_slot;
     bytes = u.bytes;
   }

@@ -140,6 +140,7 @@ module _ (m : Module) (flags : Flags) (roots : Roots) (keeps : (func : ℕ)
         no_start = giving.no_start;
         no_end = giving.no_end;
         no_part = giving.no_part;
+        no_alloca = giving.no_alloca;
       }) v w stands
 
   abbrev Frees : Option (ℕ × Instance) → Option (ℕ × Instance) → Type 0

@@ -1,71 +1,61 @@
 -- A save that leaves the instance Suspended does so in both runs.
-use Rattle.std.proofs.Common.{◌≡◌, ◌≢◌, ℕ, ◌+◌, ◌≤◌, ◌⊎◌, inl, inr, Bool, true, false, not, List, [], ◌∷◌}
-use Rattle.std.proofs.Common.{length, Some, None, refl, sym, ap, ◌∙◌, subst, ⊎_elim, arith}
+use Rattle.std.proofs.Common.{◌≡◌, ◌≢◌, ℕ, ◌+◌, ◌≤◌, inl, inr, Bool, true, false, not, List, [], ◌∷◌}
+use Rattle.std.proofs.Common.{length, Option, Some, None, refl, sym, ap, ◌∙◌, subst, ⊎_elim, arith}
 use Rattle.std.proofs.lemmas.Bool.{cases_eq, false≢true}
 use Rattle.std.specs.List.{Contains}
 use Rattle.std.specs.Prelude.{IsTrue, slice_get, slice_set}
 use Rattle.ir_model.specs.Names.{function_at}
-use Rattle.ir_model.specs.declared.instr.Instr.{Instr}
 use Rattle.ir_model.specs.declared.module.Function.{Function}
 use Rattle.ir_model.specs.declared.module.Module.{Module}
 use Rattle.ir_model.specs.declared.operand.Intrinsic.{Intrinsic}
-use Rattle.ir_paths.specs.Paths.{IsPath, Leads, has_point, nexts}
+use Rattle.ir_paths.specs.Paths.{has_point, nexts}
 use Rattle.ir_paths.specs.Slots.{is_escaped}
-use Rattle.ir_paths.specs.Windows.{IsInWindow, end_block, is_call_of, points_where}
+use Rattle.ir_paths.specs.Windows.{end_block}
 use Rattle.ir_paths.specs.declared.point.Point.{Point}
 use Rattle.frame_classes.specs.Alive.{MayBeAlive}
 use Rattle.frame_classes.specs.Classes.{NeedsFrame, suspends}
-use Rattle.frame_slots.specs.Uses.{ends_of}
-use Rattle.pass_kept_proof.proofs.Rules.{suspend_is_suspend}
 use Rattle.pass_kept_proof.specs.SuspendRules.{IsCallAt}
-use Rattle.rule_slots.specs.Closed.{IsClosed}
-use Rattle.rule_windows.specs.Points.{ends}
-use Rattle.rule_windows.specs.Sets.{IsAfterEnd, RunsOut}
+use Rattle.rule_windows.specs.Sets.{RunsOut}
 use Rattle.run_laws.proofs.memory.Written.{same_some}
-use Rattle.run_laws.specs.memory.Pointers.{home_of}
+use Rattle.run_laws.specs.memory.Pointers.{IsValue, home_of}
 use Rattle.run_memory.specs.declared.pointer.Value.{Value}
-use Rattle.run_source.specs.State.{next, with_instance, with_left}
+use Rattle.run_source.specs.State.{gives, with_instance, with_left}
 use Rattle.run_source.specs.declared.state.Activation.{Activation}
 use Rattle.run_source.specs.declared.state.Instance.{Instance}
 use Rattle.run_source.specs.declared.state.Mode.{Mode}
 use Rattle.run_source.specs.declared.state.Saved.{Saved}
 use Rattle.run_source.specs.declared.state.State.{State}
 use Rattle.run_source.specs.declared.state.Status.{Status}
-use Rattle.run_step.specs.Values.{Env, pointer_to, value_in}
+use Rattle.run_step.specs.Values.{Env, pointer_to, value_in, with_result}
 use Rattle.run_step.specs.declared.world.Slot.{Slot}
-use Rattle.pass_renewed_proof.proofs.Ahead.{leads_more, next_edge, not_alive, used_on}
+use Rattle.pass_renewed_proof.proofs.Ahead.{not_alive, used_on}
 use Rattle.pass_renewed_proof.proofs.Carried.{AreBelowCarried, below_kept, same_carried, same_kept}
-use Rattle.pass_renewed_proof.proofs.Carried.{slot_kept}
-use Rattle.pass_renewed_proof.proofs.History.{alive_at_suspend, no_marker, no_start, save_ends, save_starts}
-use Rattle.pass_renewed_proof.proofs.History.{used_at_suspend}
-use Rattle.pass_renewed_proof.proofs.Left.{after_edge, call_listed, save_next, to_pairs}
+use Rattle.pass_renewed_proof.proofs.Carried.{slot_kept, slots_on}
+use Rattle.pass_renewed_proof.proofs.Left.{call_listed}
+use Rattle.pass_renewed_proof.proofs.Giving.{IsGivenName, envs as given_envs, others as given_others, unset}
+use Rattle.pass_renewed_proof.proofs.SavePoints.{IsSavingAt}
+use Rattle.pass_renewed_proof.proofs.Sets.{result_elsewhere}
 use Rattle.pass_renewed_proof.proofs.Listing.{instance_beside, instances_set, set_here, set_other}
 use Rattle.pass_renewed_proof.proofs.Onward.{passed_next}
 use Rattle.pass_renewed_proof.proofs.Ordinary.{own_address}
 use Rattle.pass_renewed_proof.proofs.Stands.{end_at_first}
 use Rattle.pass_renewed_proof.proofs.Starting.{first_or_resumed}
-use Rattle.pass_renewed_proof.proofs.Way.{alive_more, barred_more, resumed_more, same_instr}
-use Rattle.pass_renewed_proof.specs.Ahead.{IsNoStart, IsUsedBefore}
-use Rattle.pass_renewed_proof.specs.Beside.{AreInstancesBeside, AreKeptBeside, AreOutdone, Begun, Early, GoesOn}
+use Rattle.pass_renewed_proof.proofs.Way.{alive_more, barred_more, resumed_more}
+use Rattle.pass_renewed_proof.specs.Beside.{AreInstancesBeside, AreKeptBeside, AreOthers, AreOutdone, Begun, Early}
+use Rattle.pass_renewed_proof.specs.Beside.{GoesOn}
 use Rattle.pass_renewed_proof.specs.Beside.{IsActivationBeside, IsBeside, IsInstanceBeside}
-use Rattle.pass_renewed_proof.specs.Beside.{IsKeptSlot, IsOverOf, IsSlotBeside, IsSlotOf, IsTold, Leaves}
+use Rattle.pass_renewed_proof.specs.Beside.{IsKeptSlot, IsOverOf, IsOwn, IsSlotBeside, IsSlotOf, IsTold, Leaves}
 use Rattle.pass_renewed_proof.specs.Beside.{NotLeft, place_in}
 use Rattle.pass_renewed_proof.specs.Ledger.{Ledger, LivesIn, is_quiet}
-use Rattle.pass_renewed_proof.specs.Left.{IsLeftBy, behind}
-use Rattle.pass_renewed_proof.specs.Making.{IsSaveOf}
+use Rattle.pass_renewed_proof.specs.Left.{behind}
 use Rattle.pass_renewed_proof.specs.Renewed.{Flags, Roots}
 use Rattle.pass_renewed_proof.specs.SlotEnvs.{AreSlotEnvs}
-use Rattle.pass_renewed_proof.specs.SlotRules.{IsMarkerAt, KeepsSlots}
-
--- what is kept along edges is kept along a path
-along : (f : Function) (H : Point → Type 0) → ((p q : Point) → has_point (nexts f p) q ≡ true → H p → H q) → (p :
-    Point) (between : List Point) (q : Point) → IsPath f [] p between q → H p → H q
-along f H more p [] q path h = more p q path h
-along f H more p (v ∷ between) q path h = along f H more v between q path.2 (more p v path.0 h)
+use Rattle.pass_renewed_proof.specs.SlotRules.{KeepsSlots}
 
 module _ (m : Module) (flags : Flags) (roots : Roots) (keeps : (func : ℕ)
     → KeepsSlots m (function_at m func) (flags func) (roots func)) (s t : State) (beside : IsBeside m flags roots s t)
-    (i : Instr) (u : Point) (is : IsSaveOf m s.top i u) (n : ℕ) (x y : Instance) (own : s.top.instance ≡ Some n)
+    (u : Point) (is : IsSavingAt m flags s.top u) (result : Option ℕ) (v : Value) (name : IsGivenName m flags roots
+    beside.ledger s.top result v v) (stands : IsValue beside.ledger.homes v v) (n : ℕ) (x y : Instance) (own : s.top.instance ≡ Some n)
     (there : slice_get s.instances n ≡ Some x) (there' : slice_get t.instances n ≡ Some y) (same_func : x.coroutine ≡
     s.top.func) (kept : x.freed ≡ false) (outdone : AreOutdone s.instances s.top s.below) where
   abbrev l : Ledger
@@ -104,74 +94,20 @@ module _ (m : Module) (flags : Flags) (roots : Roots) (keeps : (func : ℕ)
 
   -- ---- points
 
-  call : IsCallAt Intrinsic.CoroSave (function_at m s.top.func) (place_in s.top)
-  call = record { instr = i; stands = is.here; is = is.is }
-
   suspend_call : IsCallAt Intrinsic.CoroSuspend (function_at m s.top.func) u
-  suspend_call = suspend_is_suspend f k u is.takes
+  suspend_call = is.suspend_call
 
   is_suspend : IsTrue (has_point (suspends (function_at m s.top.func)) u)
   is_suspend = call_listed f Intrinsic.CoroSuspend u suspend_call
 
-  leads : Leads (function_at m s.top.func) [] (place_in s.top) u
-  leads = (keeps s.top.func).suspends.leads k u call is.takes
-
   edge : has_point (nexts (function_at m s.top.func) (place_in s.top)) (behind (place_in s.top)) ≡ true
-  edge = next_edge f s.top.block s.top.at i is.here
-
-  no_start_here : (al : ℕ) → IsNoStart (function_at m s.top.func) al (place_in s.top)
-  no_start_here al = no_start f al k (λ z. save_starts i is.is (subst (λ j. is_call_of Intrinsic.LifetimeStart j ≡
-      true) (same_instr z.instr i (sym z.stands ∙ is.here)) z.is))
-
-  no_end_here : (al : ℕ) → has_point (ends_of (function_at m s.top.func) al) (place_in s.top) ≡ false
-  no_end_here al = no_marker f Intrinsic.LifetimeEnd al k (λ z. save_ends i is.is (subst (λ j. is_call_of
-      Intrinsic.LifetimeEnd j ≡ true) (same_instr z.instr i (sym z.stands ∙ is.here)) z.is))
-
-  -- no marker of a slot stands in the window
-  quiet : (al : ℕ) → IsTrue (flags s.top.func al) → (q : Point)
-      → IsInWindow (function_at m s.top.func) (place_in s.top) u q
-      → (IsMarkerAt (function_at m s.top.func) Intrinsic.LifetimeStart al q → ⊥) × (IsMarkerAt (function_at m
-      s.top.func) Intrinsic.LifetimeEnd al q → ⊥)
-  quiet al flagged q w =
-      let closed : IsClosed f q = inr (to_pairs f q k u (points_where (is_call_of Intrinsic.CoroSave) f) is.takes w
-      (call_listed f Intrinsic.CoroSave k call)) in (
-        λ z. (keeps s.top.func).open_markers Intrinsic.LifetimeStart al q (inl refl) flagged z closed,
-        λ z. (keeps s.top.func).open_markers Intrinsic.LifetimeEnd al q (inr refl) flagged z closed,
-      )
-
-  used_there : (al : ℕ) → IsTrue (flags s.top.func al) → IsUsedBefore (function_at m s.top.func) al (place_in s.top)
-      → IsUsedBefore (function_at m s.top.func) al u
-  used_there al flagged used = used_at_suspend f al k u call is.takes (quiet al flagged) leads k (inl refl) used
-
-  alive_there : (al : ℕ) → IsTrue (flags s.top.func al) → MayBeAlive (function_at m s.top.func) al (place_in s.top)
-      → MayBeAlive (function_at m s.top.func) al u
-  alive_there al flagged alive = alive_at_suspend f al k u call is.takes (quiet al flagged) leads k (inl refl) alive
+  edge = is.edge
 
   runs_here : RunsOut (function_at m s.top.func) (place_in s.top)
   runs_here = ⊎_elim
       (λ r. r)
-      (λ o. absurd ((keeps s.top.func).no_save k o.0 call))
+      (λ o. absurd (is.no_after o.0))
       (h.begun (λ none. let z : Some n ≡ None = sym own ∙ none in absurd (cc)))
-
-  runs_on : (p q : Point) → has_point (nexts (function_at m s.top.func) p) q ≡ true
-      → RunsOut (function_at m s.top.func) p ⊎ IsAfterEnd (function_at m s.top.func) p
-      → RunsOut (function_at m s.top.func) q ⊎ IsAfterEnd (function_at m s.top.func) q
-  runs_on p q e (inr a) = inr (after_edge f p q a e)
-  runs_on p q e (inl r) = on (has_point (ends f) p) refl
-    where
-      on : (z : Bool) → has_point (ends f) p ≡ z → RunsOut f q ⊎ IsAfterEnd f q
-      on true is_end = inr (record { start = p; is_start = is_end; path = record { between = []; is_path = e } })
-      on false out = inl (record {
-        start = r.start;
-        is_start = r.is_start;
-        path = leads_more f (ends f) r.start p q r.path out e;
-      })
-
-  runs_there : RunsOut (function_at m s.top.func) u
-  runs_there = ⊎_elim
-      (λ r. r)
-      (λ a. absurd ((keeps s.top.func).no_suspend u a suspend_call))
-      (along f (λ p. RunsOut f p ⊎ IsAfterEnd f p) runs_on k leads.between u leads.is_path (inl runs_here))
 
   -- ---- slots
 
@@ -192,14 +128,14 @@ module _ (m : Module) (flags : Flags) (roots : Roots) (keeps : (func : ℕ)
       → MayBeAlive (function_at m s.top.func) al u
   alive_at al b c flagged o live = ⊎_elim
       (λ e. let z : Some n ≡ None = sym own ∙ e.0 in absurd (cc))
-      (λ alive. alive_there al flagged alive)
+      (λ alive. is.alive al flagged alive)
       (o.alive (NotLeft is.stays) live)
 
   told_there : (al b c : ℕ) → IsTrue (flags s.top.func al)
       → IsTold beside.ledger s.world.memory (function_at m s.top.func) al b (place_in s.top)
       → IsTold beside.ledger s.world.memory (function_at m s.top.func) al b u
   told_there al b c flagged (inl fresh) = inl fresh
-  told_there al b c flagged (inr (inl used)) = inr (inl (used_there al flagged used))
+  told_there al b c flagged (inr (inl used)) = inr (inl (is.used al flagged used))
   told_there al b c flagged (inr (inr away)) = inr (inr away)
 
   -- of a slot that lives no pointer is about
@@ -213,7 +149,7 @@ module _ (m : Module) (flags : Flags) (roots : Roots) (keeps : (func : ℕ)
       on (inl fresh) e ee true z = fresh.unseen
       on (inr (inr away)) e ee true z = away.unseen live
       on (inr (inl used)) false ee true z = beside.entered.quiet b (ap (is_quiet m) o.seat ∙ ap not ee)
-      on (inr (inl used)) true ee true z = absurd (not_alive f al (local al flagged) ee u is_suspend (used_there al
+      on (inr (inl used)) true ee true z = absurd (not_alive f al (local al flagged) ee u is_suspend (is.used al
           flagged used) (alive_at al b c flagged o live))
 
   kept_slot : (al b : ℕ) → IsTrue (flags s.top.func al) → value_in s.top.values al ≡ pointer_to b
@@ -240,8 +176,10 @@ module _ (m : Module) (flags : Flags) (roots : Roots) (keeps : (func : ℕ)
   kept_beside : AreKeptBeside m flags roots beside.ledger s.world.memory x' u s.top.values beside.top.values
   kept_beside = record {
     is_call = subst (λ g. IsCallAt Intrinsic.CoroSuspend (function_at m g) u) (sym same_func) suspend_call;
-    runs_out = subst (λ g. RunsOut (function_at m g) u) (sym same_func) runs_there;
+    runs_out = subst (λ g. RunsOut (function_at m g) u) (sym same_func) (is.runs runs_here);
     envs = subst (λ g. AreSlotEnvs l.homes (roots g) s.top.values h.values) (sym same_func) h.envs;
+    others = subst (λ g. AreOthers l (function_at m g) (flags g) (roots g) s.top.values h.values) (sym same_func)
+        h.others;
     each = λ al b flagged at.
         let mine = subst (λ g. IsTrue (flags g al)) same_func flagged in
         ⊎_elim
@@ -347,13 +285,10 @@ module _ (m : Module) (flags : Flags) (roots : Roots) (keeps : (func : ℕ)
   -- ---- the topmost one
 
   abbrev a' : Activation
-  a' = record s.top { at = s.top.at + 1; has_left = true }
-
-  left_by : IsLeftBy (function_at m s.top.func) u (behind (place_in s.top))
-  left_by = save_next f k u call is.takes leads
+  a' = record s.top { at = s.top.at + 1; values = with_result s.top.values result v; has_left = true }
 
   not_last : s.top.mode ≡ Mode.Resumed → s.top.block ≡ end_block (function_at m s.top.func) → ⊥
-  not_last resumed last = is.place.no_end last (end_at_first f k (h.came resumed) last)
+  not_last resumed last = is.not_last last (end_at_first f k (h.came resumed) last)
 
   slot_saved : (al b c : ℕ) → IsTrue (flags s.top.func al) → Slot_of al b c
       → IsSlotBeside m beside.ledger xs' s.world.memory t.world.memory (length s.below) a' al b c
@@ -369,22 +304,22 @@ module _ (m : Module) (flags : Flags) (roots : Roots) (keeps : (func : ℕ)
     first = λ first goes. o.first first (inl (NotLeft is.stays));
     resumed = λ resumed goes. ⊎_elim
         (λ z. inl z)
-        (λ z. inr (⊎_elim (λ barred. inl (barred_more f al k (behind k) barred (no_start_here al) (not_last resumed)
+        (λ z. inr (⊎_elim (λ barred. inl (barred_more f al k (behind k) barred (is.no_start al) (not_last resumed)
         edge)) (λ away. inr away) z))
         (o.resumed resumed (NotLeft is.stays));
-    told_first = λ first goes. ⊎_elim (λ z. inl z) (λ used. inr (used_on f al k (behind k) edge (no_start_here al)
+    told_first = λ first goes. ⊎_elim (λ z. inl z) (λ used. inr (used_on f al k (behind k) edge (is.no_start al)
         used)) (o.told_first first (NotLeft is.stays));
     told = λ resumed goes. told_next (o.told resumed (NotLeft is.stays));
     alive = λ goes live. ⊎_elim
         (λ e. inl e)
-        (λ alive. inr (alive_more f al k (behind k) edge (no_end_here al) alive))
+        (λ alive. inr (alive_more f al k (behind k) edge (is.no_end al) alive))
         (o.alive (NotLeft is.stays) live);
     gone = λ left live seen at. absurd (false≢true (sym (unseen al b c flagged o live) ∙ seen));
     away = λ first left escaped away live. record {
       suspend = u;
       is_suspend = is_suspend;
       is_alive = alive_at al b c flagged o live;
-      by = left_by;
+      by = is.left_by;
     };
   }
     where
@@ -395,41 +330,69 @@ module _ (m : Module) (flags : Flags) (roots : Roots) (keeps : (func : ℕ)
 
       told_next : IsTold l s.world.memory f al b k → IsTold l s.world.memory f al b (behind k)
       told_next (inl fresh) = inl fresh
-      told_next (inr (inl used)) = inr (inl (used_on f al k (behind k) edge (no_start_here al) used))
+      told_next (inr (inl used)) = inr (inl (used_on f al k (behind k) edge (is.no_start al) used))
       told_next (inr (inr away)) = inr (inr away)
 
+  unset_here : (al : ℕ) → IsTrue (flags s.top.func al) → result ≡ Some al → ⊥
+  unset_here = unset m flags roots keeps s t beside l s.world t.world (same_carried l s.world.memory t.world.memory)
+      result v v name stands
+
+  own_there : (slot : Slot) → IsOwn beside.ledger (flags s.top.func) (length s.below) s.top.values beside.top.values slot
+      → IsOwn beside.ledger (flags s.top.func) (length s.below) (with_result s.top.values result v) (with_result
+      beside.top.values result v) slot
+  own_there slot o = record {
+    flagged = o.flagged;
+    owner = o.owner;
+    address = result_elsewhere beside.top.values result slot.alloca v (unset_here slot.alloca o.flagged) ∙ o.address;
+    tenant = λ d at. result_elsewhere s.top.values result slot.alloca v (unset_here slot.alloca o.flagged) ∙ o.tenant d
+        at;
+  }
+
   top_saved : IsActivationBeside m flags roots beside.ledger xs' s.world.memory t.world.memory (length s.below) a'
-      (record t.top { at = t.top.at + 1; has_left = true })
+      (record t.top { at = t.top.at + 1; values = with_result beside.top.values result v; has_left = true })
   top_saved = record {
-    values = h.values;
+    values = with_result beside.top.values result v;
     slots = h.slots;
-    is = ap (λ (z : Activation). record z { at = z.at + 1; has_left = true }) h.is;
-    envs = h.envs;
-    listed = h.listed;
-    each = λ al b c flagged at at'. slot_saved al b c flagged (h.each al b c flagged at at');
+    is = ap (λ (z : Activation). record z {
+      at = z.at + 1;
+      values = with_result beside.top.values result v;
+      has_left = true;
+    }) h.is;
+    envs = given_envs m flags roots keeps s t beside l s.world t.world (same_carried l s.world.memory t.world.memory)
+        result v v name stands;
+    listed = slots_on m flags roots l l s.instances s.instances s.world.memory s.world.memory t.world.memory
+        t.world.memory (same_carried l s.world.memory t.world.memory) _ _ _ _ (flags s.top.func) (λ slot z. z) own_there
+        s.top.slots h.slots h.listed;
+    others = given_others m flags roots keeps s t beside l s.world t.world (same_carried l s.world.memory
+        t.world.memory) result v v name stands;
+    each = λ al b c flagged at at'. slot_saved al b c flagged (h.each al b c flagged (sym (result_elsewhere s.top.values
+        result al v (unset_here al flagged)) ∙ at) (sym (result_elsewhere beside.top.values result al v (unset_here al
+        flagged)) ∙ at'));
     made = λ slot is_in flagged. passed_next f slot.alloca k (h.made slot is_in flagged);
     modes = h.modes;
     came = λ resumed. resumed_more f k (behind k) (h.came resumed) (not_last resumed) edge;
-    begun = λ some. ⊎_elim (λ r. inl r) (λ o. inr (o, λ stays. absurd (false≢true (sym stays)))) (runs_on k (behind
-        k) edge (inl runs_here));
+    begun = λ some. ⊎_elim (λ r. inl r) (λ o. inr (o, λ stays. absurd (false≢true (sym stays)))) (is.onward
+        runs_here);
     begins = h.begins;
-    left = λ left. record { suspend = u; is_call = suspend_call; by = left_by };
+    left = λ left. record { suspend = u; is_call = suspend_call; by = is.left_by };
   }
 
   -- ---- the states
 
-  pub saved_beside : IsBeside m flags roots (next (with_left (with_instance s n (record x {
+  pub saved_beside : IsBeside m flags roots (gives (with_left (with_instance s n (record x {
     status = Status.Suspended u s.top.values;
     last_save = Some (record { depth = length s.below; save = place_in s.top });
-  })) true)) (next (with_left (with_instance t n (record y {
+  })) true) result v) (gives (with_left (with_instance t n (record y {
     status = Status.Suspended u t.top.values;
     last_save = Some (record { depth = length s.below; save = place_in s.top });
-  })) true))
-  saved_beside = subst (λ (vs : Env). IsBeside m flags roots (next (with_left (with_instance s n x') true)) (next
-      (with_left (with_instance t n (record y {
+  })) true) result v)
+  saved_beside = subst (λ (vs : Env). IsBeside m flags roots (gives (with_left (with_instance s n x') true) result v)
+      (record (with_left (with_instance t n (record y {
         status = Status.Suspended u vs;
         last_save = Some (record { depth = length s.below; save = place_in s.top });
-      })) true))) (ap (λ (z : Activation). z.values) (sym h.is)) (record {
+      })) true) {
+        top = record t.top { at = t.top.at + 1; values = with_result vs result v; has_left = true };
+      })) (ap (λ (z : Activation). z.values) (sym h.is)) (record {
         ledger = l;
         outcome = beside.outcome;
         world = beside.world;

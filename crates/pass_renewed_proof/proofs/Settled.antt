@@ -40,7 +40,7 @@ use Rattle.pass_renewed_proof.proofs.Accessing.{not_accessed}
 use Rattle.pass_renewed_proof.proofs.Ahead.{next_edge}
 use Rattle.pass_renewed_proof.proofs.Anew.{home_past}
 use Rattle.pass_renewed_proof.proofs.Carried.{AreBelowCarried, IsCarried, IsInstanceCarried, IsSlotKept, below_kept}
-use Rattle.pass_renewed_proof.proofs.Carried.{instances_kept, kept_slot_on, slot_kept}
+use Rattle.pass_renewed_proof.proofs.Carried.{instances_kept, kept_slot_on, made_no_slot, others_on, slot_kept}
 use Rattle.pass_renewed_proof.proofs.Chosen.{are_places}
 use Rattle.pass_renewed_proof.proofs.Exposing.{each_operand, spread_escapes}
 use Rattle.pass_renewed_proof.proofs.Onward.{IsEdgeOf, activation_there, calm, left_next, no_end_here}
@@ -58,7 +58,7 @@ use Rattle.pass_renewed_proof.proofs.Using.{globals_stand, good_places, reads}
 use Rattle.pass_renewed_proof.specs.Ahead.{IsNoStart}
 use Rattle.pass_renewed_proof.specs.Beside.{AreOutdone, AreSlots, Both, First, GoesOn, HasLeftSuspended}
 use Rattle.pass_renewed_proof.specs.Beside.{IsActivationBeside, IsBeside, IsInstanceBeside, IsKeptSlot, IsSlotBeside}
-use Rattle.pass_renewed_proof.specs.Beside.{NoSlots, Second, place_in}
+use Rattle.pass_renewed_proof.specs.Beside.{IsOther, NoSlots, Second, place_in}
 use Rattle.pass_renewed_proof.specs.Chosen.{IsPlaceOf, places_at}
 use Rattle.pass_renewed_proof.specs.Ledger.{AreEntered, AreTheirs, IsFresh, IsGone, IsHomeOf, Ledger, LivesIn, Seat}
 use Rattle.pass_renewed_proof.specs.Ledger.{is_quiet}
@@ -72,6 +72,7 @@ use Rattle.pass_renewed_proof.specs.Shown.{spread_at, spread_by}
 use Rattle.pass_renewed_proof.specs.SlotEnvs.{AreRoots}
 use Rattle.pass_renewed_proof.specs.Renewed.{Flags, Roots}
 use Rattle.pass_renewed_proof.specs.SlotRules.{KeepsSlots}
+use Rattle.pass_renewed_proof.specs.Small.{ComparesSmall}
 use Rattle.pass_renewed_proof.specs.Steps.{AreSet, given_at}
 
 -- ---- lists of slots
@@ -121,7 +122,8 @@ module _ (m : Module) (flags : Flags) (roots : Roots) (keeps : (func : ℕ)
     m flags roots s t) (ordinary : IsOrdinary (function_at m s.top.func) (place_in s.top)) (i : Instr) (here_is :
     fetch (function_at m s.top.func) s.top.block s.top.at ≡ AtInstr i) (no_slot : HasNoSlot (AtInstr i)) (bytes :
     HasBytes (AtInstr i)) (no_part : (v al : ℕ) → roots s.top.func v ≡ Some al → given_at (AtInstr i) ≡ Some v
-    → ⊥) (no_base : (v al : ℕ) → roots s.top.func v ≡ Some al → IsBase v i → ⊥) where
+    → ⊥) (no_base : (v al : ℕ) → roots s.top.func v ≡ Some al → IsBase v i → ⊥) (small : ComparesSmall m s.top.values
+    (AtInstr i)) where
   abbrev f : Function
   f = function_at m s.top.func
 
@@ -268,7 +270,7 @@ module _ (m : Module) (flags : Flags) (roots : Roots) (keeps : (func : ℕ)
 
   goes : (v : Work) → action_of c w here ≡ Done v → Goes v
   goes v is = goes_beside m flags roots keeps answers l s.instances (length s.below) s.world t.world s.top t.top h
-      beside.world e ordinary distance none (subst HasBytes (sym here_is) bytes) quiet_spread there_spread v is
+      beside.world e ordinary distance (subst (ComparesSmall m s.top.values) (sym here_is) small) none (subst HasBytes (sym here_is) bytes) quiet_spread there_spread v is
 
   module _ (v : Work) (done : action_of c w here ≡ Done v) where
     g : Goes v
@@ -378,6 +380,10 @@ module _ (m : Module) (flags : Flags) (roots : Roots) (keeps : (func : ℕ)
     abbrev top : Activation
     top = record s.top { at = s.top.at + 1; values = v.values }
 
+    -- the name of another alloca isn't set
+    not_alloca : (al : ℕ) → IsOther f (flags s.top.func) (roots s.top.func) al → given_at here ≡ Some al → ⊥
+    not_alloca al other given = made_no_slot f al other.made s.top.block s.top.at i here_is no_slot given
+
     -- a name that isn't set has what it had
     unset : (al : ℕ) → IsTrue (flags s.top.func al) → given_at here ≡ Some al → ⊥
     unset al flagged given = unpart al al ((keeps s.top.func).addresses al al flagged (own_address f al)) given
@@ -463,7 +469,11 @@ module _ (m : Module) (flags : Flags) (roots : Roots) (keeps : (func : ℕ)
         (set_stand l.homes k.homes (roots s.top.func) (given_at here) w x v g.other extends unpart idem h.envs
         set_after)
         (λ slot flagged. (g.set.source slot (unset slot flagged), g.set.target slot (unset slot flagged)))
-        ordinary.no_close top_slot)
+        ordinary.no_close (others_on l k s.world.memory v.world.memory t.world.memory g.other.world.memory carried f
+        (flags s.top.func) (roots s.top.func) s.top.values h.values v.values g.other.values h.envs (λ al other. (
+          g.set.source al (λ given. not_alloca al other given),
+          g.set.target al (λ given. not_alloca al other given),
+        )) h.others) top_slot)
       where
         same_place : record t.top {
           block = s.top.block;
@@ -616,6 +626,7 @@ settled_beside m flags roots keeps answers s t beside i o outdone asleep v done 
       function = function_at m s.top.func;
     } in
     let r = done_beside m flags roots keeps answers s t beside o.place i o.here o.no_slot o.bytes o.no_part o.no_base
+    o.small
     v (ap (action_of c (work_of s)) o.here ∙ done) outdone asleep in
     let same : work_of t ≡ record {
       world = t.world;

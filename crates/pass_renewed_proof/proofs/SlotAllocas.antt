@@ -53,7 +53,7 @@ use Rattle.rule_windows.specs.Points.{ends}
 use Rattle.rule_windows.specs.Sets.{RunsOut}
 use Rattle.run_laws.specs.embedded.Making.{whole_home}
 
-set_same : {A : Type 0} (xs : List A) (i : ℕ) (x : A) → slice_get xs i ≡ Some x → slice_set xs i x ≡ xs
+pub set_same : {A : Type 0} (xs : List A) (i : ℕ) (x : A) → slice_get xs i ≡ Some x → slice_set xs i x ≡ xs
 set_same [] i x e = refl
 set_same (z ∷ xs) zero x e = ap (λ y. y ∷ xs) (sym (same_some z x e))
 set_same (z ∷ xs) (suc i) x e = ap (λ ys. z ∷ ys) (set_same xs i x e)
@@ -94,10 +94,17 @@ module _ (m : Module) (flags : Flags) (roots : Roots) (keeps : (func : ℕ)
   abbrev first : Bool → MemoryBlock
   first u = slot_block m s ty align u
 
-  writable : same_kind (alloca_kind (function_at m s.top.func)) Kind.Constant ≡ false
+  pub writable : same_kind (alloca_kind (function_at m s.top.func)) Kind.Constant ≡ false
   writable = on f.coroutine
     where
       on : (u : Bool) → same_kind (if u then Kind.Slot else Kind.Stack) Kind.Constant ≡ false
+      on true = refl
+      on false = refl
+
+  pub other : same_kind (alloca_kind (function_at m s.top.func)) Kind.Allocator ≡ false
+  other = on f.coroutine
+    where
+      on : (u : Bool) → same_kind (if u then Kind.Slot else Kind.Stack) Kind.Allocator ≡ false
       on true = refl
       on false = refl
 
@@ -112,7 +119,7 @@ module _ (m : Module) (flags : Flags) (roots : Roots) (keeps : (func : ℕ)
     instance = s.top.instance;
   })
 
-  st : AreStanding beside.ledger.homes (muted beside.ledger.hides s.world.memory) t.world.memory
+  pub st : AreStanding beside.ledger.homes (muted beside.ledger.hides s.world.memory) t.world.memory
   st = record { memory = beside.world.memory; nulls = beside.world.nulls; bounds = beside.world.bounds }
 
   module _ (u : Bool) where
@@ -124,14 +131,14 @@ module _ (m : Module) (flags : Flags) (roots : Roots) (keeps : (func : ℕ)
       memory = fresh t.world.memory (size_of m ty) align (alloca_kind (function_at m s.top.func));
     }
 
-    entered : AreEntered m (slot_ledger beside.ledger (length s.world.memory) (length t.world.memory) (length
+    pub entered : AreEntered m (slot_ledger beside.ledger (length s.world.memory) (length t.world.memory) (length
         s.below) seat) (s.world.memory ++ first u ∷ []) (fresh t.world.memory (size_of m ty) align (alloca_kind
         (function_at m s.top.func)))
     entered = slot_entered m l s.world.memory t.world.memory (first u) kind (length s.below) seat st beside.entered
-        small refl writable
+        small refl writable other
 
     -- both have the block, and nobody has its address
-    abbrev made : IsBeside m flags roots (record s { world = record s.world { memory = s.world.memory ++ first u ∷ [] } })
+    abbrev pub made : IsBeside m flags roots (record s { world = record s.world { memory = s.world.memory ++ first u ∷ [] } })
         (record t {
           world = record t.world {
             memory = fresh t.world.memory (size_of m ty) align (alloca_kind (function_at m s.top.func));
@@ -139,12 +146,12 @@ module _ (m : Module) (flags : Flags) (roots : Roots) (keeps : (func : ℕ)
         })
     made =
         let stands = slot_stands m l s.world.memory t.world.memory (first u) kind (length s.below) seat st
-        beside.entered small refl writable in
+        beside.entered small refl writable other in
         worlds_beside m flags roots s t beside k w v
         (slot_carried m l s.world.memory t.world.memory (first u) kind (length s.below) seat st beside.entered small
-        refl writable)
+        refl writable other)
         (slot_kept_on m l s.world.memory t.world.memory (first u) kind (length s.below) seat st beside.entered small
-        refl writable)
+        refl writable other)
         (record {
           memory = stands.memory;
           nulls = stands.nulls;
@@ -154,16 +161,16 @@ module _ (m : Module) (flags : Flags) (roots : Roots) (keeps : (func : ℕ)
           allocs = beside.world.allocs;
         }) entered
 
-    seat_is : k.seats (length s.world.memory) ≡ Some seat
+    pub seat_is : k.seats (length s.world.memory) ≡ Some seat
     seat_is = updated_here l.seats (length s.world.memory) (Some seat)
 
-    owner_is : k.owners (length t.world.memory) ≡ Some (length s.below)
+    pub owner_is : k.owners (length t.world.memory) ≡ Some (length s.below)
     owner_is = updated_here l.owners (length t.world.memory) (Some (length s.below))
 
-    tenant_is : k.tenants (length t.world.memory) ≡ Some (length s.world.memory)
+    pub tenant_is : k.tenants (length t.world.memory) ≡ Some (length s.world.memory)
     tenant_is = updated_here l.tenants (length t.world.memory) (Some (length s.world.memory))
 
-    fresh_is : IsFresh k (s.world.memory ++ first u ∷ []) (length s.world.memory)
+    pub fresh_is : IsFresh k (s.world.memory ++ first u ∷ []) (length s.world.memory)
     fresh_is = record {
       unseen = ap (λ (q : Home). q.is_seen) (home_now m l s.world.memory t.world.memory (first u) st beside.entered
           (unseen (whole_home (length t.world.memory))));
@@ -171,7 +178,7 @@ module _ (m : Module) (flags : Flags) (roots : Roots) (keeps : (func : ℕ)
           s.world.memory (first u)) ∙ at)) refl;
     }
 
-    ready_is : (z : MemoryBlock) → slice_get (s.world.memory ++ first u ∷ []) (length s.world.memory) ≡ Some z
+    pub ready_is : (z : MemoryBlock) → slice_get (s.world.memory ++ first u ∷ []) (length s.world.memory) ≡ Some z
         → IsReady (fresh t.world.memory (size_of m ty) align (alloca_kind (function_at m s.top.func))) (length
         t.world.memory) z
     ready_is z at = subst (IsReady (t.world.memory ++ blank_block (size_of m ty) align kind ∷ []) (length
@@ -212,7 +219,6 @@ module _ (m : Module) (flags : Flags) (roots : Roots) (keeps : (func : ℕ)
         block = length s.world.memory;
       }) (record {
         flagged = is.flagged;
-        depth = length s.below;
         seat = seat_is ∙ ap (λ o. Some (record seat { instance = o })) early;
       })
 

@@ -35,7 +35,7 @@ use Rattle.run_memory.specs.declared.pointer.Pointer.{Pointer}
 use Rattle.run_memory.specs.declared.pointer.Value.{Value}
 use Rattle.run_source.specs.Source.{called, first_state}
 use Rattle.run_source.specs.declared.state.Mode.{Mode}
-use Rattle.run_step.specs.Step.{entry_values, first_world, global_block, with_params}
+use Rattle.run_step.specs.Step.{block_of, entry_values, first_world, global_block, with_params}
 use Rattle.run_step.specs.Values.{Env, access_of, address, address_from, literal, number_of_width, operand_value}
 use Rattle.run_step.specs.Values.{pointer_to, stored, value_in, value_of, with_value}
 use Rattle.run_step.specs.declared.world.Slot.{Slot}
@@ -295,6 +295,7 @@ module _ (m : Module) (small : AreSmallGlobals m) where
     alone = λ b about. ap Some (ap (λ (q : Home). q.block) (here b (about_within b about)));
     owned = λ c depth e. absurd (cc);
     seated = λ b seat e. absurd (cc);
+    kinds = λ b seat x e. absurd (cc);
     placed = λ b seat e. absurd (cc);
     unowned = λ c depth y e at. absurd (cc);
     mates = λ b x e at. record {
@@ -363,6 +364,11 @@ word_stands hs (Value.Ptr p) h = absurd h
 no_pointer : (v : Value) (b : ℕ) → IsWordOrPoison v → v ≡ pointer_to b → ⊥
 no_pointer v b h e = subst IsWordOrPoison e h
 
+no_block : (v : Value) (b : ℕ) → IsWordOrPoison v → block_of v ≡ Some b → ⊥
+no_block Value.Poison b h e = absurd (cc)
+no_block (Value.Int n) b h e = absurd (cc)
+no_block (Value.Ptr p) b h e = h
+
 module _ (m : Module) (keep : Keep) (flags : Flags) (roots : Roots) (keeps : KeepsAllSlots m keep flags roots) (entry
     : ℕ) (args : List Word) where
   words : (v : ℕ) → IsWordOrPoison (value_in (entry_values (function_at m entry) (map Value.Int args)) v)
@@ -390,6 +396,7 @@ module _ (m : Module) (keep : Keep) (flags : Flags) (roots : Roots) (keeps : Kee
       room = omega arith;
     };
     listed = NoSlots;
+    others = λ v is. record { unseated = λ b at. absurd (no_block _ b (words v) at); nowhere = λ none. none };
     each = λ alloca b c flagged at there. absurd (no_pointer _ b (words alloca) at);
     made = λ slot is. absurd (none_in slot is);
     modes = inl refl;

@@ -35,7 +35,7 @@ use Rattle.run_step.specs.Step.{AtInstr, Done, Work, action_of, block_of, on_blo
 use Rattle.run_step.specs.Values.{Env, pointer_to, value_in}
 use Rattle.pass_renewed_proof.proofs.Ahead.{used_on}
 use Rattle.pass_renewed_proof.proofs.Carried.{AreBelowCarried, IsInstanceCarried, below_kept, instances_kept}
-use Rattle.pass_renewed_proof.proofs.Carried.{kept_slot_on, same_carried, same_kept, slot_kept}
+use Rattle.pass_renewed_proof.proofs.Carried.{kept_slot_on, others_on, same_carried, same_kept, slot_kept}
 use Rattle.pass_renewed_proof.proofs.History.{no_start}
 use Rattle.pass_renewed_proof.proofs.Left.{instr_there, left_closed}
 use Rattle.pass_renewed_proof.proofs.Markers.{marked_value, marks_alone}
@@ -157,13 +157,13 @@ module _ (m : Module) (flags : Flags) (roots : Roots) (keeps : (func : ℕ)
       h.is))
       (passed_beside m flags roots s t beside l s.world t.world (same_carried l s.world.memory t.world.memory) (λ b
       seat seated. same_kept l s.world.memory b) s.top.values h.values onward
-      (λ al b at. ⊎_elim
+      (λ al b flagged at. ⊎_elim
       (λ same. let c : Value.Poison ≡ pointer_to b = sym poison ∙ ap (value_in s.top.values) (sym same)
       ∙ at in absurd (cc))
       (unmarked al)
       (cases_eq al slot))
       (λ al b flagged at live. unended f place i is.here refl al)
-      (calm f place is.place) h.envs (λ al flagged. (refl, refl)) beside.world beside.entered)
+      (calm f place is.place) h.envs h.others (λ al flagged. (refl, refl)) beside.world beside.entered)
 
   -- ---- it has one
 
@@ -308,7 +308,9 @@ module _ (m : Module) (flags : Flags) (roots : Roots) (keeps : (func : ℕ)
         s.below) (record s.top { at = s.top.at + 1; values = s.top.values }) z) same_place
         (activation_there m l k s.instances s.world.memory after t.world.memory t.world.memory begun.carried (length
         s.below) s.top next_place s.top.values onward flags roots t.top h h.values h.envs (λ al flagged. (refl, refl))
-        is.place.no_close slots_now)
+        is.place.no_close (others_on l k s.world.memory after t.world.memory t.world.memory begun.carried f (flags
+        s.top.func) (roots s.top.func) s.top.values h.values s.top.values h.values h.envs (λ v other. (refl, refl))
+        h.others) slots_now)
       where
         same_place : record t.top {
           block = s.top.block;

@@ -22,6 +22,8 @@ use Rattle.run_laws.specs.memory.Standing.{AreByteRights}
 use Rattle.run_step.specs.Reads as reads
 use Rattle.run_step.specs.Step.{Action, AtInstr, AtTerm, Context, Coro, Deallocate, Done, Enter, Fetched, GoTo, NewSlot, Nowhere, Return, Stuck, Work, action_of}
 use Rattle.run_step.specs.Values.{Env, literal, operand_value, value_in, value_or_poison}
+use Rattle.pass_renewed_proof.proofs.Small.{owner_embeds, same_action, small_embeds, small_rights_fit}
+use Rattle.pass_renewed_proof.specs.Small.{small_rights}
 use Rattle.pass_renewed_proof.specs.Steps.{AreOver, GoesOver, IsRead, given_at}
 use Rattle.run_laws.specs.embedded.Related.{HasDistance}
 use Rattle.run_laws.specs.changed.Changed.{Each, callee_at}
@@ -144,18 +146,22 @@ module _ (homes : List Home) (hides : ℕ → Bool) (c : Context) (w x : Work) (
     no_local Operand.None ty h = tt
     no_local Operand.Poison ty h = tt
 
-    read_by : IsReadBy (IsValue homes) c c w.values x.values here
+    -- the context by which pointers are compared at offsets of 64 bits alone
+    abbrev d : Context
+    d = record c { rights = small_rights }
+
+    read_by : IsReadBy (IsValue homes) d c w.values x.values here
     read_by = record { reads = λ v h. read.reads v (subst IsTrue (here_read v here) h); others = no_local }
 
     unmoved : (o : Option ℕ) → o ≡ option_map (λ n. n) o
     unmoved None = refl
     unmoved (Some n) = refl
 
-    named_alike : (n : Option Name) → general.IsNamedAlike general.same_maps c c n
+    named_alike : (n : Option Name) → general.IsNamedAlike general.same_maps d c n
     named_alike None = tt
     named_alike (Some n) = (unmoved (function_named c.code n), unmoved (declaration_named c.code n))
 
-    pointed : (z : Fetched) → general.IsPointedAlike general.same_maps c c w.values z
+    pointed : (z : Fetched) → general.IsPointedAlike general.same_maps d c w.values z
     pointed (AtInstr (Instr.Call r must_tail ty (Callee.Local v) args)) = λ func e. (refl, refl)
     pointed (AtInstr (Instr.Call r must_tail ty (Callee.Named n) args)) = tt
     pointed (AtInstr (Instr.Call r must_tail ty (Callee.Allocator a) args)) = tt
@@ -172,7 +178,7 @@ module _ (homes : List Home) (hides : ℕ → Bool) (c : Context) (w x : Work) (
     pointed Nowhere = tt
 
     distances : (z : Fetched) → HasDistance c c w.values x.values z
-        → general.AreSameDistances c c w.values x.values z z
+        → general.AreSameDistances d c w.values x.values z z
     distances (AtInstr (Instr.Gep r inbounds ty p indices)) h = h
     distances (AtInstr (Instr.Call r must_tail ty callee args)) h = tt
     distances (AtInstr (Instr.Binary r op flags ty a b)) h = tt
@@ -185,21 +191,28 @@ module _ (homes : List Home) (hides : ℕ → Bool) (c : Context) (w x : Work) (
     distances (AtTerm t) h = tt
     distances Nowhere h = tt
 
-    same_cases : (cases : List Case) → Each (general.IsSameCase c c) cases
+    same_cases : (cases : List Case) → Each (general.IsSameCase d c) cases
     same_cases [] = tt
     same_cases (k ∷ cases) = (refl, same_cases cases)
 
-    joined : general.AreJoined homes hides general.same_maps c c w x
+    joined : general.AreJoined homes hides general.same_maps d c w x
     joined = record {
-      over = subst (λ r. general.AreOver r r homes hides (λ d. d) w.world x.world) (sym rights) over;
+      over = subst (λ r. general.AreOver small_rights r homes hides (λ d. d) w.world x.world) (sym rights) (record {
+        memory = small_embeds homes _ _ over.memory;
+        nulls = over.nulls;
+        bounds = over.bounds;
+        events = over.events;
+        answers = over.answers;
+        allocs = over.allocs;
+      });
       hidden = hidden;
       answers = refl;
       room = read.room;
     }
 
-    transferred : general.IsTransferred (IsValue homes) general.same_maps c c w.values x.values here here
+    transferred : general.IsTransferred (IsValue homes) general.same_maps d c w.values x.values here here
     transferred = record {
-      shape = reads_itself (IsValue homes) c c w.values x.values here read_by;
+      shape = reads_itself (IsValue homes) d c w.values x.values here read_by;
       callee = named_alike (callee_at here);
       pointed = pointed here;
       distance = distances here read.distance;
@@ -211,20 +224,31 @@ module _ (homes : List Home) (hides : ℕ → Bool) (c : Context) (w x : Work) (
     fit : AreByteRights c.rights
     fit = subst AreByteRights (sym rights) owner_rights_fit
 
-    goes : general.GoesOver owner_rights owner_rights homes hides general.same_maps (general.given_at here)
+    same : action_of d w here ≡ action_of c w here
+    same = same_action c w here read.small ∙ ap (λ r. action_of (record c { rights = r }) w here) (sym rights)
+
+    goes : general.GoesOver small_rights owner_rights homes hides general.same_maps (general.given_at here)
         (general.args_at here) (general.args_at here) w x (action_of c w here) (action_of c x here)
-    goes =
-        subst (λ r. general.GoesOver r r homes hides general.same_maps (general.given_at here) (general.args_at here)
-        (general.args_at here) w x (action_of c w here) (action_of c x here)) rights
-        (transfer.step_over homes hides general.same_maps c c w x here here fit fit joined transferred)
+    goes = subst (λ a. general.GoesOver small_rights owner_rights homes hides general.same_maps (general.given_at here)
+        (general.args_at here) (general.args_at here) w x a (action_of c x here)) same
+        (subst (λ r. general.GoesOver small_rights r homes hides general.same_maps (general.given_at here)
+        (general.args_at here) (general.args_at here) w x (action_of d w here) (action_of c x here)) rights
+        (transfer.step_over homes hides general.same_maps d c w x here here small_rights_fit fit joined transferred))
 
     of_general : (a b : Action)
-        → general.GoesOver owner_rights owner_rights homes hides general.same_maps (given_at here)
+        → general.GoesOver small_rights owner_rights homes hides general.same_maps (given_at here)
         (general.args_at here) (general.args_at here) w x a b → GoesOver homes hides (given_at here) w x a b
     of_general (Done v) b h = (
       h.0,
       h.1,
-      h.2,
+      record {
+        memory = owner_embeds homes _ _ h.2.memory;
+        nulls = h.2.nulls;
+        bounds = h.2.bounds;
+        events = h.2.events;
+        answers = h.2.answers;
+        allocs = h.2.allocs;
+      },
       record {
         stands = h.3.stands;
         source = h.3.source;
@@ -244,7 +268,7 @@ module _ (homes : List Home) (hides : ℕ → Bool) (c : Context) (w x : Work) (
     pub step_over : GoesOver homes hides (given_at here) w x (action_of c w here) (action_of c x here)
     step_over = ⊎_elim
         (λ e. of_general (action_of c w here) (action_of c x here)
-        (subst (λ g. general.GoesOver owner_rights owner_rights homes hides general.same_maps g (general.args_at here)
+        (subst (λ g. general.GoesOver small_rights owner_rights homes hides general.same_maps g (general.args_at here)
         (general.args_at here) w x (action_of c w here) (action_of c x here)) e goes))
         (λ h. subst (λ z. GoesOver homes hides (given_at z) w x (action_of c w z) (action_of c x z)) (sym h.4) refl)
         (here_given here)

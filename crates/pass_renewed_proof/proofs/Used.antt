@@ -12,7 +12,8 @@ use Rattle.run_laws.specs.access.Changed.{IsFull}
 use Rattle.run_laws.specs.changed.Changed.{Each}
 use Rattle.run_laws.specs.embedded.Refilled.{AreRefilled, IsRefilled}
 use Rattle.run_laws.specs.memory.Pointers.{Extends, Home, home_of, nowhere}
-use Rattle.run_memory.specs.Memory.{is_killed, is_live}
+use Rattle.run_memory.specs.Memory.{is_killed, is_live, same_kind}
+use Rattle.run_memory.specs.declared.block.Kind.{Kind}
 use Rattle.run_memory.specs.declared.block.Life.{Life}
 use Rattle.run_memory.specs.declared.block.MemoryBlock.{MemoryBlock}
 use Rattle.pass_renewed_proof.proofs.Carried.{IsSlotKept}
@@ -363,6 +364,8 @@ module _ (m : Module) (l : Ledger) (memory memory' target target' : List MemoryB
             ap (λ (q : Home). l.owners q.block) (used_other b out) ∙ old.1,
           ))
           (is_among ps b);
+      kinds = λ b seat x h at. let z = refilled_from memory memory' b x refilled at in
+          ap (λ (q : MemoryBlock). same_kind q.kind Kind.Allocator) z.2 ∙ e.kinds b seat z.0 h z.1;
       unowned = λ c depth y h at. let z = refilled_from target target' c y refilled' at in
           ap (λ (q : MemoryBlock). q.owned) z.2 ∙ e.unowned c depth z.0 h z.1;
       mates = mate_on;

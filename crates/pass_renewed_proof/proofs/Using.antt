@@ -40,6 +40,7 @@ use Rattle.pass_renewed_proof.specs.Ready.{stood}
 use Rattle.pass_renewed_proof.specs.Shown.{AreShownBlocks}
 use Rattle.pass_renewed_proof.specs.SlotEnvs.{AreRoots, AreSlotEnvs}
 use Rattle.pass_renewed_proof.specs.SlotRules.{AreSteady}
+use Rattle.pass_renewed_proof.specs.Small.{ComparesSmall}
 use Rattle.pass_renewed_proof.specs.Steps.{AreOver}
 
 -- the place of a slot: its block, and the activation's own one that is ready for it
@@ -174,9 +175,10 @@ module _ (m : Module) (l : Ledger) (memory target : List MemoryBlock) (e : AreEn
         on None h = ap (is_quiet m) h
         on (Some seat) h = absurd (below_other _ _ (e.seated (length memory) seat h) refl)
 
-    pub uses : HasDistance c c w.values x.values here → HasNoSlot here → HasBytes here
+    pub uses : HasDistance c c w.values x.values here → ComparesSmall c.code w.values here → HasNoSlot here
+        → HasBytes here
         → IsUsing l.homes l.hides (λ b. is_quiet m (l.seats b)) (places_at roots w.values x.values here) c w x here
-    uses distance no_slot bytes = record {
+    uses distance small no_slot bytes = record {
       over = over;
       hidden = e.hidden;
       shown = subst (AreShownBlocks (λ b. is_quiet m (l.seats b))) (sym same_memory) e.shown;
@@ -192,6 +194,7 @@ module _ (m : Module) (l : Ledger) (memory target : List MemoryBlock) (e : AreEn
       room = envs.room;
       globals = subst (λ z. (n : Name) → IsValue l.homes (address_of z n) (address_of z n)) (sym code) globals_stand;
       distance = distance;
+      small = small;
       no_slot = no_slot;
       bytes = bytes;
     }

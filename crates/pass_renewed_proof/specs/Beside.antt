@@ -18,12 +18,14 @@ use Rattle.pass_renewed_proof.specs.Left.{IsLeftAt}
 use Rattle.pass_renewed_proof.specs.Places.{IsReady}
 use Rattle.pass_renewed_proof.specs.Renewed.{Flags, Roots}
 use Rattle.pass_renewed_proof.specs.SlotEnvs.{AreSlotEnvs}
+use Rattle.pass_renewed_proof.specs.SlotRules.{IsMadeOnce}
 use Rattle.pass_renewed_proof.specs.Steps.{AreOver}
 use Rattle.pass_renewed_proof.specs.Way.{IsBarred, IsResumedAt, WasAlive}
 use Rattle.rule_windows.specs.Sets.{IsAfterEnd, RunsOut}
 use Rattle.run_laws.specs.embedded.Making.{whole_home}
 use Rattle.run_laws.specs.memory.Pointers.{home_of}
 use Rattle.run_memory.specs.declared.block.MemoryBlock.{MemoryBlock}
+use Rattle.run_memory.specs.declared.pointer.Value.{Value}
 use Rattle.run_source.specs.Source.{is_over}
 use Rattle.run_source.specs.State.{is_suspended}
 use Rattle.run_source.specs.declared.state.Activation.{Activation}
@@ -32,7 +34,7 @@ use Rattle.run_source.specs.declared.state.Mode.{Mode}
 use Rattle.run_source.specs.declared.state.Saved.{Saved}
 use Rattle.run_source.specs.declared.state.State.{State}
 use Rattle.run_source.specs.declared.state.Status.{Status}
-use Rattle.run_step.specs.Step.{AtInstr, fetch}
+use Rattle.run_step.specs.Step.{AtInstr, block_of, fetch}
 use Rattle.run_step.specs.Values.{Env, pointer_to, value_in}
 use Rattle.run_step.specs.declared.world.Slot.{Slot}
 
@@ -127,6 +129,23 @@ pub record IsSlotBeside (m : Module) (l : Ledger) (xs : List Instance) (memory t
       → HasAwayUse (function_at m a.func) alloca → LivesIn memory b
       → WasAlive (function_at m a.func) alloca (place_in a)
 
+-- ---- other allocas
+
+-- such an alloca isn't made anew; it alone gives its name, which is no address in a slot that is
+pub record IsOther (f : Function) (flags : ℕ → Bool) (roots : ℕ → Option ℕ) (v : ℕ) : Type 0 where
+  pub made : IsMadeOnce f v
+  pub off : flags v ≡ false
+  pub no_part : roots v ≡ None
+
+-- the value of its name leads to no slot that may be made anew; where it leads to no block, neither does the other one
+pub record IsOtherValue (l : Ledger) (v w : Value) : Type 0 where
+  pub unseated : (b : ℕ) → block_of v ≡ Some b → l.seats b ≡ None
+  pub nowhere : block_of v ≡ None → block_of w ≡ None
+
+abbrev pub AreOthers : Ledger → Function → (ℕ → Bool) → (ℕ → Option ℕ) → Env → Env → Type 0
+AreOthers l f flags roots env other =
+    (v : ℕ) → IsOther f flags roots v → IsOtherValue l (value_in env v) (value_in other v)
+
 -- ---- lists of slots
 
 -- a slot of the first run that may be made anew, with its seat
@@ -139,6 +158,11 @@ pub record IsSeated (l : Ledger) (flags : ℕ → Bool) (func : ℕ) (instance :
     depth = depth;
     instance = instance;
   })
+
+-- such a slot of an activation that has begun no instance: it has made the slot itself
+pub record IsEarly (l : Ledger) (flags : ℕ → Bool) (func depth : ℕ) (slot : Slot) : Type 0 where
+  pub flagged : IsTrue (flags slot.alloca)
+  pub seat : l.seats slot.block ≡ Some (record { func = func; alloca = slot.alloca; depth = depth; instance = None })
 
 -- slots that stand for one another; slots that may be made anew are listed by both for themselves: Owns says which the
 -- second has
@@ -171,8 +195,9 @@ pub record IsActivationBeside (m : Module) (flags : Flags) (roots : Roots) (l : 
   pub slots : List Slot
   pub is : b ≡ record a { values = values; slots = slots }
   pub envs : AreSlotEnvs l.homes (roots a.func) a.values values
-  pub listed : AreSlots l (IsSeated l (flags a.func) a.func None) (IsOwn l (flags a.func) depth a.values values)
+  pub listed : AreSlots l (IsEarly l (flags a.func) a.func depth) (IsOwn l (flags a.func) depth a.values values)
       (flags a.func) a.slots slots
+  pub others : AreOthers l (function_at m a.func) (flags a.func) (roots a.func) a.values values
   pub each : (alloca b c : ℕ) → IsTrue (flags a.func alloca) → value_in a.values alloca ≡ pointer_to b
       → value_in values alloca ≡ pointer_to c → IsSlotBeside m l xs memory target depth a alloca b c
   -- the alloca of a slot that it has made isn't still to come
@@ -217,6 +242,7 @@ pub record AreKeptBeside (m : Module) (flags : Flags) (roots : Roots) (l : Ledge
   pub is_call : IsCallAt Intrinsic.CoroSuspend (function_at m x.coroutine) s
   pub runs_out : RunsOut (function_at m x.coroutine) s
   pub envs : AreSlotEnvs l.homes (roots x.coroutine) env other
+  pub others : AreOthers l (function_at m x.coroutine) (flags x.coroutine) (roots x.coroutine) env other
   pub each : (alloca b : ℕ) → IsTrue (flags x.coroutine alloca) → value_in env alloca ≡ pointer_to b
       → IsKeptSlot m l memory x s alloca b
 

@@ -2,8 +2,9 @@
 -- stand, which of them are slots that are made anew, and for whom blocks of the second were made.
 use Rattle.std.specs.Prelude.{ℕ, Bool, true, false, not, nat_le, if◌then◌else◌, ◌==◌, ◌++◌, ◌∷◌, [], List, length}
 use Rattle.std.specs.Prelude.{slice_get, Some, None, Option, ◌≡◌, ◌<◌, ◌^◌}
-use Rattle.run_memory.specs.Memory.{access_bytes, is_killed, is_live}
+use Rattle.run_memory.specs.Memory.{access_bytes, is_killed, is_live, same_kind}
 use Rattle.run_memory.specs.declared.block.Byte.{Byte}
+use Rattle.run_memory.specs.declared.block.Kind.{Kind}
 use Rattle.run_memory.specs.declared.block.MemoryBlock.{MemoryBlock}
 use Rattle.ir_model.specs.Names.{function_at}
 use Rattle.ir_model.specs.declared.module.GlobalItem.{GlobalItem}
@@ -93,6 +94,9 @@ pub record AreEntered (m : Module) (l : Ledger) (memory target : List MemoryBloc
   pub alone : (b : ℕ) → IsAbout l memory b → l.tenants (home_of l.homes b).block ≡ Some b
   pub owned : (c depth : ℕ) → l.owners c ≡ Some depth → c < length target
   pub seated : (b : ℕ) (seat : Seat) → l.seats b ≡ Some seat → b < length memory
+  -- slots are of another kind than blocks of allocators
+  pub kinds : (b : ℕ) (seat : Seat) (x : MemoryBlock) → l.seats b ≡ Some seat → slice_get memory b ≡ Some x
+      → same_kind x.kind Kind.Allocator ≡ false
   -- a slot stands in a block that an activation has made, and nobody owns such a block
   pub placed : (b : ℕ) (seat : Seat) → l.seats b ≡ Some seat
       → (depth : ℕ) × (l.owners (home_of l.homes b).block ≡ Some depth)

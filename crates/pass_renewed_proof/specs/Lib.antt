@@ -4,6 +4,7 @@ pub mod RestartedSlots
 pub mod EscapedRestart
 pub mod Muted
 pub mod Shown
+pub mod Small
 pub mod Steps
 pub mod Places
 pub mod Ahead

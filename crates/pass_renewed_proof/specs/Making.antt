@@ -1,6 +1,6 @@
 -- Instructions that make or mark blocks, and those that give a value alone.
 use Rattle.std.specs.Prelude.{◌≡◌, ◌<◌, ℕ, Bool, true, false, List, [], ◌∷◌, ◌++◌, length, Option, Some, IsTrue}
-use Rattle.std.specs.Prelude.{if◌then◌else◌}
+use Rattle.std.specs.Prelude.{if◌then◌else◌, slice_get}
 use Rattle.ir_model.specs.Names.{function_at}
 use Rattle.ir_model.specs.Ty.{Ty}
 use Rattle.ir_model.specs.declared.instr.Instr.{Instr}
@@ -18,22 +18,27 @@ use Rattle.run_memory.specs.declared.block.Life.{Life}
 use Rattle.run_memory.specs.declared.block.MemoryBlock.{MemoryBlock}
 use Rattle.run_source.specs.State.{settled}
 use Rattle.run_source.specs.declared.state.Activation.{Activation}
+use Rattle.run_source.specs.declared.state.Instance.{Instance}
+use Rattle.run_source.specs.declared.state.Mode.{Mode}
 use Rattle.run_source.specs.declared.state.State.{State}
 use Rattle.run_step.specs.Step.{AtInstr, alloca_kind, fetch}
 use Rattle.run_step.specs.Values.{pointer_to, with_value}
-use Rattle.pass_renewed_proof.specs.Beside.{place_in}
+use Rattle.pass_renewed_proof.specs.Beside.{IsOther, place_in}
 use Rattle.pass_renewed_proof.specs.Ordinary.{IsCalm, IsOrdinary}
 use Rattle.pass_renewed_proof.specs.Renewed.{Flags, Roots}
+use Rattle.pass_renewed_proof.specs.SlotRules.{IsMadeOnce}
 
 -- ---- instructions that give a value
 
--- an instruction that is no marker stands at the activation's place, and the name isn't one of an address in a slot
+-- an instruction that is no marker stands at the activation's place; the name isn't one of an address in a slot, nor
+-- that of an alloca
 pub record IsGiving (m : Module) (roots : Roots) (a : Activation) (i : Instr) (result : Option ℕ) : Type 0 where
   pub place : IsCalm (function_at m a.func) (place_in a)
   pub here : fetch (function_at m a.func) a.block a.at ≡ AtInstr i
   pub no_start : is_call_of Intrinsic.LifetimeStart i ≡ false
   pub no_end : is_call_of Intrinsic.LifetimeEnd i ≡ false
   pub no_part : (v slot : ℕ) → roots a.func v ≡ Some slot → result ≡ Some v → ⊥
+  pub no_alloca : (v : ℕ) → IsMadeOnce (function_at m a.func) v → result ≡ Some v → ⊥
 
 -- ---- allocators
 
@@ -59,6 +64,17 @@ pub record IsMarkingSlot (m : Module) (flags : Flags) (a : Activation) (marker :
   pub takes : operand_at args 1 ≡ Operand.Local slot
   pub flagged : IsTrue (flags a.func slot)
 
+-- ---- markers of other slots
+
+-- a marker of an alloca that isn't made anew stands at the activation's place
+pub record IsMarkingOther (m : Module) (flags : Flags) (roots : Roots) (a : Activation) (marker : Intrinsic) (slot : ℕ)
+    (result : Option ℕ) (must_tail : Bool) (ty : Option Ty) (args : List Arg) : Type 0 where
+  pub place : IsOrdinary (function_at m a.func) (place_in a)
+  pub here : fetch (function_at m a.func) a.block a.at ≡ AtInstr (Instr.Call result must_tail ty (Callee.Intrinsic
+      marker) args)
+  pub takes : operand_at args 1 ≡ Operand.Local slot
+  pub other : IsOther (function_at m a.func) (flags a.func) (roots a.func) slot
+
 -- ---- allocas
 
 -- an alloca of a slot that may be made anew stands at the activation's place, and gives a name that the activation has a
@@ -70,10 +86,13 @@ pub record IsAllocaOfSlot (m : Module) (flags : Flags) (a : Activation) (name : 
   pub named : name < length a.values
   pub stays : a.has_left ≡ false
 
--- an alloca of any other slot, which gives no address in such a slot
+-- an alloca of any other slot, which gives a name that the activation has a value of, and no address in such a slot
 pub record IsAllocaOfOther (m : Module) (flags : Flags) (roots : Roots) (a : Activation) (name : ℕ) (ty : Ty) (align :
     ℕ) : Type 0 where
-  pub giving : IsGiving m roots a (Instr.Alloca name ty align) (Some name)
+  pub place : IsCalm (function_at m a.func) (place_in a)
+  pub here : fetch (function_at m a.func) a.block a.at ≡ AtInstr (Instr.Alloca name ty align)
+  pub no_part : (v slot : ℕ) → roots a.func v ≡ Some slot → name ≡ v → ⊥
+  pub named : name < length a.values
   pub off : flags a.func name ≡ false
 
 -- the block of an alloca, which is dead at first if it has markers
@@ -99,3 +118,24 @@ pub record IsSaveOf (m : Module) (a : Activation) (i : Instr) (suspend : Point) 
   pub is : is_call_of Intrinsic.CoroSave i ≡ true
   pub takes : suspend_of (function_at m a.func) (place_in a) ≡ Some suspend
   pub stays : a.has_left ≡ false
+
+-- a suspend without a token stands at the place of an activation that hasn't left
+pub record IsSuspendOf (m : Module) (roots : Roots) (a : Activation) (i : Instr) (result : Option ℕ) : Type 0 where
+  pub giving : IsGiving m roots a i result
+  pub is : is_call_of Intrinsic.CoroSuspend i ≡ true
+  pub stays : a.has_left ≡ false
+
+-- ---- the end
+
+-- an end stands at the place of an activation that wasn't resumed; its name isn't one of an address in a slot, nor that
+-- of an alloca
+pub record IsEndOf (m : Module) (roots : Roots) (a : Activation) (i : Instr) (result : Option ℕ) : Type 0 where
+  pub here : fetch (function_at m a.func) a.block a.at ≡ AtInstr i
+  pub is : is_call_of Intrinsic.CoroEnd i ≡ true
+  pub first : a.mode ≡ Mode.Resumed → ⊥
+  pub no_part : (v slot : ℕ) → roots a.func v ≡ Some slot → result ≡ Some v → ⊥
+  pub no_alloca : (v : ℕ) → IsMadeOnce (function_at m a.func) v → result ≡ Some v → ⊥
+
+-- an activation's instance is there
+abbrev pub HasInstance : List Instance → Activation → Type 0
+HasInstance xs a = (n : ℕ) → a.instance ≡ Some n → (x : Instance) × (slice_get xs n ≡ Some x)

@@ -19,6 +19,7 @@ use Rattle.run_step.specs.Values.{distance, element, indices_of, value_in}
 use Rattle.pass_renewed_proof.specs.Ahead.{IsBehindSuspendCall}
 use Rattle.pass_renewed_proof.specs.Beside.{place_in}
 use Rattle.pass_renewed_proof.specs.Renewed.{Roots}
+use Rattle.pass_renewed_proof.specs.Small.{ComparesSmall}
 use Rattle.pass_renewed_proof.specs.Steps.{given_at}
 
 -- at a point stands no suspend, nor the switch of one, nor the end
@@ -48,6 +49,8 @@ pub record IsOrdinaryInstr (m : Module) (roots : Roots) (a : Activation) (i : In
   -- neither does it give an address in a slot nor is it a part of one
   pub no_part : (v slot : ℕ) → roots a.func v ≡ Some slot → given_at (AtInstr i) ≡ Some v → ⊥
   pub no_base : (v slot : ℕ) → roots a.func v ≡ Some slot → IsBase v i → ⊥
+  -- pointers that it compares have offsets of 64 bits
+  pub small : ComparesSmall m a.values (AtInstr i)
 
 -- ---- addresses in slots
 

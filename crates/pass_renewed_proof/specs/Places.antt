@@ -6,6 +6,7 @@ use Rattle.run_memory.specs.declared.pointer.Offset.{Offset}
 use Rattle.run_memory.specs.declared.block.Byte.{Byte}
 use Rattle.run_memory.specs.declared.block.Kind.{Kind}
 use Rattle.run_memory.specs.declared.block.MemoryBlock.{MemoryBlock}
+use Rattle.pass_renewed_proof.specs.Small.{small_rights}
 use Rattle.run_laws.specs.memory.Pointers.{Home, home_of}
 use Rattle.run_laws.specs.memory.Standing.{AreBoundsKept, AreNullsKept, Embeds}
 
@@ -36,10 +37,11 @@ hiding hides b c = hides c || (c == b)
 abbrev pub showing : (ℕ → Bool) → ℕ → ℕ → Bool
 showing hides b c = hides c && not (c == b)
 
--- a memory that stands in another one by the rights of owners, with what is asked of pointers into its blocks
+-- a memory that stands in another one by the rights of owners, with what is asked of pointers into its blocks: they are
+-- compared with null at offsets of 64 bits
 pub record AreStanding (homes : List Home) (m n : List MemoryBlock) : Type 0 where
   pub memory : Embeds owner_rights owner_rights homes m n
-  pub nulls : AreNullsKept owner_rights owner_rights homes m n
+  pub nulls : AreNullsKept small_rights owner_rights homes m n
   pub bounds : AreBoundsKept homes m n
 
 -- a block of the source, to which pointers may be about, may be compared with null wherever it stands

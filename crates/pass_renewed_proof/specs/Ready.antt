@@ -16,6 +16,7 @@ use Rattle.run_step.specs.Values.{address_of, value_in}
 use Rattle.pass_renewed_proof.specs.Muted.{muted}
 use Rattle.pass_renewed_proof.specs.Places.{IsBlank, showing, unseen}
 use Rattle.pass_renewed_proof.specs.Shown.{AreShownBlocks}
+use Rattle.pass_renewed_proof.specs.Small.{ComparesSmall}
 use Rattle.pass_renewed_proof.specs.Steps.{AreOver}
 use Rattle.run_laws.specs.embedded.Making.{whole_home}
 use Rattle.run_laws.specs.embedded.Related.{HasBytes, HasDistance, HasNoSlot}
@@ -98,5 +99,6 @@ pub record IsUsing (homes : List Home) (hides quiet : ℕ → Bool) (ps : List P
   pub room : length w.values ≤ length x.values
   pub globals : (n : Name) → IsValue homes (address_of c.code n) (address_of c.code n)
   pub distance : HasDistance c c w.values x.values here
+  pub small : ComparesSmall c.code w.values here
   pub no_slot : HasNoSlot here
   pub bytes : HasBytes here

@@ -1,5 +1,5 @@
 -- An ordinary step over a source memory, of which some blocks count as dead, and over a target memory in which it stands.
-use Rattle.std.specs.Prelude.{ℕ, Bool, List, Some, None, Option, length, ◌≡◌, ◌≤◌, IsTrue}
+use Rattle.std.specs.Prelude.{ℕ, Bool, List, Some, None, Option, length, map, ◌≡◌, ◌≤◌, IsTrue}
 use Rattle.run_memory.specs.Memory.{owner_rights}
 use Rattle.run_memory.specs.declared.pointer.Value.{Value}
 use Rattle.ir_base.specs.declared.name.Name.{Name}
@@ -9,7 +9,9 @@ use Rattle.run_step.specs.Step.{Action, AtInstr, AtTerm, Context, Coro, Dealloca
 use Rattle.run_step.specs.Values.{Env, address_of, value_in}
 use Rattle.run_step.specs.declared.world.World.{World}
 use Rattle.pass_renewed_proof.specs.Muted.{muted}
-use Rattle.run_laws.specs.embedded.Related.{AreValues, AreWorlds, HasBytes, HasDistance, HasNoSlot}
+use Rattle.pass_renewed_proof.specs.Small.{ComparesSmall, small_rights}
+use Rattle.run_laws.specs.embedded.Related.{AreValues, HasBytes, HasDistance, HasNoSlot, moved_event}
+use Rattle.run_laws.specs.memory.Standing.{AreBoundsKept, AreNullsKept, Embeds}
 
 -- the name whose value what stands at a place sets
 abbrev pub given_at : Fetched → Option ℕ
@@ -27,8 +29,14 @@ SetsOnly given env _ = Unit {0}
 abbrev pub muted_world : (ℕ → Bool) → World → World
 muted_world hides s = record s { memory = muted hides s.memory }
 
-abbrev pub AreOver : List Home → (ℕ → Bool) → World → World → Type 0
-AreOver homes hides s t = AreWorlds owner_rights owner_rights homes (λ d. d) (muted_world hides s) t
+-- comparisons with null are kept at offsets of 64 bits
+pub record AreOver (homes : List Home) (hides : ℕ → Bool) (s t : World) : Type 0 where
+  pub memory : Embeds owner_rights owner_rights homes (muted hides s.memory) t.memory
+  pub nulls : AreNullsKept small_rights owner_rights homes (muted hides s.memory) t.memory
+  pub bounds : AreBoundsKept homes (muted hides s.memory) t.memory
+  pub events : t.events ≡ map (moved_event (λ d. d)) s.events
+  pub answers : t.answers_used ≡ s.answers_used
+  pub allocs : t.allocs ≡ s.allocs
 
 -- what the instruction reads stands for what it reads in the source, and so do globals and functions; a getelementptr has the same distance; what is loaded or stored has a byte; and no block is made, marked or allocated
 pub record IsRead (homes : List Home) (c : Context) (env other : Env) (here : Fetched) : Type 0 where
@@ -36,6 +44,7 @@ pub record IsRead (homes : List Home) (c : Context) (env other : Env) (here : Fe
   pub room : length env ≤ length other
   pub globals : (n : Name) → IsValue homes (address_of c.code n) (address_of c.code n)
   pub distance : HasDistance c c env other here
+  pub small : ComparesSmall c.code env here
   pub no_slot : HasNoSlot here
   pub bytes : HasBytes here
 

@@ -10,10 +10,14 @@
 //! The two runs are related by `IsBeside`, and at all their states by `IsBetween`. The relation holds at the start
 //! (`states_begin_beside`), and ordinary instructions keep it (`ordinary_steps_stay_beside`,
 //! `address_parts_stay_beside`, `given_values_stay_beside`). So do those that make and mark blocks: allocators
-//! (`allocators_stay_beside`), allocas (`allocas_of_slots_stay_beside`, `other_allocas_stay_beside`) and markers of
-//! slots that may be made anew (`starts_of_slots_stay_beside`, `ends_of_slots_stay_beside`). A save keeps it
-//! (`saves_stay_beside`), and so does `coro.free` (`frees_stay_beside`). Instances are found in both runs
-//! (`own_instances_are_beside`, `sleepers_are_beside`).
+//! (`allocators_stay_beside`), allocas (`allocas_of_slots_stay_beside`, `other_allocas_stay_beside`,
+//! `late_allocas_stay_beside`) and markers of slots that may be made anew (`starts_of_slots_stay_beside`,
+//! `ends_of_slots_stay_beside`). A save keeps it (`saves_stay_beside`), and so do a suspend without a token
+//! (`suspends_stay_beside`), `coro.free` (`frees_stay_beside`), markers of other slots (`other_markers_stay_beside`),
+//! deallocations (`deallocations_stay_beside`), the promise (`promises_stay_beside`) and the end
+//! (`coroutine_ends_stay_beside`). Instances are found in both runs (`own_instances_are_beside`,
+//! `sleepers_are_beside`). Slots that may be made anew are ramp slots in the second run alone
+//! (`renewed_slots_are_ramp_slots`).
 //! Slots that are made anew leave all as it was (`slots_made_anew_keep_all`), and are paid by the resume
 //! (`slots_made_anew_are_paid`).
 //! What a resumed activation may not use it is barred from by the path that it came
@@ -25,8 +29,8 @@
 //! `left_points_go_on`).
 #![tactic(auto)]
 
-ghost use Rattle.std.specs.Prelude.{Ok, ℕ, ℤ, Bool, true, false, List, length, slice_get, Some, None, ◌≡◌, ◌≢◌, ◌≤◌, ◌<◌, ◌^◌, ◌++◌, ◌∷◌, [], ◌==◌, IsTrue, if◌then◌else◌, ◌+◌, ◌⊎◌, Option};
-ghost use Rattle.run_memory.specs.Memory.{end, fresh, is_live, killed_block, same_kind, start, with_block};
+ghost use Rattle.std.specs.Prelude.{Ok, ℕ, ℤ, negsuc, Bool, true, false, List, length, slice_get, Some, None, ◌≡◌, ◌≢◌, ◌≤◌, ◌<◌, ◌^◌, ◌++◌, ◌∷◌, [], ◌==◌, IsTrue, if◌then◌else◌, ◌+◌, ◌⊎◌, Option};
+ghost use Rattle.run_memory.specs.Memory.{end, fresh, is_live, killed, killed_block, same_kind, start, with_block};
 ghost use Rattle.run_memory.specs.declared.block.Kind.{Kind as TheKind};
 ghost use Rattle.run_laws.specs.memory.Standing.{blank_block};
 ghost use Rattle.run_memory.specs.declared.block.MemoryBlock.{MemoryBlock as Block};
@@ -57,13 +61,15 @@ ghost use Rattle.run_source.specs.declared.state.Mode.{Mode as TheMode};
 ghost use Rattle.run_source.specs.declared.state.State.{State as TheState};
 ghost use Rattle.pass_renewed_proof.specs.Entering.{Anew, AreNext, is_named, made_all, made_anew};
 ghost use Rattle.run_agreement.specs.Machines.{iterate};
-ghost use Rattle.pass_renewed_proof.specs.Renewed.{RenewedGiven, renew_after, renewed_from, renewed_step, renewed_values};
+ghost use Rattle.pass_renewed_proof.specs.Renewed.{RenewedGiven, renew_after, renewed_facts, renewed_from, renewed_step, renewed_values};
+ghost use Rattle.run_step.specs.declared.world.Slot.{Slot as TheSlot};
 ghost use Rattle.pass_renewed_proof.specs.SlotEnvs.{AreMadeAnew, AreRoots, AreSlotEnvs};
 ghost use Rattle.pass_renewed_proof.specs.SlotRules.{AreSteady, IsMarkerAt};
 ghost use Rattle.run_laws.specs.embedded.Related.{HasNoSlot, IsSameDistance};
 ghost use Rattle.ir_model.specs.declared.instr.Instr.{Instr as TheInstr};
 ghost use Rattle.ir_model.specs.declared.operand.Intrinsic.{Intrinsic as TheIntrinsic};
-ghost use Rattle.ir_paths.specs.Facts.{IsWindow};
+ghost use Rattle.ir_paths.specs.Facts.{AreFactsOf, IsWindow};
+ghost use Rattle.ir_paths.specs.declared.point.Facts.{Facts as TheFacts};
 ghost use Rattle.ir_paths.specs.declared.point.Window.{Window as TheWindow};
 ghost use Rattle.pass_kept_proof.specs.SuspendRules.{IsCallAt};
 ghost use Rattle.pass_renewed_proof.specs.Left.{IsLeftBy, behind};
@@ -99,17 +105,18 @@ ghost use Rattle.run_agreement.specs.Costs.{cost_from};
 ghost use Rattle.run_source.specs.Source.{first_state};
 ghost use Rattle.ir_model.specs.declared.operand.Allocator.{Allocator};
 ghost use Rattle.ir_model.specs.declared.operand.Callee.{Callee as TheCallee};
+ghost use Rattle.ir_model.specs.declared.operand.Operand.{Operand};
 ghost use Rattle.pass_renewed_proof.specs.Found.{AreFound, IsSleeperBeside};
 ghost use Rattle.run_source_tables.specs.Given.{Given};
-ghost use Rattle.pass_renewed_proof.specs.Making.{IsAllocaOfOther, IsAllocaOfSlot, IsAllocating, IsGiving, IsMarkingSlot, IsSaveOf, slot_block, with_slot_of};
+ghost use Rattle.pass_renewed_proof.specs.Making.{HasInstance, IsAllocaOfOther, IsAllocaOfSlot, IsAllocating, IsEndOf, IsGiving, IsMarkingOther, IsMarkingSlot, IsSaveOf, IsSuspendOf, slot_block, with_slot_of};
 ghost use Rattle.run_laws.specs.embedded.Making.{IsSmall};
 ghost use Rattle.ir_model.specs.Layout.{size_of};
-ghost use Rattle.run_source.specs.Source.{Sleeper, done_at, frame_address, is_over, release, sleeper_at};
-ghost use Rattle.run_source.specs.State.{gives, instance_at, next, own_instance, with_instance, with_left, with_slots};
+ghost use Rattle.run_source.specs.Source.{Sleeper, deallocate, done_at, end_of, finish, frame_address, is_among, is_over, promise, release, sleeper_at};
+ghost use Rattle.run_source.specs.State.{gives, instance_at, next, own_instance, with_instance, with_left, with_memory, with_slots};
 ghost use Rattle.run_source.specs.declared.state.Status.{Status as TheStatus};
 ghost use Rattle.run_source.specs.declared.state.Instance.{Instance as TheInstance};
 ghost use Rattle.run_step.specs.Step.{alloca_kind, has_markers};
-ghost use Rattle.run_step.specs.Values.{arg_values, nth};
+ghost use Rattle.run_step.specs.Values.{arg_values, integer, nth};
 ghost use Rattle.pass_renewed_proof.specs.LocalSlot as local_slot;
 ghost use Rattle.pass_renewed_proof.specs.RestartedSlots as restarted_slots;
 ghost use Rattle.pass_renewed_proof.specs.EscapedRestart as escaped_restart;
@@ -466,4 +473,117 @@ pub fn sleepers_are_beside()
         → (g h : Given) → h.code ≡ g.code → (p q : TheValue) → IsValue beside.ledger.homes p q → (after : TheState)
         → done_at g s result p ≡ Ok after
         → (other : TheState) × (done_at h t result q ≡ Ok other) × IsBeside m flags roots after other }
+{}
+
+// ---- markers of other slots, deallocations and the end
+
+/// Where a slot is started or ends that isn't made anew, both runs do it, and the states are beside each other.
+pub fn other_markers_stay_beside()
+    ensures starts { (m : Module) (flags : Flags) (roots : Roots) (answers : List ℤ) (s t : TheState)
+        → IsBeside m flags roots s t → (slot : ℕ) (result : Option ℕ) (must_tail : Bool) (ty : Option Ty)
+        (args : List TheArg) → IsMarkingOther m flags roots s.top TheIntrinsic.LifetimeStart slot result must_tail ty args
+        → (v : Work)
+        → action_of (record { code = m; answers = answers; rights = owner_rights; function = function_at m s.top.func })
+        (work_of s) (AtInstr (TheInstr.Call result must_tail ty (TheCallee.Intrinsic TheIntrinsic.LifetimeStart) args))
+        ≡ Done v
+        → (y : Work) × (action_of (record {
+          code = m;
+          answers = answers;
+          rights = owner_rights;
+          function = function_at m s.top.func;
+        }) (work_of t) (AtInstr (TheInstr.Call result must_tail ty (TheCallee.Intrinsic TheIntrinsic.LifetimeStart) args))
+        ≡ Done y)
+        × IsBeside m flags roots (settled s v) (settled t y) }
+    ensures ends { (m : Module) (flags : Flags) (roots : Roots) (answers : List ℤ) (s t : TheState)
+        → IsBeside m flags roots s t → (slot : ℕ) (result : Option ℕ) (must_tail : Bool) (ty : Option Ty)
+        (args : List TheArg) → IsMarkingOther m flags roots s.top TheIntrinsic.LifetimeEnd slot result must_tail ty args
+        → (v : Work)
+        → action_of (record { code = m; answers = answers; rights = owner_rights; function = function_at m s.top.func })
+        (work_of s) (AtInstr (TheInstr.Call result must_tail ty (TheCallee.Intrinsic TheIntrinsic.LifetimeEnd) args))
+        ≡ Done v
+        → (y : Work) × (action_of (record {
+          code = m;
+          answers = answers;
+          rights = owner_rights;
+          function = function_at m s.top.func;
+        }) (work_of t) (AtInstr (TheInstr.Call result must_tail ty (TheCallee.Intrinsic TheIntrinsic.LifetimeEnd) args))
+        ≡ Done y)
+        × IsBeside m flags roots (settled s v) (settled t y) }
+{}
+
+/// A deallocation that isn't undefined in the first run is none in the second. The block of an allocator dies in both,
+/// and with its frame an instance is let go.
+pub fn deallocations_stay_beside()
+    ensures { (m : Module) (flags : Flags) (roots : Roots)
+        → ((func : ℕ) → KeepsSlots m (function_at m func) (flags func) (roots func)) → (i : TheInstr) (s t : TheState)
+        → (beside : IsBeside m flags roots s t) → IsGiving m roots s.top i None → (p q : TheValue)
+        → IsValue beside.ledger.homes p q → (after : TheState) → deallocate s p ≡ Ok after
+        → (other : TheState) × (deallocate t q ≡ Ok other) × IsBeside m flags roots after other }
+{}
+
+/// At the end the instance is over in both runs, and its slots die. An activation that wasn't resumed goes on behind
+/// it.
+pub fn coroutine_ends_stay_beside()
+    ensures finished { (m : Module) (flags : Flags) (roots : Roots) (s t : TheState) → IsBeside m flags roots s t
+        → IsBeside m flags roots (finish s) (finish t) }
+    ensures goes_on { (m : Module) (flags : Flags) (roots : Roots)
+        → ((func : ℕ) → KeepsSlots m (function_at m func) (flags func) (roots func)) → (s t : TheState)
+        → IsBeside m flags roots s t → (i : TheInstr) (result : Option ℕ) → IsEndOf m roots s.top i result
+        → HasInstance s.instances s.top → (after : TheState) → end_of s finish result ≡ Ok after
+        → (other : TheState) × (end_of t finish result ≡ Ok other) × IsBeside m flags roots after other }
+{}
+
+/// coro.promise gives what stands for the first run's address, from a frame to its promise and back.
+pub fn promises_stay_beside()
+    ensures { (m : Module) (flags : Flags) (roots : Roots)
+        → ((func : ℕ) → KeepsSlots m (function_at m func) (flags func) (roots func)) → (s t : TheState)
+        → (beside : IsBeside m flags roots s t) → (g h : Given) → g.code ≡ m → h.code ≡ m → (i : TheInstr)
+        (result : Option ℕ) → IsGiving m roots s.top i result → (p q : TheValue) → IsValue beside.ledger.homes p q
+        → (from : Operand) (v : TheValue) → promise g s p from ≡ Ok v
+        → (w : TheValue) × (promise h t q from ≡ Ok w) × IsBeside m flags roots (gives s result v) (gives t result w) }
+{}
+
+/// A suspend without a token leaves the instance Suspended at itself in both runs, and gives -1.
+pub fn suspends_stay_beside()
+    ensures { (m : Module) (flags : Flags) (roots : Roots)
+        → ((func : ℕ) → KeepsSlots m (function_at m func) (flags func) (roots func)) → (s t : TheState)
+        → IsBeside m flags roots s t → (i : TheInstr) (result : Option ℕ) → IsSuspendOf m roots s.top i result → (n : ℕ)
+        (x y : TheInstance) → s.top.instance ≡ Some n → slice_get s.instances n ≡ Some x
+        → slice_get t.instances n ≡ Some y → x.coroutine ≡ s.top.func → x.freed ≡ false
+        → AreOutdone s.instances s.top s.below
+        → IsBeside m flags roots (gives (with_left (with_instance s n (record x {
+          status = TheStatus.Suspended (place_in s.top) s.top.values;
+          last_save = Some (record { depth = length s.below; save = place_in s.top });
+        })) true) result (integer 8 (negsuc 0))) (gives (with_left (with_instance t n (record y {
+          status = TheStatus.Suspended (place_in s.top) t.top.values;
+          last_save = Some (record { depth = length s.below; save = place_in s.top });
+        })) true) result (integer 8 (negsuc 0))) }
+{}
+
+/// The alloca of a slot that may be made anew may come to an instance that is over. The slot is dead at once in the
+/// first run. In the second its block lives, and is the activation's.
+pub fn late_allocas_stay_beside()
+    ensures { (m : Module) (flags : Flags) (roots : Roots)
+        → ((func : ℕ) → KeepsSlots m (function_at m func) (flags func) (roots func)) → (s t : TheState)
+        → IsBeside m flags roots s t → (a : ℕ) (ty : Ty) (align : ℕ) → IsAllocaOfSlot m flags s.top a ty align
+        → size_of m ty < 2 ^ 64 → (marked : Bool) → (i : ℕ) (x : TheInstance) → s.top.instance ≡ Some i
+        → slice_get s.instances i ≡ Some x → x.coroutine ≡ s.top.func
+        → IsBeside m flags roots (with_memory (with_instance (with_slot_of s (slot_block m s ty align marked) a) i
+        (record x { slots = record { alloca = a; block = length s.world.memory } ∷ x.slots }))
+        (killed (s.world.memory ++ slot_block m s ty align marked ∷ []) (length s.world.memory)))
+        (with_slots (with_slot_of t (slot_block m s ty align false) a)
+        (record { alloca = a; block = length t.world.memory } ∷ t.top.slots)) }
+{}
+
+/// A slot that may be made anew is no ramp slot in the first run, so it becomes its instance's. It is one in the
+/// second. Of any other slot both say the same.
+pub fn renewed_slots_are_ramp_slots()
+    ensures first { (m : Module) (f : Function) (flags : ℕ → Bool) (roots : ℕ → Option ℕ) → KeepsSlots m f flags roots
+        → (slot : TheSlot) → IsTrue (flags slot.alloca) → (facts : TheFacts) → AreFactsOf f facts
+        → is_among facts.ramp_slots slot ≡ false }
+    ensures second { (m : Module) (f : Function) (flags : ℕ → Bool) (roots : ℕ → Option ℕ) → KeepsSlots m f flags roots
+        → (facts : TheFacts) (slot : TheSlot) → IsTrue (flags slot.alloca)
+        → is_among (renewed_facts flags f facts).ramp_slots slot ≡ true }
+    ensures others { (f : Function) (flags : ℕ → Bool) (facts : TheFacts) (slot : TheSlot) → flags slot.alloca ≡ false
+        → is_among (renewed_facts flags f facts).ramp_slots slot ≡ is_among facts.ramp_slots slot }
 {}
