@@ -1,3 +1,4 @@
+pub mod Agains
 pub mod Code
 pub mod Costs
 pub mod Distances

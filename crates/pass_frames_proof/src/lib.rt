@@ -2,6 +2,7 @@
 //! forms: where the places of a coroutine are in its framed form, and what stands there.
 #![tactic(auto)]
 
+pub mod agains;
 pub mod code;
 pub mod distances;
 pub mod fetched;
