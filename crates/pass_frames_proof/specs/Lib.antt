@@ -9,8 +9,10 @@ pub mod Lines
 pub mod Loaded
 pub mod Offsets
 pub mod Passes
+pub mod Phis
 pub mod Places
 pub mod Related
 pub mod Saves
+pub mod Stores
 pub mod Tests
 pub mod Worked

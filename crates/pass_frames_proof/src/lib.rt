@@ -9,6 +9,7 @@ pub mod fetched;
 pub mod layers;
 pub mod lines;
 pub mod offsets;
+pub mod phis;
 pub mod start;
 pub mod tests;
 pub mod worked;
