@@ -1,3 +1,4 @@
 pub mod Apart
+pub mod Measured
 pub mod Sums
 pub mod Ways

@@ -7,6 +7,7 @@ pub mod Framings
 pub mod Layers
 pub mod Lines
 pub mod Loaded
+pub mod Measured
 pub mod Offsets
 pub mod Passes
 pub mod Phis
