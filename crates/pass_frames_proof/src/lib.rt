@@ -5,6 +5,7 @@
 pub mod agains;
 pub mod code;
 pub mod distances;
+pub mod entry;
 pub mod fetched;
 pub mod layers;
 pub mod lines;
