@@ -10,6 +10,7 @@ pub mod Lines
 pub mod Loaded
 pub mod Measured
 pub mod Offsets
+pub mod Ordinary
 pub mod Passes
 pub mod Phis
 pub mod Places

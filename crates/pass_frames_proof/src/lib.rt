@@ -10,6 +10,7 @@ pub mod fetched;
 pub mod layers;
 pub mod lines;
 pub mod offsets;
+pub mod ordinary;
 pub mod phis;
 pub mod start;
 pub mod tests;
