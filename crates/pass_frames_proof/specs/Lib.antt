@@ -8,6 +8,7 @@ pub mod Framings
 pub mod Layers
 pub mod Lines
 pub mod Loaded
+pub mod Meaning
 pub mod Measured
 pub mod Offsets
 pub mod Ordinary
