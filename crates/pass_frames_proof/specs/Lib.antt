@@ -15,6 +15,7 @@ pub mod Ordinary
 pub mod Passes
 pub mod Phis
 pub mod Places
+pub mod Reached
 pub mod Related
 pub mod Saves
 pub mod Stores

@@ -12,6 +12,7 @@ pub mod lines;
 pub mod offsets;
 pub mod ordinary;
 pub mod phis;
+pub mod reached;
 pub mod start;
 pub mod tests;
 pub mod worked;
