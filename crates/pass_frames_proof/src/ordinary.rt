@@ -2,6 +2,8 @@
 
 ghost use Rattle.std.specs.Prelude.{◌≡◌, ℕ, Bool, List, Option};
 ghost use Rattle.ir_model.specs.declared.instr.Instr.{Instr};
+ghost use Rattle.ir_model.specs.declared.operand.Arg.{Arg};
+ghost use Rattle.ir_model.specs.declared.operand.Operand.{Operand};
 ghost use Rattle.pass_fetch.specs.declared.fetch.Fetch.{Fetch};
 ghost use Rattle.pass_frames_proof.specs.Framings.{IsFraming};
 ghost use Rattle.pass_frames_proof.specs.Ordinary.{IsMade, IsQuiet, MayBeMade, MayStep, Steps};
@@ -28,4 +30,13 @@ pub fn quiet_steps_are_made()
         → AreByteRights c.rights → AreByteRights d.rights → (w y v : Work) (a : Activation) (n : ℕ) (i : Instr)
         → IsQuiet c i → instr_action c w i ≡ Done v → MayStep x homes hides c d w y a n i
         → Steps x homes hides c d y v a n i }
+{}
+
+/// So it is of a store: the bytes that it writes are homes of the source's, and no cell is among them.
+pub fn stores_are_made()
+    ensures { (x : Framing) → IsFraming x → (homes : List Home) (hides : ℕ → Bool) (c d : Context)
+        → AreByteRights c.rights → AreByteRights d.rights → (w y v : Work) (a : Activation) (n : ℕ) (arg : Arg)
+        (p : Operand) (align : ℕ) → instr_action c w (Instr.Store arg p align) ≡ Done v
+        → MayStep x homes hides c d w y a n (Instr.Store arg p align)
+        → Steps x homes hides c d y v a n (Instr.Store arg p align) }
 {}

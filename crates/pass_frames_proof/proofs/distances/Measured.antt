@@ -240,6 +240,7 @@ module _ (x : Framing) (is : IsFraming x) (homes : List Home) (c : Context) (law
               (omega (arith, lt, low)) (λ e. distance_apart x is v cell i j m.told kept (sym e)) (m.right.values i
               j kept);
           distances = λ i other root told at_root. ⊎_elim
+              {C = Cell t.work other (int 64) (IsDistanceOf (value_in env root) (value_in env i))}
               (λ (e : i ≡ v). own_cell t.work here i other root told at_root e)
               (λ d.
               let lt : other < length (named x).names = distance_low x is i other told in

@@ -27,7 +27,7 @@ module _ (homes : List Home) (hides : ℕ → Bool) (maps : Maps) (t : List (Opt
   abbrev Looks : Bool
   Looks = looks_at (AtInstr i)
 
-  first : AreFetched t given d n (instr_operands i) y
+  pub first : AreFetched t given d n (instr_operands i) y
   first = fetched t given d n (instr_operands i) y m.can m.below m.room
 
   abbrev Stand : Operand → Operand → Type 0
@@ -46,7 +46,7 @@ module _ (homes : List Home) (hides : ℕ → Bool) (maps : Maps) (t : List (Opt
   all_stand k (a ∷ xs) h seen =
       (one_stands a (fetched_operand t k a) h.0 seen.0, all_stand (next_after t k a) xs h.1 seen.1)
 
-  joined : AreJoined homes hides maps c d w first.work
+  pub joined : AreJoined homes hides maps c d w first.work
   joined = record {
     over = subst (λ (z : World). AreOver c.rights d.rights homes hides maps.declaration w.world z)
         (sym first.sets.world) m.joined.over;
@@ -55,7 +55,7 @@ module _ (homes : List Home) (hides : ℕ → Bool) (maps : Maps) (t : List (Opt
     room = subst (λ (k : ℕ). length w.values ≤ k) (sym first.sets.room) m.joined.room;
   }
 
-  transferred : IsTransferred (IsValue homes) maps c d w.values first.work.values (AtInstr i)
+  pub transferred : IsTransferred (IsValue homes) maps c d w.values first.work.values (AtInstr i)
       (AtInstr (with_fetched t n i))
   transferred = record {
     shape = instr_related t Stand n i (all_stand n (instr_operands i) m.seen first.seen);

@@ -4,39 +4,31 @@ use Rattle.std.specs.List.{Contains}
 use Rattle.std.specs.Prelude.{Err, None, Ok, Option, Result, Some, option_map, slice_get, if◌then◌else◌}
 use Rattle.ir_base.specs.declared.cause.Cause.{Cause}
 use Rattle.ir_base.specs.declared.outcome.Word.{Word}
-use Rattle.ir_laws.proofs.facts.Members.{each_all, each_turns}
+use Rattle.ir_laws.proofs.facts.Members.{each_turns}
 use Rattle.ir_laws.proofs.facts.Truth.{is_number}
 use Rattle.ir_model.specs.Names.{declaration_named, function_named}
 use Rattle.ir_model.specs.Ty.{Ty, int, ptr}
 use Rattle.ir_model.specs.declared.instr.Instr.{Instr}
 use Rattle.ir_model.specs.declared.operand.Callee.{Callee}
-use Rattle.ir_model.specs.declared.operand.Operand.{Operand}
 use Rattle.ir_parts.specs.Contents.{instr_operands, result_of}
-use Rattle.pass_cells.specs.Cells.{fetch_by, fetch_for, fetches_of}
-use Rattle.pass_cells.specs.Kept.{entry, value_types}
-use Rattle.pass_cells.specs.Links.{bases_of, slots_of}
+use Rattle.pass_cells.specs.Cells.{fetches_of}
+use Rattle.pass_cells.specs.Kept.{entry}
 use Rattle.pass_cells.specs.Written.{stored, stored_result}
-use Rattle.pass_cells.specs.declared.plan.KeptValue.{KeptValue}
-use Rattle.pass_fetch.specs.Fetching.{fetch_of, fetches_of_all}
+use Rattle.pass_fetch.specs.Fetching.{fetches_of_all}
 use Rattle.pass_fetch.specs.Instrs.{with_fetched}
 use Rattle.pass_fetch.specs.declared.fetch.Fetch.{Fetch}
-use Rattle.pass_frames_proof.proofs.code.Left.{fetch_found}
-use Rattle.pass_frames_proof.proofs.code.Names.{Count, F, First, Kept, keeping, local}
 use Rattle.pass_frames_proof.proofs.lines.Cells.{cell_stays}
 use Rattle.pass_frames_proof.proofs.lines.Filled.{over_none, worlds_stand}
-use Rattle.pass_frames_proof.proofs.lines.Loads.{can_load, loaded_stands}
 use Rattle.pass_frames_proof.proofs.lines.Results.{kept_is_cell, result_stored}
 use Rattle.pass_frames_proof.proofs.lines.Saves.{distance_of}
 use Rattle.pass_frames_proof.proofs.ordinary.Made.{made}
-use Rattle.pass_frames_proof.specs.Fetched.{CanFetch, seen_by}
+use Rattle.pass_frames_proof.proofs.ordinary.Operands.{may_make}
 use Rattle.pass_frames_proof.specs.Framings.{IsFraming}
 use Rattle.pass_frames_proof.specs.Lines.{AreAway, AreInCells, Fills, IsCellOf, LeavesCellsBut, NoneFilled, RunsOver, at_work}
 use Rattle.pass_frames_proof.specs.Loaded.{loaded_value}
-use Rattle.pass_frames_proof.specs.Ordinary.{IsMade, IsPlainName, IsQuiet, IsSeenFor, MayStep, StandsUnkept, Steps}
+use Rattle.pass_frames_proof.specs.Ordinary.{IsMade, IsPlainName, IsQuiet, MayStep, Steps}
 use Rattle.pass_frames_proof.specs.Places.{Framing, edged, named, plan}
 use Rattle.pass_frames_proof.specs.Related.{AreCellsRight, IsCell, IsDistanceOf}
-use Rattle.pass_proofs.proofs.cells.rules.Planned.{fetch_there}
-use Rattle.pass_proofs.proofs.cells.rules.Plans.{kept_as, kept_at}
 use Rattle.run_ints.specs.Numbers.{binary, icmp}
 use Rattle.run_ints.specs.declared.num.Num.{Num}
 use Rattle.run_laws.proofs.access.Lines.{runs_append}
@@ -168,64 +160,13 @@ module _ (x : Framing) (is : IsFraming x) (homes : List Home) (hides : ℕ → B
   abbrev AreRight : Env → Work → Type 0
   AreRight env u = AreCellsRight x homes d.rights u.world.memory env (at_work a u)
 
-  -- ---- operands
-
-  -- what isn't fetched isn't kept
-  not_kept : (u : ℕ) → fetch_of T (Operand.Local u) ≡ None → entry (plan x).places u ≡ None
-  not_kept u e = on (entry (plan x).places u) refl
-    where
-      by : (at : ℕ) → entry (plan x).places u ≡ Some at → (o : Option KeptValue) → slice_get (plan x).kept at ≡ o
-          → entry (plan x).places u ≡ None
-      by at told (Some k) there =
-          let no : None ≡ Some (Fetch.Load k.ty k.cell) =
-          sym e ∙ fetch_there (plan x).kept (plan x).places u ∙ ap (fetch_for (plan x).kept) told ∙ ap fetch_by there in
-          absurd (cc)
-      by at told None there =
-          let slots : List (Option ℕ) = slots_of (local x is) (bases_of (edged x)) in
-          let types : List Ty = value_types (F x is) (Kept x is) in
-          let here : slice_get (Kept x is).values at ≡ Some u = (keeping x is).there u at told in
-          let no : None ≡ Some (kept_as (First x is) (Count x is) types (plan x).cells slots at u) =
-          sym there
-          ∙ kept_at (First x is) (Count x is) types (plan x).cells slots (Kept x is).values at u here in
-          absurd (cc)
-
-      on : (o : Option ℕ) → entry (plan x).places u ≡ o → entry (plan x).places u ≡ None
-      on None told = told
-      on (Some at) told = by at told (slice_get (plan x).kept at) refl
-
-  seen_one : (o : Operand) → StandsUnkept x homes c d w y o → IsSeenFor homes T given c d w y o
-  seen_one (Operand.Local u) h ty = on (fetch_of T (Operand.Local u)) refl
-    where
-      on : (o : Option Fetch) → fetch_of T (Operand.Local u) ≡ o
-          → IsValue homes (value_in w.values u) (seen_by given d y ty (Operand.Local u) o)
-      on None e = h (not_kept u e)
-      on (Some f) e =
-          let z = fetch_found x is u f e in
-          loaded_stands x is homes d w.values a y m.cells u z.kept
-          (record { number = z.at; told = z.told; there = z.there })
-  seen_one _ h ty = h ty
-
-  can_one : (o : Operand) → CanFetch T given n d y o
-  can_one (Operand.Local u) = can_load x is homes d w.values a y m.cells n u m.low
-  can_one _ = tt
-
   abbrev simple : IsSimple c d T n i
   simple = quiet_simple c d T n i q m.callee
 
   step : IsMade homes hides same_maps T c d w y n i
-  step = made homes hides same_maps T given c d law law' w y n i (record {
-    joined = m.joined;
-    can = each_all (CanFetch T given n d y) can_one (instr_operands i);
-    below = m.below;
-    room = m.room;
-    seen = each_turns (StandsUnkept x homes c d w y) (IsSeenFor homes T given c d w y) seen_one (instr_operands i)
-        m.stands;
-    callee = m.callee;
-    pointed = simple.pointed w.values;
-    distance = λ z sets. simple.distance w.values z.values;
-    no_slot = simple.no_slot;
-    bytes = m.bytes;
-  })
+  step = made homes hides same_maps T given c d law law' w y n i
+      (may_make x is homes hides c d w y a n i m (simple.pointed w.values)
+      (λ z sets. simple.distance w.values z.values) simple.no_slot)
 
   -- ---- the instruction
 
