@@ -7,6 +7,7 @@ pub mod code;
 pub mod distances;
 pub mod entry;
 pub mod fetched;
+pub mod framings;
 pub mod layers;
 pub mod lines;
 pub mod offsets;
