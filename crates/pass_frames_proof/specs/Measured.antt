@@ -1,5 +1,5 @@
 -- The distance of an address from its local slot, which is summed and stored behind the getelementptr that makes it.
-use Rattle.std.specs.Prelude.{◌≡◌, ◌≢◌, ◌⊎◌, ◌≤◌, ℕ, List, length, Some, None, Option}
+use Rattle.std.specs.Prelude.{◌≡◌, ◌≢◌, ◌⊎◌, ◌≤◌, ℕ, List, [], ◌∷◌, length, Some, None, Option}
 use Rattle.ir_model.specs.Ty.{Ty, int}
 use Rattle.ir_model.specs.declared.module.Module.{Module}
 use Rattle.ir_model.specs.declared.operand.Arg.{Arg}
@@ -7,19 +7,21 @@ use Rattle.pass_cells.specs.Kept.{entry}
 use Rattle.pass_cells.specs.Written.{distance_from}
 use Rattle.pass_distances.specs.Sums.{distance_instrs, distance_next}
 use Rattle.pass_distances.specs.Ways.{ways_of}
+use Rattle.pass_fetch.specs.Fetching.{fetched_arg, next_after}
+use Rattle.pass_fetch.specs.declared.fetch.Fetch.{Fetch}
 use Rattle.pass_frames_proof.specs.Distances.{AreFields, AreWaysBelow}
 use Rattle.pass_frames_proof.specs.Lines.{AreCellsRightBut, AreInCells, HasOwnBlocks, RunsOver, at_work}
 use Rattle.pass_frames_proof.specs.Places.{Framing, named, plan}
 use Rattle.pass_frames_proof.specs.Related.{Anything, AreCellsRight, IsCell, root_of}
 use Rattle.run_laws.specs.access.Accessed.{Span}
-use Rattle.run_laws.specs.memory.Pointers.{Home}
+use Rattle.run_laws.specs.memory.Pointers.{Home, IsValue}
 use Rattle.run_memory.specs.Pointers.{moved}
 use Rattle.run_memory.specs.declared.pointer.Offset.{Offset}
 use Rattle.run_memory.specs.declared.pointer.Pointer.{Pointer}
 use Rattle.run_memory.specs.declared.pointer.Value.{Value}
 use Rattle.run_source.specs.declared.state.Activation.{Activation}
 use Rattle.run_step.specs.Step.{Context, Work}
-use Rattle.run_step.specs.Values.{Env, distance, indices_of, pointer_to, value_in}
+use Rattle.run_step.specs.Values.{Env, arg_value, distance, indices_of, pointer_to, value_in}
 
 -- the address is poison, or so far behind its base as the indices say
 abbrev pub IsMoved : Module → Env → Value → Value → Ty → List Arg → Type 0
@@ -59,3 +61,13 @@ pub record Measures (x : Framing) (homes : List Home) (c : Context) (w : Work) (
   pub over : RunsOver c (distance_instrs n (distance_from (plan x) v) cell (ways_of x.code ty args)) n spans w work
   pub inside : AreInCells x a spans
   pub right : AreCellsRight x homes c.rights work.world.memory env (at_work a work)
+
+-- ---- indices of two getelementptrs
+
+-- each index that is fetched stands for the source's
+abbrev pub AreArgsStanding : List (Option Fetch) → List Home → (m k : Module) → (env other : Env) → ℕ → List Arg
+    → Type 0
+AreArgsStanding t homes m k env other n [] = Unit {0}
+AreArgsStanding t homes m k env other n (a ∷ args) =
+    IsValue homes (arg_value m env a) (arg_value k other (fetched_arg t n a))
+    × AreArgsStanding t homes m k env other (next_after t n a.value) args
