@@ -1,3 +1,4 @@
 pub mod Lines
 pub mod One
 pub mod Rows
+pub mod Values
