@@ -1,2 +1,5 @@
+pub mod Apart
+pub mod Indices
+pub mod Measured
 pub mod Sums
 pub mod Ways

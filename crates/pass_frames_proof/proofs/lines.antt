@@ -4,3 +4,4 @@ pub mod Loads
 pub mod Results
 pub mod Rows
 pub mod Saves
+pub mod Stored

@@ -1,6 +1,6 @@
 -- Straight lines that are woven in: they set new names and fill ranges of bytes, and nothing else.
 use Rattle.std.specs.List.{Contains}
-use Rattle.std.specs.Prelude.{◌≡◌, ◌<◌, ◌≢◌, ℕ, true, List, [], ◌∷◌, length, map, slice_get, Some}
+use Rattle.std.specs.Prelude.{◌≡◌, ◌<◌, ◌≤◌, ◌≢◌, ℕ, true, List, [], ◌∷◌, length, map, slice_get, Some}
 use Rattle.ir_laws.specs.paths.woven_rules.Pairs.{AreDifferent}
 use Rattle.ir_model.specs.Ty.{Ty, int}
 use Rattle.ir_model.specs.declared.instr.Instr.{Instr}
@@ -8,7 +8,7 @@ use Rattle.pass_cells.specs.Kept.{entry}
 use Rattle.pass_cells.specs.Moves.{load_from, store_to}
 use Rattle.pass_cells.specs.declared.plan.KeptValue.{KeptValue}
 use Rattle.pass_fetch.specs.Fetching.{value_bytes}
-use Rattle.pass_frames_proof.specs.Places.{Framing, plan}
+use Rattle.pass_frames_proof.specs.Places.{Framing, edged, named, plan}
 use Rattle.pass_frames_proof.specs.Related.{IsCell, IsDistanceOf, IsKeptValue, root_of}
 use Rattle.run_laws.specs.access.Accessed.{Span}
 use Rattle.run_laws.specs.access.Lines.{AreDisjoint, Holds, Runs, refilled_at}
@@ -84,10 +84,15 @@ AreAway rights homes m spans =
 abbrev pub with_memory : World → List MemoryBlock → World
 with_memory t m = record t { memory = m }
 
--- each range lies in the block of a slot of the activation
-abbrev pub AreInSlots : Activation → List Span → Type 0
-AreInSlots a spans =
-    Each (λ (s : Span). (alloca : ℕ) × Contains a.slots (record { alloca = alloca; block = s.block })) spans
+-- the name of a cell: behind those of the coroutine
+abbrev pub IsCellOf : Framing → ℕ → Type 0
+IsCellOf x v = (length (edged x).names ≤ v) × (v < length (named x).names)
+
+-- each range lies in the block of a cell of the activation
+abbrev pub AreInCells : Framing → Activation → List Span → Type 0
+AreInCells x a spans =
+    Each (λ (s : Span). (cell : ℕ) × IsCellOf x cell × Contains a.slots (record { alloca = cell; block = s.block }))
+    spans
 
 -- ---- one load, one store
 
@@ -122,7 +127,7 @@ pub record LeavesCellsBut (x : Framing) (homes : List Home) (c : Context) (w : W
   pub spans : List Span
   pub over : RunsOver c line n spans w work
   pub values : work.values ≡ w.values
-  pub inside : AreInSlots a spans
+  pub inside : AreInCells x a spans
   pub right : AreCellsRightBut x homes c.rights work.world.memory env (at_work a work) but
 
 -- a name that gets a value: it is no local slot from whose address distances go on

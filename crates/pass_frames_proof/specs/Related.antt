@@ -196,6 +196,13 @@ pub record AreWheresRight (x : Framing) (rights : Rights) (memory : List MemoryB
 
 -- ---- activations
 
+-- behind a suspend a kept value that doesn't cross it has no value, nor has a name of which the distance alone is kept
+pub record AreGone (x : Framing) (suspend : ℕ) (env : Env) : Type 0 where
+  pub values : (v : ℕ) (k : KeptValue) → IsKeptValue x v k
+      → Contains x.contents.crossing (v, suspend) ⊎ (value_in env v ≡ Value.Poison)
+  pub links : (v cell : ℕ) → entry (plan x).cells v ≡ Some cell → entry (plan x).places v ≡ None
+      → value_in env v ≡ Value.Poison
+
 -- what an activation has beside its values, by where it is
 abbrev pub HasCells : Framing → List Home → Rights → List MemoryBlock → Option Instance → Activation → Activation
     → Option ℕ → Type 0
@@ -203,7 +210,7 @@ HasCells x homes rights memory own a c None =
     AreCellsRight x homes rights memory a.values c × AreWheresRight x rights memory own c
 HasCells x homes rights memory None a c (Some suspend) = ⊥
 HasCells x homes rights memory (Some y) a c (Some suspend) =
-    AreFieldsRight x homes rights memory suspend a.values y.block y.start
+    AreFieldsRight x homes rights memory suspend a.values y.block y.start × AreGone x suspend a.values
 
 -- once all allocas are made their cells are there, also in the block on a resume or destroy edge
 abbrev pub AreMade : Framing → Rights → List MemoryBlock → Activation → Mode → Type 0

@@ -6,7 +6,7 @@ use Rattle.pass_cells.specs.declared.plan.KeptValue.{KeptValue}
 use Rattle.pass_fetch.specs.Fetching.{value_bytes}
 use Rattle.pass_frames.specs.Framed.{begin_of}
 use Rattle.pass_frames_proof.specs.Code.{addressed}
-use Rattle.pass_frames_proof.specs.Lines.{AreInBlock, HasOwnBlocks, IsStorable, RunsOver, at_work}
+use Rattle.pass_frames_proof.specs.Lines.{AreInBlock, HasOwnBlocks, IsCellOf, IsStorable, RunsOver, at_work}
 use Rattle.pass_frames_proof.specs.Places.{Framing, offsets, plan}
 use Rattle.pass_frames_proof.specs.Related.{AreCellsRight, Anything, IsKeptAs, IsKeptValue}
 use Rattle.run_laws.specs.access.Accessed.{Span}
@@ -49,9 +49,10 @@ pub record HasRoomFor (x : Framing) (rights : Rights) (memory : List MemoryBlock
 abbrev pub AreStorable : Framing → Env → Type 0
 AreStorable x env = (v : ℕ) (k : KeptValue) → IsKeptValue x v k → IsStorable k.ty (value_in env v)
 
--- no slot of the activation lies in the block
-abbrev pub AreSlotsElsewhere : ℕ → Activation → Type 0
-AreSlotsElsewhere block a = (slot : Slot) → Contains a.slots slot → slot.block ≢ block
+-- no cell of the activation lies in the block
+abbrev pub AreCellsElsewhere : Framing → ℕ → Activation → Type 0
+AreCellsElsewhere x block a =
+    (slot : Slot) → Contains a.slots slot → IsCellOf x slot.alloca → slot.block ≢ block
 
 -- ---- the line before a save: new names are from n on for values, and from m on for addresses
 
@@ -73,7 +74,7 @@ pub record MaySave (x : Framing) (homes : List Home) (c : Context) (w : Work) (a
   pub room : n + length row ≤ m
   pub long : m + length row ≤ length w.values
   pub own : HasOwnBlocks a
-  pub elsewhere : AreSlotsElsewhere block a
+  pub elsewhere : AreCellsElsewhere x block a
   pub storable : AreStorable x env
   pub cells : AreCellsRight x homes c.rights w.world.memory env (at_work a w)
   pub fields : HasRoomFor x c.rights w.world.memory block start row

@@ -9,6 +9,15 @@ ghost use Rattle.pass_distances.specs.Sums.{sum_next};
 ghost use Rattle.pass_distances.specs.Ways.{ways_of};
 ghost use Rattle.pass_distances.specs.declared.way.Way.{Way};
 ghost use Rattle.pass_frames_proof.specs.Distances.{AreFields, AreWaysBelow, IsBelow, IsNumber, SumsUp, summed};
+ghost use Rattle.pass_frames_proof.specs.Framings.{IsFraming};
+ghost use Rattle.pass_frames_proof.specs.Measured.{AreArgsStanding, MayMeasure, Measures};
+ghost use Rattle.pass_frames_proof.specs.Places.{Framing};
+ghost use Rattle.pass_fetch.specs.Fetching.{fetched_args};
+ghost use Rattle.pass_fetch.specs.declared.fetch.Fetch.{Fetch};
+ghost use Rattle.run_laws.specs.embedded.Related.{IsSameDistance};
+ghost use Rattle.run_laws.specs.memory.Pointers.{Home};
+ghost use Rattle.run_laws.specs.memory.Standing.{AreByteRights};
+ghost use Rattle.run_source.specs.declared.state.Activation.{Activation};
 ghost use Rattle.run_step.specs.Step.{Context, Work, value_at};
 ghost use Rattle.run_step.specs.Values.{Env, distance, indices_of, plus};
 
@@ -24,4 +33,21 @@ pub fn ways_add_the_distance()
     ensures { (m : Module) (env : Env) (ty : Ty) (args : List Arg) (start d : ℕ) → start < 2 ^ 64
         → AreFields m ty args → distance m ty (indices_of m env args) ≡ Some d
         → summed m env (Some start) (ways_of m ty args) ≡ plus (Some start) (Some d) }
+{}
+
+/// Behind a getelementptr whose distance has a cell the distance is summed and stored. Then all cells are right.
+pub fn distances_are_stored()
+    ensures { (x : Framing) → IsFraming x → (homes : List Home) (c : Context) → AreByteRights c.rights
+        → (a : Activation) (w : Work) (env : Env) (v cell slot n : ℕ) (ty : Ty) (args : List Arg)
+        → MayMeasure x homes c w a env v cell slot n ty args → Measures x homes c w a env v cell n ty args }
+{}
+
+/// Where each index stands for the source's, or is the literal of a field, the distance is the same, if the source has
+/// one.
+pub fn indices_give_the_same_distance()
+    ensures { (t : List (Option Fetch)) (homes : List Home) (m k : Module) (env other : Env) (ty : Ty) (n : ℕ)
+        (args : List Arg) → ((u : Ty) (is : List (Option ℕ)) → distance k u is ≡ distance m u is)
+        → AreFields m ty args → AreArgsStanding t homes m k env other n args
+        → IsSameDistance (distance m ty (indices_of m env args))
+        (distance k ty (indices_of k other (fetched_args t n args))) }
 {}

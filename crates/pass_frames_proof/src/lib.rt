@@ -2,12 +2,18 @@
 //! forms: where the places of a coroutine are in its framed form, and what stands there.
 #![tactic(auto)]
 
+pub mod agains;
 pub mod code;
 pub mod distances;
+pub mod entry;
 pub mod fetched;
+pub mod framings;
 pub mod layers;
 pub mod lines;
 pub mod offsets;
+pub mod ordinary;
+pub mod phis;
+pub mod reached;
 pub mod start;
 pub mod tests;
 pub mod worked;

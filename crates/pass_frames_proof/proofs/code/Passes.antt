@@ -118,7 +118,7 @@ written_there m p n (c ∷ bs) zero b e = let same : c ≡ b = cc in
     ap (λ (x : Block). Some (written_block m p [] n x)) same
 written_there m p n (c ∷ bs) (suc k) b e = written_there m p (after_written_block m p n c) bs k b e
 
-entry_there : (m : Module) (p : Plan) (front : List Instr) (n : ℕ) (bs : List Block) (k : ℕ) (b : Block)
+pub entry_there : (m : Module) (p : Plan) (front : List Instr) (n : ℕ) (bs : List Block) (k : ℕ) (b : Block)
     → slice_get bs k ≡ Some b
     → slice_get (entry_blocks m p front n bs) k
     ≡ Some (written_block m p (at_entry k front) (after_written m p n (take k bs)) b)
@@ -173,7 +173,7 @@ module _ (c : Copying) (before : List Bool) (front : List Instr) (first : ℕ) (
     term = refl;
   }
 
-copied_there : (c : Copying) (before : List Bool) (front : List Instr) (n : ℕ) (bs : List Block) (k : ℕ) (b : Block)
+pub copied_there : (c : Copying) (before : List Bool) (front : List Instr) (n : ℕ) (bs : List Block) (k : ℕ) (b : Block)
     → slice_get bs k ≡ Some b
     → slice_get (copied_blocks c before front n bs) k
     ≡ Some (copied_block c before (at_entry k front) (after_copied c before n (take k bs)) b)
@@ -232,7 +232,7 @@ each_made turned b =
       term = refl;
     }
 
-turned_there : (turned : List Instr → List Instr) (bs : List Block) (k : ℕ) (b : Block) → slice_get bs k ≡ Some b
+pub turned_there : (turned : List Instr → List Instr) (bs : List Block) (k : ℕ) (b : Block) → slice_get bs k ≡ Some b
     → slice_get (map (turned_block turned) bs) k ≡ Some (turned_block turned b)
 turned_there turned [] k b e = absurd (cc)
 turned_there turned (c ∷ bs) zero b e = let same : c ≡ b = cc in ap (λ (x : Block). Some (turned_block turned x)) same

@@ -62,7 +62,7 @@ product_number (Some a) size v u h k =
     (both_numbers BinOp.Mul a size v u h k ∙ ap (λ (n : ℕ). Value.Int (word (n % 2 ^ 64))) turned, below (size * a))
 
 -- a literal of 64 bits
-literal_number : (n : ℕ) → n < 2 ^ 64 → IsNumber (Some n) (Value.Int (word (n % 2 ^ 64)))
+pub literal_number : (n : ℕ) → n < 2 ^ 64 → IsNumber (Some n) (Value.Int (word (n % 2 ^ 64)))
 literal_number n lt = (ap (λ (k : ℕ). Value.Int (word k)) (mod-eq_of_lt lt), lt)
 
 -- ---- names that are set
@@ -224,13 +224,13 @@ more_below n k Operand.Null le lt = tt
 more_below n k Operand.None le lt = tt
 more_below n k Operand.Poison le lt = tt
 
-ways_below : (n k : ℕ) (ws : List Way) → n ≤ k → AreWaysBelow n ws → AreWaysBelow k ws
+pub ways_below : (n k : ℕ) (ws : List Way) → n ≤ k → AreWaysBelow n ws → AreWaysBelow k ws
 ways_below n k [] le h = tt
 ways_below n k (Way.Bytes bytes ∷ ws) le h = (h.0, ways_below n k ws le h.1)
 ways_below n k (Way.Elements a size ∷ ws) le h = ((more_below n k a.value le h.0.0, h.0.1), ways_below n k ws le h.1)
 
 -- what indices add stays where none of their names is set
-summed_same : (c : Context) (n : ℕ) (w x : Work) (d : Option ℕ) (ws : List Way) → SetsFrom n w x → AreWaysBelow n ws
+pub summed_same : (c : Context) (n : ℕ) (w x : Work) (d : Option ℕ) (ws : List Way) → SetsFrom n w x → AreWaysBelow n ws
     → summed c.code x.values d ws ≡ summed c.code w.values d ws
 summed_same c n w x d [] s h = refl
 summed_same c n w x d (Way.Bytes bytes ∷ ws) s h = summed_same c n w x (plus d (Some bytes)) ws s h.1
@@ -239,7 +239,7 @@ summed_same c n w x d (Way.Elements a size ∷ ws) s h =
     (value_stays c n w x a.ty a.value s h.0.0)
     ∙ summed_same c n w x (plus d (added c.code w.values (Way.Elements a size))) ws s h.1
 
-next_rises : (n : ℕ) (ws : List Way) → n ≤ sum_next n ws
+pub next_rises : (n : ℕ) (ws : List Way) → n ≤ sum_next n ws
 next_rises n [] = omega arith
 next_rises n (w ∷ ws) = let more : n + 3 ≤ sum_next (n + 3) ws = next_rises (n + 3) ws in omega (arith, more)
 

@@ -26,21 +26,21 @@ plus_assoc s None x = refl
 plus_assoc s (Some e) None = refl
 plus_assoc s (Some e) (Some x) = ap (λ (n : ℕ). Some n) (wrapped_sums (2 ^ 64) s e x)
 
-plus_none : (e : Option ℕ) → plus e None ≡ None
+pub plus_none : (e : Option ℕ) → plus e None ≡ None
 plus_none None = refl
 plus_none (Some e) = refl
 
 -- a poison index leaves no distance
-inner_none : (m : Module) (t : Ty) (is : List (Option ℕ)) → inner_distance m t None is ≡ None
+pub inner_none : (m : Module) (t : Ty) (is : List (Option ℕ)) → inner_distance m t None is ≡ None
 inner_none m t [] = refl
 inner_none m t (i ∷ is) = inner_none m (part_at m (unnamed m t) i).1 is
 
 -- ---- one index inside a type that is no name
 
 -- what an index leads to, by the instructions as by the getelementptr, or there is no distance
-record IsSamePart (m : Module) (env : Env) (u : Ty) (a : Arg) : Type 0 where
-  far : (part_at m u (index_of (number_at a.ty (arg_value m env a)))).0 ≡ added m env (way_at m u a)
-  inside : (part_at m u (index_of (number_at a.ty (arg_value m env a)))).1 ≡ inner_type u a
+pub record IsSamePart (m : Module) (env : Env) (u : Ty) (a : Arg) : Type 0 where
+  pub far : (part_at m u (index_of (number_at a.ty (arg_value m env a)))).0 ≡ added m env (way_at m u a)
+  pub inside : (part_at m u (index_of (number_at a.ty (arg_value m env a)))).1 ≡ inner_type u a
 
 -- a literal of a field is itself as an index
 literal_index : (k : ℕ) → k < 2 ^ 31
@@ -54,14 +54,14 @@ literal_index k lt =
     (lt-ltb (2 * k) (2 ^ 32) (omega arith))
     ∙ ap (λ (n : ℕ). Some n) (mod-eq_of_lt (omega arith))
 
-field_index : (m : Module) (env : Env) (a : Arg) (k : ℕ) → a.ty ≡ int 32 → a.value ≡ Operand.Number (pos k)
+pub field_index : (m : Module) (env : Env) (a : Arg) (k : ℕ) → a.ty ≡ int 32 → a.value ≡ Operand.Number (pos k)
     → k < 2 ^ 31 → index_of (number_at a.ty (arg_value m env a)) ≡ Some k
 field_index m env a k t v lt =
     (λ i. index_of (number_at (t i) (operand_value m env (t i) (v i))))
     ∙ literal_index k lt
 
 module _ (m : Module) (env : Env) where
-  same_part : (u : Ty) (a : Arg) → IsField u a → (e : Option ℕ)
+  pub same_part : (u : Ty) (a : Arg) → IsField u a → (e : Option ℕ)
       → (part_at m u (index_of (number_at a.ty (arg_value m env a)))).0 ≡ e → (e ≡ None) ⊎ IsSamePart m env u a
   same_part (array n t) a h e d = inr (record { far = refl; inside = refl })
   same_part (structure ts) a h e d =

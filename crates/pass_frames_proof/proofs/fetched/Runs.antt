@@ -21,7 +21,7 @@ use Rattle.run_step.specs.declared.world.World.{World}
 module _ (t : List (Option Fetch)) (given : ℕ → Value) (c : Context) where
   -- ---- one fetch
 
-  fetch_done : (n : ℕ) (f : Fetch) (v : Value) (w : Work) → IsGiven c w f v
+  pub fetch_done : (n : ℕ) (f : Fetch) (v : Value) (w : Work) → IsGiven c w f v
       → instr_action c w (fetch_into n f) ≡ Done (set_value w n v)
   fetch_done n (Fetch.Load ty cell) v w h =
       let le : value_bytes ty < h.most + 1 = h.aligned in
@@ -34,7 +34,7 @@ module _ (t : List (Option Fetch)) (given : ℕ → Value) (c : Context) where
 
   -- ---- what is given stays while new names are set
 
-  given_stays : (n : ℕ) (w x : Work) (f : Fetch) (v : Value) → SetsFrom n w x → base_of f < n → IsGiven c w f v
+  pub given_stays : (n : ℕ) (w x : Work) (f : Fetch) (v : Value) → SetsFrom n w x → base_of f < n → IsGiven c w f v
       → IsGiven c x f v
   given_stays n w x (Fetch.Load ty cell) v s low h = record {
     block = h.block;
@@ -91,7 +91,7 @@ module _ (t : List (Option Fetch)) (given : ℕ → Value) (c : Context) where
 
   -- ---- all of them
 
-  can_one : (n : ℕ) (w : Work) (a : Operand) → CanFetch t given n c w a → (f : Fetch) → fetch_of t a ≡ Some f
+  pub can_one : (n : ℕ) (w : Work) (a : Operand) → CanFetch t given n c w a → (f : Fetch) → fetch_of t a ≡ Some f
       → IsGiven c w f (given_of given a) × (base_of f < n)
   can_one n w (Operand.Local v) h f e = h f e
   can_one n w _ h f e = absurd (cc)

@@ -6,10 +6,11 @@ use Rattle.flow_solver.specs.Paths.{IsListed}
 use Rattle.ir_laws.proofs.facts.Members.{each_turns}
 use Rattle.ir_laws.specs.paths.woven_rules.Pairs.{AreDifferent}
 use Rattle.ir_model.specs.Ty.{Ty, int, ptr}
+use Rattle.ir_model.specs.declared.instr.Instr.{Instr}
 use Rattle.ir_model.specs.declared.operand.Operand.{Operand}
 use Rattle.pass_fetch.specs.Fetching.{value_bytes}
 use Rattle.pass_frames_proof.proofs.lines.Filled.{elsewhere_apart, others_stay}
-use Rattle.pass_frames_proof.specs.Lines.{AreElsewhere, Fills, HasOwnBlocks, IsKeptType, LoadsCell, NoneFilled, OneFilled, StoresCell, at_work}
+use Rattle.pass_frames_proof.specs.Lines.{AreElsewhere, AreInBlock, Fills, HasOwnBlocks, IsKeptType, LoadsCell, NoneFilled, OneFilled, RunsOver, StoresCell, at_work}
 use Rattle.pass_frames_proof.specs.Related.{IsCell}
 use Rattle.rule_laws.proofs.rules.counted.Types.{is_cell_type, width_cases}
 use Rattle.run_laws.proofs.access.Done.{load_done, store_done}
@@ -17,6 +18,7 @@ use Rattle.run_laws.proofs.access.Loaded.{stored_back}
 use Rattle.run_laws.proofs.access.Ranges.{write_held}
 use Rattle.run_laws.specs.access.Accessed.{Span}
 use Rattle.run_laws.specs.access.Lines.{refilled_at}
+use Rattle.run_laws.specs.changed.Changed.{Each}
 use Rattle.run_laws.specs.memory.Standing.{AreByteRights}
 use Rattle.run_memory.proofs.Digits.{length-encode}
 use Rattle.run_memory.specs.Memory.{Rights, access_bytes, decode, encode}
@@ -24,7 +26,7 @@ use Rattle.run_memory.specs.declared.block.Byte.{Byte}
 use Rattle.run_memory.specs.declared.block.MemoryBlock.{MemoryBlock}
 use Rattle.run_memory.specs.declared.pointer.Value.{Value}
 use Rattle.run_source.specs.declared.state.Activation.{Activation}
-use Rattle.run_step.specs.Step.{Context, Work, set_memory}
+use Rattle.run_step.specs.Step.{Context, Work, set_memory, value_at}
 use Rattle.run_step.specs.Values.{Env, access_of, stored, value_in}
 use Rattle.run_step.specs.declared.world.Slot.{Slot}
 
@@ -121,26 +123,37 @@ module _ (c : Context) (w : Work) (a : Activation) where
         (h.sized ∙ t.bytes) t.alignment (omega arith);
   }
 
-  pub cell_stores : AreByteRights c.rights → (v cell n : ℕ) (ty : Ty) (Has : Value → Type 0)
-      → IsKeptType ty → IsCell c.rights w.world.memory (at_work a w) cell ty Has → StoresCell c w a v cell ty n
-  cell_stores law v cell n ty Has t h =
-      let given : Value = stored (access_of ty) (value_in w.values v) in
+  -- a store of any operand into a cell
+  pub record StoresOperand (y : Operand) (cell : ℕ) (ty : Ty) (n : ℕ) : Type 0 where
+    pub work : Work
+    pub spans : List Span
+    pub over : RunsOver c
+        (Instr.Store (record { ty = ty; value = y }) (Operand.Local cell) (value_bytes ty) ∷ []) n spans w work
+    pub values : work.values ≡ w.values
+    pub cell_is : IsCell c.rights work.world.memory (at_work a work) cell ty
+        (λ (u : Value). u ≡ stored (access_of ty) (value_at c w ty y))
+    pub inside : AreInBlock cell_is.block spans
+
+  pub operand_stores : AreByteRights c.rights → (y : Operand) (cell n : ℕ) (ty : Ty) (Has : Value → Type 0)
+      → IsKeptType ty → IsCell c.rights w.world.memory (at_work a w) cell ty Has → StoresOperand y cell ty n
+  operand_stores law y cell n ty Has t h =
+      let given : Value = stored (access_of ty) (value_at c w ty y) in
       let new : List Byte = encode (access_bytes (access_of ty)) given in
       let long : length new ≡ access_bytes (access_of ty) = length-encode (access_bytes (access_of ty)) given in
       let same : length new ≡ length h.bytes = long ∙ sym t.bytes ∙ sym h.sized in
       let m : List MemoryBlock = refilled_at w.world.memory h.block 0 new in
-      let y : Work = set_memory w m in
+      let z : Work = set_memory w m in
       let spans : List Span = record { block = h.block; offset = 0; len = length new } ∷ [] in
       let fills : Fills c.rights spans w.world.memory m =
       OneFilled h.block 0 (value_bytes ty) h.bytes new [] w.world.memory m h.holds same (NoneFilled m) in
       record {
-        work = y;
+        work = z;
         spans = spans;
         over = record {
           runs = (
-            y,
+            z,
             (
-              store_done c w (value_bytes ty) h.block 0 (value_bytes ty) (record { ty = ty; value = Operand.Local v })
+              store_done c w (value_bytes ty) h.block 0 (value_bytes ty) (record { ty = ty; value = y })
                   (Operand.Local cell) h.bytes h.address h.holds (h.sized ∙ t.bytes) t.alignment (omega arith),
               refl,
             ),
@@ -159,9 +172,22 @@ module _ (c : Context) (w : Work) (a : Activation) where
           bytes = new;
           sized = long ∙ sym t.bytes;
           holds = write_held c.rights w.world.memory h.block 0 (value_bytes ty) h.bytes h.holds law new same;
-          has = stored_back (access_of ty) (value_in w.values v)
+          has = stored_back (access_of ty) (value_at c w ty y)
               (let some = t.some in let is = t.bytes in omega (arith, some, is));
         };
+      }
+
+  pub cell_stores : AreByteRights c.rights → (v cell n : ℕ) (ty : Ty) (Has : Value → Type 0)
+      → IsKeptType ty → IsCell c.rights w.world.memory (at_work a w) cell ty Has → StoresCell c w a v cell ty n
+  cell_stores law v cell n ty Has t h =
+      let s : StoresOperand (Operand.Local v) cell ty n = operand_stores law (Operand.Local v) cell n ty Has t h in
+      record {
+        work = s.work;
+        spans = s.spans;
+        over = s.over;
+        values = s.values;
+        inside = s.inside;
+        cell_is = s.cell_is;
       }
 
   -- the other cells stay as they are
@@ -175,3 +201,37 @@ module _ (c : Context) (w : Work) (a : Activation) where
       (λ z e f. other_block a cell other s.cell_is.block h.block own s.cell_is.own h.own (λ q. d (sym q)) (sym e ∙ f))
       s.spans s.inside)
       (ap (λ (env : Env). value_in env other) s.values)
+
+-- ---- lines that fill one cell
+
+module _ (c : Context) (law : AreByteRights c.rights) (a : Activation) (own : HasOwnBlocks a) where
+  -- each range is one of a cell
+  abbrev pub AreOf : ℕ → List Span → Type 0
+  AreOf cell spans = Each (λ (s : Span). Contains a.slots (record { alloca = cell; block = s.block })) spans
+
+  of_elsewhere : (cell other b : ℕ) (spans : List Span) → AreOf cell spans
+      → Contains a.slots (record { alloca = other; block = b }) → other ≢ cell → AreElsewhere b spans
+  of_elsewhere cell other b spans h k d =
+      each_turns (λ (s : Span). Contains a.slots (record {
+        alloca = cell;
+        block =
+            s.block;
+      })) (λ (s : Span). s.block ≢ b)
+      (λ s co e. other_block a cell other s.block b own co k (λ q. d (sym q)) e) spans h
+
+  -- another cell goes on
+  pub cell_on : (line : List Instr) (n cell other : ℕ) (ty : Ty) (Has : Value → Type 0) (spans : List Span) (w y : Work)
+      → RunsOver c line n spans w y → AreOf cell spans → other < n → other ≢ cell
+      → IsCell c.rights w.world.memory (at_work a w) other ty Has
+      → IsCell c.rights y.world.memory (at_work a y) other ty Has
+  cell_on line n cell other ty Has spans w y over of lt d h =
+      cell_stays c.rights law spans w.world.memory y.world.memory a w y other ty Has over.fills h
+      (of_elsewhere cell other h.block spans of h.own d) (over.others other lt)
+
+  -- what is in the block of a cell is one of it
+  pub inside_of : (cell b : ℕ) (spans : List Span) → Contains a.slots (record { alloca = cell; block = b })
+      → AreInBlock b spans → AreOf cell spans
+  inside_of cell b spans co inside =
+      each_turns (λ (z : Span). z.block ≡ b)
+      (λ (z : Span). Contains a.slots (record { alloca = cell; block = z.block }))
+      (λ z e. subst (λ (d : ℕ). Contains a.slots (record { alloca = cell; block = d })) (sym e) co) spans inside

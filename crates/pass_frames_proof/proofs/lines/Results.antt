@@ -10,6 +10,7 @@ use Rattle.pass_cells.specs.Kept.{entry}
 use Rattle.pass_cells.specs.Moves.{store_to}
 use Rattle.pass_cells.specs.Written.{stored as stored_by, stored_at, stored_one}
 use Rattle.pass_cells.specs.declared.plan.KeptValue.{KeptValue}
+use Rattle.pass_frames_proof.proofs.code.Left.{Far, far_named}
 use Rattle.pass_frames_proof.proofs.code.Names.{Count, First, Kept, count_is, has_cells, keeping, local, numbered}
 use Rattle.pass_frames_proof.proofs.lines.Cells.{cell_has, cell_stores, kept_type, others_kept}
 use Rattle.pass_frames_proof.proofs.lines.Filled.{over_none}
@@ -19,8 +20,8 @@ use Rattle.pass_proofs.proofs.frames.begin_order.Fields.{distance_far}
 use Rattle.pass_cells.specs.Links.{bases_of, links_from, marks_of, slots_of}
 use Rattle.pass_frames_proof.specs.Framings.{IsFraming}
 use Rattle.ir_model.specs.declared.instr.Instr.{Instr}
-use Rattle.pass_frames_proof.specs.Lines.{DifferAt, HasOwnBlocks, IsNoRoot, IsStorable, LeavesCellsBut, StoresCell, at_work}
-use Rattle.pass_frames_proof.specs.Places.{Framing, edged, plan}
+use Rattle.pass_frames_proof.specs.Lines.{DifferAt, HasOwnBlocks, IsCellOf, IsNoRoot, IsStorable, LeavesCellsBut, StoresCell, at_work}
+use Rattle.pass_frames_proof.specs.Places.{Framing, edged, named, plan}
 use Rattle.pass_frames_proof.specs.Related.{AreCellsRight, IsCell, IsDistanceOf, IsKeptValue}
 use Rattle.run_laws.specs.access.Accessed.{Span}
 use Rattle.run_laws.specs.memory.Pointers.{Home, IsValue, moved_pointer}
@@ -55,7 +56,7 @@ module _ (x : Framing) (is : IsFraming x) where
       let both : Some k ≡ Some j = sym a.there ∙ ap (λ (n : ℕ). slice_get (plan x).kept n) same ∙ b.there in
       cc
 
-  kept_once : (u v : ℕ) (k j : KeptValue) → IsKeptValue x u k → IsKeptValue x v j → k.cell ≡ j.cell → u ≡ v
+  pub kept_once : (u v : ℕ) (k j : KeptValue) → IsKeptValue x u k → IsKeptValue x v j → k.cell ≡ j.cell → u ≡ v
   kept_once u v k j a b e =
       let one : IsNumbered (First x is) (Count x is) a.number k = numbered x is a.number k a.there in
       let two : IsNumbered (First x is) (Count x is) b.number j = numbered x is b.number j b.there in
@@ -67,7 +68,7 @@ module _ (x : Framing) (is : IsFraming x) where
       let both : Some u ≡ Some v = sym here ∙ ap (λ (n : ℕ). slice_get (Kept x is).values n) same ∙ there in
       cc
 
-  distance_apart : (u cell v : ℕ) (k : KeptValue) → entry (plan x).cells u ≡ Some cell → IsKeptValue x v k
+  pub distance_apart : (u cell v : ℕ) (k : KeptValue) → entry (plan x).cells u ≡ Some cell → IsKeptValue x v k
       → cell ≢ k.cell
   distance_apart u cell v k e kept same =
       let F = edged x in
@@ -81,6 +82,16 @@ module _ (x : Framing) (is : IsFraming x) where
       let long : length (plan x).kept ≡ Count x is = count_is x is in
       let p : k.cell ≡ First x is + kept.number = n.cell in
       omega (arith, far, lt, long, p, same)
+
+  -- the cell of a kept value is one
+  pub kept_is_cell : (v : ℕ) (k : KeptValue) → IsKeptValue x v k → IsCellOf x k.cell
+  kept_is_cell v k kept =
+      let n : IsNumbered (First x is) (Count x is) kept.number k = numbered x is kept.number k kept.there in
+      let lt : kept.number < length (plan x).kept = get_within (plan x).kept kept.number k kept.there in
+      let long : length (plan x).kept ≡ Count x is = count_is x is in
+      let p : k.cell ≡ First x is + kept.number = n.cell in
+      let far : Far x is ≤ length (named x).names = far_named x is in
+      (omega (arith, p), omega (arith, p, lt, long, far))
 
   -- ---- one value
 
@@ -129,11 +140,15 @@ module _ (x : Framing) (is : IsFraming x) where
           over = s.over;
           values = s.values;
           inside = each_turns (λ (z : Span). z.block ≡ s.cell_is.block)
-              (λ (z : Span). (alloca : ℕ) × Contains a.slots (record { alloca = alloca; block = z.block }))
+              (λ (z : Span). (cell : ℕ) × IsCellOf x cell × Contains a.slots (record {
+                alloca = cell;
+                block =
+                    z.block;
+              }))
               (λ z e. (
                 k.cell,
-                subst (λ (b : ℕ). Contains a.slots (record { alloca = k.cell; block = b })) (sym
-                    e) s.cell_is.own,
+                kept_is_cell v k kept,
+                subst (λ (b : ℕ). Contains a.slots (record { alloca = k.cell; block = b })) (sym e) s.cell_is.own,
               ))
               s.spans s.inside;
           right = record {

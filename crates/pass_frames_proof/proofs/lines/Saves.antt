@@ -31,20 +31,21 @@ use Rattle.pass_frames_proof.proofs.layers.Grown.{both_becomes, grown_append}
 use Rattle.pass_frames_proof.proofs.layers.Idle.{all_stay}
 use Rattle.pass_frames_proof.proofs.lines.Cells.{cell_loads, cell_stays, kept_type}
 use Rattle.pass_frames_proof.proofs.lines.Filled.{others_stay, over_fewer, over_joined, over_none}
-use Rattle.pass_frames_proof.proofs.lines.Results.{same_kept, storable_stands}
+use Rattle.pass_frames_proof.proofs.lines.Results.{kept_is_cell, same_kept, storable_stands}
 use Rattle.pass_proofs.proofs.cells.rules.Fronts.{IsNumbered}
 use Rattle.pass_proofs.proofs.cells.rules.Links.{IsDistanceCell, OfLink, OfValue, distance_there, marks_have}
 use Rattle.pass_proofs.proofs.cells.rules.Plans.{kept_of}
 use Rattle.pass_proofs.proofs.cells.rules.Totals.{numbered_length}
+use Rattle.pass_proofs.proofs.frames.begin_order.Fields.{distance_far}
 use Rattle.pass_proofs.proofs.addresses.numbers.Done.{address_done}
 use Rattle.pass_frames_proof.specs.Code.{addressed}
 use Rattle.pass_frames_proof.specs.Framings.{IsFraming}
 use Rattle.pass_frames_proof.specs.Layers.{IsIdle, Layer, becomes, grown, only, passed}
-use Rattle.pass_frames_proof.specs.Lines.{AreInBlock, Fills, IsKeptType, IsStorable, LoadsCell, NoneFilled, OneFilled, RunsOver, at_work}
+use Rattle.pass_frames_proof.specs.Lines.{AreInBlock, Fills, IsCellOf, IsKeptType, IsStorable, LoadsCell, NoneFilled, OneFilled, RunsOver, at_work}
 use Rattle.pass_frames_proof.specs.Passes.{fetching_at}
 use Rattle.pass_frames_proof.specs.Places.{Framing, addressing_layer, edged, named, offsets, plan, unmarked}
 use Rattle.pass_frames_proof.specs.Related.{Anything, AreCellsRight, IsCell, IsDistanceOf, IsKeptAs, IsKeptValue}
-use Rattle.pass_frames_proof.specs.Saves.{AreSlotsElsewhere, AreStorable, HoldsField, MaySave, SavesValues}
+use Rattle.pass_frames_proof.specs.Saves.{AreCellsElsewhere, AreStorable, HoldsField, MaySave, SavesValues}
 use Rattle.run_ints.specs.declared.num.Num.{Num}
 use Rattle.run_laws.proofs.access.Done.{store_done}
 use Rattle.run_laws.proofs.access.Loaded.{stored_back}
@@ -63,6 +64,10 @@ use Rattle.run_memory.specs.declared.pointer.Value.{Value}
 use Rattle.run_source.specs.declared.state.Activation.{Activation}
 use Rattle.run_step.specs.Step.{Context, Work, set_memory, set_value}
 use Rattle.run_step.specs.Values.{Env, access_of, stored, value_in, value_of}
+use Rattle.run_step.specs.declared.world.Slot.{Slot}
+
+abbrev slot_at : ℕ → ℕ → Slot
+slot_at alloca block = record { alloca = alloca; block = block }
 
 -- ---- what is stored of a distance is the distance
 
@@ -132,7 +137,7 @@ module _ (x : Framing) (k : ℕ) where
   abbrev T : List (Option Fetch)
   T = slot_fetches (begin_of x.function) (offsets x)
 
-  field_fetched : (v d : ℕ) → slice_get (offsets x) v ≡ Some (Some d)
+  pub field_fetched : (v d : ℕ) → slice_get (offsets x) v ≡ Some (Some d)
       → fetch_of T (Operand.Local v) ≡ Some (Fetch.Address (begin_of x.function) d)
   field_fetched v d e =
       ap fetch_at (slice_get-map (option_map (Fetch.Address (begin_of x.function))) (offsets x) v)
@@ -179,7 +184,7 @@ module _ (x : Framing) (is : IsFraming x) (k : ℕ) where
 
 -- the cell from which a field is filled isn't fetched
 module _ (x : Framing) (is : IsFraming x) where
-  filler_left : (v : ℕ) (k : KeptValue) → IsKeptValue x v k → IsLeft x is k.field_cell
+  pub filler_left : (v : ℕ) (k : KeptValue) → IsKeptValue x v k → IsLeft x is k.field_cell
   filler_left v k kept =
       let slots : List (Option ℕ) = slots_of (local x is) (bases_of (edged x)) in
       let y = kept_of (First x is) (Count x is) (value_types (F x is) (Kept x is)) (plan x).cells slots
@@ -218,7 +223,7 @@ module _ (x : Framing) (is : IsFraming x) where
       let same = count_is x is in
       omega (arith, one, two, three, four, s1, s2, s3, s4, same)
 
-  kept_low : (v : ℕ) (k : KeptValue) → IsKeptValue x v k → k.cell < length (named x).names
+  pub kept_low : (v : ℕ) (k : KeptValue) → IsKeptValue x v k → k.cell < length (named x).names
   kept_low v k kept =
       let n : IsNumbered (First x is) (Count x is) kept.number k = numbered x is kept.number k kept.there in
       let lt : kept.number < length (plan x).kept = get_within (plan x).kept kept.number k kept.there in
@@ -227,7 +232,7 @@ module _ (x : Framing) (is : IsFraming x) where
       let all = names_are in
       omega (arith, lt, long, same, all)
 
-  distance_low : (v cell : ℕ) → entry (plan x).cells v ≡ Some cell → cell < length (named x).names
+  pub distance_low : (v cell : ℕ) → entry (plan x).cells v ≡ Some cell → cell < length (named x).names
   distance_low v cell e =
       let marks : List Bool =
       marks_of (bases_of (F x is)) (slots_of (local x is) (bases_of (F x is))) (Kept x is).values in
@@ -243,10 +248,20 @@ module _ (x : Framing) (is : IsFraming x) where
           omega (arith, lt, all)
       on _ _ (OfLink i low) told = let all = names_are in omega (arith, low, all)
 
+  -- they are cells
+  pub distance_of : (v cell : ℕ) → entry (plan x).cells v ≡ Some cell → IsCellOf x cell
+  distance_of v cell e =
+      let marks : List Bool =
+      marks_of (bases_of (F x is)) (slots_of (local x is) (bases_of (F x is))) (Kept x is).values in
+      let far : First x is + 2 * Count x is ≤ cell =
+      distance_far (First x is) (Count x is) (plan x).links (entry (Kept x is).places v) cell
+      (distance_there (First x is) (Count x is) (Kept x is).places marks v cell e).cell in
+      (omega (arith, far), distance_low v cell e)
+
 -- ---- one value
 
 module _ (x : Framing) (is : IsFraming x) (homes : List Home) (c : Context) (law : AreByteRights c.rights) (env : Env)
-    (a : Activation) (block start k : ℕ) (elsewhere : AreSlotsElsewhere block a) (storable : AreStorable x env) where
+    (a : Activation) (block start k : ℕ) (elsewhere : AreCellsElsewhere x block a) (storable : AreStorable x env) where
   abbrev AreRight : Work → Type 0
   AreRight w = AreCellsRight x homes c.rights w.world.memory env (at_work a w)
 
@@ -367,14 +382,14 @@ module _ (x : Framing) (is : IsFraming x) (homes : List Home) (c : Context) (law
               let less : other.cell < length (named x).names = kept_low x is u other known in
               cell_stays c.rights law (span (length new) ∷ []) w.world.memory m2 a w y other.cell other.ty
               (IsValue homes (value_in env u)) fills h
-              ((λ e. elsewhere (record { alloca = other.cell; block = h.block }) h.own (sym e)), tt)
+              ((λ e. elsewhere (slot_at other.cell h.block) h.own (kept_is_cell x is u other known) (sym e)), tt)
               (others other.cell (omega (arith, less, low)));
-          distances = λ u cell slot e r.
-              let h = right.distances u cell slot e r in
-              let less : cell < length (named x).names = distance_low x is u cell e in
+          distances = λ u cell slot told r.
+              let h = right.distances u cell slot told r in
+              let less : cell < length (named x).names = distance_low x is u cell told in
               cell_stays c.rights law (span (length new) ∷ []) w.world.memory m2 a w y cell (int 64)
               (IsDistanceOf (value_in env slot) (value_in env u)) fills h
-              ((λ e. elsewhere (record { alloca = cell; block = h.block }) h.own (sym e)), tt)
+              ((λ e. elsewhere (slot_at cell h.block) h.own (distance_of x is u cell told) (sym e)), tt)
               (others cell (omega (arith, less, low)));
         };
         field = record {

@@ -58,7 +58,7 @@ module _ (m : Module) (k : ℕ) (l : Layout) (f : Function) (c : Contents) (befo
   unfolding celled
   keeps = cells_keep m k E c.crossing Local begin rules cells crossed h.coroutine shape (phis_by_jumps m k f h.rules) (returns_quiet m k E rules (suspend_blocks m k f h.rules h.coroutine h.switches))
 
-  frameable : IsFrameable m k l f c begin (length (copied f c (celled m f c) before).names)
+  pub frameable : IsFrameable m k l f c begin (length (copied f c (celled m f c) before).names)
   frameable =
       record {
         rules = rules;

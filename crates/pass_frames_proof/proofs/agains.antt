@@ -1,0 +1,4 @@
+pub mod Lines
+pub mod One
+pub mod Rows
+pub mod Values

@@ -1,0 +1,4 @@
+pub mod Made
+pub mod Operands
+pub mod Quiet
+pub mod Stores

@@ -1,0 +1,99 @@
+-- Operands of which kept ones are loaded from their cells.
+use Rattle.std.proofs.Common.{◌≡◌, ℕ, Bool, List, refl, sym, ap, ◌∙◌}
+use Rattle.std.specs.Prelude.{None, Option, Some, slice_get}
+use Rattle.ir_laws.proofs.facts.Members.{each_all, each_turns}
+use Rattle.ir_model.specs.Ty.{Ty}
+use Rattle.ir_model.specs.declared.instr.Instr.{Instr}
+use Rattle.ir_model.specs.declared.operand.Operand.{Operand}
+use Rattle.ir_parts.specs.Contents.{instr_operands}
+use Rattle.pass_cells.specs.Cells.{fetch_by, fetch_for, fetches_of}
+use Rattle.pass_cells.specs.Kept.{entry, value_types}
+use Rattle.pass_cells.specs.Links.{bases_of, slots_of}
+use Rattle.pass_cells.specs.declared.plan.KeptValue.{KeptValue}
+use Rattle.pass_fetch.specs.Fetching.{fetch_of}
+use Rattle.pass_fetch.specs.Instrs.{with_fetched}
+use Rattle.pass_fetch.specs.declared.fetch.Fetch.{Fetch}
+use Rattle.pass_frames_proof.proofs.code.Left.{fetch_found}
+use Rattle.pass_frames_proof.proofs.code.Names.{Count, F, First, Kept, keeping, local}
+use Rattle.pass_frames_proof.proofs.lines.Loads.{can_load, loaded_stands}
+use Rattle.pass_frames_proof.specs.Distances.{SetsFrom}
+use Rattle.pass_frames_proof.specs.Fetched.{CanFetch, seen_by}
+use Rattle.pass_frames_proof.specs.Framings.{IsFraming}
+use Rattle.pass_frames_proof.specs.Loaded.{loaded_value}
+use Rattle.pass_frames_proof.specs.Ordinary.{IsSeenFor, MayBeMade, MayStep, StandsUnkept}
+use Rattle.pass_frames_proof.specs.Places.{Framing, edged, plan}
+use Rattle.pass_proofs.proofs.cells.rules.Planned.{fetch_there}
+use Rattle.pass_proofs.proofs.cells.rules.Plans.{kept_as, kept_at}
+use Rattle.run_laws.specs.embedded.Related.{HasNoSlot}
+use Rattle.run_laws.specs.memory.Pointers.{Home, IsValue}
+use Rattle.run_laws.specs.transfer.Transfer.{AreSameDistances, IsPointedAlike, same_maps}
+use Rattle.run_memory.specs.declared.pointer.Value.{Value}
+use Rattle.run_source.specs.declared.state.Activation.{Activation}
+use Rattle.run_step.specs.Step.{AtInstr, Context, Work}
+use Rattle.run_step.specs.Values.{value_in}
+
+module _ (x : Framing) (is : IsFraming x) (homes : List Home) (hides : ℕ → Bool) (c d : Context) (w y : Work)
+    (a : Activation) (n : ℕ) (i : Instr) (m : MayStep x homes hides c d w y a n i) where
+  abbrev T : List (Option Fetch)
+  T = fetches_of (plan x)
+
+  abbrev given : ℕ → Value
+  given = loaded_value x d y
+
+  -- what isn't fetched isn't kept
+  not_kept : (u : ℕ) → fetch_of T (Operand.Local u) ≡ None → entry (plan x).places u ≡ None
+  not_kept u e = on (entry (plan x).places u) refl
+    where
+      by : (at : ℕ) → entry (plan x).places u ≡ Some at → (o : Option KeptValue) → slice_get (plan x).kept at ≡ o
+          → entry (plan x).places u ≡ None
+      by at told (Some k) there =
+          let no : None ≡ Some (Fetch.Load k.ty k.cell) =
+          sym e ∙ fetch_there (plan x).kept (plan x).places u ∙ ap (fetch_for (plan x).kept) told ∙ ap fetch_by there in
+          absurd (cc)
+      by at told None there =
+          let slots : List (Option ℕ) = slots_of (local x is) (bases_of (edged x)) in
+          let types : List Ty = value_types (F x is) (Kept x is) in
+          let here : slice_get (Kept x is).values at ≡ Some u = (keeping x is).there u at told in
+          let no : None ≡ Some (kept_as (First x is) (Count x is) types (plan x).cells slots at u) =
+          sym there
+          ∙ kept_at (First x is) (Count x is) types (plan x).cells slots (Kept x is).values at u here in
+          absurd (cc)
+
+      on : (o : Option ℕ) → entry (plan x).places u ≡ o → entry (plan x).places u ≡ None
+      on None told = told
+      on (Some at) told = by at told (slice_get (plan x).kept at) refl
+
+  seen_one : (o : Operand) → StandsUnkept x homes c d w y o → IsSeenFor homes T given c d w y o
+  seen_one (Operand.Local u) h ty = on (fetch_of T (Operand.Local u)) refl
+    where
+      on : (o : Option Fetch) → fetch_of T (Operand.Local u) ≡ o
+          → IsValue homes (value_in w.values u) (seen_by given d y ty (Operand.Local u) o)
+      on None e = h (not_kept u e)
+      on (Some f) e =
+          let z = fetch_found x is u f e in
+          loaded_stands x is homes d w.values a y m.cells u z.kept
+          (record { number = z.at; told = z.told; there = z.there })
+  seen_one _ h ty = h ty
+
+  can_one : (o : Operand) → CanFetch T given n d y o
+  can_one (Operand.Local u) = can_load x is homes d w.values a y m.cells n u m.low
+  can_one _ = tt
+
+  -- so the instruction may be made
+  pub may_make : IsPointedAlike same_maps c d w.values (AtInstr i)
+      → ((z : Work) → SetsFrom n y z
+      → AreSameDistances c d w.values z.values (AtInstr i) (AtInstr (with_fetched T n i)))
+      → HasNoSlot (AtInstr i) → MayBeMade homes hides same_maps T given c d w y n i
+  may_make pointed distance no_slot = record {
+    joined = m.joined;
+    can = each_all (CanFetch T given n d y) can_one (instr_operands i);
+    below = m.below;
+    room = m.room;
+    seen = each_turns (StandsUnkept x homes c d w y) (IsSeenFor homes T given c d w y) seen_one (instr_operands i)
+        m.stands;
+    callee = m.callee;
+    pointed = pointed;
+    distance = distance;
+    no_slot = no_slot;
+    bytes = m.bytes;
+  }

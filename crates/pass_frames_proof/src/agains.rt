@@ -1,0 +1,20 @@
+//! Values that are loaded again from their fields, in front of a block on a resume or destroy edge.
+
+ghost use Rattle.std.specs.Prelude.{◌≤◌, ℕ, List, length};
+ghost use Rattle.pass_frames_proof.specs.Agains.{LoadsValues, MayLoadAgain};
+ghost use Rattle.pass_frames_proof.specs.Framings.{IsFraming};
+ghost use Rattle.pass_frames_proof.specs.Places.{Framing, named};
+ghost use Rattle.run_laws.specs.memory.Pointers.{Home};
+ghost use Rattle.run_laws.specs.memory.Standing.{AreByteRights};
+ghost use Rattle.run_source.specs.declared.state.Activation.{Activation};
+ghost use Rattle.run_step.specs.Step.{Context, Work};
+ghost use Rattle.run_step.specs.Values.{Env};
+
+/// Each value that crosses is loaded from its field and stored into its cell. Of an address in a slot that is made anew
+/// the distance is loaded, and the address so far from the slot is stored. Then the cells are right.
+pub fn values_are_loaded_again()
+    ensures { (x : Framing) → IsFraming x → (homes : List Home) (c : Context) → AreByteRights c.rights
+        → (env : Env) (a : Activation) (w : Work) (block start k n m : ℕ) (row : List ℕ)
+        → length (named x).names ≤ n → MayLoadAgain x homes c w a env block start n m row
+        → LoadsValues x homes c w a env k n m row }
+{}
