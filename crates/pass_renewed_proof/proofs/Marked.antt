@@ -22,7 +22,7 @@ length_with [] b f = refl
 length_with (x ∷ m) zero f = refl
 length_with (x ∷ m) (suc b) f = ap suc (length_with m b f)
 
-shown_with : (hides : ℕ → Bool) (m : List MemoryBlock) (b : ℕ) (f : MemoryBlock → MemoryBlock)
+pub shown_with : (hides : ℕ → Bool) (m : List MemoryBlock) (b : ℕ) (f : MemoryBlock → MemoryBlock)
     → ((x : MemoryBlock) → AreShownBytes hides x.bytes → AreShownBytes hides (f x).bytes) → AreShownBlocks hides m
     → AreShownBlocks hides (with_block m b f)
 shown_with hides [] b f on h = tt
