@@ -67,3 +67,4 @@ pub mod SameBranches
 pub mod SavedInstances
 pub mod Suspending
 pub mod EndReturns
+pub mod GoingTo

@@ -86,3 +86,12 @@ pub record IsSuspending (m : Module) (a : Activation) (i : Instr) : Type 0 where
 -- back in the caller, or the run has returned
 abbrev pub returned_by : State → Option Value → Result State Cause
 returned_by s v = return s v
+
+-- ---- windows
+
+-- they are the windows of the function's saves, and each save with a suspend has one
+pub record AreWindowsOf (f : Function) (windows : List Window) : Type 0 where
+  pub each : (k : ℕ) (w : Window) → slice_get windows k ≡ Some w
+      → IsCallAt Intrinsic.CoroSave f w.save × (suspend_of f w.save ≡ Some w.suspend) × IsWindow f w
+  pub all : (k u : Point) → IsCallAt Intrinsic.CoroSave f k → suspend_of f k ≡ Some u
+      → (n : ℕ) × (w : Window) × (slice_get windows n ≡ Some w) × (w.save ≡ k) × (w.suspend ≡ u)

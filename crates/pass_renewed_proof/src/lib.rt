@@ -110,12 +110,12 @@ ghost use Rattle.run_source.specs.declared.state.Status.{Status as TheStatus};
 ghost use Rattle.run_source.specs.declared.state.Instance.{Instance as TheInstance};
 ghost use Rattle.run_step.specs.Step.{alloca_kind, has_markers};
 ghost use Rattle.run_step.specs.Values.{arg_values, nth};
-ghost use Rattle.pass_renewed_proof.specs.Branching.{IsBranching, IsCalling, IsLeaving, IsSuspending, MayComeBack, StaysInside, returned_by};
-ghost use Rattle.run_source.specs.Source.{enter, enter_block};
+ghost use Rattle.pass_renewed_proof.specs.Branching.{AreWindowsOf, IsBranching, IsCalling, IsLeaving, IsSuspending, MayComeBack, StaysInside, returned_by};
+ghost use Rattle.run_source.specs.Source.{enter, enter_block, go_to};
 ghost use Rattle.run_source.specs.declared.state.Activation.{Activation as TheActivation};
 ghost use Rattle.ir_model.specs.declared.instr.Terminator.{Terminator as TheTerminator};
 ghost use Rattle.run_step.specs.Runs.{seen_of};
-ghost use Rattle.run_source.specs.State.{is_suspended, with_status};
+ghost use Rattle.run_source.specs.State.{is_suspended, own_facts, with_status};
 ghost use Rattle.run_step.specs.Step.{AtTerm, Enter, GoTo, Return};
 ghost use Rattle.std.specs.Prelude.{slice_set};
 ghost use Rattle.pass_renewed_proof.specs.Beside.{IsOverOf};
@@ -511,6 +511,19 @@ pub fn leaving_branches_stay_beside()
         }) s.below
         → IsBeside g.code flags roots (enter_block g (with_left (with_status s n x TheStatus.Running) false) label)
         (enter_block h (with_left (with_status t n y TheStatus.Running) false) label) }
+{}
+
+/// So a step that goes to a label does so in both runs. No activation below may go on in the topmost one's instance
+/// where that one hasn't left, before the step and behind it.
+pub fn labels_are_reached_beside()
+    ensures { (flags : Flags) (roots : Roots) (g h : Given) → h.code ≡ g.code
+        → ((func : ℕ) → KeepsSlots g.code (function_at g.code func) (flags func) (roots func)) → (s t : TheState)
+        → IsBeside g.code flags roots s t → (label : ℕ) → IsBranching g.code s.top label
+        → AreWindowsOf (function_of g s) (own_facts g s).windows
+        → (own_facts h t).windows ≡ (own_facts g s).windows → AreOutdone s.instances s.top s.below
+        → HasLeftSuspended s.instances s.top → (after : TheState) → AreOutdone after.instances after.top s.below
+        → go_to g s label ≡ Ok after
+        → (other : TheState) × (go_to h t label ≡ Ok other) × IsBeside g.code flags roots after other }
 {}
 
 /// A suspend without a token leaves the instance Suspended right before itself in both runs, and the activation has left.
