@@ -1,5 +1,5 @@
 -- The slots that an activation lists die in both runs, one after another.
-use Rattle.std.proofs.Common.{◌≡◌, ◌≢◌, ℕ, zero, suc, ◌≤◌, ◌⊎◌, inl, inr, Bool, true, false, List, [], ◌∷◌}
+use Rattle.std.proofs.Common.{◌≡◌, ◌≢◌, ℕ, zero, suc, ◌≤◌, ◌⊎◌, inl, inr, Bool, false, List, [], ◌∷◌}
 use Rattle.std.proofs.Common.{length, Option, Some, None, refl, sym, ap, ◌∙◌, subst, ⊎_elim, arith}
 use Rattle.std.proofs.lemmas.Bool.{cases_eq, false≢true}
 use Rattle.std.specs.List.{Contains}
@@ -7,7 +7,7 @@ use Rattle.ir_model.specs.declared.module.Module.{Module}
 use Rattle.run_laws.proofs.memory.Written.{changed_elsewhere}
 use Rattle.run_laws.specs.changed.Changed.{Each}
 use Rattle.run_laws.specs.memory.Pointers.{Home, home_of}
-use Rattle.run_memory.specs.Memory.{is_live, killed, killed_block}
+use Rattle.run_memory.specs.Memory.{killed, killed_block}
 use Rattle.run_memory.specs.declared.block.MemoryBlock.{MemoryBlock}
 use Rattle.run_source.specs.declared.state.Activation.{Activation}
 use Rattle.run_source.specs.declared.state.Instance.{Instance}

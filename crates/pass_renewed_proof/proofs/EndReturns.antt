@@ -1,13 +1,12 @@
 -- An activation that returns nothing, wherever it stands, leads back to its caller in both runs.
-use Rattle.std.proofs.Common.{◌≡◌, ◌≢◌, ℕ, ◌<◌, Bool, false, List, [], ◌∷◌, length, Some, None, Result, Ok, refl, sym, ap, ◌∙◌}
+use Rattle.std.proofs.Common.{◌≡◌, ◌≢◌, ℕ, ◌<◌, Bool, false, List, [], ◌∷◌, length, None, Result, Ok, refl, sym, ap, ◌∙◌}
 use Rattle.std.proofs.Common.{subst, arith}
 use Rattle.std.proofs.lemmas.Bool.{false≢true}
 use Rattle.ir_base.specs.declared.cause.Cause.{Cause}
 use Rattle.ir_model.specs.Names.{function_at}
 use Rattle.ir_model.specs.declared.module.Function.{Function}
 use Rattle.ir_model.specs.declared.module.Module.{Module}
-use Rattle.frame_slots.specs.Spots.{IsUse, On}
-use Rattle.run_memory.specs.declared.pointer.Value.{Value}
+use Rattle.frame_slots.specs.Spots.{On}
 use Rattle.run_source.specs.Source.{given_back, pop, return, returned}
 use Rattle.run_source.specs.declared.state.Activation.{Activation}
 use Rattle.run_source.specs.declared.state.State.{State}

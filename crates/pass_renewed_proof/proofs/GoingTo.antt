@@ -1,9 +1,9 @@
 -- A step that goes to a label does so in both runs, also where it leaves a window.
-use Rattle.std.proofs.Common.{◌≡◌, ℕ, zero, suc, ◌+◌, ◌⊎◌, inl, inr, Bool, true, false, List, [], ◌∷◌, length, Option}
-use Rattle.std.proofs.Common.{Some, None, Result, Ok, Err, refl, sym, ap, ◌∙◌, subst, if◌then◌else◌, ◌&&◌, ◌==◌, arith}
+use Rattle.std.proofs.Common.{◌≡◌, ℕ, zero, suc, Bool, true, false, List, [], ◌∷◌, length, Option}
+use Rattle.std.proofs.Common.{Some, None, Result, Ok, refl, sym, ap, ◌∙◌, subst, if◌then◌else◌, ◌&&◌, ◌==◌, arith}
 use Rattle.std.proofs.lemmas.Bool.{false≢true}
 use Rattle.std.specs.List.{list_all}
-use Rattle.std.specs.Prelude.{filter, option_and_then, option_map, slice_get, slice_set}
+use Rattle.std.specs.Prelude.{filter, option_and_then, option_map, slice_get}
 use Rattle.ir_base.specs.declared.cause.Cause.{Cause}
 use Rattle.ir_model.specs.Names.{function_at}
 use Rattle.ir_model.specs.declared.module.Module.{Module}
@@ -13,7 +13,7 @@ use Rattle.ir_paths.specs.declared.point.Point.{Point}
 use Rattle.ir_paths.specs.declared.point.Window.{Window}
 use Rattle.run_memory.specs.declared.block.MemoryBlock.{MemoryBlock}
 use Rattle.run_source.specs.Source.{branch_leaving, enter_block, go_to, is_save, left_windows, may_leave}
-use Rattle.run_source.specs.State.{function_of, is_suspended, numbered, own_facts, own_instance, point_of, with_left}
+use Rattle.run_source.specs.State.{function_of, is_suspended, numbered, own_facts, own_instance, with_left}
 use Rattle.run_source.specs.State.{with_status}
 use Rattle.run_source.specs.declared.state.Activation.{Activation}
 use Rattle.run_source.specs.declared.state.Instance.{Instance}
@@ -25,7 +25,7 @@ use Rattle.run_step.specs.Results.{and_then, found, ok_if}
 use Rattle.pass_renewed_proof.proofs.Branching.{branched_beside, entered_block}
 use Rattle.pass_renewed_proof.proofs.Leaving.{left_window}
 use Rattle.pass_renewed_proof.proofs.Owning.{own_beside}
-use Rattle.pass_renewed_proof.specs.Beside.{AreBelow, AreOutdone, HasLeftSuspended, IsBeside, IsInstanceBeside}
+use Rattle.pass_renewed_proof.specs.Beside.{AreBelow, AreOutdone, HasLeftSuspended, IsBeside}
 use Rattle.pass_renewed_proof.specs.Beside.{IsStatusBeside, place_in}
 use Rattle.pass_renewed_proof.specs.Branching.{AreWindowsOf, IsBranching, IsLeaving, MayComeBack, StaysInside}
 use Rattle.pass_renewed_proof.specs.Found.{AreFound}
