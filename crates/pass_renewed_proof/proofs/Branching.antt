@@ -40,7 +40,8 @@ use Rattle.pass_renewed_proof.proofs.Left.{after_edge, left_closed, switch_next,
 use Rattle.pass_renewed_proof.proofs.Onward.{IsEdgeOf}
 use Rattle.pass_renewed_proof.proofs.Ordinary.{own_address, roots_of}
 use Rattle.pass_renewed_proof.proofs.Stands.{end_at_first}
-use Rattle.pass_renewed_proof.proofs.Touching.{IsTouching, args_stand, edge_beside, touched_extends}
+use Rattle.pass_renewed_proof.proofs.TouchedEdge.{edge_beside}
+use Rattle.pass_renewed_proof.proofs.Touching.{IsTouching, args_stand, touched_extends}
 use Rattle.pass_renewed_proof.proofs.Way.{drop_avoided, no_start_term}
 use Rattle.pass_renewed_proof.specs.Ahead.{IsBehindSuspendCall}
 use Rattle.pass_renewed_proof.specs.Beside.{AreOutdone, HasLeftSuspended, IsBeside, place_in}

@@ -51,7 +51,8 @@ use Rattle.pass_renewed_proof.proofs.Passing.{edge_on}
 use Rattle.pass_renewed_proof.proofs.Reading.{read_used}
 use Rattle.pass_renewed_proof.proofs.Stands.{at_place}
 use Rattle.pass_renewed_proof.proofs.Start.{blank_poison, params_others}
-use Rattle.pass_renewed_proof.proofs.Touching.{IsTouching, args_stand, edge_beside, read_stands, touched_extends}
+use Rattle.pass_renewed_proof.proofs.TouchedEdge.{edge_beside}
+use Rattle.pass_renewed_proof.proofs.Touching.{IsTouching, args_stand, read_stands, touched_extends}
 use Rattle.pass_renewed_proof.specs.Beside.{AreOutdone, HasLeftSuspended, IsActivationBeside, IsBeside, IsFree}
 use Rattle.pass_renewed_proof.specs.Beside.{NoSlots, place_in}
 use Rattle.pass_renewed_proof.specs.Branching.{IsCallee, IsCalling}

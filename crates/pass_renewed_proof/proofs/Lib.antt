@@ -53,6 +53,7 @@ pub mod Owning
 pub mod Releasing
 pub mod Sleeping
 pub mod Touching
+pub mod TouchedEdge
 pub mod Phis
 pub mod Branching
 pub mod Leaving

@@ -9,17 +9,13 @@ use Rattle.ir_model.specs.Ty.{Ty, array, int, named, ptr, structure, token}
 use Rattle.ir_model.specs.declared.module.Function.{Function}
 use Rattle.ir_model.specs.declared.module.Module.{Module}
 use Rattle.ir_model.specs.declared.operand.Arg.{Arg}
-use Rattle.ir_model.specs.declared.operand.Intrinsic.{Intrinsic}
 use Rattle.ir_model.specs.declared.operand.Operand.{Operand}
-use Rattle.ir_paths.specs.Paths.{has_point}
 use Rattle.ir_paths.specs.Slots.{is_escaped, is_in_args}
 use Rattle.ir_paths.specs.declared.point.Point.{Point}
-use Rattle.frame_classes.specs.Classes.{NeedsFrame, parting}
-use Rattle.frame_slots.specs.Spots.{IsUse, LeadsFrom, Spot}
-use Rattle.frame_slots.specs.Uses.{ends_of}
+use Rattle.frame_classes.specs.Classes.{NeedsFrame}
+use Rattle.frame_slots.specs.Spots.{IsUse, Spot}
 use Rattle.pass_kept_proof.proofs.Same.{eq_itself, or_left, or_right}
 use Rattle.pass_kept_proof.specs.Needed.{reads_at}
-use Rattle.pass_kept_proof.specs.SuspendRules.{IsCallAt}
 use Rattle.run_laws.proofs.memory.Homes.{value_on}
 use Rattle.run_laws.specs.changed.Changed.{Each}
 use Rattle.run_laws.specs.embedded.Making.{whole_home}
@@ -36,11 +32,10 @@ use Rattle.run_source.specs.declared.state.Activation.{Activation}
 use Rattle.run_source.specs.declared.state.Instance.{Instance}
 use Rattle.run_source.specs.declared.state.State.{State}
 use Rattle.run_step.specs.Step.{Context, Fetched, Work}
-use Rattle.run_step.specs.Values.{Env, arg_values, literal, operand_value, pointer_to, value_in}
-use Rattle.pass_renewed_proof.proofs.Carried.{AreBelowCarried, IsCarried, IsInstanceCarried, IsSlotKept, below_kept}
-use Rattle.pass_renewed_proof.proofs.Carried.{instances_kept, kept_slot_on, slot_kept}
+use Rattle.run_step.specs.Values.{arg_values, literal, operand_value, pointer_to, value_in}
+use Rattle.pass_renewed_proof.proofs.Carried.{AreBelowCarried, IsCarried, IsInstanceCarried, IsSlotKept}
+use Rattle.pass_renewed_proof.proofs.Carried.{kept_slot_on, slot_kept}
 use Rattle.pass_renewed_proof.proofs.Chosen.{are_places, placed}
-use Rattle.pass_renewed_proof.proofs.Onward.{IsEdgeOf, activation_there, slot_passed, slot_used}
 use Rattle.pass_renewed_proof.proofs.Ordinary.{one_slot, own_address, roots_of}
 use Rattle.pass_renewed_proof.proofs.Others.{kept_used, loud_escaped, other_used, used_gone}
 use Rattle.pass_renewed_proof.proofs.Ready.{each_map, fade, ready_all, stood_at, stood_length}
@@ -50,15 +45,14 @@ use Rattle.pass_renewed_proof.proofs.Used.{each_listed, faded_loud, is_among, un
 use Rattle.pass_renewed_proof.proofs.Used.{used_extends, used_home}
 use Rattle.pass_renewed_proof.proofs.Using.{IsGoodPlace, all_places, all_settled, all_theirs, apart, globals_stand}
 use Rattle.pass_renewed_proof.proofs.Using.{good_places}
-use Rattle.pass_renewed_proof.specs.Ahead.{IsNoStart}
 use Rattle.pass_renewed_proof.specs.Beside.{AreOutdone, GoesOn, HasLeftSuspended, IsActivationBeside, IsBeside}
-use Rattle.pass_renewed_proof.specs.Beside.{IsInstanceBeside, IsKeptSlot, IsSlotBeside, place_in}
+use Rattle.pass_renewed_proof.specs.Beside.{IsInstanceBeside, IsKeptSlot, IsSlotBeside}
 use Rattle.pass_renewed_proof.specs.Chosen.{IsPlaceOf, places_at}
 use Rattle.pass_renewed_proof.specs.Ledger.{AreEntered, AreTheirs, IsHomeOf, Ledger, LivesIn, Seat, is_quiet}
 use Rattle.pass_renewed_proof.specs.Ledger.{used_ledger}
 use Rattle.pass_renewed_proof.specs.Ready.{ArePlacesApart, IsPlace, IsSettled, Place, shown_of, stood}
 use Rattle.pass_renewed_proof.specs.Renewed.{Flags, Roots}
-use Rattle.pass_renewed_proof.specs.SlotEnvs.{AreRoots, AreSlotEnvs, IsAddress}
+use Rattle.pass_renewed_proof.specs.SlotEnvs.{AreRoots, IsAddress}
 use Rattle.pass_renewed_proof.specs.SlotRules.{KeepsSlots}
 use Rattle.pass_renewed_proof.specs.Steps.{AreOver}
 
@@ -108,16 +102,16 @@ module _ (m : Module) (flags : Flags) (roots : Roots) (keeps : (func : ℕ)
   abbrev pub touched : Ledger
   touched = used_ledger m beside.ledger (places_at (roots s.top.func) s.top.values beside.top.values reading)
 
-  idem : AreRoots (roots s.top.func)
+  pub idem : AreRoots (roots s.top.func)
   idem = roots_of m f (flags s.top.func) (roots s.top.func) (keeps s.top.func)
 
-  one : (a b d : ℕ) → roots s.top.func a ≡ Some a → roots s.top.func b ≡ Some b
+  pub one : (a b d : ℕ) → roots s.top.func a ≡ Some a → roots s.top.func b ≡ Some b
       → value_in s.top.values a ≡ pointer_to d → value_in s.top.values b ≡ pointer_to d → a ≡ b
   one = one_slot m flags roots keeps l s.instances s.world.memory t.world.memory (length s.below) s.top t.top h
 
   -- ---- what is known of a place
 
-  use_of : (p : Place) (i : IsPlaceOf (roots s.top.func) s.top.values h.values reading p)
+  pub use_of : (p : Place) (i : IsPlaceOf (roots s.top.func) s.top.values h.values reading p)
       → IsUse (function_at m s.top.func) i.alloca spot
   use_of p i = touching.uses i.name i.alloca i.root i.is_read
 
@@ -161,7 +155,7 @@ module _ (m : Module) (flags : Flags) (roots : Roots) (keeps : (func : ℕ)
   abbrev theirs : AreTheirs l ps
   theirs = all_theirs m l s.world.memory t.world.memory e ps goods
 
-  known : (p : Place) → IsListed p ps → IsPlaceOf (roots s.top.func) s.top.values h.values reading p
+  pub known : (p : Place) → IsListed p ps → IsPlaceOf (roots s.top.func) s.top.values h.values reading p
   known p listed = each_listed _ ps p (are_places l.homes (roots s.top.func) s.top.values h.values reading idem
       h.envs) listed
 
@@ -188,7 +182,7 @@ module _ (m : Module) (flags : Flags) (roots : Roots) (keeps : (func : ℕ)
     ready = λ b d depth seat seated at old. old;
   }
 
-  passed : (b : ℕ) → Each (λ (q : Place). q.block ≢ b) ps
+  pub passed : (b : ℕ) → Each (λ (q : Place). q.block ≢ b) ps
       → IsSlotKept l touched s.world.memory s.world.memory b
   passed b out = unused_kept m l s.world.memory s.world.memory t.world.memory t.world.memory ps e places settle aparts
       theirs (same_filled s.world.memory) (same_filled t.world.memory) b out (λ fresh. refl)
@@ -223,6 +217,11 @@ module _ (m : Module) (flags : Flags) (roots : Roots) (keeps : (func : ℕ)
         answers = beside.world.answers;
         allocs = beside.world.allocs;
       }
+
+  pub place_home : (p : Place) → IsListed p ps → IsHomeOf (used_ledger m beside.ledger (places_at (roots s.top.func)
+      s.top.values beside.top.values reading)) p.block p.target
+  place_home p listed = used_home m l s.world.memory s.world.memory t.world.memory t.world.memory ps e places settle
+      aparts theirs p listed
 
   -- ---- the values that are read
 
@@ -296,7 +295,7 @@ module _ (m : Module) (flags : Flags) (roots : Roots) (keeps : (func : ℕ)
   same_instance : {p q : Seat} → Some p ≡ Some q → p.instance ≡ q.instance
   same_instance at = cc
 
-  loud_after : (b : ℕ) → (home_of touched.homes b).is_seen ≡ true → is_quiet m (l.seats b) ≡ false
+  pub loud_after : (b : ℕ) → (home_of touched.homes b).is_seen ≡ true → is_quiet m (l.seats b) ≡ false
   loud_after b seen = on (is_quiet m (l.seats b)) refl
     where
       on : (u : Bool) → is_quiet m (l.seats b) ≡ u → is_quiet m (l.seats b) ≡ false
@@ -410,81 +409,3 @@ module _ (m : Module) (flags : Flags) (roots : Roots) (keeps : (func : ℕ)
           (length s.below) s.top t.top h spot spot_is al b d local u old left (loud_escaped m flags roots l touched
           s.instances s.world.memory s.world.memory t.world.memory t.world.memory (length s.below) s.top t.top h spot
           spot_is al b d local u old (loud_after b seen)) live
-
-  -- ---- the activation goes on elsewhere
-
-  module _ (q : Point) (vs ws : Env) (on : IsEdgeOf (function_at m s.top.func) s.top q) (no_start : (al : ℕ)
-      → IsNoStart (function_at m s.top.func) al (place_in s.top)) (no_end : (al : ℕ)
-      → has_point (ends_of (function_at m s.top.func) al) (place_in s.top) ≡ false) (no_close : IsCallAt
-      Intrinsic.CoroEnd (function_at m s.top.func) (place_in s.top) → ⊥) (comes : (al : ℕ)
-      → LeadsFrom (function_at m s.top.func) (parting (is_escaped (function_at m s.top.func) al) (function_at m
-      s.top.func) al) spot q) (envs : AreSlotEnvs (used_ledger m beside.ledger (places_at (roots s.top.func)
-      s.top.values beside.top.values reading)).homes (roots s.top.func) vs ws) (same : (slot : ℕ)
-      → IsTrue (flags s.top.func slot)
-      → (value_in vs slot ≡ value_in s.top.values slot) × (value_in ws slot ≡ value_in beside.top.values slot)) where
-    abbrev there : Activation
-    there = record s.top { block = q.block; at = q.at; values = vs }
-
-    slot_there : (al b d : ℕ) → IsTrue (flags s.top.func al) → value_in s.top.values al ≡ pointer_to b
-        → value_in h.values al ≡ pointer_to d
-        → IsSlotBeside m touched s.instances s.world.memory t.world.memory (length s.below) there al b d
-    slot_there al b d flagged at at' =
-        let old = h.each al b d flagged at at' in
-        ⊎_elim
-        (λ p. used p.0 p.1.0 p.1.1 old)
-        (λ out. slot_passed m l touched s.instances s.world.memory s.world.memory t.world.memory t.world.memory
-        touched_carried (length s.below) s.top q vs on al b d (no_start al) (λ live. no_end al) (passed b out) old)
-        (is_among ps b)
-      where
-        same_start : (i j : ℕ) → pointer_to i ≡ pointer_to j → i ≡ j
-        same_start i j k = cc
-
-        used : (p : Place) → IsListed p ps → p.block ≡ b
-            → IsSlotBeside m l s.instances s.world.memory t.world.memory (length s.below) s.top al b d
-            → IsSlotBeside m touched s.instances s.world.memory t.world.memory (length s.below) there al b d
-        used p listed is old =
-            let i = known p listed in
-            let root : roots s.top.func al ≡ Some al = (keeps s.top.func).addresses al al flagged (own_address f al) in
-            let same_al : i.alloca ≡ al = one i.alloca al b (idem i.name i.alloca i.root) root
-            (i.source ∙ ap pointer_to is) at in
-            let target : p.target ≡ d = same_start p.target d (sym i.target ∙ ap (value_in h.values) same_al ∙ at') in
-            let home : IsHomeOf touched b d = subst (λ n. IsHomeOf touched b n) target (subst (λ n. IsHomeOf touched n
-            p.target) is (used_home m l s.world.memory s.world.memory t.world.memory t.world.memory ps e places settle
-            aparts theirs p listed)) in
-            let u : IsUse f al spot = subst (λ n. IsUse f n spot) same_al (use_of p i) in
-            let spot_is = touching.is_spot al u in
-            let local : ¬ NeedsFrame f al = ((keeps s.top.func).is_local al flagged).1 in
-            slot_used m l touched s.instances s.world.memory s.world.memory t.world.memory t.world.memory
-            touched_carried (length s.below) s.top q vs on al b d (no_end al) home (λ live. live) (record {
-              early = spot;
-              is_use = u;
-              comes = comes al;
-            })
-            (λ left live seen. used_gone m flags roots l touched s.instances s.world.memory s.world.memory
-            t.world.memory t.world.memory (length s.below) s.top t.top h spot spot_is al b d local u old left
-            (loud_escaped m flags roots l touched s.instances s.world.memory s.world.memory t.world.memory
-            t.world.memory (length s.below) s.top t.top h spot spot_is al b d local u old (loud_after b seen)) live)
-            old
-
-    pub top_there : IsActivationBeside m flags roots touched s.instances s.world.memory t.world.memory (length s.below)
-        there (record t.top { block = q.block; at = q.at; values = ws })
-    top_there = activation_there m l touched s.instances s.world.memory s.world.memory t.world.memory t.world.memory
-        touched_carried (length s.below) s.top q vs on flags roots t.top h ws envs same no_close slot_there
-
-    abbrev pub edge_beside : AreOutdone s.instances s.top s.below → HasLeftSuspended s.instances s.top
-        → IsBeside m flags roots (record s {
-          top = record s.top { block = q.block; at = q.at; values = vs };
-        }) (record t { top = record t.top { block = q.block; at = q.at; values = ws } })
-    edge_beside outdone asleep = record {
-      ledger = touched;
-      outcome = beside.outcome;
-      world = touched_over;
-      entered = touched_entered;
-      instances = instances_kept m flags roots l touched s.instances s.instances s.world.memory s.world.memory
-          t.world.memory t.world.memory touched_carried 0 s.instances t.instances (instance_touched asleep)
-          beside.instances;
-      top = top_there;
-      below = below_kept m flags roots l touched s.instances s.instances s.world.memory s.world.memory t.world.memory
-          t.world.memory touched_carried s.top.result s.below t.below (below_touched s.below (omega arith) outdone)
-          beside.below;
-    }
