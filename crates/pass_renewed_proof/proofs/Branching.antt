@@ -143,7 +143,8 @@ module _ (m : Module) (flags : Flags) (roots : Roots) (keeps : (func : ℕ)
       less : (a n : ℕ) → nat_lt a n ≡ true → a < n
       less a n h = grind arith
 
-  escaping : (v al : ℕ) → IsTrue (has_name (addresses_of f al) v) → IsTrue (is_in_args v args) → IsTrue (is_escaped f al)
+  escaping : (v al : ℕ) → IsTrue (has_name (addresses_of f al) v) → IsTrue (is_in_args v args) → IsTrue (is_escaped f
+      al)
   escaping v al address is = on (slice_get f.blocks to) refl is
     where
       on : (o : Option Block) → slice_get f.blocks to ≡ o → is_in_args v (args_of from (phis_of o)) ≡ true
@@ -262,14 +263,15 @@ module _ (m : Module) (flags : Flags) (roots : Roots) (keeps : (func : ℕ)
   -- with the values that the second run's activation has
   pub branched_beside : AreOutdone s.instances s.top s.below → HasLeftSuspended s.instances s.top
       → IsBeside m flags roots (entered_block m s label) (entered_block m t label)
-  branched_beside outdone asleep = subst (λ (a : Activation). IsBeside m flags roots (entered_block m s label) (record t {
-    top = record a {
-      block = position_of (function_at m a.func) label;
-      at = 0;
-      values = values_in m (slice_get (function_at m a.func).blocks (position_of (function_at m a.func) label))
-          (label_of (slice_get (function_at m a.func).blocks a.block)) a.values;
-    };
-  })) (sym beside.top.is) at_first
+  branched_beside outdone asleep = subst (λ (a : Activation). IsBeside m flags roots (entered_block m s label)
+      (record t {
+        top = record a {
+          block = position_of (function_at m a.func) label;
+          at = 0;
+          values = values_in m (slice_get (function_at m a.func).blocks (position_of (function_at m a.func) label))
+              (label_of (slice_get (function_at m a.func).blocks a.block)) a.values;
+        };
+      })) (sym beside.top.is) at_first
     where
       at_first : IsBeside m flags roots (entered_block m s label) (record t {
         top = record (record s.top { values = beside.top.values; slots = beside.top.slots }) {

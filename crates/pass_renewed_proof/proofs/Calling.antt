@@ -322,7 +322,8 @@ module _ (m : Module) (flags : Flags) (roots : Roots) (keeps : (func : ℕ)
       stands = read_stands m flags roots keeps s t beside reading (At p) touching name (subst (λ z. IsTrue (reads_at
           name (AtInstr (Instr.Call result must_tail ty z args)))) (sym is) (or_left (name == name) _ (eq_itself name)))
 
-      fits : (g : ℕ) (b : Bool) → (if b then Enter g (arg_values m s.top.values args) result must_tail else Stuck Cause.Call)
+      fits : (g : ℕ) (b : Bool) → (if b then Enter g (arg_values m s.top.values args) result must_tail else Stuck
+          Cause.Call)
           ≡ Enter func vs other tail → (b ≡ true) × ((g ≡ func) × (Enter g (arg_values m s.top.values args) result
           must_tail ≡ Enter func vs other tail))
       fits g true k = (refl, (cc, k))
@@ -338,7 +339,8 @@ module _ (m : Module) (flags : Flags) (roots : Roots) (keeps : (func : ℕ)
             sym r.1.1 ∙ ap (λ z. Enter z (arg_values m s.top.values args) result must_tail) r.1.0,
             ap (λ z. indirect_call (context answers) z ty result must_tail args (arg_values m beside.top.values
                 args)) (function_same _ _ g at stands)
-                ∙ ap (λ b. if b then Enter g (arg_values m beside.top.values args) result must_tail else Stuck Cause.Call) r.0
+                ∙ ap (λ b. if b then Enter g (arg_values m beside.top.values args) result must_tail else Stuck
+                Cause.Call) r.0
                 ∙ ap (λ z. Enter z (arg_values m beside.top.values args) result must_tail) r.1.0,
           )
       on (Value.Ptr (Pointer.At b o)) at k = absurd (cc)
@@ -363,7 +365,8 @@ module _ (m : Module) (flags : Flags) (roots : Roots) (keeps : (func : ℕ)
         rights = owner_rights;
         function = function_at m s.top.func;
       }) (work_of t) (AtInstr (Instr.Call result must_tail ty callee args)) ≡ Enter func ws other tail)
-      × IsBeside m flags roots (push s (called m func vs other (mode_of (function_at m func)))) (push t (called m func ws
+      × IsBeside m flags roots (push s (called m func vs other (mode_of (function_at m func)))) (push t (called m
+      func ws
       other (mode_of (function_at m func))))
   calls_beside answers func vs other tail outdone asleep e =
       let r = entered_by answers func vs other tail callee refl e in

@@ -110,7 +110,8 @@ module _ (m : Module) (flags : Flags) (roots : Roots) (xs ys : List Instance) (n
           ∙ owner in
           absurd (cc)
       seated b q is live (Some seat) s =
-          let hidden = hide_one m flags roots xs ys name as' bs l memory target c depth owner less h b seat s (unseen b q
+          let hidden = hide_one m flags roots xs ys name as' bs l memory target c depth owner less h b seat s (unseen
+          b q
           live is) is in (
             hiding l.hides b,
             give_back m flags roots xs ys name as' bs (record l { hides = hiding l.hides b }) memory target c depth
@@ -163,13 +164,16 @@ module _ (m : Module) (flags : Flags) (roots : Roots) (xs ys : List Instance) (n
       → AreLeft m flags roots l xs ys (without_slots memory ss) (killed_all target (shared l S O off ss ts slots)) name
       as' bs
   all_die l S O off seat _ _ NoSlots memory target h = h
-  all_die l S O off seat _ _ (Both alloca b c ss ts is_off home none rest) memory target h = all_die l S O off seat ss ts
-      rest (killed memory b) (killed target c) (both_die m flags roots xs ys name as' bs l memory target b c home none h)
+  all_die l S O off seat _ _ (Both alloca b c ss ts is_off home none rest) memory target h = all_die l S O off seat
+      ss ts
+      rest (killed memory b) (killed target c) (both_die m flags roots xs ys name as' bs l memory target b c home
+      none h)
   all_die l S O off seat _ _ (First s ss ts is rest) memory target h =
       let known = seat s is in
       all_die l S O off seat ss ts rest (killed memory s.block) target (first_dies m flags roots xs ys name as' bs l
       memory target s.block known.0 known.1 h)
-  all_die l S O off seat _ _ (Second t ss ts is rest) memory target h = all_die l S O off seat ss ts rest memory target h
+  all_die l S O off seat _ _ (Second t ss ts is rest) memory target h = all_die l S O off seat ss ts rest memory
+      target h
 
 -- a slot that died doesn't live
 still_dead : (memory : List MemoryBlock) (b c : ℕ) → (LivesIn memory b → ⊥) → LivesIn (killed memory c) b → ⊥
@@ -185,7 +189,8 @@ still_dead memory b c dead h = ⊎_elim
 dead_without : (slots : List Slot) (memory : List MemoryBlock) (b : ℕ) → (LivesIn memory b → ⊥)
     → LivesIn (without_slots memory slots) b → ⊥
 dead_without [] memory b dead h = dead h
-dead_without (s ∷ slots) memory b dead h = dead_without slots (killed memory s.block) b (still_dead memory b s.block dead)
+dead_without (s ∷ slots) memory b dead h = dead_without slots (killed memory s.block) b (still_dead memory b s.block
+    dead)
     h
 
 pub listed_dead : (slots : List Slot) (memory : List MemoryBlock) (slot : Slot) → Contains slots slot

@@ -1,5 +1,6 @@
 -- An activation that returns nothing, wherever it stands, leads back to its caller in both runs.
-use Rattle.std.proofs.Common.{◌≡◌, ◌≢◌, ℕ, ◌<◌, Bool, false, List, [], ◌∷◌, length, None, Result, Ok, refl, sym, ap, ◌∙◌}
+use Rattle.std.proofs.Common.{◌≡◌, ◌≢◌, ℕ, ◌<◌, Bool, false, List, [], ◌∷◌, length, None, Result, Ok, refl, sym}
+use Rattle.std.proofs.Common.{ap, ◌∙◌}
 use Rattle.std.proofs.Common.{subst, arith}
 use Rattle.std.proofs.lemmas.Bool.{false≢true}
 use Rattle.ir_base.specs.declared.cause.Cause.{Cause}
@@ -68,7 +69,8 @@ module _ (m : Module) (flags : Flags) (roots : Roots) (keeps : (func : ℕ)
   pub back_with_nothing : (a : Activation) (below : List Activation) → s.below ≡ a ∷ below → (after : State)
       → return s None ≡ Ok after → (other : State) × (return t None ≡ Ok other) × IsBeside m flags roots after other
   back_with_nothing a below is after done =
-      let r = back_by a below t.below refl (subst (λ zs. Left zs t.below) is (died m flags roots keeps s t beside Nowhere
+      let r = back_by a below t.below refl (subst (λ zs. Left zs t.below) is (died m flags roots keeps s t beside
+      Nowhere
       (On (length f.blocks) 0) nothing over outdone asleep)) in
       let same : record (returned s) {
         top = given_back a s.top.result None;

@@ -179,7 +179,8 @@ module _ (m : Module) (flags : Flags) (roots : Roots) (xs ys : List Instance) (n
       standing = hidden_stand l.homes l.hides memory memory target b unseen (λ d ne. refl) (λ x at. (x, at, refl))
           h.standing;
       entered = entered;
-      instances = instances_kept m flags roots l k xs xs memory memory target target carried 0 xs ys each_on h.instances;
+      instances = instances_kept m flags roots l k xs xs memory memory target target carried 0 xs ys each_on
+          h.instances;
       below = below_kept m flags roots l k xs xs memory memory target target carried name as' bs (all_on as' less)
           h.below;
     }

@@ -147,7 +147,8 @@ module _ (flags : Flags) (roots : Roots) (g h : Given) (same : h.code ≡ g.code
   goes_out w ws e n x own false may k = absurd (cc)
   goes_out w ws e n x own true may k =
       let f : AreFound g.code flags roots beside.ledger s.world.memory (Some (n, x)) (own_instance t) = subst (λ o.
-      AreFound g.code flags roots beside.ledger s.world.memory o (own_instance t)) own (own_beside g.code flags roots s t
+      AreFound g.code flags roots beside.ledger s.world.memory o (own_instance t)) own (own_beside g.code flags roots
+      s t
       beside) in
       let y = f.0 in
       let ours = own_is s (n, x) own in
@@ -201,4 +202,8 @@ module _ (flags : Flags) (roots : Roots) (g h : Given) (same : h.code ≡ g.code
 
   pub gone_to : go_to g s label ≡ Ok after → (other : State) × (go_to h t label ≡ Ok other)
       × IsBeside g.code flags roots after other
-  gone_to k = let r = goes_by (left_windows g s label) refl k in (r.0, ap (branch_leaving h t label) left_same ∙ r.1, r.2)
+  gone_to k = let r = goes_by (left_windows g s label) refl k in (
+    r.0,
+    ap (branch_leaving h t label) left_same ∙ r.1,
+    r.2,
+  )

@@ -41,7 +41,8 @@ not_after m f flags roots keeps p q is after =
     let w : IsInWindow f is.window.save is.window.suspend p = (is.facts.inside p).0 (first_of (has_point
     is.window.inside p) (not (has_point is.window.inside q)) (first_of (has_point is.window.inside p && not (has_point
     is.window.inside q)) (not (same_point q is.window.suspend)) is.leaves)) in
-    keeps.no_suspend is.window.suspend (after_along f p w.to_suspend.between is.window.suspend (drop_avoided f (is.window.save ∷ is.window.suspend ∷ []) p
+    keeps.no_suspend is.window.suspend (after_along f p w.to_suspend.between is.window.suspend (drop_avoided f
+    (is.window.save ∷ is.window.suspend ∷ []) p
     w.to_suspend.between is.window.suspend w.to_suspend.is_path) after) (suspend_is_suspend f is.window.save
     is.window.suspend is.takes)
   where
@@ -125,7 +126,8 @@ module _ (m : Module) (flags : Flags) (roots : Roots) (s t : State) (beside : Is
   old_instance =
       let r = instance_beside m flags roots beside.ledger s.world.memory 0 s.instances t.instances n x beside.instances
       there in
-      subst (IsInstanceBeside m flags roots beside.ledger s.world.memory (0 + n) x) (same_some r.0 y (sym r.1 ∙ there')) r.2
+      subst (IsInstanceBeside m flags roots beside.ledger s.world.memory (0 + n) x) (same_some r.0 y (sym r.1 ∙
+      there')) r.2
 
   running : IsInstanceBeside m flags roots beside.ledger s.world.memory (0 + n) x y
       → IsInstanceBeside m flags roots beside.ledger s.world.memory (0 + n) (record x { status = Status.Running })
@@ -143,7 +145,8 @@ module _ (m : Module) (flags : Flags) (roots : Roots) (s t : State) (beside : Is
     over = λ e. b.over (sym same_over ∙ e);
   }
 
-  pub running_beside : IsBeside m flags roots (with_instance s n (record x { status = Status.Running })) (with_instance t n
+  pub running_beside : IsBeside m flags roots (with_instance s n (record x { status = Status.Running }))
+      (with_instance t n
       (record y { status = Status.Running }))
   running_beside = instances_on m flags roots s t beside xs' (slice_set t.instances n (record y {
     status = Status.Running;
@@ -238,7 +241,8 @@ module _ (m : Module) (flags : Flags) (roots : Roots) (s t : State) (beside : Is
       → IsBeside m flags roots (record (with_left s false) {
         instances = slice_set s.instances n (record x { status = Status.Running });
       }) (record (with_left t false) { instances = slice_set t.instances n (record y { status = Status.Running }) })
-  runs_again early = running_beside m flags roots (with_left s false) (with_left t false) (came_back early) n x y back.there
+  runs_again early = running_beside m flags roots (with_left s false) (with_left t false) (came_back early) n x y
+      back.there
       back.suspended there'
 
 -- ---- the branch out of the window

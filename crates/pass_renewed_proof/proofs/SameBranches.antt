@@ -18,7 +18,8 @@ use Rattle.pass_renewed_proof.proofs.Giving.{same_nth}
 use Rattle.pass_renewed_proof.specs.Beside.{IsBeside}
 use Rattle.pass_renewed_proof.specs.Renewed.{Flags, Roots}
 
-module _ (m : Module) (flags : Flags) (roots : Roots) (s t : State) (beside : IsBeside m flags roots s t) (answers : List
+module _ (m : Module) (flags : Flags) (roots : Roots) (s t : State) (beside : IsBeside m flags roots s t) (answers :
+    List
     ℤ) (label : ℕ) where
   abbrev c : Context
   c = record { code = m; answers = answers; rights = owner_rights; function = function_at m s.top.func }

@@ -135,5 +135,6 @@ module _ (m : Module) (flags : Flags) (roots : Roots) (s t : State) (beside : Is
       u s.top.values beside.top.values
       → AreInstancesBeside m flags roots beside.ledger s.world.memory 0 (slice_set s.instances n (saved_instance x u
       s.top.values saved)) (slice_set t.instances n (saved_instance y u beside.top.values saved))
-  instances_saved keeps = instances_set m flags roots l s.world.memory 0 s.instances t.instances n x' y' beside.instances
+  instances_saved keeps = instances_set m flags roots l s.world.memory 0 s.instances t.instances n x' y'
+      beside.instances
       (instance_saved keeps old_instance)

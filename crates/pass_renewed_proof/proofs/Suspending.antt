@@ -112,7 +112,8 @@ module _ (m : Module) (flags : Flags) (roots : Roots) (keeps : (func : ℕ)
       on (inl fresh) e ee true z = fresh.unseen
       on (inr (inr away)) e ee true z = away.unseen live
       on (inr (inl used)) false ee true z = beside.entered.quiet b (ap (is_quiet m) o.seat ∙ ap not ee)
-      on (inr (inl used)) true ee true z = absurd (not_alive f al (local al flagged) ee p is_suspend used (alive_here al b
+      on (inr (inl used)) true ee true z = absurd (not_alive f al (local al flagged) ee p is_suspend used (alive_here
+          al b
           c o live))
 
   kept_slot : (al b : ℕ) → IsTrue (flags s.top.func al) → (c : ℕ) → Slot_of al b c
@@ -154,7 +155,8 @@ module _ (m : Module) (flags : Flags) (roots : Roots) (keeps : (func : ℕ)
         has_left = true;
       }) al b c
   slot_saved al b c flagged o = record {
-    slot = of_it (slots_still m flags roots s t beside p saved refl n x y own there there' kept is.stays s.top _ o.slot);
+    slot = of_it (slots_still m flags roots s t beside p saved refl n x y own there there' kept is.stays s.top _
+        o.slot);
     passed = o.passed;
     ramp = o.ramp;
     seat = o.seat;
@@ -208,7 +210,8 @@ module _ (m : Module) (flags : Flags) (roots : Roots) (keeps : (func : ℕ)
         outcome = beside.outcome;
         world = beside.world;
         entered = beside.entered;
-        instances = instances_saved m flags roots s t beside p saved refl n x y own there there' kept is.stays kept_beside;
+        instances = instances_saved m flags roots s t beside p saved refl n x y own there there' kept is.stays
+            kept_beside;
         top = top_saved;
         below = below_kept m flags roots l l s.instances xs' s.world.memory s.world.memory t.world.memory
             t.world.memory (same_carried l s.world.memory t.world.memory) s.top.result s.below t.below (below_saved m

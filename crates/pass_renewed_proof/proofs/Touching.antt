@@ -1,4 +1,5 @@
--- What the topmost activation reads of its slots where it goes on elsewhere: their blocks come to stand in its own ones.
+-- What the topmost activation reads of its slots where it goes on elsewhere: their blocks come to stand in its own
+-- ones.
 use Rattle.std.proofs.Common.{◌≡◌, ◌≢◌, ℕ, ◌+◌, ◌<◌, ◌≤◌, Bool, true, false, not, List, [], ◌∷◌, length, Option, Some}
 use Rattle.std.proofs.Common.{None, refl, sym, ap, ◌∙◌, subst, ⊎_elim, arith}
 use Rattle.std.proofs.lemmas.Bool.{false≢true}

@@ -94,7 +94,8 @@ module _ (m : Module) (flags : Flags) (roots : Roots) (keeps : (func : ℕ)
     envs = envs;
     listed = slots_on m flags roots l l xs xs memory memory target target (same_carried l memory target) _ _ _ _ (flags
         a.func) (λ slot z. z) own a.slots h.slots h.listed;
-    each = λ al c d flagged at there. slot_valued al c d (h.each al c d flagged (sym (result_elsewhere a.values name al v
+    each = λ al c d flagged at there. slot_valued al c d (h.each al c d flagged (sym (result_elsewhere a.values name
+        al v
         (unset al flagged)) ∙ at) (sym (result_elsewhere h.values name al u (unset al flagged)) ∙ there));
     made = h.made;
     modes = h.modes;
