@@ -26,6 +26,7 @@ use Rattle.run_source.specs.declared.state.Instance.{Instance}
 use Rattle.run_step.specs.Step.{Context, Done, Fetched, Work, action_of, fetch}
 use Rattle.run_step.specs.Values.{pointer_to, value_in}
 use Rattle.run_step.specs.declared.world.World.{World}
+use Rattle.pass_renewed_proof.proofs.Carried.{same_alloca}
 use Rattle.pass_renewed_proof.proofs.Ready.{each_map, fade, stood_length, used_step}
 use Rattle.pass_renewed_proof.proofs.ShownSteps.{step_shown}
 use Rattle.pass_renewed_proof.proofs.Reading.{read_used}
@@ -35,7 +36,7 @@ use Rattle.pass_renewed_proof.proofs.Using.{IsGoodPlace, all_places, all_settled
 use Rattle.pass_renewed_proof.specs.Beside.{IsActivationBeside, IsSlotBeside, place_in}
 use Rattle.pass_renewed_proof.specs.Chosen.{IsPlaceOf, places_at}
 use Rattle.pass_renewed_proof.specs.Ordinary.{IsOrdinary}
-use Rattle.pass_renewed_proof.specs.Ledger.{AreEntered, Ledger, Seat, is_quiet, used_ledger}
+use Rattle.pass_renewed_proof.specs.Ledger.{AreEntered, Ledger, is_quiet, used_ledger}
 use Rattle.pass_renewed_proof.specs.Muted.{IsShownOperand}
 use Rattle.pass_renewed_proof.specs.Ready.{IsPlace, IsUsing, Place, shown_of, stood}
 use Rattle.pass_renewed_proof.specs.Renewed.{Flags, Roots}
@@ -70,12 +71,9 @@ one_slot m flags roots keeps l xs memory target depth a b h i j d ri rj vi vj = 
     (λ aj.
     let si = h.each i d ai.target ((keeps a.func).rooted i i ri).0 vi ai.other_is in
     let sj = h.each j d aj.target ((keeps a.func).rooted j j rj).0 vj aj.other_is in
-    same_seat (sym si.seat ∙ sj.seat))
+    same_alloca (sym si.seat ∙ sj.seat))
     (h.envs.rooted j j rj))
     (h.envs.rooted i i ri)
-  where
-    same_seat : {p q : Seat} → Some p ≡ Some q → p.alloca ≡ q.alloca
-    same_seat k = cc
 
 module _ (m : Module) (flags : Flags) (roots : Roots) (keeps : (func : ℕ)
     → KeepsSlots m (function_at m func) (flags func) (roots func)) (answers : List ℤ) (l : Ledger) (xs : List

@@ -19,7 +19,7 @@ use Rattle.run_step.specs.Step.{Fetched, without_slots}
 use Rattle.run_step.specs.Values.{pointer_to, value_in}
 use Rattle.run_step.specs.declared.world.Slot.{Slot}
 use Rattle.frame_slots.specs.Spots.{Spot}
-use Rattle.pass_renewed_proof.proofs.Carried.{below_kept, instances_kept, slots_on}
+use Rattle.pass_renewed_proof.proofs.Carried.{below_kept, instances_kept, same_func, slots_on}
 use Rattle.pass_renewed_proof.proofs.Departing.{AreLeft}
 use Rattle.pass_renewed_proof.proofs.DeadSlots.{IsUnseenIn, all_die, all_given, both_lists, killed_all, listed_dead}
 use Rattle.pass_renewed_proof.proofs.DeadSlots.{lived_before, own_are, own_blocks, shared}
@@ -155,9 +155,6 @@ module _ (m : Module) (flags : Flags) (roots : Roots) (keeps : (func : ℕ)
         where
           same_number : (i j : ℕ) → Some i ≡ Some j → i ≡ j
           same_number i j e = cc
-
-          same_func : {p q : Seat} → Some p ≡ Some q → p.func ≡ q.func
-          same_func e = cc
 
           clash : {q : Seat} → None ≡ Some q → ⊥
           clash e = absurd (cc)

@@ -39,6 +39,7 @@ use Rattle.run_step.specs.declared.world.Slot.{Slot}
 use Rattle.pass_renewed_proof.proofs.Accessing.{not_accessed}
 use Rattle.pass_renewed_proof.proofs.Ahead.{next_edge, used_at}
 use Rattle.pass_renewed_proof.proofs.Anew.{home_past}
+use Rattle.pass_renewed_proof.proofs.Carried.{same_alloca, same_func, same_instance}
 use Rattle.pass_renewed_proof.proofs.Carried.{AreBelowCarried, IsCarried, IsInstanceCarried, IsSlotKept, below_kept}
 use Rattle.pass_renewed_proof.proofs.Carried.{instances_kept, kept_slot_on, made_no_slot, others_on, slot_kept}
 use Rattle.pass_renewed_proof.proofs.Chosen.{are_places}
@@ -60,7 +61,7 @@ use Rattle.pass_renewed_proof.specs.Beside.{AreOutdone, AreSlots, Both, First, G
 use Rattle.pass_renewed_proof.specs.Beside.{IsActivationBeside, IsBeside, IsInstanceBeside, IsKeptSlot, IsSlotBeside}
 use Rattle.pass_renewed_proof.specs.Beside.{IsOther, NoSlots, Second, place_in}
 use Rattle.pass_renewed_proof.specs.Chosen.{IsPlaceOf, places_at}
-use Rattle.pass_renewed_proof.specs.Ledger.{AreEntered, AreTheirs, IsFresh, IsGone, IsHomeOf, Ledger, LivesIn, Seat}
+use Rattle.pass_renewed_proof.specs.Ledger.{AreEntered, AreTheirs, IsFresh, IsGone, IsHomeOf, Ledger, LivesIn}
 use Rattle.pass_renewed_proof.specs.Ledger.{is_quiet}
 use Rattle.pass_renewed_proof.specs.Ledger.{used_ledger}
 use Rattle.pass_renewed_proof.specs.Left.{behind}
@@ -493,15 +494,6 @@ module _ (m : Module) (flags : Flags) (roots : Roots) (keeps : (func : ℕ)
             ∙ sym (ap (λ (z : Activation). record z { at = z.at + 1; values = g.other.values }) h.is)
 
     -- ---- others
-
-    same_func : {p q : Seat} → Some p ≡ Some q → p.func ≡ q.func
-    same_func at = cc
-
-    same_alloca : {p q : Seat} → Some p ≡ Some q → p.alloca ≡ q.alloca
-    same_alloca at = cc
-
-    same_instance : {p q : Seat} → Some p ≡ Some q → p.instance ≡ q.instance
-    same_instance at = cc
 
     below_carried : (below : List Activation) → length below ≤ length s.below → AreOutdone s.instances s.top below
         → AreBelowCarried m flags roots l k s.instances s.instances s.world.memory v.world.memory t.world.memory

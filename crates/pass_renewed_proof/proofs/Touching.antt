@@ -17,15 +17,14 @@ use Rattle.frame_classes.specs.Classes.{NeedsFrame}
 use Rattle.frame_slots.specs.Spots.{IsUse, Spot}
 use Rattle.pass_kept_proof.proofs.Same.{eq_itself, or_left, or_right}
 use Rattle.pass_kept_proof.specs.Needed.{reads_at}
+use Rattle.run_laws.proofs.embedded.Memories.{same_refills}
 use Rattle.run_laws.proofs.memory.Homes.{value_on}
 use Rattle.run_laws.specs.changed.Changed.{Each}
 use Rattle.run_laws.specs.embedded.Making.{whole_home}
-use Rattle.run_laws.specs.embedded.Refilled.{AreRefilled, IsRefilled}
 use Rattle.run_laws.specs.embedded.Related.{AreValues}
 use Rattle.run_laws.specs.memory.Pointers.{Extends, Home, IsValue, home_of}
 use Rattle.run_memory.specs.Memory.{owner_rights}
 use Rattle.run_memory.specs.Pointers.{moved}
-use Rattle.run_memory.specs.declared.block.MemoryBlock.{MemoryBlock}
 use Rattle.run_memory.specs.declared.pointer.Pointer.{Pointer}
 use Rattle.run_memory.specs.declared.pointer.Value.{Value}
 use Rattle.run_source.specs.State.{is_suspended}
@@ -35,7 +34,7 @@ use Rattle.run_source.specs.declared.state.State.{State}
 use Rattle.run_step.specs.Step.{Context, Fetched, Work}
 use Rattle.run_step.specs.Values.{arg_values, literal, operand_value, pointer_to, value_in}
 use Rattle.pass_renewed_proof.proofs.Carried.{AreBelowCarried, IsCarried, IsInstanceCarried, IsSlotKept}
-use Rattle.pass_renewed_proof.proofs.Carried.{kept_slot_on, slot_kept}
+use Rattle.pass_renewed_proof.proofs.Carried.{kept_slot_on, same_alloca, same_func, same_instance, slot_kept}
 use Rattle.pass_renewed_proof.proofs.Chosen.{are_places, placed}
 use Rattle.pass_renewed_proof.proofs.Ordinary.{one_slot, own_address, roots_of}
 use Rattle.pass_renewed_proof.proofs.Others.{kept_used, loud_escaped, other_used, used_gone}
@@ -49,7 +48,7 @@ use Rattle.pass_renewed_proof.proofs.Using.{good_places}
 use Rattle.pass_renewed_proof.specs.Beside.{AreOutdone, GoesOn, HasLeftSuspended, IsActivationBeside, IsBeside}
 use Rattle.pass_renewed_proof.specs.Beside.{IsInstanceBeside, IsKeptSlot, IsSlotBeside}
 use Rattle.pass_renewed_proof.specs.Chosen.{IsPlaceOf, places_at}
-use Rattle.pass_renewed_proof.specs.Ledger.{AreEntered, AreTheirs, IsHomeOf, Ledger, LivesIn, Seat, is_quiet}
+use Rattle.pass_renewed_proof.specs.Ledger.{AreEntered, AreTheirs, IsHomeOf, Ledger, LivesIn, is_quiet}
 use Rattle.pass_renewed_proof.specs.Ledger.{used_ledger}
 use Rattle.pass_renewed_proof.specs.Ready.{ArePlacesApart, IsPlace, IsSettled, Place, shown_of, stood}
 use Rattle.pass_renewed_proof.specs.Renewed.{Flags, Roots}
@@ -64,13 +63,6 @@ pub record IsTouching (m : Module) (roots : Roots) (a : Activation) (reading : F
   pub escapes : (v al : ℕ) → roots a.func v ≡ Some al → IsTrue (reads_at v reading)
       → IsTrue (is_escaped (function_at m a.func) al)
   pub is_spot : (al : ℕ) → IsUse (function_at m a.func) al spot → IsSpotOf (function_at m a.func) a spot
-
-same_filled : (n : List MemoryBlock) → AreRefilled n n
-same_filled n = record { each = λ b. on (slice_get n b) }
-  where
-    on : (o : Option MemoryBlock) → IsRefilled o o
-    on None = tt
-    on (Some x) = refl
 
 module _ (m : Module) (flags : Flags) (roots : Roots) (keeps : (func : ℕ)
     → KeepsSlots m (function_at m func) (flags func) (roots func)) (s t : State) (beside : IsBeside m flags roots s t)
@@ -186,12 +178,12 @@ module _ (m : Module) (flags : Flags) (roots : Roots) (keeps : (func : ℕ)
   pub passed : (b : ℕ) → Each (λ (q : Place). q.block ≢ b) ps
       → IsSlotKept l touched s.world.memory s.world.memory b
   passed b out = unused_kept m l s.world.memory s.world.memory t.world.memory t.world.memory ps e places settle aparts
-      theirs (same_filled s.world.memory) (same_filled t.world.memory) b out (λ fresh. refl)
+      theirs (same_refills s.world.memory) (same_refills t.world.memory) b out (λ fresh. refl)
 
   pub touched_entered : AreEntered m (used_ledger m beside.ledger (places_at (roots s.top.func) s.top.values
       beside.top.values reading)) s.world.memory t.world.memory
   touched_entered = used_entered m l s.world.memory s.world.memory t.world.memory t.world.memory ps e places settle
-      aparts theirs (same_filled s.world.memory) (same_filled t.world.memory) e.shown e.future e.full
+      aparts theirs (same_refills s.world.memory) (same_refills t.world.memory) e.shown e.future e.full
 
   within : Each (λ (q : Place). q.block < length l.homes) ps
   within = each_map _ _ ps (λ q (i : IsPlace l.homes l.hides s.world.memory t.world.memory q). i.within) places
@@ -286,15 +278,6 @@ module _ (m : Module) (flags : Flags) (roots : Roots) (keeps : (func : ℕ)
   )
 
   -- ---- others
-
-  same_func : {p q : Seat} → Some p ≡ Some q → p.func ≡ q.func
-  same_func at = cc
-
-  same_alloca : {p q : Seat} → Some p ≡ Some q → p.alloca ≡ q.alloca
-  same_alloca at = cc
-
-  same_instance : {p q : Seat} → Some p ≡ Some q → p.instance ≡ q.instance
-  same_instance at = cc
 
   pub loud_after : (b : ℕ) → (home_of touched.homes b).is_seen ≡ true → is_quiet m (l.seats b) ≡ false
   loud_after b seen = on (is_quiet m (l.seats b)) refl
