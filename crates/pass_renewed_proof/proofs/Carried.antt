@@ -33,6 +33,18 @@ use Rattle.pass_renewed_proof.specs.SlotEnvs.{AreSlotEnvs}
 use Rattle.pass_renewed_proof.specs.SlotRules.{IsMadeOnce}
 use Rattle.pass_renewed_proof.specs.Steps.{given_at}
 
+-- ---- seats
+
+-- one seat has one function, alloca and instance
+pub same_func : {p q : Seat} → Some p ≡ Some q → p.func ≡ q.func
+same_func at = cc
+
+pub same_alloca : {p q : Seat} → Some p ≡ Some q → p.alloca ≡ q.alloca
+same_alloca at = cc
+
+pub same_instance : {p q : Seat} → Some p ≡ Some q → p.instance ≡ q.instance
+same_instance at = cc
+
 -- ---- values where more homes are known
 
 pub envs_on : (homes more : List Home) (roots : ℕ → Option ℕ) (env other : Env) → Extends homes more

@@ -115,7 +115,7 @@ module _ (m : Module) (l : Ledger) where
       }
 
   -- one that may dies in the first run
-  first_dies : (memory target : List MemoryBlock) (b : ℕ) (seat : Seat) → l.seats b ≡ Some seat
+  pub first_dies : (memory target : List MemoryBlock) (b : ℕ) (seat : Seat) → l.seats b ≡ Some seat
       → AreStanding l.homes (muted l.hides memory) target → AreEntered m l memory target
       → AreCarriedOver m l memory (killed memory b) target target
   first_dies memory target b seat is st e = record {

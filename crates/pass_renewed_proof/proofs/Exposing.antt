@@ -51,6 +51,10 @@ module _ (f : Function) (slot v : ℕ) (address : has_name (addresses_of f slot)
   instr_escapes at i e h = escapes (or_left (list_any (occurs_in_phi v) b.phis || list_any (exposes v) b.instrs) _
       (or_right (list_any (occurs_in_phi v) b.phis) _ (any_at (exposes v) b.instrs at i e h)))
 
+  pub phi_escapes : list_any (occurs_in_phi v) b.phis ≡ true → is_escaped f slot ≡ true
+  phi_escapes h = escapes (or_left (list_any (occurs_in_phi v) b.phis || list_any (exposes v) b.instrs) _ (or_left
+      (list_any (occurs_in_phi v) b.phis) _ h))
+
   pub term_escapes : occurs_in_term v b.term ≡ true → is_escaped f slot ≡ true
   term_escapes h = escapes (or_right (list_any (occurs_in_phi v) b.phis || list_any (exposes v) b.instrs) _ h)
 

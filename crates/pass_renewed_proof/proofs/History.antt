@@ -32,7 +32,7 @@ both_true true true e = (refl, refl)
 both_true true false e = absurd (false≢true e)
 both_true false b e = absurd (false≢true e)
 
-local_is : (v : ℕ) (x : Operand) → is_local v x ≡ true → x ≡ Operand.Local v
+pub local_is : (v : ℕ) (x : Operand) → is_local v x ≡ true → x ≡ Operand.Local v
 local_is v (Operand.Local n) e = let is : n ≡ v = grind arith in ap Operand.Local is
 local_is v (Operand.Global n) e = absurd (false≢true e)
 local_is v (Operand.Number z) e = absurd (false≢true e)

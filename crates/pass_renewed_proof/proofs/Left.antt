@@ -1,5 +1,6 @@
 -- An activation that has left stays between the save and the suspend until it comes to the suspend, the end, and behind it.
-use Rattle.std.proofs.Common.{◌≡◌, ℕ, ◌+◌, ◌⊎◌, inl, inr, Bool, true, false, not, List, [], ◌∷◌, length, map, Option, Some, None, refl, sym, ap, ◌∙◌, subst, if◌then◌else◌, ◌&&◌, ◌==◌}
+use Rattle.std.proofs.Common.{◌≡◌, ℕ, ◌+◌, ◌⊎◌, inl, inr, Bool, true, false, not, List, [], ◌∷◌, length, map}
+use Rattle.std.proofs.Common.{Option, Some, None, refl, sym, ap, ◌∙◌, subst, ⊎_elim, if◌then◌else◌, ◌&&◌, ◌==◌}
 use Rattle.std.proofs.lemmas.Bool.{false≢true}
 use Rattle.std.specs.List.{cons_option}
 use Rattle.std.specs.Prelude.{filter_map, option_map, slice_get}
@@ -77,21 +78,27 @@ module _ (f : Function) (k s : Point) (c : IsCallAt Intrinsic.CoroSave f k) (es 
   window_next p i e w = step_on p i e (λ q h. leads_more f both k p q w.from_save (out_of_both p w) h) w.to_suspend.between w.to_suspend.is_path
 
   -- a branch that doesn't leave the window stays in it, or comes to the suspend
-  pub window_branch : (w : Window) → w.save ≡ k → w.suspend ≡ s → IsWindow f w → (p q : Point) → IsInWindow f k s p
-      → leaves p q w ≡ false → IsLeftBy f s q
-  window_branch w ek et facts p q is stays = on (has_point w.inside q) refl (same_point q w.suspend) refl
+  pub window_stays : (w : Window) → w.save ≡ k → w.suspend ≡ s → IsWindow f w → (p q : Point) → IsInWindow f k s p
+      → leaves p q w ≡ false → IsInWindow f k s q ⊎ (q ≡ s)
+  window_stays w ek et facts p q is stays = on (has_point w.inside q) refl (same_point q w.suspend) refl
     where
       in_it : IsInWindow f w.save w.suspend p
       in_it = subst (λ z. IsInWindow f z w.suspend p) (sym ek) (subst (λ z. IsInWindow f k z p) (sym et) is)
 
-      on : (a : Bool) → has_point w.inside q ≡ a → (b : Bool) → same_point q w.suspend ≡ b → IsLeftBy f s q
+      on : (a : Bool) → has_point w.inside q ≡ a → (b : Bool) → same_point q w.suspend ≡ b
+          → IsInWindow f k s q ⊎ (q ≡ s)
       on true ea b eb
-          = Between k c es (subst (λ z. IsInWindow f k z q) et (subst (λ z. IsInWindow f z w.suspend q) ek
+          = inl (subst (λ z. IsInWindow f k z q) et (subst (λ z. IsInWindow f z w.suspend q) ek
           ((facts.inside q).0 ea)))
-      on false ea true eb = AtSuspend (same_point_same q w.suspend eb ∙ et)
+      on false ea true eb = inr (same_point_same q w.suspend eb ∙ et)
       on false ea false eb =
           let h : leaves p q w ≡ true = (λ i. ((facts.inside p).1 in_it i && not (ea i)) && not (eb i)) in
           absurd (false≢true (sym stays ∙ h))
+
+  pub window_branch : (w : Window) → w.save ≡ k → w.suspend ≡ s → IsWindow f w → (p q : Point) → IsInWindow f k s p
+      → leaves p q w ≡ false → IsLeftBy f s q
+  window_branch w ek et facts p q is stays = ⊎_elim (λ h. Between k c es h) (λ e. AtSuspend e) (window_stays w ek et
+      facts p q is stays)
 
 -- ---- the suspend, its switch, the end
 
@@ -101,6 +108,11 @@ switch_next f s label e = AtEnd e refl
 
 pub after_edge : (f : Function) (p q : Point) → IsAfterEnd f p → has_point (nexts f p) q ≡ true → IsAfterEnd f q
 after_edge f p q a h = record { start = a.start; is_start = a.is_start; path = leads_more f [] a.start p q a.path refl h }
+
+pub after_along : (f : Function) (p : Point) (between : List Point) (q : Point) → IsPath f [] p between q
+    → IsAfterEnd f p → IsAfterEnd f q
+after_along f p [] q path a = after_edge f p q a path
+after_along f p (v ∷ between) q path a = after_along f v between q path.2 (after_edge f p v a path.0)
 
 pub end_follows : (f : Function) (p : Point) (c : IsCallAt Intrinsic.CoroEnd f p) → has_point (ends f) p ≡ true → IsAfterEnd f (record { block = p.block; at = p.at + 1 })
 end_follows f p c h = record { start = p; is_start = h; path = record { between = []; is_path = next_edge f p.block p.at c.instr c.stands } }

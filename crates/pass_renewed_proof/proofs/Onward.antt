@@ -14,7 +14,6 @@ use Rattle.ir_paths.specs.Windows.{end_block, is_call_of}
 use Rattle.ir_paths.specs.declared.point.Point.{Point}
 use Rattle.frame_classes.specs.Classes.{suspends}
 use Rattle.frame_slots.proofs.Points.{where_sound}
-use Rattle.frame_slots.specs.Spots.{At, IsUse}
 use Rattle.frame_slots.specs.Uses.{ends_of}
 use Rattle.pass_kept_proof.specs.SuspendRules.{IsCallAt}
 use Rattle.run_laws.specs.embedded.Related.{HasNoSlot}
@@ -26,12 +25,12 @@ use Rattle.run_source.specs.declared.state.Mode.{Mode}
 use Rattle.run_step.specs.Step.{AtInstr, fetch}
 use Rattle.run_step.specs.Values.{Env, pointer_to, value_in}
 use Rattle.run_step.specs.declared.world.Slot.{Slot}
-use Rattle.pass_renewed_proof.proofs.Ahead.{leads_more, next_edge, used_at, used_on}
+use Rattle.pass_renewed_proof.proofs.Ahead.{leads_more, next_edge, used_on}
 use Rattle.pass_renewed_proof.proofs.Carried.{IsCarried, IsSlotKept, slots_on, stand_kept}
 use Rattle.pass_renewed_proof.proofs.History.{fetch_is, no_marker, no_start}
 use Rattle.pass_renewed_proof.proofs.Left.{after_edge, window_next}
 use Rattle.pass_renewed_proof.proofs.Way.{alive_more, barred_more, resumed_more, same_instr, suspend_called}
-use Rattle.pass_renewed_proof.specs.Ahead.{IsBehindSuspendCall, IsNoStart}
+use Rattle.pass_renewed_proof.specs.Ahead.{IsBehindSuspendCall, IsNoStart, IsUsedBefore}
 use Rattle.pass_renewed_proof.specs.Beside.{AreOthers, AreSlots, Begun, Early, GoesOn, IsActivationBeside, IsAliveAt}
 use Rattle.pass_renewed_proof.specs.Beside.{IsEarly, IsOverOf, IsOwn, IsPassed, IsSlotBeside, IsSlotOf, IsTold}
 use Rattle.pass_renewed_proof.specs.Beside.{Leaves, NotLeft}
@@ -178,10 +177,10 @@ module _ (m : Module) (l k : Ledger) (xs : List Instance) (memory memory' target
         left escaped away (kept.lives lives));
   }
 
-  -- one that is used at the place, and stands in the activation's own block behind it
+  -- one that is used on the way, and stands in the activation's own block behind it
   pub slot_used : (alloca b d : ℕ) → has_point (ends_of (function_at m a.func) alloca) (place_in a) ≡ false
       → IsHomeOf k b d → (LivesIn memory' b → LivesIn memory b)
-      → IsUse (function_at m a.func) alloca (At (place_in a)) → (a.has_left ≡ true → LivesIn memory b
+      → IsUsedBefore (function_at m a.func) alloca q → (a.has_left ≡ true → LivesIn memory b
       → (home_of k.homes b).is_seen ≡ true → ⊥)
       → IsSlotBeside m l xs memory target depth a alloca b d
       → IsSlotBeside m k xs memory' target' depth (record a { block = q.block; at = q.at; values = vs }) alloca b d
@@ -196,8 +195,8 @@ module _ (m : Module) (l k : Ledger) (xs : List Instance) (memory memory' target
     ready = c.ready b d depth _ s.seat s.owner s.ready;
     first = λ is goes. inr home;
     resumed = λ is goes. inl (inr home);
-    told_first = λ is goes. inr (used_at (function_at m a.func) alloca (place_in a) q on.edge u);
-    told = λ is goes. inr (inl (used_at (function_at m a.func) alloca (place_in a) q on.edge u));
+    told_first = λ is goes. inr u;
+    told = λ is goes. inr (inl u);
     alive = λ goes live. alive_on alloca no_end (s.alive (goes_before goes) (lives live));
     gone = λ left live seen at. gone left (lives live) seen;
     away = λ is left escaped away live. was_alive_on alloca left (suspend_called (function_at m a.func)) (s.away is

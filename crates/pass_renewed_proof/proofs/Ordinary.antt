@@ -26,16 +26,17 @@ use Rattle.run_source.specs.declared.state.Instance.{Instance}
 use Rattle.run_step.specs.Step.{Context, Done, Fetched, Work, action_of, fetch}
 use Rattle.run_step.specs.Values.{pointer_to, value_in}
 use Rattle.run_step.specs.declared.world.World.{World}
+use Rattle.pass_renewed_proof.proofs.Carried.{same_alloca}
 use Rattle.pass_renewed_proof.proofs.Ready.{each_map, fade, stood_length, used_step}
 use Rattle.pass_renewed_proof.proofs.ShownSteps.{step_shown}
 use Rattle.pass_renewed_proof.proofs.Reading.{read_used}
-use Rattle.pass_renewed_proof.proofs.Stands.{use_stands}
+use Rattle.pass_renewed_proof.proofs.Stands.{at_place, use_stands}
 use Rattle.pass_renewed_proof.proofs.Used.{refilled_from, used_entered}
 use Rattle.pass_renewed_proof.proofs.Using.{IsGoodPlace, all_places, all_settled, all_theirs, apart, good_places, uses}
 use Rattle.pass_renewed_proof.specs.Beside.{IsActivationBeside, IsSlotBeside, place_in}
 use Rattle.pass_renewed_proof.specs.Chosen.{IsPlaceOf, places_at}
 use Rattle.pass_renewed_proof.specs.Ordinary.{IsOrdinary}
-use Rattle.pass_renewed_proof.specs.Ledger.{AreEntered, Ledger, Seat, is_quiet, used_ledger}
+use Rattle.pass_renewed_proof.specs.Ledger.{AreEntered, Ledger, is_quiet, used_ledger}
 use Rattle.pass_renewed_proof.specs.Muted.{IsShownOperand}
 use Rattle.pass_renewed_proof.specs.Ready.{IsPlace, IsUsing, Place, shown_of, stood}
 use Rattle.pass_renewed_proof.specs.Renewed.{Flags, Roots}
@@ -56,6 +57,23 @@ own_address f a = own_within (length (points_where is_gep f)) f a
 pub roots_of : (m : Module) (f : Function) (flags : ℕ → Bool) (roots : ℕ → Option ℕ) → KeepsSlots m f flags roots
     → AreRoots roots
 roots_of m f flags roots keeps v a e = keeps.addresses a a (keeps.rooted v a e).0 (own_address f a)
+
+-- two flagged allocas have two blocks
+pub one_slot : (m : Module) (flags : Flags) (roots : Roots) → ((func : ℕ)
+    → KeepsSlots m (function_at m func) (flags func) (roots func)) → (l : Ledger) (xs : List Instance) (memory target :
+    List MemoryBlock) (depth : ℕ) (a b : Activation) → IsActivationBeside m flags roots l xs memory target depth a b
+    → (i j d : ℕ) → roots a.func i ≡ Some i → roots a.func j ≡ Some j → value_in a.values i ≡ pointer_to d
+    → value_in a.values j ≡ pointer_to d → i ≡ j
+one_slot m flags roots keeps l xs memory target depth a b h i j d ri rj vi vj = ⊎_elim
+    (λ poison. let k : Value.Poison ≡ pointer_to d = sym poison ∙ vi in absurd (cc))
+    (λ ai. ⊎_elim
+    (λ poison. let k : Value.Poison ≡ pointer_to d = sym poison ∙ vj in absurd (cc))
+    (λ aj.
+    let si = h.each i d ai.target ((keeps a.func).rooted i i ri).0 vi ai.other_is in
+    let sj = h.each j d aj.target ((keeps a.func).rooted j j rj).0 vj aj.other_is in
+    same_alloca (sym si.seat ∙ sj.seat))
+    (h.envs.rooted j j rj))
+    (h.envs.rooted i i ri)
 
 module _ (m : Module) (flags : Flags) (roots : Roots) (keeps : (func : ℕ)
     → KeepsSlots m (function_at m func) (flags func) (roots func)) (answers : List ℤ) (l : Ledger) (xs : List
@@ -107,26 +125,15 @@ module _ (m : Module) (flags : Flags) (roots : Roots) (keeps : (func : ℕ)
         depth = _;
         owner = slot.owner;
         ready = slot.ready;
-        stands = use_stands m flags roots l xs s.memory t.memory depth a b h ordinary i.alloca p.block p.target
+        stands = use_stands m flags roots l xs s.memory t.memory depth a b h (At (place_in a)) (at_place m flags roots
+            l xs s.memory t.memory depth a b h ordinary) i.alloca p.block p.target
             ((keeps a.func).is_local i.alloca is).1 (used_here no_slot p i) slot;
       }
 
   -- two flagged allocas have two blocks
   pub one_alloca : (i j d : ℕ) → roots a.func i ≡ Some i → roots a.func j ≡ Some j
       → value_in a.values i ≡ pointer_to d → value_in a.values j ≡ pointer_to d → i ≡ j
-  one_alloca i j d ri rj vi vj = ⊎_elim
-      (λ poison. let k : Value.Poison ≡ pointer_to d = sym poison ∙ vi in absurd (cc))
-      (λ ai. ⊎_elim
-      (λ poison. let k : Value.Poison ≡ pointer_to d = sym poison ∙ vj in absurd (cc))
-      (λ aj.
-      let si = h.each i d ai.target (flagged i i ri) vi ai.other_is in
-      let sj = h.each j d aj.target (flagged j j rj) vj aj.other_is in
-      same_seat (sym si.seat ∙ sj.seat))
-      (h.envs.rooted j j rj))
-      (h.envs.rooted i i ri)
-    where
-      same_seat : {p q : Seat} → Some p ≡ Some q → p.alloca ≡ q.alloca
-      same_seat k = cc
+  one_alloca = one_slot m flags roots keeps l xs s.memory t.memory depth a b h
 
   -- what comes of it
   pub record GoesBeside (v : Work) : Type 0 where

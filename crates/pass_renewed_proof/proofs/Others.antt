@@ -9,18 +9,18 @@ use Rattle.ir_model.specs.declared.module.Module.{Module}
 use Rattle.ir_paths.specs.Slots.{is_escaped}
 use Rattle.ir_paths.specs.declared.point.Point.{Point}
 use Rattle.frame_classes.specs.Classes.{NeedsFrame}
-use Rattle.frame_slots.specs.Spots.{At, IsUse}
+use Rattle.frame_slots.specs.Spots.{IsUse, Spot}
 use Rattle.run_laws.specs.memory.Pointers.{home_of}
 use Rattle.run_memory.specs.declared.block.MemoryBlock.{MemoryBlock}
 use Rattle.run_source.specs.declared.state.Activation.{Activation}
 use Rattle.run_source.specs.declared.state.Instance.{Instance}
 use Rattle.run_source.specs.declared.state.Mode.{Mode}
 use Rattle.pass_renewed_proof.proofs.Carried.{IsCarried}
-use Rattle.pass_renewed_proof.proofs.Stands.{no_use_away, used_away}
-use Rattle.pass_renewed_proof.proofs.Way.{left_unused}
-use Rattle.pass_renewed_proof.specs.Ahead.{HasAwayUse, IsBehindSuspendCall}
-use Rattle.pass_renewed_proof.specs.Beside.{GoesOn, IsActivationBeside, IsFirst, IsKeptSlot, IsSlotBeside, place_in}
-use Rattle.pass_renewed_proof.specs.Ordinary.{IsOrdinary}
+use Rattle.pass_renewed_proof.proofs.Stands.{IsSpotOf, no_use_away, used_away}
+use Rattle.pass_renewed_proof.proofs.Way.{left_unused_at, suspend_called}
+use Rattle.pass_renewed_proof.specs.Ahead.{HasAwayUse}
+use Rattle.pass_renewed_proof.specs.Beside.{GoesOn, IsActivationBeside, IsFirst, IsKeptSlot, IsSlotBeside}
+use Rattle.pass_renewed_proof.specs.Beside.{place_in}
 use Rattle.pass_renewed_proof.specs.Ledger.{Ledger, LivesIn, Seat, is_quiet}
 use Rattle.pass_renewed_proof.specs.Renewed.{Flags, Roots}
 
@@ -30,8 +30,8 @@ not_true false h = absurd (h refl)
 
 module _ (m : Module) (flags : Flags) (roots : Roots) (l k : Ledger) (xs : List Instance) (memory memory' target
     target' : List MemoryBlock) (depth : ℕ) (a b : Activation) (h : IsActivationBeside m flags roots l xs memory
-    target depth a b) (ordinary : IsOrdinary (function_at m a.func) (place_in a)) (alloca c d : ℕ) (local : ¬
-    NeedsFrame (function_at m a.func) alloca) (u : IsUse (function_at m a.func) alloca (At (place_in a))) (s :
+    target depth a b) (spot : Spot) (is_spot : IsSpotOf (function_at m a.func) a spot) (alloca c d : ℕ) (local : ¬
+    NeedsFrame (function_at m a.func) alloca) (u : IsUse (function_at m a.func) alloca spot) (s :
     IsSlotBeside m l xs memory target depth a alloca c d) where
   abbrev f : Function
   f = function_at m a.func
@@ -46,17 +46,17 @@ module _ (m : Module) (flags : Flags) (roots : Roots) (l k : Ledger) (xs : List 
       on (inr (inr e)) = inr e
 
   away_here : a.has_left ≡ true → HasAwayUse (function_at m a.func) alloca
-  away_here left = used_away m flags roots l xs memory target depth a b h ordinary alloca u left
+  away_here left = used_away m flags roots l xs memory target depth a b h spot is_spot alloca u left
 
   never : a.mode ≡ Mode.Resumed → HasAwayUse (function_at m a.func) alloca → ⊥
-  never is away = no_use_away m flags roots l xs memory target depth a b h ordinary alloca local u is away
+  never is away = no_use_away m flags roots l xs memory target depth a b h spot is_spot alloca local u is away
 
   -- where the activation has left, an escaped slot that lives isn't used
   pub used_gone : a.has_left ≡ true → IsTrue (is_escaped (function_at m a.func) alloca) → LivesIn memory c → ⊥
   used_gone left escaped lives = ⊎_elim
-      (λ is. left_unused (function_at m a.func) alloca local escaped (place_in a) (s.away is left escaped (away_here
-      left) lives) ordinary.no_suspend (λ z call e. ordinary.no_switch (subst (λ q. IsBehindSuspendCall f q.block
-      q.at) (sym e) (record { before = z.at; next = refl; is_suspend = call }))) ordinary.no_end u)
+      (λ is. let w = s.away is left escaped (away_here left) lives in
+      left_unused_at (function_at m a.func) alloca local escaped (place_in a) w spot (is_spot.meets left w.suspend
+      (suspend_called (function_at m a.func) w.suspend w.is_suspend) w.by) u)
       (λ is. never is (away_here left))
       first_or
 

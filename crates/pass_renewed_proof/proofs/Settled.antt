@@ -37,8 +37,9 @@ use Rattle.run_step.specs.Step.{AtInstr, Context, Done, Fetched, Work, action_of
 use Rattle.run_step.specs.Values.{literal, operand_value, pointer_to, value_in}
 use Rattle.run_step.specs.declared.world.Slot.{Slot}
 use Rattle.pass_renewed_proof.proofs.Accessing.{not_accessed}
-use Rattle.pass_renewed_proof.proofs.Ahead.{next_edge}
+use Rattle.pass_renewed_proof.proofs.Ahead.{next_edge, used_at}
 use Rattle.pass_renewed_proof.proofs.Anew.{home_past}
+use Rattle.pass_renewed_proof.proofs.Carried.{same_alloca, same_func, same_instance}
 use Rattle.pass_renewed_proof.proofs.Carried.{AreBelowCarried, IsCarried, IsInstanceCarried, IsSlotKept, below_kept}
 use Rattle.pass_renewed_proof.proofs.Carried.{instances_kept, kept_slot_on, made_no_slot, others_on, slot_kept}
 use Rattle.pass_renewed_proof.proofs.Chosen.{are_places}
@@ -50,7 +51,7 @@ use Rattle.pass_renewed_proof.proofs.Reading.{read_used}
 use Rattle.pass_renewed_proof.proofs.Way.{same_instr}
 use Rattle.pass_renewed_proof.proofs.Others.{kept_used, loud_escaped, other_used, used_gone}
 use Rattle.pass_renewed_proof.proofs.SlotEnvs.{set_stand}
-use Rattle.pass_renewed_proof.proofs.Stands.{end_at_first}
+use Rattle.pass_renewed_proof.proofs.Stands.{IsSpotOf, at_place, end_at_first}
 use Rattle.pass_renewed_proof.proofs.Used.{each_listed, faded_loud, is_among, lives_before, refilled_from, refilled_to}
 use Rattle.pass_renewed_proof.proofs.Used.{gone_before, unused_kept, used_block, used_extends, used_home}
 use Rattle.pass_renewed_proof.proofs.Using.{IsGoodPlace, all_places, all_settled, all_theirs, apart, distances}
@@ -60,7 +61,7 @@ use Rattle.pass_renewed_proof.specs.Beside.{AreOutdone, AreSlots, Both, First, G
 use Rattle.pass_renewed_proof.specs.Beside.{IsActivationBeside, IsBeside, IsInstanceBeside, IsKeptSlot, IsSlotBeside}
 use Rattle.pass_renewed_proof.specs.Beside.{IsOther, NoSlots, Second, place_in}
 use Rattle.pass_renewed_proof.specs.Chosen.{IsPlaceOf, places_at}
-use Rattle.pass_renewed_proof.specs.Ledger.{AreEntered, AreTheirs, IsFresh, IsGone, IsHomeOf, Ledger, LivesIn, Seat}
+use Rattle.pass_renewed_proof.specs.Ledger.{AreEntered, AreTheirs, IsFresh, IsGone, IsHomeOf, Ledger, LivesIn}
 use Rattle.pass_renewed_proof.specs.Ledger.{is_quiet}
 use Rattle.pass_renewed_proof.specs.Ledger.{used_ledger}
 use Rattle.pass_renewed_proof.specs.Left.{behind}
@@ -157,6 +158,9 @@ module _ (m : Module) (flags : Flags) (roots : Roots) (keeps : (func : ℕ)
 
   abbrev quiet : ℕ → Bool
   quiet b = is_quiet m (beside.ledger.seats b)
+
+  spot : IsSpotOf (function_at m s.top.func) s.top (At (place_in s.top))
+  spot = at_place m flags roots l s.instances s.world.memory t.world.memory (length s.below) s.top t.top h ordinary
 
   none : HasNoSlot here
   none = subst HasNoSlot (sym here_is) no_slot
@@ -418,11 +422,13 @@ module _ (m : Module) (flags : Flags) (roots : Roots) (keeps : (func : ℕ)
             known) in
             let local : ¬ NeedsFrame f al = ((keeps s.top.func).is_local al flagged).1 in
             slot_used m l k s.instances s.world.memory v.world.memory t.world.memory g.other.world.memory carried
-            (length s.below) s.top next v.values onward al b d (unended al) home (lives b) u
+            (length s.below) s.top next v.values onward al b d (unended al) home (lives b) (used_at f al
+            (place_in s.top) next onward.edge u)
             (λ left live seen. used_gone m flags roots l k s.instances s.world.memory v.world.memory t.world.memory
-            g.other.world.memory (length s.below) s.top t.top h ordinary al b d local u old left
+            g.other.world.memory (length s.below) s.top t.top h (At (place_in s.top)) spot al b d local u old left
             (loud_escaped m flags roots l k s.instances s.world.memory v.world.memory t.world.memory
-            g.other.world.memory (length s.below) s.top t.top h ordinary al b d local u old (loud_after b seen))
+            g.other.world.memory (length s.below) s.top t.top h (At (place_in s.top)) spot al b d local u old
+            (loud_after b seen))
             live)
             old
           where
@@ -489,15 +495,6 @@ module _ (m : Module) (flags : Flags) (roots : Roots) (keeps : (func : ℕ)
 
     -- ---- others
 
-    same_func : {p q : Seat} → Some p ≡ Some q → p.func ≡ q.func
-    same_func at = cc
-
-    same_alloca : {p q : Seat} → Some p ≡ Some q → p.alloca ≡ q.alloca
-    same_alloca at = cc
-
-    same_instance : {p q : Seat} → Some p ≡ Some q → p.instance ≡ q.instance
-    same_instance at = cc
-
     below_carried : (below : List Activation) → length below ≤ length s.below → AreOutdone s.instances s.top below
         → AreBelowCarried m flags roots l k s.instances s.instances s.world.memory v.world.memory t.world.memory
         g.other.world.memory carried below
@@ -533,8 +530,8 @@ module _ (m : Module) (flags : Flags) (roots : Roots) (keeps : (func : ℕ)
                 let ours = used_slot p known in
                 let seats = sym old.seat ∙ ours.seat in
                 other_used m flags roots l k s.instances s.world.memory v.world.memory t.world.memory
-                g.other.world.memory (length s.below) s.top t.top h ordinary known.alloca p.block p.target
-                (local_of p known) (use_of p known) ours carried
+                g.other.world.memory (length s.below) s.top t.top h (At (place_in s.top)) spot known.alloca p.block
+                p.target (local_of p known) (use_of p known) ours carried
                 (used_block m l s.world.memory v.world.memory t.world.memory g.other.world.memory ps e places settle
                 aparts theirs p listed) (lives p.block) (loud_after p.block)
                 depth z al d (λ is. less_not depth (length s.below) lt is) (alone (same_instance seats)) (same_func
@@ -570,8 +567,8 @@ module _ (m : Module) (flags : Flags) (roots : Roots) (keeps : (func : ℕ)
             let seats = sym seated.seat ∙ ours.seat in
             let number : 0 + j ≡ j = omega arith in
             kept_used m flags roots l k s.instances s.world.memory v.world.memory t.world.memory g.other.world.memory
-            (length s.below) s.top t.top h ordinary known.alloca q.block q.target (local_of q known) (use_of q
-            known) ours carried
+            (length s.below) s.top t.top h (At (place_in s.top)) spot known.alloca q.block q.target (local_of q
+            known) (use_of q known) ours carried
             (used_block m l s.world.memory v.world.memory t.world.memory g.other.world.memory ps e places settle
             aparts theirs q listed) (lives q.block) (loud_after q.block)
             z p al (asleep j z (sym (same_instance seats)

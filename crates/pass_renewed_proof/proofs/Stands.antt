@@ -1,7 +1,7 @@
 -- Where an activation comes to a use of a slot, the slot's block stands in the activation's own block, or may come
 -- there.
 use Rattle.std.proofs.Common.{◌≡◌, ℕ, ◌+◌, ◌<◌, ◌⊎◌, inl, inr, Bool, true, false, List, [], ◌∷◌, length, map}
-use Rattle.std.proofs.Common.{Option, Some, None, refl, sym, ap, ◌∙◌, ⊎_elim, arith, if◌then◌else◌, ◌==◌, nat_lt}
+use Rattle.std.proofs.Common.{Option, Some, None, refl, sym, ap, ◌∙◌, subst, ⊎_elim, arith, if◌then◌else◌, ◌==◌, nat_lt}
 use Rattle.std.proofs.lemmas.Bool.{false≢true}
 use Rattle.std.specs.Prelude.{slice_get}
 use Rattle.ir_model.specs.Names.{function_at}
@@ -10,22 +10,25 @@ use Rattle.ir_model.specs.declared.module.Function.{Function}
 use Rattle.ir_model.specs.declared.module.Module.{Module}
 use Rattle.ir_paths.specs.Paths.{IsPath, entry_point, has_point, nexts, nexts_in, same_point, targets}
 use Rattle.ir_paths.specs.Slots.{end_points}
+use Rattle.ir_model.specs.declared.operand.Intrinsic.{Intrinsic}
 use Rattle.ir_paths.specs.Windows.{destroy_label, end_block, resume_label}
 use Rattle.ir_paths.specs.declared.point.Point.{Point}
 use Rattle.frame_classes.proofs.Coming.{end_complete}
-use Rattle.frame_classes.specs.Classes.{NeedsFrame}
-use Rattle.frame_slots.specs.Spots.{At, Comes, IsUse}
+use Rattle.frame_classes.specs.Classes.{MeetsLater, NeedsFrame}
+use Rattle.frame_slots.specs.Spots.{At, Comes, IsUse, Spot, point_at}
 use Rattle.pass_kept_proof.proofs.Same.{either, same_point_same}
+use Rattle.pass_kept_proof.specs.SuspendRules.{IsCallAt}
+use Rattle.rule_slots.specs.Closed.{IsClosed}
 use Rattle.run_memory.specs.declared.block.MemoryBlock.{MemoryBlock}
 use Rattle.run_source.specs.declared.state.Activation.{Activation}
 use Rattle.run_source.specs.declared.state.Instance.{Instance}
 use Rattle.run_source.specs.declared.state.Mode.{Mode}
 use Rattle.pass_renewed_proof.proofs.Left.{left_closed}
-use Rattle.pass_renewed_proof.proofs.Way.{away_unused, barred_unused}
-use Rattle.pass_renewed_proof.specs.Ahead.{HasAwayUse}
+use Rattle.pass_renewed_proof.proofs.Way.{away_unused, barred_unused, meets_in}
+use Rattle.pass_renewed_proof.specs.Ahead.{HasAwayUse, IsBehindSuspendCall}
 use Rattle.pass_renewed_proof.specs.Beside.{IsActivationBeside, IsSlotBeside, MayStand, NotLeft, place_in}
 use Rattle.pass_renewed_proof.specs.Ledger.{Ledger}
-use Rattle.pass_renewed_proof.specs.Left.{IsLeftAt}
+use Rattle.pass_renewed_proof.specs.Left.{IsLeftAt, IsLeftBy}
 use Rattle.pass_renewed_proof.specs.Ordinary.{IsOrdinary}
 use Rattle.pass_renewed_proof.specs.Renewed.{Flags, Roots}
 use Rattle.pass_renewed_proof.specs.Way.{IsResumedAt}
@@ -85,55 +88,74 @@ end_at_first f p r is_end = on r.came.comes
 
 -- ---- uses
 
+-- a use stands where the activation does: at its place, or on an edge from there
+pub record IsSpotOf (f : Function) (a : Activation) (spot : Spot) : Type 0 where
+  pub at : point_at f spot ≡ place_in a
+  pub not_last : a.mode ≡ Mode.Resumed → a.block ≡ end_block f → ⊥
+  pub closed : a.has_left ≡ true → IsClosed f (place_in a)
+  pub meets : a.has_left ≡ true → (s : Point) → IsCallAt Intrinsic.CoroSuspend f s → IsLeftBy f s (place_in a)
+      → MeetsLater f spot s
+
 module _ (m : Module) (flags : Flags) (roots : Roots) (l : Ledger) (xs : List Instance) (memory target : List
     MemoryBlock) (depth : ℕ) (a b : Activation) (h : IsActivationBeside m flags roots l xs memory target depth a b)
-    (ordinary : IsOrdinary (function_at m a.func) (place_in a)) where
-  abbrev f : Function
-  f = function_at m a.func
+  where
+    abbrev f : Function
+    f = function_at m a.func
 
-  not_in_end : a.mode ≡ Mode.Resumed → a.block ≡ end_block (function_at m a.func) → ⊥
-  not_in_end is e = ordinary.no_end e (end_at_first (function_at m a.func) (place_in a) (h.came is) e)
+    pub at_place : IsOrdinary (function_at m a.func) (place_in a)
+        → IsSpotOf (function_at m a.func) a (At (place_in a))
+    at_place ordinary = record {
+      at = refl;
+      not_last = λ is e. ordinary.no_end e (end_at_first (function_at m a.func) (place_in a) (h.came is) e);
+      closed = λ left. let at : IsLeftAt (function_at m a.func) (place_in a) = h.left left in
+          left_closed (function_at m a.func) at.suspend (place_in a) at.is_call ordinary.no_suspend ordinary.no_switch
+          ordinary.no_end at.by;
+      meets = λ left s call by. meets_in (function_at m a.func) s (place_in a) call ordinary.no_suspend
+          (λ e. ordinary.no_switch (subst (λ q. IsBehindSuspendCall f q.block q.at) (sym e) (record {
+            before = s.at;
+            next = refl;
+            is_suspend = call;
+          }))) ordinary.no_end by;
+    }
 
-  -- what is used by an activation that has left is used in a window or after the end
-  pub used_away : (alloca : ℕ) → IsUse (function_at m a.func) alloca (At (place_in a)) → a.has_left ≡ true
-      → HasAwayUse (function_at m a.func) alloca
-  used_away alloca u left =
-      let at : IsLeftAt (function_at m a.func) (place_in a) = h.left left in
-      record {
-        spot = At (place_in a);
+    module _ (spot : Spot) (is_spot : IsSpotOf (function_at m a.func) a spot) where
+      -- what is used by an activation that has left is used in a window or after the end
+      pub used_away : (alloca : ℕ) → IsUse (function_at m a.func) alloca spot → a.has_left ≡ true
+          → HasAwayUse (function_at m a.func) alloca
+      used_away alloca u left = record {
+        spot = spot;
         is_use = u;
-        is_away = left_closed (function_at m a.func) at.suspend (place_in a) at.is_call ordinary.no_suspend
-            ordinary.no_switch ordinary.no_end at.by;
+        is_away = subst (IsClosed (function_at m a.func)) (sym is_spot.at) (is_spot.closed left);
       }
 
-  -- a resumed activation that has left uses no slot
-  pub no_use_away : (alloca : ℕ) → (¬ NeedsFrame (function_at m a.func) alloca)
-      → IsUse (function_at m a.func) alloca (At (place_in a)) → a.mode ≡ Mode.Resumed
-      → HasAwayUse (function_at m a.func) alloca → ⊥
-  no_use_away alloca local u is away = away_unused (function_at m a.func) alloca local away (place_in a) (At (place_in
-      a)) (h.came is) refl (not_in_end is) u
+      -- a resumed activation that has left uses no slot
+      pub no_use_away : (alloca : ℕ) → (¬ NeedsFrame (function_at m a.func) alloca)
+          → IsUse (function_at m a.func) alloca spot → a.mode ≡ Mode.Resumed
+          → HasAwayUse (function_at m a.func) alloca → ⊥
+      no_use_away alloca local u is away = away_unused (function_at m a.func) alloca local away (place_in a) spot
+          (h.came is) is_spot.at (is_spot.not_last is) u
 
-  pub use_stands : (alloca c d : ℕ) → (¬ NeedsFrame (function_at m a.func) alloca)
-      → IsUse (function_at m a.func) alloca (At (place_in a)) → IsSlotBeside m l xs memory target depth a alloca c d
-      → MayStand l memory c d
-  use_stands alloca c d local u s = on a.has_left refl h.modes
-    where
-      first : (a.mode ≡ Mode.Resumed → ⊥) → (t : Bool) → a.has_left ≡ t → MayStand l memory c d
-      first is false e = s.first is (inl (NotLeft e))
-      first is true e = s.first is (inr (used_away alloca u e))
-
-      resumed : a.mode ≡ Mode.Resumed → (t : Bool) → a.has_left ≡ t → MayStand l memory c d
-      resumed is true e = absurd (no_use_away alloca local u is (used_away alloca u e))
-      resumed is false e = ⊎_elim (λ k. k)
-          (λ k. ⊎_elim
-          (λ barred. absurd (barred_unused (function_at m a.func) alloca local (place_in a) (At (place_in a)) barred
-          refl (not_in_end is) u))
-          (λ away. absurd (no_use_away alloca local u is away))
-          k)
-          (s.resumed is (NotLeft e))
-
-      on : (t : Bool) → a.has_left ≡ t → (a.mode ≡ Mode.Plain) ⊎ ((a.mode ≡ Mode.Ramp) ⊎ (a.mode ≡ Mode.Resumed))
+      pub use_stands : (alloca c d : ℕ) → (¬ NeedsFrame (function_at m a.func) alloca)
+          → IsUse (function_at m a.func) alloca spot → IsSlotBeside m l xs memory target depth a alloca c d
           → MayStand l memory c d
-      on t e (inl is) = first (λ k. let z : Mode.Plain ≡ Mode.Resumed = sym is ∙ k in absurd (cc)) t e
-      on t e (inr (inl is)) = first (λ k. let z : Mode.Ramp ≡ Mode.Resumed = sym is ∙ k in absurd (cc)) t e
-      on t e (inr (inr is)) = resumed is t e
+      use_stands alloca c d local u s = on a.has_left refl h.modes
+        where
+          first : (a.mode ≡ Mode.Resumed → ⊥) → (t : Bool) → a.has_left ≡ t → MayStand l memory c d
+          first is false e = s.first is (inl (NotLeft e))
+          first is true e = s.first is (inr (used_away alloca u e))
+
+          resumed : a.mode ≡ Mode.Resumed → (t : Bool) → a.has_left ≡ t → MayStand l memory c d
+          resumed is true e = absurd (no_use_away alloca local u is (used_away alloca u e))
+          resumed is false e = ⊎_elim (λ k. k)
+              (λ k. ⊎_elim
+              (λ barred. absurd (barred_unused (function_at m a.func) alloca local (place_in a) spot barred is_spot.at
+              (is_spot.not_last is) u))
+              (λ away. absurd (no_use_away alloca local u is away))
+              k)
+              (s.resumed is (NotLeft e))
+
+          on : (t : Bool) → a.has_left ≡ t → (a.mode ≡ Mode.Plain) ⊎ ((a.mode ≡ Mode.Ramp) ⊎ (a.mode ≡ Mode.Resumed))
+              → MayStand l memory c d
+          on t e (inl is) = first (λ k. let z : Mode.Plain ≡ Mode.Resumed = sym is ∙ k in absurd (cc)) t e
+          on t e (inr (inl is)) = first (λ k. let z : Mode.Ramp ≡ Mode.Resumed = sym is ∙ k in absurd (cc)) t e
+          on t e (inr (inr is)) = resumed is t e

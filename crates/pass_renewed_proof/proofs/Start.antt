@@ -340,7 +340,7 @@ params_words env (p ∷ params) [] at h = h
 params_words env (p ∷ params) (w ∷ args) at h = params_words (with_value env p.name (Value.Int w)) params args at
     (set_either env p.name (Value.Int w) at tt h)
 
-params_others : (env : Env) (params : List Param) (vs : List Value) (at : ℕ)
+pub params_others : (env : Env) (params : List Param) (vs : List Value) (at : ℕ)
     → list_any (λ (p : Param). p.name == at) params ≡ false → value_in (with_params env params vs) at ≡ value_in env at
 params_others env [] vs at h = refl
 params_others env (p ∷ params) [] at h = refl
@@ -351,7 +351,7 @@ params_others env (p ∷ params) (v ∷ vs) at h =
     differs : (a b : ℕ) → (a == b) ≡ false → a ≡ b → ⊥
     differs a b e is = absurd (grind arith)
 
-blank_poison : (k at : ℕ) → value_in (replicate k None) at ≡ Value.Poison
+pub blank_poison : (k at : ℕ) → value_in (replicate k None) at ≡ Value.Poison
 blank_poison zero at = refl
 blank_poison (suc k) zero = refl
 blank_poison (suc k) (suc at) = blank_poison k at

@@ -34,6 +34,7 @@ use Rattle.run_source.specs.declared.state.State.{State}
 use Rattle.run_step.specs.Step.{AtInstr, Done, Work, action_of, block_of, on_block, set_memory}
 use Rattle.run_step.specs.Values.{Env, pointer_to, value_in}
 use Rattle.pass_renewed_proof.proofs.Ahead.{used_on}
+use Rattle.pass_renewed_proof.proofs.Carried.{same_alloca, same_func, same_instance}
 use Rattle.pass_renewed_proof.proofs.Carried.{AreBelowCarried, IsInstanceCarried, below_kept, instances_kept}
 use Rattle.pass_renewed_proof.proofs.Carried.{kept_slot_on, others_on, same_carried, same_kept, slot_kept}
 use Rattle.pass_renewed_proof.proofs.History.{no_start}
@@ -61,15 +62,6 @@ pub first_or_resumed : (a : Activation) → (a.mode ≡ Mode.Plain) ⊎ ((a.mode
 first_or_resumed a (inl e) = inl (λ r. let z : Mode.Plain ≡ Mode.Resumed = sym e ∙ r in absurd (cc))
 first_or_resumed a (inr (inl e)) = inl (λ r. let z : Mode.Ramp ≡ Mode.Resumed = sym e ∙ r in absurd (cc))
 first_or_resumed a (inr (inr e)) = inr e
-
-same_func : {p q : Seat} → Some p ≡ Some q → p.func ≡ q.func
-same_func at = cc
-
-same_alloca : {p q : Seat} → Some p ≡ Some q → p.alloca ≡ q.alloca
-same_alloca at = cc
-
-same_instance : {p q : Seat} → Some p ≡ Some q → p.instance ≡ q.instance
-same_instance at = cc
 
 same_ramp : {p q : Seat} → Some p ≡ Some q → p.depth ≡ q.depth
 same_ramp at = cc

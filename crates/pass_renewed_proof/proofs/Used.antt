@@ -205,7 +205,7 @@ gone_before m n b r gone x at = let y = refilled_from m n b x r at in ap (λ (z 
     ∙ gone y.0 y.1
 
 -- a block that isn't hidden is as it is
-lives_shown : (hides : ℕ → Bool) (m : List MemoryBlock) (b : ℕ) → LivesIn (muted hides m) b
+pub lives_shown : (hides : ℕ → Bool) (m : List MemoryBlock) (b : ℕ) → LivesIn (muted hides m) b
     → (hides b ≡ false) × LivesIn m b
 lives_shown hides m b l = on (slice_get m b) refl (hides b) refl (sym (muted_at hides m b) ∙ l.there)
   where

@@ -228,39 +228,44 @@ alive_more f slot p q edge none (Started start is path) = Started start is (lead
 
 -- ---- activations that have left
 
-drop_avoided : (f : Function) (avoided : List Point) (p : Point) (between : List Point) (q : Point)
+pub drop_avoided : (f : Function) (avoided : List Point) (p : Point) (between : List Point) (q : Point)
     → IsPath f avoided p between q → IsPath f [] p between q
 drop_avoided f avoided p [] q h = h
 drop_avoided f avoided p (v ∷ between) q h = (h.0, refl, drop_avoided f avoided v between q h.2)
 
-meets_in : (f : Function) (slot : ℕ) (s p : Point) → IsCallAt Intrinsic.CoroSuspend f s
+pub meets_in : (f : Function) (s p : Point) → IsCallAt Intrinsic.CoroSuspend f s
     → (IsCallAt Intrinsic.CoroSuspend f p → ⊥) → (p ≡ behind s → ⊥) → (p.block ≡ end_block f → p.at ≡ 0 → ⊥)
     → IsLeftBy f s p → MeetsLater f (At p) s
-meets_in f slot s p call no_suspend no_switch no_end (Between k c es w) = inl (record {
+meets_in f s p call no_suspend no_switch no_end (Between k c es w) = inl (record {
   between =
       w.to_suspend.between;
   is_path = drop_avoided f (k ∷ s ∷ []) p w.to_suspend.between s w.to_suspend.is_path;
 })
-meets_in f slot s p call no_suspend no_switch no_end (AtSuspend e) = absurd (no_suspend (subst (IsCallAt
+meets_in f s p call no_suspend no_switch no_end (AtSuspend e) = absurd (no_suspend (subst (IsCallAt
     Intrinsic.CoroSuspend f) (sym e) call))
-meets_in f slot s p call no_suspend no_switch no_end (AtSwitch e) = absurd (no_switch e)
-meets_in f slot s p call no_suspend no_switch no_end (AtEnd e z) = absurd (no_end e z)
-meets_in f slot s p call no_suspend no_switch no_end (Behind a) = inr a
+meets_in f s p call no_suspend no_switch no_end (AtSwitch e) = absurd (no_switch e)
+meets_in f s p call no_suspend no_switch no_end (AtEnd e z) = absurd (no_end e z)
+meets_in f s p call no_suspend no_switch no_end (Behind a) = inr a
 
--- an escaped slot that may have been alive where an activation left isn't used between the save and the suspend, nor
+-- an escaped slot that may have been alive where an activation left isn't used where that may come to the suspend, nor
 -- after the end
+pub left_unused_at : (f : Function) (slot : ℕ) → (¬ NeedsFrame f slot) → IsTrue (is_escaped f slot) → (p : Point)
+    → (w : WasAlive f slot p) → (spot : Spot) → MeetsLater f spot w.suspend → IsUse f slot spot → ⊥
+left_unused_at f slot local escaped p w spot meets u = local (Alive (record {
+  is_escaped = escaped;
+  suspend = w.suspend;
+  is_suspend = w.is_suspend;
+  is_alive = w.is_alive;
+  spot = spot;
+  is_use = u;
+  meets = meets;
+}))
+
 pub left_unused : (f : Function) (slot : ℕ) → (¬ NeedsFrame f slot) → IsTrue (is_escaped f slot) → (p : Point)
     → WasAlive f slot p → (IsCallAt Intrinsic.CoroSuspend f p → ⊥) → ((s : Point)
     → IsCallAt Intrinsic.CoroSuspend f s → p ≡ behind s → ⊥) → (p.block ≡ end_block f → p.at ≡ 0 → ⊥)
     → IsUse f slot (At p) → ⊥
 left_unused f slot local escaped p w no_suspend no_switch no_end u =
     let call = suspend_called f w.suspend w.is_suspend in
-    local (Alive (record {
-      is_escaped = escaped;
-      suspend = w.suspend;
-      is_suspend = w.is_suspend;
-      is_alive = w.is_alive;
-      spot = At p;
-      is_use = u;
-      meets = meets_in f slot w.suspend p call no_suspend (no_switch w.suspend call) no_end w.by;
-    }))
+    left_unused_at f slot local escaped p w (At p) (meets_in f w.suspend p call no_suspend (no_switch w.suspend
+    call) no_end w.by) u

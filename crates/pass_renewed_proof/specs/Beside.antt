@@ -212,9 +212,10 @@ pub record IsActivationBeside (m : Module) (flags : Flags) (roots : Roots) (l : 
   pub begins : a.mode ≡ Mode.Resumed → a.instance ≢ None
   pub left : a.has_left ≡ true → IsLeftAt (function_at m a.func) (place_in a)
 
--- the name to which a value is given back is no address in such a slot
-abbrev pub IsFree : (ℕ → Option ℕ) → Option ℕ → Type 0
-IsFree roots name = (v a : ℕ) → roots v ≡ Some a → name ≡ Some v → ⊥
+-- the name to which a value is given back is no address in such a slot, nor that of an alloca
+pub record IsFree (f : Function) (roots : ℕ → Option ℕ) (name : Option ℕ) : Type 0 where
+  pub no_part : (v slot : ℕ) → roots v ≡ Some slot → name ≡ Some v → ⊥
+  pub no_alloca : (v : ℕ) → IsMadeOnce f v → name ≡ Some v → ⊥
 
 -- the activations below, of which the topmost waits for a value to be given to a name
 abbrev pub AreBelow : Module → Flags → Roots → Ledger → List Instance → List MemoryBlock → List MemoryBlock
@@ -223,8 +224,8 @@ AreBelow m flags roots l xs memory target name [] [] = Unit {0}
 AreBelow m flags roots l xs memory target name [] (b ∷ bs) = ⊥
 AreBelow m flags roots l xs memory target name (a ∷ as') [] = ⊥
 AreBelow m flags roots l xs memory target name (a ∷ as') (b ∷ bs) =
-    IsActivationBeside m flags roots l xs memory target (length as') a b × IsFree (roots a.func) name × AreBelow m
-    flags roots l xs memory target a.result as' bs
+    IsActivationBeside m flags roots l xs memory target (length as') a b × IsFree (function_at m a.func) (roots
+    a.func) name × AreBelow m flags roots l xs memory target a.result as' bs
 
 -- ---- instances
 

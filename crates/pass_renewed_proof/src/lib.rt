@@ -117,6 +117,16 @@ ghost use Rattle.run_source.specs.declared.state.Status.{Status as TheStatus};
 ghost use Rattle.run_source.specs.declared.state.Instance.{Instance as TheInstance};
 ghost use Rattle.run_step.specs.Step.{alloca_kind, has_markers};
 ghost use Rattle.run_step.specs.Values.{arg_values, integer, nth};
+ghost use Rattle.pass_renewed_proof.specs.Branching.{AreWindowsOf, IsBranching, IsCalling, IsLeaving};
+ghost use Rattle.pass_renewed_proof.specs.Branching.{MayComeBack, StaysInside, returned_by};
+ghost use Rattle.run_source.specs.Source.{enter, enter_block, go_to};
+ghost use Rattle.run_source.specs.declared.state.Activation.{Activation as TheActivation};
+ghost use Rattle.ir_model.specs.declared.instr.Terminator.{Terminator as TheTerminator};
+ghost use Rattle.run_step.specs.Runs.{seen_of};
+ghost use Rattle.run_source.specs.State.{is_suspended, own_facts, with_status};
+ghost use Rattle.run_step.specs.Step.{AtTerm, Enter, GoTo, Return};
+ghost use Rattle.std.specs.Prelude.{slice_set};
+ghost use Rattle.pass_renewed_proof.specs.Beside.{IsOverOf};
 ghost use Rattle.pass_renewed_proof.specs.LocalSlot as local_slot;
 ghost use Rattle.pass_renewed_proof.specs.RestartedSlots as restarted_slots;
 ghost use Rattle.pass_renewed_proof.specs.EscapedRestart as escaped_restart;
@@ -586,4 +596,128 @@ pub fn renewed_slots_are_ramp_slots()
         → is_among (renewed_facts flags f facts).ramp_slots slot ≡ true }
     ensures others { (f : Function) (flags : ℕ → Bool) (facts : TheFacts) (slot : TheSlot) → flags slot.alloca ≡ false
         → is_among (renewed_facts flags f facts).ramp_slots slot ≡ is_among facts.ramp_slots slot }
+{}
+
+// ---- control flow
+
+/// A branch goes to one label in both runs. Where it leaves no window it leads to states beside each other, with the
+/// values of the phis that it comes to. The switch of a suspend goes on to the end. No activation below may go on in
+/// the topmost one's instance where that one hasn't left.
+pub fn branches_stay_beside()
+    ensures label { (m : Module) (flags : Flags) (roots : Roots) (s t : TheState) → IsBeside m flags roots s t
+        → (answers : List ℤ) (label : ℕ) (term : TheTerminator)
+        → action_of (record { code = m; answers = answers; rights = owner_rights; function = function_at m s.top.func })
+        (work_of s) (AtTerm term) ≡ GoTo label
+        → action_of (record { code = m; answers = answers; rights = owner_rights; function = function_at m s.top.func })
+        (work_of t) (AtTerm term) ≡ GoTo label }
+    ensures entered { (flags : Flags) (roots : Roots) (g h : Given) → h.code ≡ g.code
+        → ((func : ℕ) → KeepsSlots g.code (function_at g.code func) (flags func) (roots func)) → (s t : TheState)
+        → IsBeside g.code flags roots s t → (label : ℕ) → IsBranching g.code s.top label
+        → (s.top.has_left ≡ true
+        → StaysInside (function_of g s) (place_in s.top) (entry_point (function_of g s) label))
+        → AreOutdone s.instances s.top s.below → HasLeftSuspended s.instances s.top
+        → IsBeside g.code flags roots (enter_block g s label) (enter_block h t label) }
+{}
+
+/// So does a branch that leaves a window, where the instance is Suspended by the activation's own save. It is Running
+/// again, and the activation hasn't left any more.
+pub fn leaving_branches_stay_beside()
+    ensures { (flags : Flags) (roots : Roots) (g h : Given) → h.code ≡ g.code
+        → ((func : ℕ) → KeepsSlots g.code (function_at g.code func) (flags func) (roots func)) → (s t : TheState)
+        → IsBeside g.code flags roots s t → (label : ℕ) → IsBranching g.code s.top label
+        → IsLeaving (function_of g s) (place_in s.top) (entry_point (function_of g s) label) → (n : ℕ)
+        (x y : TheInstance) → MayComeBack s.instances (length s.below) s.top n x → slice_get t.instances n ≡ Some y
+        → AreOutdone (slice_set s.instances n (record x { status = TheStatus.Running })) (record s.top {
+          has_left = false;
+        }) s.below
+        → IsBeside g.code flags roots (enter_block g (with_left (with_status s n x TheStatus.Running) false) label)
+        (enter_block h (with_left (with_status t n y TheStatus.Running) false) label) }
+{}
+
+/// So a step that goes to a label does so in both runs. No activation below may go on in the topmost one's instance
+/// where that one hasn't left, before the step and behind it.
+pub fn labels_are_reached_beside()
+    ensures { (flags : Flags) (roots : Roots) (g h : Given) → h.code ≡ g.code
+        → ((func : ℕ) → KeepsSlots g.code (function_at g.code func) (flags func) (roots func)) → (s t : TheState)
+        → IsBeside g.code flags roots s t → (label : ℕ) → IsBranching g.code s.top label
+        → AreWindowsOf (function_of g s) (own_facts g s).windows
+        → (own_facts h t).windows ≡ (own_facts g s).windows → AreOutdone s.instances s.top s.below
+        → HasLeftSuspended s.instances s.top → (after : TheState) → AreOutdone after.instances after.top s.below
+        → go_to g s label ≡ Ok after
+        → (other : TheState) × (go_to h t label ≡ Ok other) × IsBeside g.code flags roots after other }
+{}
+
+/// A call of a defined function enters it in both runs, with arguments that stand for one another.
+pub fn calls_stay_beside()
+    ensures { (flags : Flags) (roots : Roots) (g h : Given) → h.code ≡ g.code
+        → ((func : ℕ) → KeepsSlots g.code (function_at g.code func) (flags func) (roots func)) → (answers : List ℤ)
+        (s t : TheState) → IsBeside g.code flags roots s t → (result : Option ℕ) (must_tail : Bool) (ty : Option Ty)
+        (callee : TheCallee) (args : List TheArg) → IsCalling g.code roots s.top result must_tail ty callee args
+        → AreOutdone s.instances s.top s.below → HasLeftSuspended s.instances s.top → (func : ℕ) (vs : List TheValue)
+        (other : Option ℕ) (tail : Bool)
+        → action_of (record { code = g.code; answers = answers; rights = owner_rights; function = function_of g s })
+        (work_of s) (AtInstr (TheInstr.Call result must_tail ty callee args)) ≡ Enter func vs other tail
+        → (ws : List TheValue) × (action_of (record {
+          code = g.code;
+          answers = answers;
+          rights = owner_rights;
+          function = function_of g s;
+        }) (work_of t) (AtInstr (TheInstr.Call result must_tail ty callee args)) ≡ Enter func ws other tail)
+        × IsBeside g.code flags roots (enter g s func vs other) (enter h t func ws other) }
+{}
+
+/// A return leads back to the caller in both runs, or ends both. The slots of the activation die, and its caller is
+/// given values that stand for one another.
+pub fn returns_stay_beside()
+    ensures caller { (m : Module) (flags : Flags) (roots : Roots)
+        → ((func : ℕ) → KeepsSlots m (function_at m func) (flags func) (roots func)) → (s t : TheState)
+        → IsBeside m flags roots s t → (arg : Option TheArg)
+        → fetch (function_at m s.top.func) s.top.block s.top.at ≡ AtTerm (TheTerminator.Ret arg)
+        → AreOutdone s.instances s.top s.below → HasLeftSuspended s.instances s.top → (a : TheActivation)
+        (below : List TheActivation) → s.below ≡ a ∷ below → (answers : List ℤ) (v : Option TheValue)
+        → action_of (record { code = m; answers = answers; rights = owner_rights; function = function_at m s.top.func })
+        (work_of s) (AtTerm (TheTerminator.Ret arg)) ≡ Return v → (after : TheState) → returned_by s v ≡ Ok after
+        → (u : Option TheValue) × (other : TheState) × (action_of (record {
+          code = m;
+          answers = answers;
+          rights = owner_rights;
+          function = function_at m s.top.func;
+        }) (work_of t) (AtTerm (TheTerminator.Ret arg)) ≡ Return u) × (returned_by t u ≡ Ok other)
+        × IsBeside m flags roots after other }
+    ensures run { (m : Module) (flags : Flags) (roots : Roots)
+        → ((func : ℕ) → KeepsSlots m (function_at m func) (flags func) (roots func)) → (s t : TheState)
+        → IsBeside m flags roots s t → (arg : Option TheArg)
+        → fetch (function_at m s.top.func) s.top.block s.top.at ≡ AtTerm (TheTerminator.Ret arg) → s.below ≡ []
+        → (answers : List ℤ) (v : Option TheValue)
+        → action_of (record { code = m; answers = answers; rights = owner_rights; function = function_at m s.top.func })
+        (work_of s) (AtTerm (TheTerminator.Ret arg)) ≡ Return v → (after : TheState) → returned_by s v ≡ Ok after
+        → (u : Option TheValue) × (other : TheState) × (action_of (record {
+          code = m;
+          answers = answers;
+          rights = owner_rights;
+          function = function_at m s.top.func;
+        }) (work_of t) (AtTerm (TheTerminator.Ret arg)) ≡ Return u) × (returned_by t u ≡ Ok other)
+        × (seen_of m other.world other.outcome ≡ seen_of m after.world after.outcome) }
+{}
+
+/// So does an activation that returns nothing, as a resumed one does at the end, wherever it stands. It has left, or
+/// the instance is over.
+pub fn ends_lead_back_beside()
+    ensures { (m : Module) (flags : Flags) (roots : Roots)
+        → ((func : ℕ) → KeepsSlots m (function_at m func) (flags func) (roots func)) → (s t : TheState)
+        → IsBeside m flags roots s t
+        → (s.top.instance ≢ None → s.top.has_left ≡ false → IsOverOf s.instances s.top)
+        → AreOutdone s.instances s.top s.below → HasLeftSuspended s.instances s.top → (a : TheActivation)
+        (below : List TheActivation) → s.below ≡ a ∷ below → (after : TheState) → returned_by s None ≡ Ok after
+        → (other : TheState) × (returned_by t None ≡ Ok other) × IsBeside m flags roots after other }
+{}
+
+/// Where an instance is resumed or destroyed it is Running in both runs, and the resumer goes on behind its call.
+pub fn resumers_stay_beside()
+    ensures { (m : Module) (flags : Flags) (roots : Roots)
+        → ((func : ℕ) → KeepsSlots m (function_at m func) (flags func) (roots func)) → (s t : TheState)
+        → IsBeside m flags roots s t → (i : TheInstr) → IsGiving m roots s.top i None → (n : ℕ) (x y : TheInstance)
+        → slice_get s.instances n ≡ Some x → is_suspended x.status ≡ true → slice_get t.instances n ≡ Some y
+        → IsBeside m flags roots (with_status (next s) n x TheStatus.Running)
+        (with_status (next t) n y TheStatus.Running) }
 {}
