@@ -3,6 +3,9 @@ pub mod Parts
 pub mod Moves
 pub mod Open
 pub mod Ramps
+pub mod Marks
+pub mod Behind
+pub mod Starts
 pub mod Instrs
 pub mod Changes
 pub mod NewSlots
@@ -12,6 +15,15 @@ pub mod Resumes
 pub mod Begins
 pub mod Acts
 pub mod Order
+pub mod Like
+pub mod Now
+pub mod Saving
+pub mod Ends
+pub mod Sleeping
+pub mod Freeing
+pub mod Leaving
+pub mod Coros
+pub mod NoEnds
 pub mod Steps
 pub mod Runs
 pub mod Says

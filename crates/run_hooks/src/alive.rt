@@ -20,7 +20,14 @@ ghost use Rattle.run_hooks.specs.Away.{IsPlacedState, KeepsAllPlaceRules};
 ghost use Rattle.run_hooks.specs.Hooks.{step_of};
 ghost use Rattle.run_hooks.specs.Left.{IsLastState};
 ghost use Rattle.run_hooks.specs.Reached.{AllHaveSwitches, IsReachedState};
-ghost use Rattle.run_hooks.specs.alive.Alive.{AreAliveAt, HandsOver, IsAliveSomewhere, IsAliveState, KeepsAllAliveRules, handing};
+ghost use Rattle.run_hooks.specs.alive.Alive.{
+  AreAliveAt,
+  HandsOver,
+  IsAliveSomewhere,
+  IsAliveState,
+  KeepsAllAliveRules,
+  handing,
+};
 ghost use Rattle.run_hooks.specs.alive.Apart.{LiveAreApart};
 ghost use Rattle.run_hooks.specs.alive.Slots.{lives};
 ghost use Rattle.run_hooks.specs.alive.Worked as worked;

@@ -25,21 +25,26 @@ use Rattle.run_hooks.specs.Hooks.{Hooks, hooked_act, hooked_advance, hooked_cont
 use Rattle.run_hooks.specs.Reached.{IsReachedState}
 use Rattle.run_ints.proofs.Widths.{IsWordOf-word_of}
 use Rattle.run_memory.specs.declared.pointer.Value.{Value}
-use Rattle.run_source.specs.Source.{Sleeper, after_end, change_own, end_of, frame_address, mode_of, release, save, save_for, sleeper_at, sleeper_of, suspend}
-use Rattle.run_source.specs.State.{function_of, gives, instance_at, next, or_undefined, own_frame, own_instance, point_of, settled, with_instance, work_of}
+use Rattle.run_source.specs.Source.{Sleeper, after_end, change_own, end_of, frame_address, mode_of, release, save}
+use Rattle.run_source.specs.Source.{save_for, sleeper_at, sleeper_of, suspend}
+use Rattle.run_source.specs.State.{function_of, gives, instance_at, next, or_undefined, own_frame, own_instance}
+use Rattle.run_source.specs.State.{point_of, settled, with_instance, work_of}
 use Rattle.run_source.specs.declared.state.Activation.{Activation}
 use Rattle.run_source.specs.declared.state.Instance.{Instance}
 use Rattle.run_source.specs.declared.state.Mode.{Mode}
 use Rattle.run_source.specs.declared.state.State.{State}
 use Rattle.run_source.specs.declared.state.Status.{Status}
 use Rattle.run_step.specs.Results.{and_then, found, ok_if}
-use Rattle.run_step.specs.Step.{Action, AtInstr, Coro, Deallocate, Done, Enter, Fetched, GoTo, NewSlot, Return, Stuck, action_of, fetch}
+use Rattle.run_step.specs.Step.{Action, AtInstr, Coro, Deallocate, Done, Enter, Fetched, GoTo, NewSlot, Return, Stuck}
+use Rattle.run_step.specs.Step.{action_of, fetch}
 use Rattle.run_step.specs.Values.{arg_values, integer, nth, truth_value}
 use Rattle.run_types.proofs.Fit.{both_true, fits_as, no_integer, poison_fits, truth_fits, type_fits}
-use Rattle.run_types.proofs.Ordinary.{Called, FitsAction, IsCoroCall, action_fine}
+use Rattle.run_types.proofs.Ordinary.{action_fine}
+use Rattle.run_types.proofs.Results.{Called, FitsAction, IsCoroCall}
 use Rattle.run_types.proofs.Rules.{call_kind_is}
 use Rattle.run_hooks.proofs.alive.Places.{own_there}
-use Rattle.run_types.proofs.Parts.{called_fits, freed_fits, gives_fits, instance_set, instance_there, next_fits, returned_fits, saved, settled_fits, went}
+use Rattle.run_types.proofs.Parts.{called_fits, freed_fits, gives_fits, instance_set, instance_there, next_fits}
+use Rattle.run_types.proofs.Parts.{returned_fits, saved, settled_fits, went}
 use Rattle.run_types.specs.Fitting.{FitsKind, FitsResult, FitsType, IsInteger}
 use Rattle.run_types.specs.Rules.{KeepsAllTypes}
 use Rattle.run_types.specs.States.{FitsStatus, IsFittingState, KeepsFitting, StaysFitting, TakesAny}
@@ -161,7 +166,8 @@ module _ (h : Hooks) (rules : KeepsAllTypes h.given.code) (keeps : KeepsFitting 
         after t j same Mode.Resumed = returned_fits m t j None (result_poison (function_at m t.top.func).result)
         after t j same mode = gives_fits m t j result (truth_value false) (λ r er.
             subst (λ (n : ℕ). FitsKind (value_kind (function_at m n) r) (truth_value false)) (sym same)
-            (by_type Intrinsic.CoroEnd Basic.I1 refl (λ t. refl) c (truth_value false) (λ t e. truth_fits t e false) r er))
+            (by_type Intrinsic.CoroEnd Basic.I1 refl (λ t. refl) c (truth_value false) (λ t e. truth_fits t e false) r
+            er))
 
         on : (b : Bool) → Fine (after_end (if b then s else h.close s) result s.top.mode)
         on true = after s k refl s.top.mode
@@ -177,7 +183,8 @@ module _ (h : Hooks) (rules : KeepsAllTypes h.given.code) (keeps : KeepsFitting 
     saves : Fine (save h.given s)
     saves = on (suspend_of f (point_of s))
       where
-        on : (o : Option Point) → Fine (and_then (found Cause.State o) (λ u. and_then (save_for s (point_of s) u) (λ t. Ok (next t))))
+        on : (o : Option Point) → Fine (and_then (found Cause.State o)
+            (λ u. and_then (save_for s (point_of s) u) (λ t. Ok (next t))))
         on None = tt
         on (Some u) = saved m s k own (point_of s) u (λ t. Ok (next t)) (λ t j same. next_fits m t j)
 
@@ -192,7 +199,8 @@ module _ (h : Hooks) (rules : KeepsAllTypes h.given.code) (keeps : KeepsFitting 
             (λ t e. word_fits 8 (negsuc 0) t e) r er))
 
         on : (token : Operand) → Fine (suspend s result token)
-        on Operand.None = saved m s k own (point_of s) (point_of s) (λ t. Ok (gives t result (integer 8 (negsuc 0)))) fits
+        on Operand.None = saved m s k own (point_of s) (point_of s) (λ t. Ok (gives t result (integer 8 (negsuc 0))))
+            fits
         on token = fits s k refl
 
     coro_fine : (x : Intrinsic) → IsCoroCall here x args result → Fine (hooked_coro h s x args vs result)

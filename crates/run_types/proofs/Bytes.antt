@@ -1,6 +1,8 @@
 -- What operations on memory leave of bytes, and what a load gives.
-use Rattle.std.proofs.Common.{◌≡◌, ◌<◌, ◌≤◌, ◌⊎◌, inl, inr, ℕ, zero, suc, ◌+◌, ◌*◌, ◌/◌, ◌%◌, ◌^◌, Bool, true, false, List, [], ◌∷◌, ◌++◌, length}
-use Rattle.std.proofs.Common.{Option, Some, None, Result, Ok, Err, refl, sym, ap, ◌∙◌, subst, arith, replicate, ◌&&◌, ◌==◌}
+use Rattle.std.proofs.Common.{◌≡◌, ◌<◌, ◌≤◌, ◌⊎◌, inl, inr, ℕ, zero, suc, ◌+◌, ◌*◌, ◌/◌, ◌%◌, ◌^◌, Bool, true, false}
+use Rattle.std.proofs.Common.{List, [], ◌∷◌, ◌++◌, length}
+use Rattle.std.proofs.Common.{Option, Some, None, Result, Ok, Err, refl, sym, ap, ◌∙◌, subst, arith, replicate, ◌&&◌}
+use Rattle.std.proofs.Common.{◌==◌}
 use Rattle.std.proofs.Math.Nat.{mod-lt}
 use Rattle.std.proofs.Math.Pow.{pow_mono}
 use Rattle.std.proofs.lemmas.Bool.{eq-eqb, eqb-true, ltb-false}
@@ -9,9 +11,12 @@ use Rattle.std.specs.Prelude.{drop, if◌then◌else◌, nat_lt, not, slice_get,
 use Rattle.ir_base.specs.declared.cause.Cause.{Cause}
 use Rattle.ir_laws.specs.facts.counted.Widths.{is_width}
 use Rattle.run_hooks.proofs.alive.Parts.{all_append, all_where}
-use Rattle.run_memory.specs.Memory.{Rights, access_bytes, both, bytes_at, bytes_in, check, copied, copy, decode, digits, disowned, encode, ended}
-use Rattle.run_memory.specs.Memory.{fresh, integer_from, is_constant, is_owned, is_killed, is_unkilled, kill, killed, killed_block, load, may_be_owned, number_of, on_ok}
-use Rattle.run_memory.specs.Memory.{onto, overlaps, own, owned_to, parts, range, started, store, unless_constant, width_bytes, with_block, with_bytes, write, written}
+use Rattle.run_memory.specs.Memory.{Rights, access_bytes, both, bytes_at, bytes_in, check, copied, copy, decode, digits}
+use Rattle.run_memory.specs.Memory.{disowned, encode, ended}
+use Rattle.run_memory.specs.Memory.{fresh, integer_from, is_constant, is_owned, is_killed, is_unkilled, kill, killed}
+use Rattle.run_memory.specs.Memory.{killed_block, load, may_be_owned, number_of, on_ok}
+use Rattle.run_memory.specs.Memory.{onto, overlaps, own, owned_to, parts, range, started, store, unless_constant}
+use Rattle.run_memory.specs.Memory.{width_bytes, with_block, with_bytes, write, written}
 use Rattle.run_memory.specs.declared.block.Byte.{Byte}
 use Rattle.run_memory.specs.declared.block.Kind.{Kind}
 use Rattle.run_memory.specs.declared.block.Life.{Life}
@@ -70,7 +75,8 @@ block_set [] b f h k = tt
 block_set (x ∷ m) zero f h k = (h x k.0, k.1)
 block_set (x ∷ m) (suc b) f h k = (k.0, block_set m b f h k.1)
 
-pub fresh_has : (m : List MemoryBlock) (size align : ℕ) (kind : Kind) → HaveBytes m → HaveBytes (fresh m size align kind)
+pub fresh_has : (m : List MemoryBlock) (size align : ℕ) (kind : Kind) → HaveBytes m
+    → HaveBytes (fresh m size align kind)
 fresh_has m size align kind h = all_append (λ (x : MemoryBlock). AreBytes x.bytes) m _ h (repeated size, tt)
 
 pub killed_has : (m : List MemoryBlock) (b : ℕ) → HaveBytes m → HaveBytes (killed m b)
@@ -215,17 +221,23 @@ take_at_most (suc n) (b ∷ bytes) = let h = take_at_most n bytes in omega (arit
 whole : (w : ℕ) → is_width w ≡ true → (w ≡ 1) ⊎ (8 * width_bytes w ≡ w)
 whole w e = on (w == 1) refl
   where
-    more : (a b c d : Bool) → (a || (b || (c || d))) ≡ true → (w == 8) ≡ a → (w == 16) ≡ b → (w == 32) ≡ c → (w == 64) ≡ d
+    more : (a b c d : Bool) → (a || (b || (c || d))) ≡ true → (w == 8) ≡ a → (w == 16) ≡ b → (w == 32) ≡ c → (w == 64)
+        ≡ d
         → 8 * width_bytes w ≡ w
-    more true b c d h ea eb ec ed = let is : w ≡ 8 = eqb-true w 8 ea in subst (λ (n : ℕ). 8 * width_bytes n ≡ n) (sym is) refl
-    more false true c d h ea eb ec ed = let is : w ≡ 16 = eqb-true w 16 eb in subst (λ (n : ℕ). 8 * width_bytes n ≡ n) (sym is) refl
-    more false false true d h ea eb ec ed = let is : w ≡ 32 = eqb-true w 32 ec in subst (λ (n : ℕ). 8 * width_bytes n ≡ n) (sym is) refl
-    more false false false true h ea eb ec ed = let is : w ≡ 64 = eqb-true w 64 ed in subst (λ (n : ℕ). 8 * width_bytes n ≡ n) (sym is) refl
+    more true b c d h ea eb ec ed = let is : w ≡ 8 = eqb-true w 8 ea in subst (λ (n : ℕ). 8 * width_bytes n ≡ n)
+        (sym is) refl
+    more false true c d h ea eb ec ed = let is : w ≡ 16 = eqb-true w 16 eb
+        in subst (λ (n : ℕ). 8 * width_bytes n ≡ n) (sym is) refl
+    more false false true d h ea eb ec ed = let is : w ≡ 32 = eqb-true w 32 ec
+        in subst (λ (n : ℕ). 8 * width_bytes n ≡ n) (sym is) refl
+    more false false false true h ea eb ec ed = let is : w ≡ 64 = eqb-true w 64 ed
+        in subst (λ (n : ℕ). 8 * width_bytes n ≡ n) (sym is) refl
     more false false false false h ea eb ec ed = absurd (cc)
 
     on : (t : Bool) → (w == 1) ≡ t → (w ≡ 1) ⊎ (8 * width_bytes w ≡ w)
     on true et = inl (eqb-true w 1 et)
-    on false et = inr (more (w == 8) (w == 16) (w == 32) (w == 64) (sym (ap (λ (t : Bool). t || ((w == 8) || ((w == 16) || ((w == 32) || (w == 64))))) et) ∙ e) refl refl refl refl)
+    on false et = inr (more (w == 8) (w == 16) (w == 32) (w == 64) (sym
+        (ap (λ (t : Bool). t || ((w == 8) || ((w == 16) || ((w == 32) || (w == 64))))) et) ∙ e) refl refl refl refl)
 
 -- a number that is loaded fits its width
 loaded_number : (w : ℕ) → is_width w ≡ true → (bytes : List Byte) → AreBytes bytes → length bytes ≤ width_bytes w
@@ -275,5 +287,6 @@ loaded rights m p w align ok h v e = on (range rights m p (width_bytes w) align)
     on (Err cause) k = absurd (cc)
     on (Ok spot) k =
         let is : integer_from w (number_of (bytes_at m spot (width_bytes w))) ≡ v = cc in
-        subst (IsInteger w) is (loaded_number w ok (bytes_at m spot (width_bytes w)) (bytes_there m spot (width_bytes w) h)
+        subst (IsInteger w) is (loaded_number w ok (bytes_at m spot (width_bytes w))
+        (bytes_there m spot (width_bytes w) h)
         (take_at_most (width_bytes w) _))

@@ -25,7 +25,8 @@ use Rattle.run_ints.specs.Words.{IsNumOf, IsWordOf}
 use Rattle.run_ints.specs.declared.num.Num.{Num}
 use Rattle.run_memory.specs.declared.pointer.Value.{Value}
 use Rattle.run_step.specs.Step.{entry_values, incoming_from, phi_values, phis_of, values_in, with_all, with_params}
-use Rattle.run_step.specs.Values.{Env, arg_value, is_word_of, literal, number_of_width, operand_value, truth_value, value_in, value_of, with_result, with_value}
+use Rattle.run_step.specs.Values.{Env, arg_value, is_word_of, literal, number_of_width, operand_value, truth_value}
+use Rattle.run_step.specs.Values.{value_in, value_of, with_result, with_value}
 use Rattle.run_types.specs.Fitting.{AreFitting, FitParams, FitsKind, FitsType, IsInteger}
 use Rattle.run_types.specs.Rules.{FitsPhi, KeepsTypes}
 

@@ -1,8 +1,11 @@
 pub mod Bytes
 pub mod Fit
 pub mod Rules
+pub mod Results
 pub mod Ordinary
 pub mod Parts
 pub mod Acts
+pub mod HandedOn
+pub mod Beginning
 pub mod Meanings
 pub mod Runs

@@ -1,8 +1,8 @@
 -- The hooks of each meaning keep states in which all values fit.
-use Rattle.std.proofs.Common.{◌≡◌, ℕ, zero, suc, Bool, true, false, not, List, [], ◌∷◌, ◌++◌, length, ◌&&◌}
-use Rattle.std.proofs.Common.{Option, Some, None, Result, Ok, Err, refl, sym, ap, ◌∙◌, subst, replicate}
+use Rattle.std.proofs.Common.{◌≡◌, ℕ, Bool, true, false, List, [], ◌∷◌, length, ◌&&◌, Option, Some, None, Result, Ok}
+use Rattle.std.proofs.Common.{refl, sym, ap, ◌∙◌, subst, replicate}
 use Rattle.std.specs.List.{list_all}
-use Rattle.std.specs.Prelude.{filter, if◌then◌else◌, is_none, option_and_then, slice_get, ◌==◌}
+use Rattle.std.specs.Prelude.{if◌then◌else◌, option_and_then, slice_get}
 use Rattle.ir_base.specs.declared.cause.Cause.{Cause}
 use Rattle.ir_base.specs.declared.name.Name.{Name}
 use Rattle.ir_model.specs.Layout.{same_type}
@@ -20,238 +20,40 @@ use Rattle.ir_paths.specs.declared.point.Point.{Point}
 use Rattle.pass_kept_proof.proofs.Rules.{where_is}
 use Rattle.pass_kept_proof.specs.Kept.{Keep, continue_keeping, kept}
 use Rattle.pass_renewed_proof.proofs.Left.{instr_there}
-use Rattle.pass_renewed_proof.specs.Renewed.{RenewedGiven, framed_of, in_new_slot, renew_after, renewed_from, renewed_slot, renewed_value, renewed_values, with_life, with_renewed}
+use Rattle.pass_renewed_proof.specs.Renewed.{RenewedGiven, framed_of, renew_after, renewed_from, renewed_slot}
+use Rattle.pass_renewed_proof.specs.Renewed.{with_life, with_renewed}
 use Rattle.rule_types.specs.Signatures.{are_wanted, is_result}
 use Rattle.rule_types.specs.Wants.{intrinsic_params, is_ptr}
 use Rattle.rule_types.specs.declared.wants.Basic.{Basic}
 use Rattle.rule_values.specs.Fits.{fits_arg}
 use Rattle.rule_values.specs.Instrs.{is_passed, passes}
 use Rattle.rule_values.specs.Kinds.{kind_of, result_kind, value_kind}
-use Rattle.rule_values.specs.declared.kinds.Kind.{Kind}
-use Rattle.run_framed.specs.Framed.{FramedGiven, alloca_from, are_finished_at, at_point, begin_given, begin_given_at, begin_in_block, begin_in_frame, begin_name, continue_framed, disown_given, enter_after, enter_given, frame_around, framed_begin, framed_slot, given_call, given_ramp, has_room, has_size, is_stack_block, last_value, reentry_values, with_mode}
-use Rattle.run_hooks.proofs.alive.Parts.{all_append}
+use Rattle.run_framed.specs.Framed.{FramedGiven, alloca_from, begin_name, continue_framed, enter_given, framed_begin}
+use Rattle.run_framed.specs.Framed.{framed_slot, given_call, given_ramp, last_value, reentry_values}
 use Rattle.run_hooks.specs.Meanings.{framed_hooks, hooks_by, kept_hooks, renewed_hooks, source_hooks}
-use Rattle.run_memory.specs.Memory.{disown, own, start}
-use Rattle.run_memory.specs.declared.block.Kind.{Kind as BlockKind}
-use Rattle.run_memory.specs.declared.block.MemoryBlock.{MemoryBlock}
-use Rattle.run_memory.specs.declared.pointer.Offset.{Offset}
-use Rattle.run_memory.specs.declared.pointer.Pointer.{Pointer}
+use Rattle.run_memory.specs.Memory.{own, start}
 use Rattle.run_memory.specs.declared.pointer.Value.{Value}
-use Rattle.run_source.specs.Source.{Continues, begin, begin_at, begun, called, change_own, continue, finish, is_among, is_live_at, new_instance, push, resumed, slots_of}
-use Rattle.run_source.specs.State.{frame_address_of, function_of, gives, own_facts, own_frame, own_instance, with_instance, with_memory, with_slots, with_status}
+use Rattle.run_source.specs.Source.{Continues, called, continue, finish, push, resumed}
+use Rattle.run_source.specs.State.{frame_address_of, function_of, gives, own_instance, with_memory, with_slots}
+use Rattle.run_source.specs.State.{with_status}
 use Rattle.run_source.specs.declared.state.Instance.{Instance}
 use Rattle.run_source.specs.declared.state.Mode.{Mode}
 use Rattle.run_source.specs.declared.state.State.{State}
 use Rattle.run_source.specs.declared.state.Status.{Status}
 use Rattle.run_source_tables.specs.Given.{Given}
-use Rattle.run_step.specs.Results.{and_then, found, ok_if}
-use Rattle.run_step.specs.Step.{AtInstr, Fetched, block_of, fetch, without_slots}
-use Rattle.run_step.specs.Values.{Env, arg_value, arg_values, value_in}
+use Rattle.run_step.specs.Step.{AtInstr, Fetched, fetch}
+use Rattle.run_step.specs.Values.{Env, arg_value, arg_values}
 use Rattle.run_step.specs.declared.world.Slot.{Slot}
-use Rattle.run_types.proofs.Bytes.{GivesBytes, disowned_has, own_has, started_has, without_has}
-use Rattle.run_types.proofs.Fit.{arg_fits, both_true, fits_as, no_integer, poison_fits, result_fits, same_fits, unset_fits}
-use Rattle.run_hooks.proofs.alive.Places.{own_there}
-use Rattle.run_types.proofs.Parts.{all_set, called_fits, entered, gives_fits, instance_set, memory_set, no_result, placed, pushed, slots_set}
+use Rattle.run_types.proofs.Bytes.{started_has}
+use Rattle.run_types.proofs.Fit.{arg_fits, both_true, fits_as, no_integer, result_fits, same_fits, unset_fits}
+use Rattle.run_types.proofs.Parts.{called_fits, entered, memory_set, placed, slots_set}
 use Rattle.run_types.proofs.Rules.{arguments_pass, call_kind_is, gives_back}
 use Rattle.run_types.specs.Fitting.{AreFitting, FitParams, FitsKind}
 use Rattle.run_types.specs.Rules.{KeepsAllTypes, KeepsGivenTypes, KeepsTypes, fits_first}
-use Rattle.run_types.specs.States.{FitsStatus, IsFittingState, KeepsFitting, StaysFitting, TakesAny}
-
--- ---- values that are handed on
-
-kept_fits : (f : Function) (keep : ℕ → Bool) (env : Env) → AreFitting f env → AreFitting f (kept keep env)
-kept_fits f keep env h v = on keep env v (h v)
-  where
-    one : (k : Option Kind) (t : Bool) (o : Option Value) (rest more : Env)
-        → FitsKind k (value_in (o ∷ rest) 0) → FitsKind k (value_in ((if t then o else None) ∷ more) 0)
-    one k true o rest more j = j
-    one k false o rest more j = poison_fits k
-
-    on : (keep : ℕ → Bool) (env : Env) (n : ℕ) → FitsKind (value_kind f v) (value_in env n)
-        → FitsKind (value_kind f v) (value_in (kept keep env) n)
-    on keep [] n j = j
-    on keep (o ∷ env) zero j = one (value_kind f v) (keep 0) o env (kept (λ i. keep (suc i)) env) j
-    on keep (o ∷ env) (suc n) j = on (λ i. keep (suc i)) env n j
-
--- an address may go to another block
-moved_fits : (k : Option Kind) (a v : Value) → FitsKind k v → FitsKind k (in_new_slot a v)
-moved_fits None a v h = tt
-moved_fits (Some Kind.Ptr) a v h = tt
-moved_fits (Some Kind.Token) a v h = tt
-moved_fits (Some Kind.Saved) a v h = tt
-moved_fits (Some Kind.Other) a v h = tt
-moved_fits (Some (Kind.Int w)) a (Value.Ptr p) h = absurd h
-moved_fits (Some (Kind.Int w)) (Value.Ptr (Pointer.At b o)) (Value.Int x) h = h
-moved_fits (Some (Kind.Int w)) (Value.Ptr Pointer.Null) (Value.Int x) h = h
-moved_fits (Some (Kind.Int w)) (Value.Ptr (Pointer.Func g)) (Value.Int x) h = h
-moved_fits (Some (Kind.Int w)) (Value.Int y) (Value.Int x) h = h
-moved_fits (Some (Kind.Int w)) Value.Poison (Value.Int x) h = h
-moved_fits (Some (Kind.Int w)) (Value.Ptr (Pointer.At b o)) Value.Poison h = tt
-moved_fits (Some (Kind.Int w)) (Value.Ptr Pointer.Null) Value.Poison h = tt
-moved_fits (Some (Kind.Int w)) (Value.Ptr (Pointer.Func g)) Value.Poison h = tt
-moved_fits (Some (Kind.Int w)) (Value.Int y) Value.Poison h = tt
-moved_fits (Some (Kind.Int w)) Value.Poison Value.Poison h = tt
-
-renewed_fits : (f : Function) (roots : ℕ → Option ℕ) (now env : Env) → AreFitting f env
-    → AreFitting f (renewed_values roots now env)
-renewed_fits f roots now env h v = on roots env v (h v)
-  where
-    one : (root : Option ℕ) (o : Option Value) (rest more : Env) → FitsKind (value_kind f v) (value_in (o ∷ rest) 0)
-        → FitsKind (value_kind f v) (value_in (renewed_value now root o ∷ more) 0)
-    one None None rest more j = j
-    one None (Some x) rest more j = j
-    one (Some a) None rest more j = j
-    one (Some a) (Some x) rest more j = moved_fits (value_kind f v) (value_in now a) x j
-
-    on : (roots : ℕ → Option ℕ) (env : Env) (n : ℕ) → FitsKind (value_kind f v) (value_in env n)
-        → FitsKind (value_kind f v) (value_in (renewed_values roots now env) n)
-    on roots [] n j = j
-    on roots (o ∷ env) zero j = one (roots 0) o env (renewed_values (λ i. roots (suc i)) now env) j
-    on roots (o ∷ env) (suc n) j = on (λ i. roots (suc i)) env n j
-
--- ---- changes of the topmost activation
-
-module _ (m : Module) where
-  mode_set : (s : State) → IsFittingState m s → (mode : Mode) → IsFittingState m (with_mode s mode)
-  mode_set s h mode = record { memory = h.memory; top = h.top; below = h.below; instances = h.instances }
-
-  point_set : (s : State) → IsFittingState m s → (p : Point) → IsFittingState m (at_point s p)
-  point_set s h p = record { memory = h.memory; top = h.top; below = h.below; instances = h.instances }
-
-  entering : (g : FramedGiven) → g.given.code ≡ m → KeepsAllTypes m → (s : State) → IsFittingState m s
-      → (from label : ℕ) (o : Option Point) → IsFittingState m (enter_after g s from label o)
-  entering g code rules s h from label (Some p) =
-      point_set (with_mode s (Mode.Entering from label)) (mode_set s h (Mode.Entering from label)) p
-  entering g code rules s h from label None =
-      entered m g.given code rules (at_point (with_mode s Mode.Resumed) (record { block = from; at = 0 }))
-      (point_set (with_mode s Mode.Resumed) (mode_set s h Mode.Resumed) (record { block = from; at = 0 })) label
-
-  -- an activation of an instance comes on top
-  resumed_fits : (s : State) → IsFittingState m s → (i : ℕ) (x : Instance) (suspend : Point) (values : Env)
-      → AreFitting (function_at m x.coroutine) values
-      → IsFittingState m (push (with_status s i x Status.Running) (resumed i x suspend values))
-  resumed_fits s h i x suspend values k =
-      pushed m (with_status s i x Status.Running) (instance_set m s h i (record x { status = Status.Running }) tt)
-      (resumed i x suspend values) k (no_result m x.coroutine (function_at m s.top.func))
-
-  -- ---- begin
-
-  begun_fits : (g : Given) (s : State) → IsFittingState m s → (block offset : ℕ) → IsFittingState m (begun g s block offset)
-  begun_fits g s h block offset = record {
-    memory = h.memory;
-    top = h.top;
-    below = h.below;
-    instances = all_set (λ (x : Instance). FitsStatus (function_at m x.coroutine) x.status)
-        (s.instances ++ new_instance s.top.func block offset ∷ []) (length s.instances)
-        (record (new_instance s.top.func block offset) {
-          slots = filter (λ slot. not (is_among (own_facts g s).ramp_slots slot)) s.top.slots ++ [];
-        }) tt
-        (all_append (λ (x : Instance). FitsStatus (function_at m x.coroutine) x.status) s.instances
-        (new_instance s.top.func block offset ∷ []) h.instances (tt, tt));
-  }
-
-  begin_at_fits : (g : Given) (s : State) → IsFittingState m s → (memory : Value) (kind : BlockKind)
-      (result : Option ℕ) (v : Value) → TakesAny (function_at m s.top.func) result
-      → StaysFitting m (and_then (begin_at g s memory kind) (λ t. Ok (gives t result v)))
-  begin_at_fits g s h memory kind result v any =
-      on (own s.world.memory memory (own_frame g s).size kind)
-      (own_has s.world.memory memory (own_frame g s).size kind h.memory)
-    where
-      last : (blocks : List MemoryBlock) → IsFittingState m (with_memory s blocks) → (o : Option ℕ)
-          → StaysFitting m (and_then (and_then (found Cause.Begin o) (λ b. Ok (begun g (with_memory s blocks) b 0)))
-          (λ t. Ok (gives t result v)))
-      last blocks j None = tt
-      last blocks j (Some b) = gives_fits m (begun g (with_memory s blocks) b 0)
-          (begun_fits g (with_memory s blocks) j b 0) result v (λ n e. any n e v)
-
-      on : (r : Result (List MemoryBlock) Cause) → GivesBytes r
-          → StaysFitting m (and_then (and_then r (λ blocks. and_then (found Cause.Begin (block_of memory))
-          (λ b. Ok (begun g (with_memory s blocks) b 0)))) (λ t. Ok (gives t result v)))
-      on (Err cause) j = tt
-      on (Ok blocks) j = last blocks (memory_set m s h blocks j) (block_of memory)
-
-  begin_fits : (g : Given) (s : State) → IsFittingState m s → (result : Option ℕ) (memory : Value)
-      → TakesAny (function_at m s.top.func) result → StaysFitting m (begin g s result memory)
-  begin_fits g s h result memory any = on (is_none s.top.instance)
-    where
-      on : (b : Bool) → StaysFitting m (and_then (ok_if b Cause.Begin s) (λ s.
-          and_then (begin_at g s memory BlockKind.Allocator) (λ s. Ok (gives s result memory))))
-      on true = begin_at_fits g s h memory BlockKind.Allocator result memory any
-      on false = tt
-
-  -- ---- the end
-
-  finished_fits : (s : State) → IsFittingState m s → IsFittingState m (finish s)
-  finished_fits s h = on (own_instance s) (λ i x e. (own_there s i x e).1)
-    where
-      on : (o : Option (ℕ × Instance)) → ((i : ℕ) (x : Instance) → o ≡ Some (i, x) → slice_get s.instances i ≡ Some x)
-          → IsFittingState m (with_memory (change_own s (λ x. record x { status = Status.Finished }) o)
-          (without_slots s.world.memory (slots_of o)))
-      on None is = memory_set m s h s.world.memory h.memory
-      on (Some p) is = memory_set m (with_instance s p.0 (record p.1 { status = Status.Finished }))
-          (instance_set m s h p.0 (record p.1 { status = Status.Finished }) tt)
-          (without_slots s.world.memory p.1.slots) (without_has s.world.memory p.1.slots h.memory)
-
-  finish_top : (s : State) → (finish s).top ≡ s.top
-  finish_top s = on (own_instance s)
-    where
-      on : (o : Option (ℕ × Instance)) → (with_memory (change_own s (λ x. record x { status = Status.Finished }) o)
-          (without_slots s.world.memory (slots_of o))).top ≡ s.top
-      on None = refl
-      on (Some p) = refl
-
-  -- ---- frames that are given
-
-  disowned_fits : (s : State) → IsFittingState m s → (o : Option (ℕ × Instance)) → IsFittingState m (disown_given s o)
-  disowned_fits s h None = h
-  disowned_fits s h (Some p) = on (is_stack_block s.world.memory p.1.block && (p.1.start == 0))
-    where
-      on : (b : Bool) → IsFittingState m (if b then with_memory s (disown s.world.memory p.1.block) else s)
-      on true = memory_set m s h (disown s.world.memory p.1.block) (disowned_has s.world.memory p.1.block h.memory)
-      on false = h
-
-  disown_top : (s : State) (o : Option (ℕ × Instance)) → (disown_given s o).top ≡ s.top
-  disown_top s None = refl
-  disown_top s (Some p) = on (is_stack_block s.world.memory p.1.block && (p.1.start == 0))
-    where
-      on : (b : Bool) → (if b then with_memory s (disown s.world.memory p.1.block) else s).top ≡ s.top
-      on true = refl
-      on false = refl
-
-  begin_given_fits : (g : FramedGiven) (s : State) → IsFittingState m s → (result : Option ℕ) (frame : Value)
-      → TakesAny (function_at m s.top.func) result → StaysFitting m (begin_given g s result frame)
-  begin_given_fits g s h result frame any = on (is_none s.top.instance && are_finished_at s.instances frame)
-    where
-      in_frame : (b : ℕ) (o : Offset) (t : Bool)
-          → StaysFitting m (and_then (ok_if t Cause.Begin (begun g.given s b o.bits)) (λ s. Ok (gives s result frame)))
-      in_frame b o false = tt
-      in_frame b o true = gives_fits m (begun g.given s b o.bits) (begun_fits g.given s h b o.bits) result frame
-          (λ n e. any n e frame)
-
-      in_block : (b : ℕ) (o : Offset) (t : Bool)
-          → StaysFitting m (and_then (and_then (ok_if t Cause.Begin s)
-          (λ s. begin_at g.given s (Value.Ptr (Pointer.At b o)) BlockKind.Stack)) (λ s. Ok (gives s result frame)))
-      in_block b o false = tt
-      in_block b o true = begin_at_fits g.given s h (Value.Ptr (Pointer.At b o)) BlockKind.Stack result frame any
-
-      either_way : (b : ℕ) (o : Offset) (t : Bool)
-          → StaysFitting m (and_then (if t then begin_in_frame g s b o else begin_in_block g s b o)
-          (λ s. Ok (gives s result frame)))
-      either_way b o true = in_frame b o (is_live_at s.world.memory b)
-      either_way b o false = in_block b o ((o.bits == 0) && has_size s.world.memory b (own_frame g.given s).size)
-
-      at : (p : Value) → StaysFitting m (and_then (begin_given_at g s p) (λ s. Ok (gives s result frame)))
-      at (Value.Ptr (Pointer.At b o)) =
-          either_way b o (has_room g o.bits (own_frame g.given s).size (frame_around g s.instances b o.bits))
-      at (Value.Ptr Pointer.Null) = tt
-      at (Value.Ptr (Pointer.Func f)) = tt
-      at Value.Poison = tt
-      at (Value.Int w) = tt
-
-      on : (t : Bool) → StaysFitting m (and_then (ok_if t Cause.Begin s) (λ s.
-          and_then (begin_given_at g s frame) (λ s. Ok (gives s result frame))))
-      on true = at frame
-      on false = tt
+use Rattle.run_types.specs.States.{IsFittingState, KeepsFitting, StaysFitting, TakesAny}
+use Rattle.run_types.proofs.HandedOn.{kept_fits, renewed_fits}
+use Rattle.run_types.proofs.Beginning.{entering, resumed_fits, begin_fits, finished_fits, finish_top, disowned_fits}
+use Rattle.run_types.proofs.Beginning.{disown_top, begin_given_fits}
 
 -- ---- sources
 
@@ -346,7 +148,8 @@ begin_pointer m f rules n e v = on (slice_get (points_where (is_call_of Intrinsi
         (Callee.Intrinsic Intrinsic.CoroBegin) args stands n er)
       where
         typed : (ty : Option Ty) → is_result (Some Basic.Ptr) ty ≡ true
-            → value_kind f n ≡ Some (result_kind (Callee.Intrinsic Intrinsic.CoroBegin) ty) → FitsKind (value_kind f n) v
+            → value_kind f n ≡ Some (result_kind (Callee.Intrinsic Intrinsic.CoroBegin) ty)
+            → FitsKind (value_kind f n) v
         typed None j own = absurd (cc)
         typed (Some t) j own = fits_as (Some (kind_of t)) (value_kind f n) v own (no_integer is_ptr (λ w. refl) t j v)
     by p _ stands is er = absurd (cc)

@@ -1,13 +1,9 @@
 -- An instruction gives a value that fits its name, and keeps bytes.
-use Rattle.std.proofs.Common.{◌≡◌, ℕ, Bool, true, false, List, [], ◌∷◌, length, map, ◌&&◌}
-use Rattle.std.proofs.Common.{Option, Some, None, Result, Ok, Err, refl, sym, ap, ◌∙◌, subst}
-use Rattle.std.specs.List.{list_all}
-use Rattle.std.specs.Prelude.{if◌then◌else◌, slice_get, unwrap_or, ◌==◌}
+use Rattle.std.proofs.Common.{◌≡◌, ℕ, Bool, true, false, List, length, map, ◌&&◌, Option, Some, None, Result, Ok, Err}
+use Rattle.std.proofs.Common.{refl, sym, ap, ◌∙◌, subst}
+use Rattle.std.specs.Prelude.{if◌then◌else◌, slice_get, unwrap_or}
 use Rattle.ir_base.specs.declared.cause.Cause.{Cause}
 use Rattle.ir_base.specs.declared.name.Name.{Name}
-use Rattle.ir_base.specs.declared.ops.BinOp.{BinOp}
-use Rattle.ir_base.specs.declared.ops.CastOp.{CastOp}
-use Rattle.ir_base.specs.declared.ops.Flags.{Flags}
 use Rattle.ir_base.specs.declared.ops.Pred.{Pred}
 use Rattle.ir_base.specs.declared.outcome.Word.{Word}
 use Rattle.ir_laws.specs.facts.counted.Widths.{has_width}
@@ -19,121 +15,45 @@ use Rattle.ir_model.specs.declared.instr.Instr.{Instr}
 use Rattle.ir_model.specs.declared.instr.Terminator.{Terminator}
 use Rattle.ir_model.specs.declared.module.Function.{Function}
 use Rattle.ir_model.specs.declared.module.Module.{Module}
-use Rattle.ir_model.specs.declared.module.Param.{Param}
 use Rattle.ir_model.specs.declared.operand.Allocator.{Allocator}
 use Rattle.ir_model.specs.declared.operand.Arg.{Arg}
 use Rattle.ir_model.specs.declared.operand.Callee.{Callee}
 use Rattle.ir_model.specs.declared.operand.Intrinsic.{Intrinsic}
-use Rattle.rule_types.specs.Signatures.{are_wanted, fits_function as fits_types, fits_position, is_result, same_list}
+use Rattle.rule_types.specs.Signatures.{are_wanted, fits_function as fits_types, fits_position, is_result}
 use Rattle.rule_types.specs.Signatures.{same_result as same_types_of}
 use Rattle.rule_types.specs.Wants.{allocator_params, allocator_result, is_ptr}
 use Rattle.rule_values.specs.Fits.{fits, fits_arg, fits_scalar, is_scalar}
-use Rattle.rule_values.specs.Instrs.{is_passed, passes}
 use Rattle.rule_values.specs.Kinds.{instr_kind, kind_of, result_kind, value_kind}
 use Rattle.rule_values.specs.Values.{fits_return}
 use Rattle.rule_values.specs.declared.kinds.Kind.{Kind}
-use Rattle.run_ints.proofs.Widths.{binary-kept, cast-kept, icmp-kept}
-use Rattle.run_ints.specs.Numbers.{binary, cast, icmp}
-use Rattle.run_ints.specs.Words.{IsOkNumOf}
-use Rattle.run_ints.specs.declared.num.Num.{Num}
+use Rattle.run_ints.proofs.Widths.{icmp-kept}
+use Rattle.run_ints.specs.Numbers.{binary, icmp}
 use Rattle.run_memory.specs.Memory.{compare, copy, end, fresh, load, start, store}
 use Rattle.run_memory.specs.declared.block.Kind.{Kind as BlockKind}
 use Rattle.run_memory.specs.declared.block.MemoryBlock.{MemoryBlock}
 use Rattle.run_memory.specs.declared.pointer.Pointer.{Pointer}
 use Rattle.run_memory.specs.declared.pointer.Value.{Value}
-use Rattle.run_step.specs.Step.{Action, AtInstr, AtTerm, Context, Coro, Done, Enter, Fetched, NewSlot, Nowhere, Return, Stuck}
-use Rattle.run_step.specs.Step.{Work, action_of, alloca, alloca_kind, allocated, allocator_call, answer, block_of, branch, by_pred, cast_to, chosen, compared}
-use Rattle.run_step.specs.Step.{copied_bytes, done, fetch, fits_function, fits_params, has_markers, if_alignment, indirect_call, instr_action, intrinsic_call}
-use Rattle.run_step.specs.Step.{is_alignment, named_call, observed, on_block, same_result, set_memory, set_value, switch, term_action, value_at, with_length, words_of}
-use Rattle.run_step.specs.Values.{Env, access_of, address, arg_value, arg_values, element, indices_of, distance, literal, nth, number_at, number_of_width, pointer_to, stored, truth_value, value_in, value_of}
+use Rattle.run_step.specs.Step.{Action, AtInstr, AtTerm, Context, Done, Enter, Fetched, Nowhere, Return, Stuck, Work}
+use Rattle.run_step.specs.Step.{action_of, alloca, alloca_kind, allocated, allocator_call, answer, block_of, branch}
+use Rattle.run_step.specs.Step.{by_pred, cast_to, chosen, compared, copied_bytes, done, fetch, fits_function}
+use Rattle.run_step.specs.Step.{fits_params, has_markers, if_alignment, indirect_call, instr_action, intrinsic_call}
+use Rattle.run_step.specs.Step.{is_alignment, named_call, observed, on_block, same_result, set_memory, set_value}
+use Rattle.run_step.specs.Step.{switch, term_action, value_at, with_length, words_of}
+use Rattle.run_step.specs.Values.{access_of, address, arg_value, arg_values, element, indices_of, distance, literal}
+use Rattle.run_step.specs.Values.{nth, number_at, number_of_width, pointer_to, stored, truth_value, value_in, value_of}
 use Rattle.run_types.proofs.Bytes.{GivesBytes, copy_has, ended_has, fresh_has, loaded, started_has, store_has}
-use Rattle.run_types.proofs.Fit.{arg_fits, both_true, fits_as, kind_self, literal_fits, number_fits, number_of, poison_fits}
+use Rattle.run_types.proofs.Fit.{arg_fits, both_true, fits_as, kind_self, literal_fits, number_fits, poison_fits}
 use Rattle.run_types.proofs.Fit.{result_fits, same_back, same_fits, set_fits, truth_word, type_fits}
 use Rattle.run_types.proofs.Rules.{arguments_pass, call_kind_is, gives_back, steps_same}
 use Rattle.run_types.specs.Fitting.{AreFitting, FitParams, FitsKind, FitsResult, FitsType, HaveBytes, IsInteger}
 use Rattle.run_types.specs.Rules.{KeepsTypes}
-use Rattle.run_types.specs.States.{GoesTo}
-
--- ---- what an action gives
-
-pub data IsCoroCall (here : Fetched) (j : Intrinsic) (args : List Arg) (result : Option ℕ) : Type 0 where
-  Called : (must_tail : Bool) (ty : Option Ty)
-      → here ≡ AtInstr (Instr.Call result must_tail ty (Callee.Intrinsic j) args) → IsCoroCall here j args result
-
-abbrev pub FitsAction : Module → Function → Fetched → Action → Type 0
-FitsAction m f here (Done w) = AreFitting f w.values × HaveBytes w.world.memory
-FitsAction m f here (NewSlot w slot) = AreFitting f w.values × HaveBytes w.world.memory
-FitsAction m f here (Enter func args result must_tail) =
-    FitParams (function_at m func).params args × GoesTo m func result f
-FitsAction m f here (Coro j args result) = IsCoroCall here j args result
-FitsAction m f here (Return v) = FitsResult f.result (unwrap_or v Value.Poison)
-FitsAction m f here _ = Unit {0}
-
--- ---- results of operations
-
-binary_fits : (op : BinOp) (flags : Flags) (ty : Ty) (a b : Value) (n : Num)
-    → binary op flags (number_at ty a) (number_at ty b) ≡ Ok n → FitsType ty (value_of n)
-binary_fits op flags ty a b n e = type_fits ty (value_of n) (λ w et.
-    on w (binary op flags (number_of_width w a) (number_of_width w b))
-    (binary-kept w op flags (number_of_width w a) (number_of_width w b) (number_of w a) (number_of w b))
-    ((λ j. binary op flags (number_at (sym et j) a) (number_at (sym et j) b)) ∙ e))
-  where
-    on : (w : ℕ) (r : Result Num Cause) → IsOkNumOf w r → r ≡ Ok n → IsInteger w (value_of n)
-    on w (Err cause) h k = absurd (cc)
-    on w (Ok x) h k = let is : x ≡ n = cc in subst (λ (y : Num). IsInteger w (value_of y)) is (number_fits w x h)
-
-cast_fits : (op : CastOp) (nneg : Bool) (n : Num) (to : Ty) → FitsType to (cast_to op nneg n to)
-cast_fits op nneg n (int w) = number_fits w (cast op nneg n w) (cast-kept op nneg n w)
-cast_fits op nneg n ptr = tt
-cast_fits op nneg n token = tt
-cast_fits op nneg n (array k t) = tt
-cast_fits op nneg n (structure ts) = tt
-cast_fits op nneg n (named k) = tt
-
-chosen_fits : (P : Value → Type 0) (c a b : Value) → P Value.Poison → P a → P b → P (chosen c a b)
-chosen_fits P Value.Poison a b p q r = p
-chosen_fits P (Value.Ptr y) a b p q r = p
-chosen_fits P (Value.Int x) a b p q r = on (x.bits == 1)
-  where
-    on : (t : Bool) → P (if t then a else b)
-    on true = q
-    on false = r
-
--- ---- arguments
-
-args_fit : (m : Module) (f : Function) (env : Env) (callee : Callee) (args : List Arg) (params : List Param)
-    → AreFitting f env → list_all (passes (value_kind f) callee) args ≡ true
-    → same_list (map (λ a. a.ty) args) (map (λ (p : Param). p.ty) params) ≡ true
-    → FitParams params (arg_values m env args)
-args_fit m f env callee [] [] h e k = tt
-args_fit m f env callee [] (p ∷ params) h e k = tt
-args_fit m f env callee (a ∷ args) [] h e k = tt
-args_fit m f env callee (a ∷ args) (p ∷ params) h e k =
-    let r = both_true (is_passed callee a.ty && fits_arg (value_kind f) a) (list_all (passes (value_kind f) callee) args) e in
-    let q = both_true (is_passed callee a.ty) (fits_arg (value_kind f) a) r.0 in
-    let s = both_true (same_type a.ty p.ty) (same_list (map (λ b. b.ty) args) (map (λ (b : Param). b.ty) params)) k in (
-      same_fits a.ty p.ty (arg_value m env a) s.0 (arg_fits m f env a h q.1),
-      args_fit m f env callee args params h r.1 s.1,
-    )
-
--- those of an indirect call
-indirect_args : (m : Module) (f : Function) (env : Env) (callee : Callee) (args : List Arg) (params : List Param)
-    → AreFitting f env → list_all (passes (value_kind f) callee) args ≡ true → fits_params args params ≡ true
-    → FitParams params (arg_values m env args)
-indirect_args m f env callee [] [] h e k = tt
-indirect_args m f env callee [] (p ∷ params) h e k = tt
-indirect_args m f env callee (a ∷ args) [] h e k = tt
-indirect_args m f env callee (a ∷ args) (p ∷ params) h e k =
-    let r = both_true (is_passed callee a.ty && fits_arg (value_kind f) a) (list_all (passes (value_kind f) callee) args) e in
-    let q = both_true (is_passed callee a.ty) (fits_arg (value_kind f) a) r.0 in
-    let s = both_true (same_type a.ty p.ty) (fits_params args params) k in (
-      same_fits a.ty p.ty (arg_value m env a) s.0 (arg_fits m f env a h q.1),
-      indirect_args m f env callee args params h r.1 s.1,
-    )
+use Rattle.run_types.proofs.Results.{Called, FitsAction, binary_fits, cast_fits, chosen_fits, args_fit, indirect_args}
+use Rattle.run_types.proofs.Results.{function_there}
 
 -- ---- an instruction
 
-module _ (m : Module) (f : Function) (rules : KeepsTypes m f) (block at : ℕ) (c : Context) (code : c.code ≡ m) (w : Work)
+module _ (m : Module) (f : Function) (rules : KeepsTypes m f) (block at : ℕ) (c : Context) (code : c.code ≡ m)
+    (w : Work)
     (h : AreFitting f w.values) (bytes : HaveBytes w.world.memory) where
   abbrev here : Fetched
   here = fetch f block at
@@ -144,7 +64,8 @@ module _ (m : Module) (f : Function) (rules : KeepsTypes m f) (block at : ℕ) (
   set : (name : ℕ) (v : Value) → FitsKind (value_kind f name) v → Fine (Done (set_value w name v))
   set name v k = (set_fits f w.values name v h k, bytes)
 
-  done_fine : {A : Type 0} (g : A → Work) (r : Result A Cause) → ((a : A) → r ≡ Ok a → Fine (Done (g a))) → Fine (done g r)
+  done_fine : {A : Type 0} (g : A → Work) (r : Result A Cause) → ((a : A) → r ≡ Ok a → Fine (Done (g a)))
+      → Fine (done g r)
   done_fine g (Err cause) k = tt
   done_fine g (Ok a) k = k a refl
 
@@ -178,19 +99,25 @@ module _ (m : Module) (f : Function) (rules : KeepsTypes m f) (block at : ℕ) (
       (icmp-kept pred (number_of_width k a) (number_of_width k b))))
   compared_fine name pred ptr a b own = done_fine (λ same. set_value w name (truth_value (by_pred pred same)))
       (compare c.rights w.world.memory (address a) (address b))
-      (λ same e. set name (truth_value (by_pred pred same)) (own (truth_value (by_pred pred same)) (truth_word (by_pred pred same))))
+      (λ same e. set name (truth_value (by_pred pred same)) (own (truth_value (by_pred pred same))
+      (truth_word (by_pred pred same))))
   compared_fine name pred token a b own = done_fine (λ same. set_value w name (truth_value (by_pred pred same)))
       (compare c.rights w.world.memory (address a) (address b))
-      (λ same e. set name (truth_value (by_pred pred same)) (own (truth_value (by_pred pred same)) (truth_word (by_pred pred same))))
+      (λ same e. set name (truth_value (by_pred pred same)) (own (truth_value (by_pred pred same))
+      (truth_word (by_pred pred same))))
   compared_fine name pred (array k t) a b own = done_fine (λ same. set_value w name (truth_value (by_pred pred same)))
       (compare c.rights w.world.memory (address a) (address b))
-      (λ same e. set name (truth_value (by_pred pred same)) (own (truth_value (by_pred pred same)) (truth_word (by_pred pred same))))
-  compared_fine name pred (structure ts) a b own = done_fine (λ same. set_value w name (truth_value (by_pred pred same)))
+      (λ same e. set name (truth_value (by_pred pred same)) (own (truth_value (by_pred pred same))
+      (truth_word (by_pred pred same))))
+  compared_fine name pred (structure ts) a b own = done_fine (λ same. set_value w name
+      (truth_value (by_pred pred same)))
       (compare c.rights w.world.memory (address a) (address b))
-      (λ same e. set name (truth_value (by_pred pred same)) (own (truth_value (by_pred pred same)) (truth_word (by_pred pred same))))
+      (λ same e. set name (truth_value (by_pred pred same)) (own (truth_value (by_pred pred same))
+      (truth_word (by_pred pred same))))
   compared_fine name pred (named k) a b own = done_fine (λ same. set_value w name (truth_value (by_pred pred same)))
       (compare c.rights w.world.memory (address a) (address b))
-      (λ same e. set name (truth_value (by_pred pred same)) (own (truth_value (by_pred pred same)) (truth_word (by_pred pred same))))
+      (λ same e. set name (truth_value (by_pred pred same)) (own (truth_value (by_pred pred same))
+      (truth_word (by_pred pred same))))
 
   -- ---- calls
 
@@ -210,22 +137,6 @@ module _ (m : Module) (f : Function) (rules : KeepsTypes m f) (block at : ℕ) (
       bytes,
     )
 
-  function_there : (k : ℕ) (ty : Option Ty) (ts : List Ty) → fits_types ty ts (slice_get m.functions k) ≡ true
-      → (same_types_of ty (function_at m k).result ≡ true)
-      × (same_list ts (map (λ (p : Param). p.ty) (function_at m k).params) ≡ true)
-  function_there k ty ts e = on (slice_get m.functions k) refl e
-    where
-      on : (o : Option Function) → slice_get m.functions k ≡ o → fits_types ty ts o ≡ true
-          → (same_types_of ty (function_at m k).result ≡ true)
-          × (same_list ts (map (λ (p : Param). p.ty) (function_at m k).params) ≡ true)
-      on None eo j = absurd (cc)
-      on (Some g) eo j =
-          let r = both_true (same_types_of ty g.result) (same_list ts (map (λ (p : Param). p.ty) g.params)) j in
-          let is : function_at m k ≡ g = ap (λ (o : Option Function). unwrap_or o no_function) eo in (
-            ap (λ (x : Function). same_types_of ty x.result) is ∙ r.0,
-            ap (λ (x : Function). same_list ts (map (λ (p : Param). p.ty) x.params)) is ∙ r.1,
-          )
-
   named_fine : (result : Option ℕ) (must_tail : Bool) (ty : Option Ty) (name : Name) (args : List Arg)
       → here ≡ AtInstr (Instr.Call result must_tail ty (Callee.Named name) args)
       → (o d : Option ℕ) → function_named m name ≡ o
@@ -234,7 +145,7 @@ module _ (m : Module) (f : Function) (rules : KeepsTypes m f) (block at : ℕ) (
       let fits : fits_types ty (map (λ (a : Arg). a.ty) args) (slice_get m.functions k) ≡ true =
       ap (fits_position m ty (map (λ (a : Arg). a.ty) args) name) (sym eo)
       ∙ rules.calls block at result must_tail ty (Callee.Named name) args e in
-      let r = function_there k ty (map (λ (a : Arg). a.ty) args) fits in (
+      let r = function_there m k ty (map (λ (a : Arg). a.ty) args) fits in (
         args_fit c.code f w.values (Callee.Named name) args (function_at m k).params h
             (arguments_pass m f rules block at result must_tail ty (Callee.Named name) args e) r.1,
         gives_back m f rules block at result must_tail ty (Callee.Named name) args e (λ t. refl) k r.0,
@@ -267,7 +178,8 @@ module _ (m : Module) (f : Function) (rules : KeepsTypes m f) (block at : ℕ) (
           )
 
       on : (o : Option Function) → slice_get c.code.functions g ≡ o
-          → Fine (if fits_function ty args o then Enter g (arg_values c.code w.values args) result must_tail else Stuck Cause.Call)
+          → Fine (if fits_function ty args o then Enter g (arg_values c.code w.values args) result must_tail else Stuck
+          Cause.Call)
       on None eo = tt
       on (Some x) eo = by x eo (same_result ty x.result && fits_params args x.params) refl
   indirect_fine result must_tail ty local args e (Value.Ptr Pointer.Null) = tt
@@ -279,9 +191,11 @@ module _ (m : Module) (f : Function) (rules : KeepsTypes m f) (block at : ℕ) (
   allocated_fine : (result : Option ℕ) (must_tail : Bool) (ty : Option Ty) (a : Allocator) (args : List Arg)
       → here ≡ AtInstr (Instr.Call result must_tail ty (Callee.Allocator a) args)
       → is_result (allocator_result a) ty ≡ true → (vs : List Value) → Fine (allocator_call a w result vs)
-  allocated_fine result must_tail ty a args e res vs = on a res (λ t. refl) (call_kind_is m f rules block at result must_tail ty (Callee.Allocator a) args e)
+  allocated_fine result must_tail ty a args e res vs = on a res (λ t. refl)
+      (call_kind_is m f rules block at result must_tail ty (Callee.Allocator a) args e)
     where
-      pointer : (ty : Option Ty) → is_result (allocator_result Allocator.Malloc) ty ≡ true → (k : Option Kind) (v : Value)
+      pointer : (ty : Option Ty) → is_result (allocator_result Allocator.Malloc) ty ≡ true
+          → (k : Option Kind) (v : Value)
           → k ≡ Some (result_kind (Callee.Allocator Allocator.Malloc) ty) → FitsKind k v
       pointer None k l v e = absurd (cc)
       pointer (Some t) j k v ek = fits_as (Some (kind_of t)) k v ek (type_fits t v (λ u et.
@@ -296,7 +210,8 @@ module _ (m : Module) (f : Function) (rules : KeepsTypes m f) (block at : ℕ) (
         fresh_has w.world.memory size 16 BlockKind.Allocator bytes,
       ))
 
-      same_kind : (a b : Allocator) (o : Option Ty) → result_kind (Callee.Allocator a) o ≡ result_kind (Callee.Allocator b) o
+      same_kind : (a b : Allocator) (o : Option Ty) → result_kind (Callee.Allocator a) o
+          ≡ result_kind (Callee.Allocator b) o
       same_kind a b None = refl
       same_kind a b (Some t) = refl
 
@@ -356,7 +271,8 @@ module _ (m : Module) (f : Function) (rules : KeepsTypes m f) (block at : ℕ) (
 
   pub instr_fine : (i : Instr) → here ≡ AtInstr i → Fine (instr_action c w i)
   instr_fine (Instr.Binary name op flags ty a b) e = done_fine (λ x. set_value w name (value_of x))
-      (binary op flags (number_at ty (value_at c w ty a)) (number_at ty (value_at c w ty b))) (λ x ex. set name (value_of x)
+      (binary op flags (number_at ty (value_at c w ty a)) (number_at ty (value_at c w ty b)))
+      (λ x ex. set name (value_of x)
       (own_kind (Instr.Binary name op flags ty a b) e name (kind_of ty) (kind_self name (kind_of ty)) (value_of x)
       (binary_fits op flags ty (value_at c w ty a) (value_at c w ty b) x ex)))
   instr_fine (Instr.Icmp name pred ty a b) e = compared_fine name pred ty (value_at c w ty a) (value_at c w ty b)
@@ -403,7 +319,8 @@ module _ (m : Module) (f : Function) (rules : KeepsTypes m f) (block at : ℕ) (
       (own_kind (Instr.Load name ty p align) e name (kind_of ty) (kind_self name (kind_of ty)) v
       (type_fits ty v (λ u et. loaded c.rights w.world.memory (address (value_at c w ptr p)) u align
       (ap has_width (sym et) ∙ rules.loads block at name ty p align e) bytes v
-      (ap (λ (t : Ty). load c.rights w.world.memory (address (value_at c w ptr p)) (access_of t) align) (sym et) ∙ ev))))))
+      (ap (λ (t : Ty). load c.rights w.world.memory (address (value_at c w ptr p)) (access_of t) align) (sym et)
+      ∙ ev))))))
   instr_fine (Instr.Store arg p align) e = if_fine align
       (done (set_memory w) (store c.rights w.world.memory (address (value_at c w ptr p))
       (stored (access_of arg.ty) (arg_value c.code w.values arg)) (access_of arg.ty) align))

@@ -16,8 +16,11 @@ use Rattle.run_hooks.proofs.alive.Places.{own_there}
 use Rattle.run_memory.specs.Memory.{disown, killed}
 use Rattle.run_memory.specs.declared.block.MemoryBlock.{MemoryBlock}
 use Rattle.run_memory.specs.declared.pointer.Value.{Value}
-use Rattle.run_source.specs.Source.{branch_leaving, called, change_own, deallocate, enter_block, go_to, if_let_go, is_among, is_over, kill_late, left_windows, let_go, may_be_freed, may_leave, new_slot, pop, push, return, returned, save_for, with_new_slots}
-use Rattle.run_source.specs.State.{gives, instance_at, next, own_facts, own_instance, settled, with_instance, with_left, with_memory, with_slots, with_status}
+use Rattle.run_source.specs.Source.{branch_leaving, called, change_own, deallocate, enter_block, go_to, if_let_go}
+use Rattle.run_source.specs.Source.{is_among, is_over, kill_late, left_windows, let_go, may_be_freed, may_leave}
+use Rattle.run_source.specs.Source.{new_slot, pop, push, return, returned, save_for, with_new_slots}
+use Rattle.run_source.specs.State.{gives, instance_at, next, own_facts, own_instance, settled, with_instance, with_left}
+use Rattle.run_source.specs.State.{with_memory, with_slots, with_status}
 use Rattle.run_source.specs.declared.state.Activation.{Activation}
 use Rattle.run_source.specs.declared.state.Instance.{Instance}
 use Rattle.run_source.specs.declared.state.Mode.{Mode}
@@ -134,7 +137,8 @@ module _ (m : Module) where
       memory : HaveBytes (without_slots s.world.memory s.top.slots)
       memory = without_has s.world.memory s.top.slots h.memory
 
-      last : (r : Result Outcome Cause) → StaysFitting m (and_then r (λ outcome. Ok (record (returned s) { outcome = outcome })))
+      last : (r : Result Outcome Cause)
+          → StaysFitting m (and_then r (λ outcome. Ok (record (returned s) { outcome = outcome })))
       last (Err cause) = tt
       last (Ok outcome) = record { memory = memory; top = h.top; below = h.below; instances = h.instances }
 
@@ -175,18 +179,21 @@ module _ (m : Module) where
             slots = filter (λ slot. not (is_among (own_facts g s).ramp_slots slot)) (slot ∷ []) ++ x.slots;
           }
 
-          on_top : (t : Bool) → AreFitting (function_at m (if t then with_memory s (killed s.world.memory slot.block) else s).top.func)
+          on_top : (t : Bool) → AreFitting (function_at m (if t then with_memory s (killed s.world.memory slot.block)
+              else s).top.func)
               (if t then with_memory s (killed s.world.memory slot.block) else s).top.values
           on_top true = h.top
           on_top false = h.top
 
-          on_below : (t : Bool) → AreFittingBelow m (if t then with_memory s (killed s.world.memory slot.block) else s).top.func
+          on_below : (t : Bool) → AreFittingBelow m (if t then with_memory s (killed s.world.memory slot.block) else
+              s).top.func
               (if t then with_memory s (killed s.world.memory slot.block) else s).top.result
               (if t then with_memory s (killed s.world.memory slot.block) else s).below
           on_below true = h.below
           on_below false = h.below
 
-          on_instances : (t : Bool) → FitInstances m (slice_set (if t then with_memory s (killed s.world.memory slot.block) else s).instances i
+          on_instances : (t : Bool) → FitInstances m (slice_set (if t then with_memory s
+              (killed s.world.memory slot.block) else s).instances i
               (record x {
                 slots = filter (λ slot. not (is_among (own_facts g s).ramp_slots slot)) (slot ∷ []) ++ x.slots;
               }))
@@ -250,10 +257,12 @@ module _ (m : Module) where
   went g code rules s h label = on (left_windows g s label)
     where
       by : (i : ℕ) (x : Instance) → (b : Bool)
-          → StaysFitting m (ok_if b Cause.State (enter_block g (with_left (with_status s i x Status.Running) false) label))
+          → StaysFitting m (ok_if b Cause.State (enter_block g (with_left (with_status s i x Status.Running) false)
+          label))
       by i x false = tt
       by i x true = entered g code rules (with_left (with_status s i x Status.Running) false)
-          (left_set (with_status s i x Status.Running) (instance_set s h i (record x { status = Status.Running }) tt) false)
+          (left_set (with_status s i x Status.Running) (instance_set s h i (record x { status = Status.Running }) tt)
+          false)
           label
 
       leaving : (ws : List Window) (o : Option (ℕ × Instance))

@@ -51,7 +51,8 @@ module _ (m : Module) (f : Function) (rules : KeepsTypes m f) (block at : ℕ) (
   -- a call without a type has no name
   no_name : ty ≡ None → (r : ℕ) → result ≡ Some r → ⊥
   no_name et r er =
-      let no : fits_result callee None (Some r) ≡ true = (λ j. fits_result callee (sym et j) (sym er j)) ∙ fit_parts.0 in
+      let no : fits_result callee None (Some r) ≡ true = (λ j. fits_result callee (sym et j) (sym er j))
+      ∙ fit_parts.0 in
       absurd (cc)
 
   -- the kind of its name

@@ -118,7 +118,8 @@ pub sizes_small : (m : Module) (f : Function) (env : Env) → KeepsTypes m f →
     → fetch f block at ≡ AtInstr (Instr.Call result must_tail ty (Callee.Allocator a) args) → TakesSize a → (x : Word)
     → nth (arg_values m env args) 0 ≡ Value.Int x → x.bits < 2 ^ 64
 sizes_small m f env rules h block at result must_tail ty a args stands takes x e =
-    on args (wanted a takes table.0) (arguments_pass m f rules block at result must_tail ty (Callee.Allocator a) args stands) e
+    on args (wanted a takes table.0) (arguments_pass m f rules block at result must_tail ty (Callee.Allocator a) args
+    stands) e
   where
     table : ((is_result (allocator_result a) ty && are_wanted (allocator_params a) args) ≡ true)
         × (fits_named m ty (map (λ (y : Arg). y.ty) args) (allocator_name a) ≡ true)
@@ -140,10 +141,12 @@ sizes_small m f env rules h block at result must_tail ty a args stands takes x e
     wanted : (a : Allocator) → TakesSize a
         → (is_result (allocator_result a) ty && are_wanted (allocator_params a) args) ≡ true → IsSized args
     wanted _ IsMalloc k = first_of Basic.Size args
-        (both_true (is_result (allocator_result Allocator.Malloc) ty) (are_wanted (allocator_params Allocator.Malloc) args) k).1
+        (both_true (is_result (allocator_result Allocator.Malloc) ty) (are_wanted (allocator_params Allocator.Malloc)
+        args) k).1
         (λ t j. j)
     wanted _ IsNew k = first_of Basic.I64 args
-        (both_true (is_result (allocator_result Allocator.Znwm) ty) (are_wanted (allocator_params Allocator.Znwm) args) k).1
+        (both_true (is_result (allocator_result Allocator.Znwm) ty) (are_wanted (allocator_params Allocator.Znwm) args)
+        k).1
         (λ t j. wide_size t j)
 
     on : (args : List Arg) → IsSized args → list_all (passes (value_kind f) (Callee.Allocator a)) args ≡ true

@@ -1,7 +1,8 @@
 //! Values fit their types in each state of a run: a value of a name of type iN is a word of N bits, or poison.
 //!
 //! It is said once over the step with hooks (`fitting_states_stay`), so it holds of all four meanings
-//! (`meanings_keep_values`, `values_of_runs_fit`). What it asks of a module is N1, Y1 and Y2, by what stands at the places
+//! (`meanings_keep_values`, `values_of_runs_fit`). What it asks of a module is N1, Y1 and Y2, by what stands at the
+//! places
 //! of its functions (`KeepsTypes`). What is loaded fits since each byte of a number is one of 8 bits. What is handed
 //! on, kept where an instance is suspended, or returned fits as what was there before.
 //!

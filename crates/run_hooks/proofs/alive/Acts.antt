@@ -26,7 +26,8 @@ use Rattle.pass_renewed_proof.proofs.Left.{end_next}
 use Rattle.pass_renewed_proof.proofs.Sets.{result_elsewhere}
 use Rattle.pass_renewed_proof.specs.SlotRules.{IsMadeOnce, IsMarkerAt}
 use Rattle.run_hooks.proofs.alive.Changes.{emptied, popped}
-use Rattle.run_hooks.proofs.alive.Instrs.{IsInOrder, IsLower, edge, goes_fewer, held_on, same_instr, spot_is}
+use Rattle.run_hooks.proofs.alive.Behind.{IsInOrder, IsLower, edge, goes_fewer, same_instr}
+use Rattle.run_hooks.proofs.alive.Marks.{held_on, spot_is}
 use Rattle.run_hooks.proofs.alive.Open.{after}
 use Rattle.run_hooks.proofs.alive.Lives.{same_fewer, without_fewer}
 use Rattle.run_hooks.proofs.alive.Moves.{fewer_for, fewer_instance, later_instance, longer_kept, owned_of}
@@ -49,8 +50,10 @@ use Rattle.run_source.specs.declared.state.Status.{Status}
 use Rattle.run_step.specs.Effects.{is_alloca}
 use Rattle.run_step.specs.Results.{and_then}
 use Rattle.run_step.specs.Step.{Action, AtInstr, Context, Enter, GoTo, NewSlot, Return, Stuck, Work, allocator_call}
-use Rattle.run_step.specs.Step.{block_of, compared, copied_bytes, done, fetch, fits_function, if_alignment, indirect_call, instr_action}
-use Rattle.run_step.specs.Step.{intrinsic_call, is_alignment, named_call, observed, outcome_of, set_result, with_length, without_slots, words_of}
+use Rattle.run_step.specs.Step.{block_of, compared, copied_bytes, done, fetch, fits_function, if_alignment}
+use Rattle.run_step.specs.Step.{indirect_call, instr_action}
+use Rattle.run_step.specs.Step.{intrinsic_call, is_alignment, named_call, observed, outcome_of, set_result, with_length}
+use Rattle.run_step.specs.Step.{without_slots, words_of}
 use Rattle.run_step.specs.Step.{branch, switch, term_action, value_at}
 use Rattle.run_step.specs.Values.{address, arg_value, arg_values, nth, value_in, with_result}
 use Rattle.run_step.specs.declared.world.Slot.{Slot}
@@ -70,32 +73,42 @@ Gives made given (GoTo label) = ⊥
 Gives made given (Return v) = ⊥
 Gives made given _ = Unit {0}
 
-done_gives : {A : Type 0} (made : Bool) (given : Option ℕ) (f : A → Work) (r : Result A Cause) → Gives made given (done f r)
+done_gives : {A : Type 0} (made : Bool) (given : Option ℕ) (f : A → Work) (r : Result A Cause)
+    → Gives made given (done f r)
 done_gives made given f (Err cause) = tt
 done_gives made given f (Ok a) = tt
 
-if_gives : (made : Bool) (given : Option ℕ) (align : ℕ) (a : Action) → Gives made given a → Gives made given (if_alignment align a)
+if_gives : (made : Bool) (given : Option ℕ) (align : ℕ) (a : Action) → Gives made given a
+    → Gives made given (if_alignment align a)
 if_gives made given align a h = on (is_alignment align)
   where
     on : (t : Bool) → Gives made given (if t then a else Stuck Cause.Align)
     on true = h
     on false = tt
 
-length_gives : (made : Bool) (given : Option ℕ) (v : Value) (f : ℕ → Action) → ((n : ℕ) → Gives made given (f n)) → Gives made given (with_length v f)
+length_gives : (made : Bool) (given : Option ℕ) (v : Value) (f : ℕ → Action) → ((n : ℕ) → Gives made given (f n))
+    → Gives made given (with_length v f)
 length_gives made given (Value.Int y) f h = h y.bits
 length_gives made given Value.Poison f h = tt
 length_gives made given (Value.Ptr p) f h = tt
 
 module _ (c : Context) (w : Work) where
-  compared_gives : (name : ℕ) (pred : Pred) (ty : Ty) (a b : Value) → Gives false (Some name) (compared c w name pred ty a b)
+  compared_gives : (name : ℕ) (pred : Pred) (ty : Ty) (a b : Value) → Gives false (Some name)
+      (compared c w name pred ty a b)
   compared_gives name pred (int n) a b = tt
-  compared_gives name pred ptr a b = done_gives false (Some name) _ (compare c.rights w.world.memory (address a) (address b))
-  compared_gives name pred token a b = done_gives false (Some name) _ (compare c.rights w.world.memory (address a) (address b))
-  compared_gives name pred (array n t) a b = done_gives false (Some name) _ (compare c.rights w.world.memory (address a) (address b))
-  compared_gives name pred (structure ts) a b = done_gives false (Some name) _ (compare c.rights w.world.memory (address a) (address b))
-  compared_gives name pred (named n) a b = done_gives false (Some name) _ (compare c.rights w.world.memory (address a) (address b))
+  compared_gives name pred ptr a b = done_gives false (Some name) _ (compare c.rights w.world.memory (address a)
+      (address b))
+  compared_gives name pred token a b = done_gives false (Some name) _ (compare c.rights w.world.memory (address a)
+      (address b))
+  compared_gives name pred (array n t) a b = done_gives false (Some name) _
+      (compare c.rights w.world.memory (address a) (address b))
+  compared_gives name pred (structure ts) a b = done_gives false (Some name) _
+      (compare c.rights w.world.memory (address a) (address b))
+  compared_gives name pred (named n) a b = done_gives false (Some name) _
+      (compare c.rights w.world.memory (address a) (address b))
 
-  observed_gives : (d : ℕ) (ty : Option Ty) (result : Option ℕ) (args : Option (List Word)) → Gives false result (observed c w d ty result args)
+  observed_gives : (d : ℕ) (ty : Option Ty) (result : Option ℕ) (args : Option (List Word))
+      → Gives false result (observed c w d ty result args)
   observed_gives d ty result None = tt
   observed_gives d None result (Some args) = tt
   observed_gives d (Some ty) result (Some args) = tt
@@ -108,7 +121,8 @@ module _ (c : Context) (w : Work) where
 
   indirect_gives : (v : Value) (ty : Option Ty) (result : Option ℕ) (must_tail : Bool) (args : List Arg)
       (vs : List Value) → Gives false result (indirect_call c v ty result must_tail args vs)
-  indirect_gives (Value.Ptr (Pointer.Func f)) ty result must_tail args vs = on (fits_function ty args (slice_get c.code.functions f))
+  indirect_gives (Value.Ptr (Pointer.Func f)) ty result must_tail args vs =
+      on (fits_function ty args (slice_get c.code.functions f))
     where
       on : (t : Bool) → Gives false result (if t then Enter f vs result must_tail else Stuck Cause.Call)
       on true = refl
@@ -121,7 +135,8 @@ module _ (c : Context) (w : Work) where
   copied_gives : (made : Bool) (given : Option ℕ) (vs : List Value) → Gives made given (copied_bytes c w vs)
   copied_gives made given vs = length_gives made given (nth vs 2) _ (λ n. done_gives made given _ _)
 
-  intrinsic_gives : (made : Bool) (given : Option ℕ) (i : Intrinsic) (result : Option ℕ) (args : List Arg) (vs : List Value)
+  intrinsic_gives : (made : Bool) (given : Option ℕ) (i : Intrinsic) (result : Option ℕ) (args : List Arg)
+      (vs : List Value)
       → Gives made given (intrinsic_call c w i result args vs)
   intrinsic_gives made given Intrinsic.LifetimeStart result args vs = tt
   intrinsic_gives made given Intrinsic.LifetimeEnd result args vs = tt
@@ -138,11 +153,16 @@ module _ (c : Context) (w : Work) where
   allocator_gives made given Allocator.ZdlPvm result vs = tt
 
   call_gives : (result : Option ℕ) (must_tail : Bool) (ty : Option Ty) (callee : Callee) (args : List Arg)
-      → Gives false (given_by (Instr.Call result must_tail ty callee args)) (instr_action c w (Instr.Call result must_tail ty callee args))
-  call_gives result must_tail ty (Callee.Named n) args = named_gives (function_named c.code n) (declaration_named c.code n) ty result must_tail (arg_values c.code w.values args)
-  call_gives result must_tail ty (Callee.Allocator a) args = allocator_gives false _ a result (arg_values c.code w.values args)
-  call_gives result must_tail ty (Callee.Intrinsic i) args = intrinsic_gives false _ i result args (arg_values c.code w.values args)
-  call_gives result must_tail ty (Callee.Local name) args = indirect_gives (value_in w.values name) ty result must_tail args (arg_values c.code w.values args)
+      → Gives false (given_by (Instr.Call result must_tail ty callee args))
+      (instr_action c w (Instr.Call result must_tail ty callee args))
+  call_gives result must_tail ty (Callee.Named n) args = named_gives (function_named c.code n)
+      (declaration_named c.code n) ty result must_tail (arg_values c.code w.values args)
+  call_gives result must_tail ty (Callee.Allocator a) args = allocator_gives false _ a result
+      (arg_values c.code w.values args)
+  call_gives result must_tail ty (Callee.Intrinsic i) args = intrinsic_gives false _ i result args
+      (arg_values c.code w.values args)
+  call_gives result must_tail ty (Callee.Local name) args = indirect_gives (value_in w.values name) ty result must_tail
+      args (arg_values c.code w.values args)
 
   -- a call of a function gives the name that its instruction gives
   pub enter_gives : (i : Instr) → Gives (is_alloca i) (given_by i) (instr_action c w i)
@@ -156,7 +176,8 @@ module _ (c : Context) (w : Work) where
   enter_gives (Instr.Gep name inbounds ty base indices) = tt
   enter_gives (Instr.Call result must_tail ty callee args) = call_gives result must_tail ty callee args
 
-pub enters_by : (c : Context) (w : Work) (i : Instr) (func : ℕ) (args : List Value) (result : Option ℕ) (must_tail : Bool)
+pub enters_by : (c : Context) (w : Work) (i : Instr) (func : ℕ) (args : List Value) (result : Option ℕ)
+    (must_tail : Bool)
     → instr_action c w i ≡ Enter func args result must_tail → given_by i ≡ result
 enters_by c w i func args result must_tail e = subst (Gives (is_alloca i) (given_by i)) e (enter_gives c w i)
 
@@ -261,7 +282,8 @@ module _ (m : Module) (counts : ℕ → ℕ → Bool) (t : State) (h : IsAliveSt
         early = λ e. all_both (IsSlotOf h.tags (length t.world.memory) (Ramp (length t.below)) f)
             (IsAliveSlot (counts t.top.func) t.world.memory f t.top.values (spot_of f t.top))
             (IsAliveSlot (counts t.top.func) t.world.memory f (with_result t.top.values result v)
-            (spot_by f t.top.mode (after p))) t.top.slots (λ slot own was now counted marked. held slot own (was now counted marked))
+            (spot_by f t.top.mode (after p))) t.top.slots (λ slot own was now counted marked. held slot own
+            (was now counted marked))
             (h.stack.0.owned e) (h.stack.0.early e);
         met = h.stack.0.met;
         stays = h.stack.0.stays;

@@ -17,7 +17,8 @@ use Rattle.run_source.specs.declared.state.State.{State}
 use Rattle.run_step.specs.Step.{has_markers}
 use Rattle.run_step.specs.declared.world.Slot.{Slot}
 
-pub live_conflict : (m : Module) (counts : ℕ → ℕ → Bool) (s : State) → IsAliveState m counts s → (i j k : ℕ) (x : Instance)
+pub live_conflict : (m : Module) (counts : ℕ → ℕ → Bool) (s : State) → IsAliveState m counts s
+    → (i j k : ℕ) (x : Instance)
     (one other : Slot) → slice_get s.instances i ≡ Some x → slice_get x.slots j ≡ Some one
     → slice_get x.slots k ≡ Some other → lives s.world.memory one.block ≡ true
     → lives s.world.memory other.block ≡ true → counts x.coroutine one.alloca ≡ true

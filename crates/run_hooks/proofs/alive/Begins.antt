@@ -48,7 +48,8 @@ abbrev retagged : ℕ → ℕ → Tags → Tags
 retagged depth i tags b = record { home = renamed depth i (tags b).home; alloca = (tags b).alloca }
 
 own_renamed : (depth i : ℕ) → renamed depth i (Ramp depth) ≡ Own i
-own_renamed depth i = let e : (depth == depth) ≡ true = grind arith in ap (λ (t : Bool). if t then Own i else Ramp depth) e
+own_renamed depth i = let e : (depth == depth) ≡ true = grind arith in ap
+    (λ (t : Bool). if t then Own i else Ramp depth) e
 
 other_renamed : (depth i d : ℕ) → d < depth → renamed depth i (Ramp d) ≡ Ramp d
 other_renamed depth i d lt = on (d == depth) refl
@@ -166,7 +167,8 @@ module _ (m : Module) (counts : ℕ → ℕ → Bool) (g : Given) (s : State) (h
 
       ended : (j : ℕ) (z : Instance) → Some i ≡ Some j → is_finished z.status ≡ true → IsPushed s.instances y j z
           → IsEnded (function_at m s.top.func) (spot_of (function_at m s.top.func) s.top)
-      ended j z ej fin (Last e w) = let no : false ≡ true = sym (ap (λ (v : Instance). is_finished v.status) w) ∙ fin in absurd (cc)
+      ended j z ej fin (Last e w) = let no : false ≡ true = sym (ap (λ (v : Instance). is_finished v.status) w) ∙ fin
+          in absurd (cc)
       ended j z ej fin (Earlier lt e) = let same = number j ej in absurd (omega (arith, lt, same))
 
   abbrev IsLow : ℕ → Activation → Type 0
@@ -237,7 +239,8 @@ module _ (m : Module) (counts : ℕ → ℕ → Bool) (g : Given) (s : State) (h
             asleep = λ u vs w.
                 let r = o.asleep u vs w in
                 record {
-                  tagged = λ v b made k. tag_renamed depth i h.tags (length s.world.memory) (Own j) (Own j) v b refl (r.tagged v b made k);
+                  tagged = λ v b made k. tag_renamed depth i h.tags (length s.world.memory) (Own j) (Own j) v b refl
+                      (r.tagged v b made k);
                   alive = record { runs = r.alive.runs; slots = r.alive.slots };
                 };
             running = λ w f. stays (o.running w f);

@@ -17,7 +17,7 @@ use Rattle.pass_renewed_proof.proofs.Ahead.{branch_edge}
 use Rattle.pass_renewed_proof.proofs.Left.{after_edge}
 use Rattle.pass_renewed_proof.proofs.Sets.{result_elsewhere, set_elsewhere}
 use Rattle.pass_renewed_proof.specs.SlotRules.{IsMadeOnce}
-use Rattle.run_hooks.proofs.alive.Instrs.{ended_on, held_on, runs_on, spot_is}
+use Rattle.run_hooks.proofs.alive.Marks.{ended_on, held_on, runs_on, spot_is}
 use Rattle.run_hooks.proofs.alive.Lives.{AreFewer, same_fewer}
 use Rattle.run_hooks.proofs.alive.Moves.{IsOfOwn, fewer_for, fewer_instance, later_instance, longer_kept}
 use Rattle.run_hooks.proofs.alive.Moves.{moved_in, moves_on, owned_of}
@@ -36,7 +36,8 @@ use Rattle.run_source.specs.declared.state.Instance.{Instance}
 use Rattle.run_source.specs.declared.state.Mode.{Mode}
 use Rattle.run_source.specs.declared.state.State.{State}
 use Rattle.run_source.specs.declared.state.Status.{Status}
-use Rattle.run_step.specs.Step.{AtInstr, AtTerm, block_of, entry_values, fetch, incoming_from, phi_values, phis_of, values_in, with_all}
+use Rattle.run_step.specs.Step.{AtInstr, AtTerm, block_of, entry_values, fetch, incoming_from, phi_values, phis_of}
+use Rattle.run_step.specs.Step.{values_in, with_all}
 use Rattle.run_step.specs.Step.{with_params}
 use Rattle.run_step.specs.Values.{Env, operand_value, value_in, with_result, with_value}
 
@@ -70,7 +71,8 @@ phis_other m env label [] now v e = refl
 phis_other m env label (p ∷ phis) now v e =
     let n = neither (p.result == v) _ e in
     let x = operand_value m env p.ty (incoming_from p.incoming label) in
-    phis_other m env label phis (with_value now p.result x) v n.1 ∙ set_elsewhere now p.result v x (not_same p.result v n.0)
+    phis_other m env label phis (with_value now p.result x) v n.1 ∙ set_elsewhere now p.result v x
+    (not_same p.result v n.0)
 
 module _ (m : Module) (counts : ℕ → ℕ → Bool) where
   -- ---- the same in another stack
@@ -172,7 +174,12 @@ module _ (m : Module) (counts : ℕ → ℕ → Bool) where
       → ((i : ℕ) (x : Instance) → s.top.instance ≡ Some i → slice_get s.instances i ≡ Some x
       → s.top.has_left ≡ false → x.status ≡ Status.Running → x.freed ≡ false → ⊥)
       → ((i : ℕ) (x : Instance) → a.instance ≡ Some i → slice_get s.instances i ≡ Some x → x.coroutine ≡ a.func)
-      → IsAliveState m counts (record s { top = record a { values = with_result a.values s.top.result value }; below = below })
+      → IsAliveState m counts (record s {
+        top = record a {
+          values = with_result a.values s.top.result value;
+        };
+        below = below;
+      })
   popped s h a below eb value never own = record {
     tags = h.tags;
     stack = (
@@ -239,9 +246,11 @@ module _ (m : Module) (counts : ℕ → ℕ → Bool) where
       moves_on m counts s h s.world (position_of f label) 0 _ s.top.mode (record {
         longer = omega arith;
         own = own;
-        top = subst (λ (z : Point). IsMoved m counts (account_of h.tags s) (length s.below) s.top s.world.memory values z
+        top = subst (λ (z : Point). IsMoved m counts (account_of h.tags s) (length s.below) s.top s.world.memory values
+            z
             (spot_by f s.top.mode q) q) (sym (spot_is f s.top.mode p still))
-            (subst (λ (z : Point). IsMoved m counts (account_of h.tags s) (length s.below) s.top s.world.memory values p z q)
+            (subst (λ (z : Point). IsMoved m counts (account_of h.tags s) (length s.below) s.top s.world.memory values p
+            z q)
             (sym (spot_is f s.top.mode q still)) core);
         below = in_any _ s.below (fewer_for m counts (account_of h.tags s) s.world.memory (same_fewer s.world.memory)
             (owned_of m counts s h));

@@ -15,9 +15,11 @@ use Rattle.ir_model.specs.declared.operand.Intrinsic.{Intrinsic}
 use Rattle.ir_paths.specs.Windows.{is_call_of}
 use Rattle.run_hooks.specs.alive.Slots.{is_gone, life_of, lives}
 use Rattle.run_ints.specs.Numbers.{binary}
-use Rattle.run_memory.specs.Memory.{Rights, compare, copied, copy, disowned, ended, is_constant, is_killed, is_live, kill, killed}
+use Rattle.run_memory.specs.Memory.{Rights, compare, copied, copy, disowned, ended, is_constant, is_killed, is_live}
+use Rattle.run_memory.specs.Memory.{kill, killed}
 use Rattle.run_memory.specs.Memory.{killed_block, load, overlaps, own, owned_to, store, with_block, with_bytes}
-use Rattle.run_memory.specs.Memory.{both, check, is_unkilled, is_owned, may_be_owned, on_ok, range, unless_constant, bytes_at, write}
+use Rattle.run_memory.specs.Memory.{both, check, is_unkilled, is_owned, may_be_owned, on_ok, range, unless_constant}
+use Rattle.run_memory.specs.Memory.{bytes_at, write}
 use Rattle.run_memory.specs.declared.block.Byte.{Byte}
 use Rattle.run_memory.specs.declared.block.Kind.{Kind}
 use Rattle.run_memory.specs.declared.block.Life.{Life}
@@ -27,10 +29,13 @@ use Rattle.run_memory.specs.declared.pointer.Pointer.{Pointer}
 use Rattle.run_memory.specs.declared.pointer.Spot.{Spot}
 use Rattle.run_memory.specs.declared.pointer.Value.{Value}
 use Rattle.run_step.specs.Step.{Action, Context, Done, Enter, Stuck, Work}
-use Rattle.run_step.specs.Step.{allocator_call, block_of, by_pred, compared, copied_bytes, deallocated, done, fits_function, if_alignment}
-use Rattle.run_step.specs.Step.{indirect_call, instr_action, intrinsic_call, is_alignment, named_call, observed, on_block, set_memory}
+use Rattle.run_step.specs.Step.{allocator_call, block_of, by_pred, compared, copied_bytes, deallocated, done}
+use Rattle.run_step.specs.Step.{fits_function, if_alignment}
+use Rattle.run_step.specs.Step.{indirect_call, instr_action, intrinsic_call, is_alignment, named_call, observed}
+use Rattle.run_step.specs.Step.{on_block, set_memory}
 use Rattle.run_step.specs.Step.{set_value, value_at, with_length, without_slots, words_of}
-use Rattle.run_step.specs.Values.{access_of, address, arg_value, arg_values, nth, number_at, stored, truth_value, value_in, value_of}
+use Rattle.run_step.specs.Values.{access_of, address, arg_value, arg_values, nth, number_at, stored, truth_value}
+use Rattle.run_step.specs.Values.{value_in, value_of}
 use Rattle.run_step.specs.declared.world.Slot.{Slot}
 
 -- no block lives that didn't, and none comes back
@@ -75,7 +80,12 @@ changed_fewer (x ∷ m) zero f h = cons_fewer x (f x) m m (h x) (same_fewer m)
 changed_fewer (x ∷ m) (suc b) f h = cons_fewer x x m (with_block m b f) (same_block x) (changed_fewer m b f h)
 
 pub more_fewer : (m k : List MemoryBlock) → AreFewer m (m ++ k)
-more_fewer [] k = record { longer = omega arith; live = λ b lt e. absurd (omega (arith, lt)); gone = λ b lt e. absurd (omega (arith, lt)) }
+more_fewer [] k = record {
+  longer = omega arith;
+  live = λ b lt e. absurd (omega (arith, lt));
+  gone = λ b lt e. absurd
+      (omega (arith, lt));
+}
 more_fewer (x ∷ m) k = cons_fewer x x m (m ++ k) (same_block x) (more_fewer m k)
 
 pub ended_fewer : (x : MemoryBlock) → IsFewer x (ended x)
@@ -110,7 +120,8 @@ killed_gone (x ∷ m) (suc b) = killed_gone m b
 
 pub without_fewer : (m : List MemoryBlock) (slots : List Slot) → AreFewer m (without_slots m slots)
 without_fewer m [] = same_fewer m
-without_fewer m (s ∷ slots) = then_fewer (changed_fewer m s.block killed_block killed_fewer) (without_fewer (killed m s.block) slots)
+without_fewer m (s ∷ slots) = then_fewer (changed_fewer m s.block killed_block killed_fewer)
+    (without_fewer (killed m s.block) slots)
 
 -- ---- operations
 
@@ -118,7 +129,8 @@ pub owned_fewer : (m k : List MemoryBlock) (v : Value) (n : ℕ) (kind : Kind) �
 owned_fewer m k (Value.Ptr (Pointer.At b o)) n kind e = on ((o.bits == 0) && may_be_owned kind n (slice_get m b)) e
   where
     on : (t : Bool) → check t Cause.Begin (Ok (with_block m b (owned_to n))) ≡ Ok k → AreFewer m k
-    on true h = let same : with_block m b (owned_to n) ≡ k = cc in subst (AreFewer m) same (changed_fewer m b (owned_to n) (λ x. record { live = λ e. e; gone = λ e. e }))
+    on true h = let same : with_block m b (owned_to n) ≡ k = cc in subst (AreFewer m) same
+        (changed_fewer m b (owned_to n) (λ x. record { live = λ e. e; gone = λ e. e }))
     on false h = absurd (cc)
 owned_fewer m k (Value.Ptr Pointer.Null) n kind e = absurd (cc)
 owned_fewer m k (Value.Ptr (Pointer.Func f)) n kind e = absurd (cc)
@@ -126,12 +138,15 @@ owned_fewer m k Value.Poison n kind e = absurd (cc)
 owned_fewer m k (Value.Int w) n kind e = absurd (cc)
 
 kill_fewer : (m k : List MemoryBlock) (v : Value) (kind : Kind) → kill m v kind ≡ Ok k → AreFewer m k
-kill_fewer m k (Value.Ptr (Pointer.At b o)) kind e = on (not ((o.bits == 0) && is_unkilled kind (slice_get m b))) (is_owned (slice_get m b)) e
+kill_fewer m k (Value.Ptr (Pointer.At b o)) kind e = on (not ((o.bits == 0) && is_unkilled kind (slice_get m b)))
+    (is_owned (slice_get m b)) e
   where
-    on : (t u : Bool) → (if t then Err Cause.Free else if u then Err Cause.Owned else Ok (killed m b)) ≡ Ok k → AreFewer m k
+    on : (t u : Bool) → (if t then Err Cause.Free else if u then Err Cause.Owned else Ok (killed m b)) ≡ Ok k
+        → AreFewer m k
     on true u h = absurd (cc)
     on false true h = absurd (cc)
-    on false false h = let same : killed m b ≡ k = cc in subst (AreFewer m) same (changed_fewer m b killed_block killed_fewer)
+    on false false h = let same : killed m b ≡ k = cc in subst (AreFewer m) same
+        (changed_fewer m b killed_block killed_fewer)
 kill_fewer m k (Value.Ptr Pointer.Null) kind e = absurd (cc)
 kill_fewer m k (Value.Ptr (Pointer.Func f)) kind e = absurd (cc)
 kill_fewer m k Value.Poison kind e = absurd (cc)
@@ -156,28 +171,34 @@ IsFewerResult m (Err cause) = Unit {0}
 IsFewerResult m (Ok k) = AreFewer m k
 
 written_fewer : (m : List MemoryBlock) (spot : Spot) (new : List Byte) → AreFewer m (write m spot new)
-written_fewer m spot new = changed_fewer m spot.block (with_bytes spot.offset new) (λ x. record { live = λ e. e; gone = λ e. e })
+written_fewer m spot new = changed_fewer m spot.block (with_bytes spot.offset new)
+    (λ x. record { live = λ e. e; gone = λ e. e })
 
-store_fewer : (rights : Rights) (m : List MemoryBlock) (p v : Value) (what : Access) (align : ℕ) → IsFewerResult m (store rights m p v what align)
+store_fewer : (rights : Rights) (m : List MemoryBlock) (p v : Value) (what : Access) (align : ℕ)
+    → IsFewerResult m (store rights m p v what align)
 store_fewer rights m p v what align = on (range rights m p _ align)
   where
-    unless : (spot : Spot) (new : List Byte) (t : Bool) → IsFewerResult m (if t then Err Cause.Constant else Ok (write m spot new))
+    unless : (spot : Spot) (new : List Byte) (t : Bool) → IsFewerResult m
+        (if t then Err Cause.Constant else Ok (write m spot new))
     unless spot new true = tt
     unless spot new false = written_fewer m spot new
 
-    on : (r : Result Spot Cause) → IsFewerResult m (on_ok (λ spot. unless_constant m spot (write m spot (Rattle.run_memory.specs.Memory.encode (Rattle.run_memory.specs.Memory.access_bytes what) v))) r)
+    on : (r : Result Spot Cause) → IsFewerResult m (on_ok (λ spot. unless_constant m spot
+        (write m spot (Rattle.run_memory.specs.Memory.encode (Rattle.run_memory.specs.Memory.access_bytes what) v))) r)
     on (Err cause) = tt
     on (Ok spot) = unless spot _ (is_constant (slice_get m spot.block))
 
 copied_fewer : (m : List MemoryBlock) (a b : Spot) (len : ℕ) → IsFewerResult m (copied m a b len)
 copied_fewer m a b len = on (is_constant (slice_get m a.block)) (overlaps a b len)
   where
-    on : (t u : Bool) → IsFewerResult m (if t then Err Cause.Constant else if u then Err Cause.Overlap else Ok (write m a (bytes_at m b len)))
+    on : (t u : Bool) → IsFewerResult m (if t then Err Cause.Constant else if u then Err Cause.Overlap else Ok
+        (write m a (bytes_at m b len)))
     on true u = tt
     on false true = tt
     on false false = written_fewer m a _
 
-copy_fewer : (rights : Rights) (m : List MemoryBlock) (to from : Value) (n : ℕ) → IsFewerResult m (copy rights m to from n)
+copy_fewer : (rights : Rights) (m : List MemoryBlock) (to from : Value) (n : ℕ)
+    → IsFewerResult m (copy rights m to from n)
 copy_fewer rights m to from zero = same_fewer m
 copy_fewer rights m to from (suc n) = on (both (range rights m to (suc n) 1) (range rights m from (suc n) 1))
   where
@@ -196,7 +217,8 @@ module _ (c : Context) (w : Work) where
   memory_fine (Err cause) h = tt
   memory_fine (Ok k) h = h
 
-  value_fine : {A : Type 0} (name : ℕ) (g : A → Value) (r : Result A Cause) → Fine (done (λ a. set_value w name (g a)) r)
+  value_fine : {A : Type 0} (name : ℕ) (g : A → Value) (r : Result A Cause)
+      → Fine (done (λ a. set_value w name (g a)) r)
   value_fine name g (Err cause) = tt
   value_fine name g (Ok a) = same_fewer w.world.memory
 
@@ -212,29 +234,37 @@ module _ (c : Context) (w : Work) where
   length_fine Value.Poison f h = tt
   length_fine (Value.Ptr p) f h = tt
 
-  pointers_fine : (name : ℕ) (pred : Pred) (r : Result Bool Cause) → Fine (done (λ same. set_value w name (truth_value (by_pred pred same))) r)
+  pointers_fine : (name : ℕ) (pred : Pred) (r : Result Bool Cause) → Fine
+      (done (λ same. set_value w name (truth_value (by_pred pred same))) r)
   pointers_fine name pred r = value_fine name (λ same. truth_value (by_pred pred same)) r
 
   compared_fine : (name : ℕ) (pred : Pred) (ty : Ty) (a b : Value) → Fine (compared c w name pred ty a b)
   compared_fine name pred (int n) a b = same_fewer w.world.memory
   compared_fine name pred ptr a b = pointers_fine name pred (compare c.rights w.world.memory (address a) (address b))
   compared_fine name pred token a b = pointers_fine name pred (compare c.rights w.world.memory (address a) (address b))
-  compared_fine name pred (array n t) a b = pointers_fine name pred (compare c.rights w.world.memory (address a) (address b))
-  compared_fine name pred (structure ts) a b = pointers_fine name pred (compare c.rights w.world.memory (address a) (address b))
-  compared_fine name pred (named n) a b = pointers_fine name pred (compare c.rights w.world.memory (address a) (address b))
+  compared_fine name pred (array n t) a b = pointers_fine name pred (compare c.rights w.world.memory (address a)
+      (address b))
+  compared_fine name pred (structure ts) a b = pointers_fine name pred
+      (compare c.rights w.world.memory (address a) (address b))
+  compared_fine name pred (named n) a b = pointers_fine name pred (compare c.rights w.world.memory (address a)
+      (address b))
 
-  observed_fine : (d : ℕ) (ty : Option Ty) (result : Option ℕ) (args : Option (List Word)) → Fine (observed c w d ty result args)
+  observed_fine : (d : ℕ) (ty : Option Ty) (result : Option ℕ) (args : Option (List Word))
+      → Fine (observed c w d ty result args)
   observed_fine d ty result None = tt
   observed_fine d None result (Some args) = same_fewer w.world.memory
   observed_fine d (Some ty) result (Some args) = same_fewer w.world.memory
 
-  named_fine : (f d : Option ℕ) (ty : Option Ty) (result : Option ℕ) (must_tail : Bool) (vs : List Value) → Fine (named_call c w f d ty result must_tail vs)
+  named_fine : (f d : Option ℕ) (ty : Option Ty) (result : Option ℕ) (must_tail : Bool) (vs : List Value)
+      → Fine (named_call c w f d ty result must_tail vs)
   named_fine (Some f) d ty result must_tail vs = tt
   named_fine None (Some d) ty result must_tail vs = observed_fine d ty result (words_of vs)
   named_fine None None ty result must_tail vs = tt
 
-  indirect_fine : (v : Value) (ty : Option Ty) (result : Option ℕ) (must_tail : Bool) (args : List Arg) (vs : List Value) → Fine (indirect_call c v ty result must_tail args vs)
-  indirect_fine (Value.Ptr (Pointer.Func f)) ty result must_tail args vs = on (fits_function ty args (slice_get c.code.functions f))
+  indirect_fine : (v : Value) (ty : Option Ty) (result : Option ℕ) (must_tail : Bool) (args : List Arg)
+      (vs : List Value) → Fine (indirect_call c v ty result must_tail args vs)
+  indirect_fine (Value.Ptr (Pointer.Func f)) ty result must_tail args vs =
+      on (fits_function ty args (slice_get c.code.functions f))
     where
       on : (t : Bool) → Fine (if t then Enter f vs result must_tail else Stuck Cause.Call)
       on true = tt
@@ -245,13 +275,15 @@ module _ (c : Context) (w : Work) where
   indirect_fine (Value.Int y) ty result must_tail args vs = tt
 
   copied_fine : (vs : List Value) → Fine (copied_bytes c w vs)
-  copied_fine vs = length_fine (nth vs 2) _ (λ n. memory_fine (copy c.rights w.world.memory (address (nth vs 0)) (address (nth vs 1)) n) (copy_fewer c.rights w.world.memory (address (nth vs 0)) (address (nth vs 1)) n))
+  copied_fine vs = length_fine (nth vs 2) _ (λ n. memory_fine (copy c.rights w.world.memory (address (nth vs 0))
+      (address (nth vs 1)) n) (copy_fewer c.rights w.world.memory (address (nth vs 0)) (address (nth vs 1)) n))
 
   end_fine : (o : Option ℕ) → AreFewer w.world.memory (on_block Rattle.run_memory.specs.Memory.end w.world.memory o)
   end_fine None = same_fewer w.world.memory
   end_fine (Some b) = changed_fewer w.world.memory b ended ended_fewer
 
-  intrinsic_fine : (i : Intrinsic) (result : Option ℕ) (must_tail : Bool) (ty : Option Ty) (args : List Arg) (vs : List Value)
+  intrinsic_fine : (i : Intrinsic) (result : Option ℕ) (must_tail : Bool) (ty : Option Ty) (args : List Arg)
+      (vs : List Value)
       → is_call_of Intrinsic.LifetimeStart (Instr.Call result must_tail ty (Callee.Intrinsic i) args) ≡ false
       → Fine (intrinsic_call c w i result args vs)
   intrinsic_fine Intrinsic.LifetimeStart result must_tail ty args vs never = absurd (cc)
@@ -270,19 +302,28 @@ module _ (c : Context) (w : Work) where
   call_fine : (result : Option ℕ) (must_tail : Bool) (ty : Option Ty) (callee : Callee) (args : List Arg)
       → is_call_of Intrinsic.LifetimeStart (Instr.Call result must_tail ty callee args) ≡ false
       → Fine (instr_action c w (Instr.Call result must_tail ty callee args))
-  call_fine result must_tail ty (Callee.Named n) args never = named_fine (function_named c.code n) (declaration_named c.code n) ty result must_tail (arg_values c.code w.values args)
-  call_fine result must_tail ty (Callee.Allocator a) args never = allocator_fine a result (arg_values c.code w.values args)
-  call_fine result must_tail ty (Callee.Intrinsic i) args never = intrinsic_fine i result must_tail ty args (arg_values c.code w.values args) never
-  call_fine result must_tail ty (Callee.Local name) args never = indirect_fine (value_in w.values name) ty result must_tail args (arg_values c.code w.values args)
+  call_fine result must_tail ty (Callee.Named n) args never = named_fine (function_named c.code n)
+      (declaration_named c.code n) ty result must_tail (arg_values c.code w.values args)
+  call_fine result must_tail ty (Callee.Allocator a) args never = allocator_fine a result
+      (arg_values c.code w.values args)
+  call_fine result must_tail ty (Callee.Intrinsic i) args never = intrinsic_fine i result must_tail ty args
+      (arg_values c.code w.values args) never
+  call_fine result must_tail ty (Callee.Local name) args never = indirect_fine (value_in w.values name) ty result
+      must_tail args (arg_values c.code w.values args)
 
   -- an instruction that is done starts no block, unless it is a start
-  pub instr_fewer : (i : Instr) → is_call_of Intrinsic.LifetimeStart i ≡ false → StaysFewer w.world.memory (instr_action c w i)
-  instr_fewer (Instr.Binary name op flags ty a b) never = value_fine name value_of (binary op flags (number_at ty (value_at c w ty a)) (number_at ty (value_at c w ty b)))
+  pub instr_fewer : (i : Instr) → is_call_of Intrinsic.LifetimeStart i ≡ false
+      → StaysFewer w.world.memory (instr_action c w i)
+  instr_fewer (Instr.Binary name op flags ty a b) never = value_fine name value_of
+      (binary op flags (number_at ty (value_at c w ty a)) (number_at ty (value_at c w ty b)))
   instr_fewer (Instr.Icmp name pred ty a b) never = compared_fine name pred ty (value_at c w ty a) (value_at c w ty b)
   instr_fewer (Instr.Select name x a b) never = same_fewer w.world.memory
   instr_fewer (Instr.Cast name op nneg arg to) never = same_fewer w.world.memory
   instr_fewer (Instr.Alloca name ty align) never = if_fine align _ tt
-  instr_fewer (Instr.Load name ty p align) never = if_fine align _ (value_fine name (λ v. v) (load c.rights w.world.memory (address (value_at c w ptr p)) (access_of ty) align))
-  instr_fewer (Instr.Store arg p align) never = if_fine align _ (memory_fine _ (store_fewer c.rights w.world.memory (address (value_at c w ptr p)) (stored (access_of arg.ty) (arg_value c.code w.values arg)) (access_of arg.ty) align))
+  instr_fewer (Instr.Load name ty p align) never = if_fine align _ (value_fine name (λ v. v)
+      (load c.rights w.world.memory (address (value_at c w ptr p)) (access_of ty) align))
+  instr_fewer (Instr.Store arg p align) never = if_fine align _ (memory_fine _
+      (store_fewer c.rights w.world.memory (address (value_at c w ptr p))
+      (stored (access_of arg.ty) (arg_value c.code w.values arg)) (access_of arg.ty) align))
   instr_fewer (Instr.Gep name inbounds ty base indices) never = same_fewer w.world.memory
   instr_fewer (Instr.Call result must_tail ty callee args) never = call_fine result must_tail ty callee args never

@@ -7,13 +7,15 @@ use Rattle.ir_model.specs.Names.{function_at}
 use Rattle.ir_model.specs.declared.module.Module.{Module}
 use Rattle.ir_paths.specs.declared.point.Point.{Point}
 use Rattle.run_hooks.proofs.alive.Lives.{AreFewer}
-use Rattle.run_hooks.proofs.alive.Parts.{AllIn, AreKept, IsLaterFor, IsMoved, IsNew, all_both, all_map, later_all, met_by, slot_later}
+use Rattle.run_hooks.proofs.alive.Parts.{AllIn, AreKept, IsLaterFor, IsMoved, IsNew, all_both, all_map, later_all}
+use Rattle.run_hooks.proofs.alive.Parts.{met_by, slot_later}
 use Rattle.run_hooks.proofs.alive.Parts.{tagged_later}
 use Rattle.run_hooks.specs.Away.{spot_by, spot_of}
 use Rattle.run_hooks.specs.alive.Alive.{Account, GoesOn, IsAliveIn, IsAliveInstance}
 use Rattle.run_hooks.specs.alive.Alive.{IsAliveState, IsThere, MayLeave, Stays, account_of}
 use Rattle.pass_renewed_proof.specs.SlotRules.{IsMadeOnce}
-use Rattle.run_hooks.specs.alive.Slots.{AreAliveSlots, AreMet, IsAliveSlot, IsSlotOf, IsTagged, Own, Ramp, home_of, is_gone, lives}
+use Rattle.run_hooks.specs.alive.Slots.{AreAliveSlots, AreMet, IsAliveSlot, IsSlotOf, IsTagged, Own, Ramp, home_of}
+use Rattle.run_hooks.specs.alive.Slots.{is_gone, lives}
 use Rattle.run_memory.specs.declared.block.MemoryBlock.{MemoryBlock}
 use Rattle.run_source.specs.declared.state.Activation.{Activation}
 use Rattle.run_source.specs.declared.state.Instance.{Instance}
@@ -33,11 +35,13 @@ module _ (m : Module) (counts : ℕ → ℕ → Bool) (k : Account) where
   abbrev pub in_memory : List MemoryBlock → Account
   in_memory memory = record k { memory = memory }
 
-  pub longer_kept : (memory : List MemoryBlock) → length k.memory ≤ length memory → AreKept k (record k { memory = memory })
+  pub longer_kept : (memory : List MemoryBlock) → length k.memory ≤ length memory
+      → AreKept k (record k { memory = memory })
   longer_kept memory longer = record { longer = longer; tags = λ b lt. refl }
 
   module _ (depth : ℕ) (a : Activation) (memory : List MemoryBlock) (block at : ℕ) (values : Env) (mode : Mode) where
-    pub moved_in : length k.memory ≤ length memory → IsMoved m counts k depth a memory values (spot_of (function_at m a.func) a)
+    pub moved_in : length k.memory ≤ length memory → IsMoved m counts k depth a memory values
+        (spot_of (function_at m a.func) a)
         (spot_by (function_at m a.func) mode (record { block = block; at = at })) (record { block = block; at = at })
         → ((i : ℕ) (x : Instance) → a.instance ≡ Some i → slice_get k.instances i ≡ Some x
         → AllByRecursion (IsSlotOf k.tags (length k.memory) (Own i) (function_at m a.func)) x.slots)
@@ -194,7 +198,8 @@ module _ (m : Module) (counts : ℕ → ℕ → Bool) where
       (values : Env) (mode : Mode) : Type 0 where
     pub longer : length s.world.memory ≤ length memory
     pub own : IsOfOwn s
-    pub top : IsMoved m counts (account_of h.tags s) (length s.below) s.top memory values (spot_of (function_at m s.top.func) s.top)
+    pub top : IsMoved m counts (account_of h.tags s) (length s.below) s.top memory values
+        (spot_of (function_at m s.top.func) s.top)
         (spot_by (function_at m s.top.func) mode (record { block = block; at = at }))
         (record { block = block; at = at })
     pub below : AllIn
@@ -202,7 +207,8 @@ module _ (m : Module) (counts : ℕ → ℕ → Bool) where
     pub instances : (i : ℕ) (x : Instance) → slice_get s.instances i ≡ Some x
         → IsLaterInstance (account_of h.tags s) (record (account_of h.tags s) { memory = memory }) x
 
-  abbrev pub moves_on : (s : State) (h : IsAliveState m counts s) (world : World) (block at : ℕ) (values : Env) (mode : Mode)
+  abbrev pub moves_on : (s : State) (h : IsAliveState m counts s) (world : World) (block at : ℕ) (values : Env)
+      (mode : Mode)
       → MovesOn s h world.memory block at values mode
       → IsAliveState m counts (record s {
         world = world;

@@ -1,5 +1,6 @@
 -- A new slot leaves a state in which live slots may be alive.
-use Rattle.std.proofs.Common.{◌≡◌, ◌<◌, ◌⊎◌, inl, inr, ℕ, zero, suc, ◌+◌, Bool, true, false, List, [], ◌∷◌, ◌++◌, length}
+use Rattle.std.proofs.Common.{◌≡◌, ◌<◌, ◌⊎◌, inl, inr, ℕ, zero, suc, ◌+◌, Bool, true, false, List, [], ◌∷◌, ◌++◌}
+use Rattle.std.proofs.Common.{length}
 use Rattle.std.proofs.Common.{Some, refl, sym, ap, ◌∙◌, subst, arith}
 use Rattle.std.specs.Prelude.{if◌then◌else◌, slice_get, ◌==◌}
 use Rattle.ir_model.specs.Names.{function_at}
@@ -13,7 +14,8 @@ use Rattle.ir_paths.specs.declared.point.Point.{Point}
 use Rattle.pass_renewed_proof.proofs.Sets.{set_elsewhere}
 use Rattle.pass_renewed_proof.specs.SlotRules.{IsMadeOnce}
 use Rattle.pass_renewed_proof.specs.Steps.{given_at}
-use Rattle.run_hooks.proofs.alive.Instrs.{IsInOrder, core, edge, ended_dead, held_on, same_length, spot_is}
+use Rattle.run_hooks.proofs.alive.Behind.{IsInOrder, core, edge}
+use Rattle.run_hooks.proofs.alive.Marks.{ended_dead, held_on, same_length, spot_is}
 use Rattle.run_hooks.proofs.alive.Open.{after}
 use Rattle.run_hooks.proofs.alive.Lives.{AreFewer, changed_fewer, ended_fewer, more_fewer, then_fewer}
 use Rattle.run_hooks.proofs.alive.Moves.{fewer_for, fewer_instance, later_instance, moves_on, owned_of}
@@ -207,7 +209,8 @@ module _ (m : Module) (counts : ℕ → ℕ → Bool) where
                   (home_of s.top.instance (length s.below)) u n) at (record {
                     there = is_made.there;
                     tag = own_tag h.tags (length s.world.memory) tag
-                        ∙ ap (λ (n : ℕ). record { home = home_of s.top.instance (length s.below); alloca = n }) (sym same);
+                        ∙ ap (λ (n : ℕ). record { home = home_of s.top.instance (length s.below); alloca = n })
+                        (sym same);
                   });
               past = λ z. let w = (own_at same).1 in omega (arith, w);
             })

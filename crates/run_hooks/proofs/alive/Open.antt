@@ -38,7 +38,8 @@ not_listed f x p never = on (has_point (points_where (is_call_of x) f) p) refl
 no_front : (f : Function) (block at : ℕ) (labels : List ℕ)
     → has_point (map (entry_point f) labels) (record { block = block; at = at + 1 }) ≡ true → ⊥
 no_front f block at [] h = absurd (cc)
-no_front f block at (l ∷ labels) h = on (either (same_point (record { block = block; at = at + 1 }) (entry_point f l)) _ h)
+no_front f block at (l ∷ labels) h = on (either (same_point (record { block = block; at = at + 1 }) (entry_point f l)) _
+    h)
     (no_front f block at labels)
   where
     on : (same_point (record { block = block; at = at + 1 }) (entry_point f l) ≡ true)

@@ -8,7 +8,8 @@ use Rattle.ir_model.specs.declared.module.Function.{Function}
 use Rattle.ir_model.specs.declared.operand.Intrinsic.{Intrinsic}
 use Rattle.ir_model.specs.declared.operand.Operand.{Operand}
 use Rattle.ir_paths.specs.Paths.{entry_point}
-use Rattle.ir_paths.specs.Windows.{IsInWindow, call_operand, call_result, end_block, instr_at, is_call_of, is_suspend_of, points_where, suspend_of}
+use Rattle.ir_paths.specs.Windows.{IsInWindow, call_operand, call_result, end_block, instr_at, is_call_of}
+use Rattle.ir_paths.specs.Windows.{is_suspend_of, points_where, suspend_of}
 use Rattle.ir_paths.specs.declared.point.Point.{Point}
 use Rattle.pass_kept_proof.proofs.Rules.{suspend_is_suspend, where_is}
 use Rattle.pass_kept_proof.specs.Related.{coroutines}
@@ -22,10 +23,11 @@ use Rattle.run_hooks.proofs.Left.{sleepers_left, sleeps_at}
 use Rattle.run_hooks.proofs.PlacedSteps.{left_at}
 use Rattle.run_hooks.proofs.Points.{no_call_at_term, not_both, save_no_suspend, suspend_no_end}
 use Rattle.run_hooks.proofs.Reached.{get_coroutine}
-use Rattle.run_hooks.proofs.alive.Instrs.{IsInOrder, IsLower}
+use Rattle.run_hooks.proofs.alive.Behind.{IsInOrder, IsLower}
 use Rattle.run_hooks.proofs.alive.Parts.{AllIn, in_any, in_map}
 use Rattle.run_hooks.specs.Away as away
-use Rattle.run_hooks.specs.Away.{HasStop, IsBehind, IsClear, IsPair, IsPlacedState, KeepsAllPlaceRules, KeepsPlaceRules, point_in}
+use Rattle.run_hooks.specs.Away.{HasStop, IsBehind, IsClear, IsPair, IsPlacedState, KeepsAllPlaceRules, KeepsPlaceRules}
+use Rattle.run_hooks.specs.Away.{point_in}
 use Rattle.run_hooks.specs.Hooks.{Hooks}
 use Rattle.run_hooks.specs.Left.{AreLast, HaveLeft, IsLastState}
 use Rattle.run_hooks.specs.Reached.{AreReachedActivations, IsReachedActivation, IsReachedState}

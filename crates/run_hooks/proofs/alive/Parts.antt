@@ -209,7 +209,8 @@ module _ (m : Module) (counts : ℕ → ℕ → Bool) (k : Account) where
     pub tagged : (b : ℕ) → block_of (value_in values v) ≡ Some b → IsTagged k.tags count home v b
     pub past : q.block ≡ 0 → made.at < q.at
 
-  -- the same activation at another place, with other values, in another memory; the points are where it stood and stands
+  -- the same activation at another place, with other values, in another memory; the points are where it stood and
+  -- stands
   pub record IsMoved (depth : ℕ) (a : Activation) (memory : List MemoryBlock) (values : Env) (p q at : Point)
       : Type 0 where
     pub names : (v : ℕ) (made : IsMadeOnce (function_at m a.func) v)

@@ -7,7 +7,7 @@ use Rattle.ir_model.specs.Names.{function_at}
 use Rattle.ir_model.specs.declared.module.Module.{Module}
 use Rattle.ir_paths.specs.Slots.{IsRampSlot}
 use Rattle.run_hooks.proofs.alive.Changes.{changed, others_later, restack}
-use Rattle.run_hooks.proofs.alive.Instrs.{IsInOrder, IsLower}
+use Rattle.run_hooks.proofs.alive.Behind.{IsInOrder, IsLower}
 use Rattle.run_hooks.proofs.alive.Lives.{AreFewer, changed_fewer, killed_fewer, killed_gone}
 use Rattle.run_hooks.proofs.alive.Moves.{fewer_for, fewer_instance, later_instance, longer_kept, owned_of}
 use Rattle.run_hooks.proofs.alive.NewSlots.{HasNewSlot}

@@ -1,5 +1,6 @@
 -- Whether an alloca gives a ramp slot is told by a search.
-use Rattle.std.proofs.Common.{◌≡◌, ◌⊎◌, inl, inr, ℕ, zero, suc, Bool, true, false, List, [], ◌∷◌, ◌++◌, Option, Some, None, refl, sym, ap, ◌∙◌, subst, ◌||◌}
+use Rattle.std.proofs.Common.{◌≡◌, ◌⊎◌, inl, inr, ℕ, zero, suc, Bool, true, false, List, [], ◌∷◌, ◌++◌, Option, Some}
+use Rattle.std.proofs.Common.{None, refl, sym, ap, ◌∙◌, subst, ◌||◌}
 use Rattle.std.proofs.lemmas.Bool.{eq-eqb}
 use Rattle.std.specs.Prelude.{flat_map, slice_get, ◌==◌}
 use Rattle.ir_model.specs.Ty.{Ty}
@@ -42,7 +43,8 @@ listed_in v ty align (i ∷ is) (suc k) e = later i (listed_in v ty align is k e
 listed : (f : Function) (v : ℕ) → IsMadeOnce f v → has_name (allocas_of f) v ≡ true
 listed f v made = on f.blocks made.stands
   where
-    at_place : (b : Block) (o : Option Instr) (t : Bool) → fetch_or o t b.term ≡ AtInstr (Instr.Alloca v made.ty made.align)
+    at_place : (b : Block) (o : Option Instr) (t : Bool) → fetch_or o t b.term
+        ≡ AtInstr (Instr.Alloca v made.ty made.align)
         → o ≡ Some (Instr.Alloca v made.ty made.align)
     at_place b (Some j) t h = let same : j ≡ Instr.Alloca v made.ty made.align = cc in ap Some same
     at_place b None true h = absurd (cc)

@@ -18,11 +18,12 @@ use Rattle.pass_renewed_proof.proofs.Ahead.{branch_edge, next_edge}
 use Rattle.pass_renewed_proof.specs.SlotRules.{IsMadeOnce, IsMarkerAt}
 use Rattle.rule_windows.specs.Sets.{RunsOut}
 use Rattle.run_hooks.proofs.alive.Changes.{others_later, phis_other}
-use Rattle.run_hooks.proofs.alive.Instrs.{held_on, runs_on}
+use Rattle.run_hooks.proofs.alive.Marks.{held_on, runs_on}
 use Rattle.run_hooks.proofs.alive.Open.{after}
 use Rattle.run_hooks.proofs.alive.Parts.{AllIn, Here, IsLaterFor, IsSet, Other, all_both, get_set, in_map, later_all}
 use Rattle.run_hooks.proofs.alive.Statuses.{suspended_over}
-use Rattle.run_hooks.specs.alive.Alive.{Account, AreAliveAt, GoesOn, IsAliveAsleep, IsAliveIn, IsAliveInstance, IsAliveState}
+use Rattle.run_hooks.specs.alive.Alive.{Account, AreAliveAt, GoesOn, IsAliveAsleep, IsAliveIn, IsAliveInstance}
+use Rattle.run_hooks.specs.alive.Alive.{IsAliveState}
 use Rattle.run_hooks.specs.alive.Alive.{IsEnded, KeepsAliveRules, MayLeave, Stays, account_of}
 use Rattle.run_hooks.specs.alive.Slots.{IsAliveSlot, IsHeld, IsSlotOf, Own}
 use Rattle.run_source.specs.State.{is_finished, is_suspended}
@@ -87,7 +88,8 @@ module _ (m : Module) (counts : ℕ → ℕ → Bool) (t : State) (h : IsAliveSt
   no_mark v mark =
       let both : AtInstr mark.instr ≡ AtInstr suspend.instr = sym mark.stands ∙ suspend.stands in
       let same : mark.instr ≡ suspend.instr = cc in
-      suspend_marks suspend.instr suspend.is (subst (λ (j : Instr). is_call_of Intrinsic.LifetimeEnd j ≡ true) same mark.is)
+      suspend_marks suspend.instr suspend.is (subst (λ (j : Instr). is_call_of Intrinsic.LifetimeEnd j ≡ true) same
+      mark.is)
 
   no_end : IsCallAt Intrinsic.CoroEnd f u → ⊥
   no_end c =
@@ -113,10 +115,12 @@ module _ (m : Module) (counts : ℕ → ℕ → Bool) (t : State) (h : IsAliveSt
 
     same_now : (v : ℕ) → IsMadeOnce f v → value_in now v ≡ value_in values v
     same_now v made = phis_other m values from
-        (phis_of (slice_get (function_at m x.coroutine).blocks (position_of (function_at m x.coroutine) label))) values v
+        (phis_of (slice_get (function_at m x.coroutine).blocks (position_of (function_at m x.coroutine) label))) values
+        v
         (made.no_phi (position_of (function_at m x.coroutine) label))
 
-    held : (slot : Slot) → IsSlotOf h.tags (length t.world.memory) (Own i) f slot → counts x.coroutine slot.alloca ≡ true
+    held : (slot : Slot) → IsSlotOf h.tags (length t.world.memory) (Own i) f slot → counts x.coroutine slot.alloca
+        ≡ true
         → IsHeld f old u slot → IsHeld f now q slot
     held slot own counted o =
         let at_u : IsHeld f values u slot = record {
@@ -235,6 +239,7 @@ module _ (m : Module) (counts : ℕ → ℕ → Bool) (t : State) (h : IsAliveSt
               shared = o.shared;
               over = o.over;
               met = o.met;
-              asleep = λ v vs w. let r = o.asleep v vs w in record { tagged = r.tagged; alive = record { runs = r.alive.runs; slots = r.alive.slots } };
+              asleep = λ v vs w. let r = o.asleep v vs w
+                  in record { tagged = r.tagged; alive = record { runs = r.alive.runs; slots = r.alive.slots } };
               running = λ w g. inr (o.running w g);
             }

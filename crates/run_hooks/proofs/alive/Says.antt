@@ -17,7 +17,8 @@ use Rattle.ir_paths.specs.Paths.{IsPath}
 use Rattle.ir_paths.specs.Windows.{operand_at, points_from, points_in}
 use Rattle.ir_paths.specs.declared.point.Point.{Point}
 use Rattle.pass_kept_proof.specs.Kept.{kept}
-use Rattle.run_hooks.specs.alive.Alive.{Account, AreAliveAt, AreAliveIn, IsAliveIn, IsAliveSomewhere, IsAliveState, IsThere, Stays}
+use Rattle.run_hooks.specs.alive.Alive.{Account, AreAliveAt, AreAliveIn, IsAliveIn, IsAliveSomewhere, IsAliveState}
+use Rattle.run_hooks.specs.alive.Alive.{IsThere, Stays}
 use Rattle.run_hooks.specs.alive.Alive.{account_of}
 use Rattle.run_hooks.specs.alive.Slots.{IsAliveSlot, lives}
 use Rattle.run_memory.specs.declared.block.MemoryBlock.{MemoryBlock}
@@ -46,7 +47,8 @@ both_are : (a b : Bool) → (a && b) ≡ true → (a ≡ true) × (b ≡ true)
 both_are true b e = (refl, e)
 both_are false b e = absurd (cc)
 
-among : (v : ℕ) (args : List Arg) → is_local v (operand_at args 1) ≡ true → list_any (λ a. is_local v a.value) args ≡ true
+among : (v : ℕ) (args : List Arg) → is_local v (operand_at args 1) ≡ true → list_any (λ a. is_local v a.value) args
+    ≡ true
 among v [] e = absurd (cc)
 among v (a ∷ []) e = absurd (cc)
 among v (a ∷ b ∷ args) e = on (is_local v a.value) (is_local v b.value) e
@@ -102,7 +104,8 @@ none_marked f v e =
 
 -- ---- a live slot
 
-less : (f : Function) (avoided : List Point) (p : Point) (between : List Point) (q : Point) → IsPath f avoided p between q
+less : (f : Function) (avoided : List Point) (p : Point) (between : List Point) (q : Point)
+    → IsPath f avoided p between q
     → IsPath f [] p between q
 less f avoided p [] q h = h
 less f avoided p (v ∷ between) q h = (h.0, refl, less f avoided v between q h.2)
@@ -117,7 +120,11 @@ may_be_alive counts memory f values p x h n slot e live counted = on (has_marker
         let o = all_where (IsAliveSlot counts memory f values p) x.slots h.slots n slot e live counted marked in
         Started o.start o.is_start o.path
     on false marked = Unmarked h.runs.start (none_marked f slot.alloca marked) h.runs.is_start
-        (record { between = h.runs.path.between; is_path = less f _ h.runs.start h.runs.path.between p h.runs.path.is_path })
+        (record {
+          between = h.runs.path.between;
+          is_path = less f _ h.runs.start h.runs.path.between p
+              h.runs.path.is_path;
+        })
 
 -- ---- a Running instance
 

@@ -10,14 +10,17 @@ use Rattle.ir_paths.specs.Slots.{IsRampSlot}
 use Rattle.ir_paths.specs.declared.point.Point.{Point}
 use Rattle.rule_windows.specs.Sets.{IsAfterEnd, RunsOut}
 use Rattle.run_hooks.proofs.alive.Changes.{changed, others_later}
-use Rattle.run_hooks.proofs.alive.Instrs.{IsInOrder, IsLower, same_length}
+use Rattle.run_hooks.proofs.alive.Behind.{IsInOrder, IsLower}
+use Rattle.run_hooks.proofs.alive.Marks.{same_length}
 use Rattle.run_hooks.proofs.alive.Lives.{killed_gone}
 use Rattle.run_hooks.proofs.alive.Lives.{without_fewer}
 use Rattle.run_hooks.proofs.alive.Parts.{Here, IsLaterFor, IsSet, Other, all_both, get_set, in_any, in_map, later_in}
 use Rattle.run_hooks.specs.Away.{point_in, spot_of}
-use Rattle.run_hooks.specs.alive.Alive.{Account, AreAliveAt, GoesOn, IsAliveAsleep, IsAliveIn, IsAliveInstance, IsAliveState, IsEnded, IsThere}
+use Rattle.run_hooks.specs.alive.Alive.{Account, AreAliveAt, GoesOn, IsAliveAsleep, IsAliveIn, IsAliveInstance}
+use Rattle.run_hooks.specs.alive.Alive.{IsAliveState, IsEnded, IsThere}
 use Rattle.run_hooks.specs.alive.Alive.{MayLeave, Stays, account_of}
-use Rattle.run_hooks.specs.alive.Slots.{AreAliveSlots, AreTagged, IsAliveSlot, IsHeld, IsSlotOf, IsTagged, Own, home_of, is_gone}
+use Rattle.run_hooks.specs.alive.Slots.{AreAliveSlots, AreTagged, IsAliveSlot, IsHeld, IsSlotOf, IsTagged, Own, home_of}
+use Rattle.run_hooks.specs.alive.Slots.{is_gone}
 use Rattle.run_memory.specs.Memory.{killed, killed_block}
 use Rattle.run_memory.specs.declared.block.MemoryBlock.{MemoryBlock}
 use Rattle.run_source.specs.Source.{is_over}
@@ -72,7 +75,8 @@ module _ (m : Module) (counts : ℕ → ℕ → Bool) (s : State) (h : IsAliveSt
 
     module _ (left : s.top.has_left ≡ false) (kept : x.freed ≡ false) (early : is_finished x.status ≡ true → ⊥)
         (save u : Point)
-        (held : (slot : Slot) → IsHeld (function_at m s.top.func) s.top.values (spot_of (function_at m s.top.func) s.top) slot
+        (held : (slot : Slot) → IsHeld (function_at m s.top.func) s.top.values
+        (spot_of (function_at m s.top.func) s.top) slot
         → IsSlotOf h.tags (length s.world.memory) (Own i) (function_at m s.top.func) slot
         → (IsRampSlot (function_at m s.top.func) slot.alloca → ⊥)
         → IsHeld (function_at m s.top.func) s.top.values u slot)
@@ -112,7 +116,8 @@ module _ (m : Module) (counts : ℕ → ℕ → Bool) (s : State) (h : IsAliveSt
           on j z e (Other ne w) = absurd (ne e)
 
       below : (d : ℕ) (a : Activation) → IsLower s d a → IsLaterFor m counts (account_of h.tags s) l d a
-      below d a low = others_later m counts s h i asleep d a (λ ea g over. absurd (never ea g)) (λ ea stays fin. absurd (cc))
+      below d a low = others_later m counts s h i asleep d a (λ ea g over. absurd (never ea g))
+          (λ ea stays fin. absurd (cc))
         where
           never : a.instance ≡ Some i → GoesOn (function_at m a.func) d a asleep → ⊥
           never ea (Stays e) = let no : true ≡ false = sym (low.left i ei ea) ∙ e in absurd (cc)
@@ -179,62 +184,64 @@ module _ (m : Module) (counts : ℕ → ℕ → Bool) (s : State) (h : IsAliveSt
     -- ---- a leaving edge
 
     module _ (saved : Saved) (sleeps : is_suspended x.status ≡ true) (last : x.last_save ≡ Some saved)
-        (depth : saved.depth ≡ length s.below) (before : IsAfterEnd (function_at m s.top.func) (point_in s.top) → ⊥) where
-      abbrev awake : Instance
-      awake = record x { status = Status.Running }
+        (depth : saved.depth ≡ length s.below) (before : IsAfterEnd (function_at m s.top.func) (point_in s.top) → ⊥)
+      where
+        abbrev awake : Instance
+        awake = record x { status = Status.Running }
 
-      abbrev w : Account
-      w = record (account_of h.tags s) { instances = slice_set s.instances i awake }
+        abbrev w : Account
+        w = record (account_of h.tags s) { instances = slice_set s.instances i awake }
 
-      woken_top : IsAliveIn m counts w (length s.below) (record s.top { has_left = false })
-      woken_top = record {
-        tagged = h.stack.0.tagged;
-        past = h.stack.0.past;
-        owned = λ e. let no : None ≡ Some i = sym e ∙ ei in absurd (cc);
-        early = λ e. let no : None ≡ Some i = sym e ∙ ei in absurd (cc);
-        met = λ e. let no : None ≡ Some i = sym e ∙ ei in absurd (cc);
-        stays = λ e. let no : None ≡ Some i = sym e ∙ ei in absurd (cc);
-        goes = λ j z ej ez g over. on j z (same_number j ej) over (get_set s.instances i awake j z ez);
-        ended = λ j z ej ez stays fin. on_ended j z (same_number j ej) fin (get_set s.instances i awake j z ez);
-      }
-        where
-          on : (j : ℕ) (z : Instance) → j ≡ i → is_over z ≡ false → IsSet s.instances i awake j z
-              → AreAliveAt (counts s.top.func) s.world.memory (function_at m s.top.func) s.top.values
-              (spot_of (function_at m s.top.func) s.top) z
-          on j z e over (Here ej ez) =
-              let kept : x.freed ≡ false = sym (ap is_over ez) ∙ over in
-              let old = h.stack.0.goes i x ei there (MayLeave saved sleeps last depth before)
-              (suspended_over x sleeps ∙ kept) in
-              subst (λ (y : Instance). AreAliveAt (counts s.top.func) s.world.memory (function_at m s.top.func)
-              s.top.values (spot_of (function_at m s.top.func) s.top) y) (sym ez)
-              (record { runs = old.runs; slots = old.slots })
-          on j z e over (Other ne y) = absurd (ne e)
+        woken_top : IsAliveIn m counts w (length s.below) (record s.top { has_left = false })
+        woken_top = record {
+          tagged = h.stack.0.tagged;
+          past = h.stack.0.past;
+          owned = λ e. let no : None ≡ Some i = sym e ∙ ei in absurd (cc);
+          early = λ e. let no : None ≡ Some i = sym e ∙ ei in absurd (cc);
+          met = λ e. let no : None ≡ Some i = sym e ∙ ei in absurd (cc);
+          stays = λ e. let no : None ≡ Some i = sym e ∙ ei in absurd (cc);
+          goes = λ j z ej ez g over. on j z (same_number j ej) over (get_set s.instances i awake j z ez);
+          ended = λ j z ej ez stays fin. on_ended j z (same_number j ej) fin (get_set s.instances i awake j z ez);
+        }
+          where
+            on : (j : ℕ) (z : Instance) → j ≡ i → is_over z ≡ false → IsSet s.instances i awake j z
+                → AreAliveAt (counts s.top.func) s.world.memory (function_at m s.top.func) s.top.values
+                (spot_of (function_at m s.top.func) s.top) z
+            on j z e over (Here ej ez) =
+                let kept : x.freed ≡ false = sym (ap is_over ez) ∙ over in
+                let old = h.stack.0.goes i x ei there (MayLeave saved sleeps last depth before)
+                (suspended_over x sleeps ∙ kept) in
+                subst (λ (y : Instance). AreAliveAt (counts s.top.func) s.world.memory (function_at m s.top.func)
+                s.top.values (spot_of (function_at m s.top.func) s.top) y) (sym ez)
+                (record { runs = old.runs; slots = old.slots })
+            on j z e over (Other ne y) = absurd (ne e)
 
-          on_ended : (j : ℕ) (z : Instance) → j ≡ i → is_finished z.status ≡ true → IsSet s.instances i awake j z
-              → IsEnded (function_at m s.top.func) (spot_of (function_at m s.top.func) s.top)
-          on_ended j z e fin (Here ej ez) =
-              let no : false ≡ true = sym (ap (λ (y : Instance). is_finished y.status) ez) ∙ fin in absurd (cc)
-          on_ended j z e fin (Other ne y) = absurd (ne e)
+            on_ended : (j : ℕ) (z : Instance) → j ≡ i → is_finished z.status ≡ true → IsSet s.instances i awake j z
+                → IsEnded (function_at m s.top.func) (spot_of (function_at m s.top.func) s.top)
+            on_ended j z e fin (Here ej ez) =
+                let no : false ≡ true = sym (ap (λ (y : Instance). is_finished y.status) ez) ∙ fin in absurd (cc)
+            on_ended j z e fin (Other ne y) = absurd (ne e)
 
-      woken_below : (d : ℕ) (a : Activation) → IsLower s d a → IsLaterFor m counts (account_of h.tags s) w d a
-      woken_below d a low = others_later m counts s h i awake d a (λ ea g over. absurd (never ea g)) (λ ea stays fin. absurd (cc))
-        where
-          never : a.instance ≡ Some i → GoesOn (function_at m a.func) d a awake → ⊥
-          never ea (Stays e) = let no : true ≡ false = sym (low.left i ei ea) ∙ e in absurd (cc)
-          never ea (MayLeave other now e d' v) = absurd (cc)
+        woken_below : (d : ℕ) (a : Activation) → IsLower s d a → IsLaterFor m counts (account_of h.tags s) w d a
+        woken_below d a low = others_later m counts s h i awake d a (λ ea g over. absurd (never ea g))
+            (λ ea stays fin. absurd (cc))
+          where
+            never : a.instance ≡ Some i → GoesOn (function_at m a.func) d a awake → ⊥
+            never ea (Stays e) = let no : true ≡ false = sym (low.left i ei ea) ∙ e in absurd (cc)
+            never ea (MayLeave other now e d' v) = absurd (cc)
 
-      pub woken_alive : IsAliveState m counts
-          (with_left (with_instance s i (record x { status = Status.Running })) false)
-      woken_alive = changed m counts s h i x awake (record s.top { has_left = false }) there refl woken_top
-          (in_map (IsLower s) (IsLaterFor m counts (account_of h.tags s) w) s.below woken_below order.lower)
-          (record {
-            owned = (h.instances i x there).owned;
-            shared = (h.instances i x there).shared;
-            over = λ e. (h.instances i x there).over (suspended_over x sleeps ∙ e);
-            met = (h.instances i x there).met;
-            asleep = λ v values e. absurd (cc);
-            running = λ e f. inl (ei, refl);
-          }) (λ j z ne e stays. other_stays (record s.top { has_left = false }) j ne stays)
+        pub woken_alive : IsAliveState m counts
+            (with_left (with_instance s i (record x { status = Status.Running })) false)
+        woken_alive = changed m counts s h i x awake (record s.top { has_left = false }) there refl woken_top
+            (in_map (IsLower s) (IsLaterFor m counts (account_of h.tags s) w) s.below woken_below order.lower)
+            (record {
+              owned = (h.instances i x there).owned;
+              shared = (h.instances i x there).shared;
+              over = λ e. (h.instances i x there).over (suspended_over x sleeps ∙ e);
+              met = (h.instances i x there).met;
+              asleep = λ v values e. absurd (cc);
+              running = λ e f. inl (ei, refl);
+            }) (λ j z ne e stays. other_stays (record s.top { has_left = false }) j ne stays)
 
     -- ---- the end
 
@@ -273,7 +280,8 @@ module _ (m : Module) (counts : ℕ → ℕ → Bool) (s : State) (h : IsAliveSt
       pub finished_alive : IsAliveState m counts (with_instance s i (record x { status = Status.Finished }))
       finished_alive = changed m counts s h i x over s.top there refl ended_top
           (in_map (IsLower s) (IsLaterFor m counts (account_of h.tags s) o) s.below
-          (λ d a low. ended_later d a (λ ea stays. let no : true ≡ false = sym (low.left i ei ea) ∙ stays in absurd (cc)))
+          (λ d a low. ended_later d a (λ ea stays. let no : true ≡ false = sym (low.left i ei ea) ∙ stays
+          in absurd (cc)))
           order.lower)
           (record {
             owned = (h.instances i x there).owned;
@@ -296,7 +304,8 @@ module _ (m : Module) (counts : ℕ → ℕ → Bool) (s : State) (h : IsAliveSt
           shared = old.shared;
           over = old.over;
           met = old.met;
-          asleep = λ v values e. let z = old.asleep v values e in record { tagged = z.tagged; alive = record { runs = z.alive.runs; slots = z.alive.slots } };
+          asleep = λ v values e. let z = old.asleep v values e
+              in record { tagged = z.tagged; alive = record { runs = z.alive.runs; slots = z.alive.slots } };
           running = old.running;
         }) (λ j z ne e stays. stays)
       where
@@ -315,7 +324,8 @@ module _ (m : Module) (counts : ℕ → ℕ → Bool) (s : State) (h : IsAliveSt
             (λ ea g over. record { old = x; there = there; goes = same g; not_over = over; slots = λ values p t. t })
             (λ ea left fin. (x, there, fin))
           where
-            same : GoesOn (function_at m a.func) d a (record x { released = true }) → GoesOn (function_at m a.func) d a x
+            same : GoesOn (function_at m a.func) d a (record x { released = true })
+                → GoesOn (function_at m a.func) d a x
             same (Stays e) = Stays e
             same (MayLeave saved sleeps e w never) = MayLeave saved sleeps e w never
 
@@ -329,7 +339,8 @@ module _ (m : Module) (counts : ℕ → ℕ → Bool) (s : State) (h : IsAliveSt
           shared = old.shared;
           over = λ e. gone;
           met = old.met;
-          asleep = λ v values e. let z = old.asleep v values e in record { tagged = z.tagged; alive = record { runs = z.alive.runs; slots = z.alive.slots } };
+          asleep = λ v values e. let z = old.asleep v values e
+              in record { tagged = z.tagged; alive = record { runs = z.alive.runs; slots = z.alive.slots } };
           running = λ e f. absurd (cc);
         }) (λ j z ne e stays. stays)
       where

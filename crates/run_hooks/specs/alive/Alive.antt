@@ -23,7 +23,8 @@ use Rattle.rule_windows.specs.Sets.{IsAfterEnd, RunsOut}
 use Rattle.run_hooks.specs.Away.{point_in, spot_of}
 use Rattle.run_hooks.specs.Hooks.{Hooks}
 use Rattle.run_hooks.specs.Meanings.{hooks_by}
-use Rattle.run_hooks.specs.alive.Slots.{AreAliveSlots, AreMet, AreTagged, ArePast, IsSlotOf, Own, Ramp, Tags, home_of, is_gone}
+use Rattle.run_hooks.specs.alive.Slots.{AreAliveSlots, AreMet, AreTagged, ArePast, IsSlotOf, Own, Ramp, Tags, home_of}
+use Rattle.run_hooks.specs.alive.Slots.{is_gone}
 use Rattle.run_memory.specs.declared.block.MemoryBlock.{MemoryBlock}
 use Rattle.run_source.specs.Source.{continue, is_over}
 use Rattle.run_source.specs.State.{is_finished, is_suspended}

@@ -1,4 +1,5 @@
--- The facts by which fields share bytes: live slots of an instance conflict, and so do a live slot and a value of its point.
+-- The facts by which fields share bytes: live slots of an instance conflict, and so do a live slot and a value of its
+-- point.
 use Rattle.std.specs.Prelude.{◌≡◌, ℕ, true, slice_get, Some}
 use Rattle.frame_classes.specs.Alive.{MayBeAlive}
 use Rattle.frame_conflicts.specs.Conflicts.{Conflict}
