@@ -183,8 +183,8 @@ module _ (m : Module) (l : Ledger) (memory target : List MemoryBlock) (b c : ℕ
       ∙ ap (λ (q : Home). may_compare_at owner_rights (home_of l.homes b).block (Some (record (f there.0) {
         bytes = (f (record there.0 { bytes = y.0 })).bytes;
       })) (moved o q.offset)) home
-      ∙ null_like b (home_of l.homes b).block (f there.0) (f (record there.0 { bytes = y.0 })).bytes o (ap (λ z. may_compare_at small_rights b z o) (sym first)
-      ∙ may)
+      ∙ null_like b (home_of l.homes b).block (f there.0) (f (record there.0 { bytes = y.0 })).bytes o (ap (λ z.
+      may_compare_at small_rights b z o) (sym first) ∙ may)
     where
       shown_at : (x : MemoryBlock) → slice_get memory b ≡ Some x → slice_get (muted l.hides memory) b ≡ Some x
       shown_at x at = muted_at l.hides memory b ∙ (λ i. option_map (ended_if (shown i)) (at i))

@@ -80,8 +80,8 @@ module _ (m : Module) (flags : Flags) (roots : Roots) (keeps : (func : ℕ)
   second =
       let stands = dead_stand m k memory target b killed_block kills (λ z. refl) first.entered seat seated st in
       worlds_beside m flags roots s1 t1 first k (record s.world { memory = dead }) (record t.world { memory = target })
-      (dead_carried m k memory target b killed_block kills (λ z. refl) first.entered seat seated) (λ d z at. dead_kept m k
-      memory target b killed_block kills (λ z. refl) first.entered seat seated d) (record {
+      (dead_carried m k memory target b killed_block kills (λ z. refl) first.entered seat seated) (λ d z at. dead_kept
+      m k memory target b killed_block kills (λ z. refl) first.entered seat seated d) (record {
         memory = stands.memory;
         nulls = stands.nulls;
         bounds = stands.bounds;
@@ -120,8 +120,8 @@ module _ (m : Module) (flags : Flags) (roots : Roots) (keeps : (func : ℕ)
   instances : (y : Instance) → slice_get t.instances i ≡ Some y → IsInstanceBeside m flags roots k dead (0 + i) x y
       → AreInstancesBeside m flags roots k dead 0 ys t.instances
   instances y at h = subst (AreInstancesBeside m flags roots k dead 0 ys) (set_same t.instances i y at) (instances_set m
-      flags roots k dead 0 s.instances t.instances i (record x { slots = slot ∷ x.slots }) y second.instances (first_more
-      m flags roots k dead (0 + i) x y slot (record {
+      flags roots k dead 0 s.instances t.instances i (record x { slots = slot ∷ x.slots }) y second.instances
+      (first_more m flags roots k dead (0 + i) x y slot (record {
         flagged = subst (λ g. IsTrue (flags g a)) (sym same_func) is.flagged;
         depth = length s.below;
         seat = seated ∙ ap (λ g. Some (record seat { func = g })) (sym same_func)
@@ -131,14 +131,14 @@ module _ (m : Module) (flags : Flags) (roots : Roots) (keeps : (func : ℕ)
   abbrev listed : IsBeside m flags roots (record s2 { instances = ys }) t1
   listed =
       let y = instance_beside m flags roots k dead 0 s.instances t.instances i x second.instances there in
-      instances_grown m flags roots s2 t1 second ys t.instances (one_grown s.instances i x slot there) (instances y.0 y.1
-      y.2)
+      instances_grown m flags roots s2 t1 second ys t.instances (one_grown s.instances i x slot there) (instances y.0
+      y.1 y.2)
 
   pub late_slot : IsBeside m flags roots (with_memory (with_instance (settled s (record {
     world = record s.world { memory = s.world.memory ++ slot_block m s ty align u ∷ [] };
     values = with_value s.top.values a (pointer_to (length s.world.memory));
-  })) i (record x { slots = record { alloca = a; block = length s.world.memory } ∷ x.slots })) (killed (s.world.memory ++
-      slot_block m s ty align u ∷ []) (length s.world.memory))) (with_slots (settled t (record {
+  })) i (record x { slots = record { alloca = a; block = length s.world.memory } ∷ x.slots })) (killed (s.world.memory
+      ++ slot_block m s ty align u ∷ []) (length s.world.memory))) (with_slots (settled t (record {
         world = record t.world {
           memory = fresh t.world.memory (size_of m ty) align (alloca_kind (function_at m s.top.func));
         };

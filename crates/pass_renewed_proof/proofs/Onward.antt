@@ -119,8 +119,9 @@ module _ (m : Module) (l k : Ledger) (xs : List Instance) (memory memory' target
   slot_there slot (Early none is) = Early none is
   slot_there slot (Begun i x own at is) = Begun i x own at is
 
-  alive_on : (alloca : ℕ) → has_point (ends_of (function_at m a.func) alloca) (place_in a) ≡ false → IsAliveAt a (function_at m a.func) alloca (place_in a)
-      → IsAliveAt (record a { block = q.block; at = q.at; values = vs }) (function_at m a.func) alloca q
+  alive_on : (alloca : ℕ) → has_point (ends_of (function_at m a.func) alloca) (place_in a) ≡ false → IsAliveAt a
+      (function_at m a.func) alloca (place_in a) → IsAliveAt (record a { block = q.block; at = q.at; values = vs })
+      (function_at m a.func) alloca q
   alive_on alloca no_end (inl h) = inl h
   alive_on alloca no_end (inr h) = inr (alive_more (function_at m a.func) alloca (place_in a) q on.edge no_end h)
 

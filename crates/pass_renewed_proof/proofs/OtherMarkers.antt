@@ -198,9 +198,9 @@ module _ (m : Module) (flags : Flags) (roots : Roots) (answers : List ℤ) (s t 
     subst (λ z. IsBeside m flags roots (settled s z) (settled t (set_memory (work_of t) (on_block end t.world.memory
         (block_of (nth (arg_values m t.top.values args) 1)))))) (same_done done) (marked_beside m flags roots s t beside
         Intrinsic.LifetimeEnd slot result must_tail ty args is ended ended_alike (λ b c none mate block. subst (λ n.
-        AreStanding ledger.homes (muted ledger.hides (end s.world.memory b)) (end t.world.memory n)) block (dies_alike m ledger
-        s.world.memory t.world.memory b mate.1.block beside.entered none mate.1.home mate.1.owner mate.1.shown standing ended
-        ended_alike ended_dead ends.size))),
+        AreStanding ledger.homes (muted ledger.hides (end s.world.memory b)) (end t.world.memory n)) block (dies_alike
+        m ledger s.world.memory t.world.memory b mate.1.block beside.entered none mate.1.home mate.1.owner mate.1.shown
+        standing ended ended_alike ended_dead ends.size))),
   )
 
   pub other_starts : IsMarkingOther m flags roots s.top Intrinsic.LifetimeStart slot result must_tail ty args
@@ -212,6 +212,7 @@ module _ (m : Module) (flags : Flags) (roots : Roots) (answers : List ℤ) (s t 
     subst (λ z. IsBeside m flags roots (settled s z) (settled t (set_memory (work_of t) (on_block start t.world.memory
         (block_of (nth (arg_values m t.top.values args) 1)))))) (same_done done) (marked_beside m flags roots s t beside
         Intrinsic.LifetimeStart slot result must_tail ty args is started started_alike (λ b c none mate block. subst (λ
-        n. AreStanding ledger.homes (muted ledger.hides (start s.world.memory b)) (start t.world.memory n)) block (starts_alike m
-        ledger s.world.memory t.world.memory b mate.1.block beside.entered none mate.1.home mate.1.owner mate.1.shown standing))),
+        n. AreStanding ledger.homes (muted ledger.hides (start s.world.memory b)) (start t.world.memory n)) block
+        (starts_alike m ledger s.world.memory t.world.memory b mate.1.block beside.entered none mate.1.home
+        mate.1.owner mate.1.shown standing))),
   )

@@ -55,12 +55,12 @@ is_eq n k e = grind arith
 eq_is : (n k : ℕ) → n ≡ k → (n == k) ≡ true
 eq_is n k e = grind arith
 
-listed_block : (l : Ledger) (S : Slot → Type 0) (flags : ℕ → Bool) → ((slot : Slot) → S slot → IsTrue (flags slot.alloca))
-    → (a : ℕ) → flags a ≡ false → (ss ts : List Slot) → AreSlots l S (λ t. ⊥) flags ss ts → BothHave l (block_of_slot ss
-    a) (block_of_slot ts a)
+listed_block : (l : Ledger) (S : Slot → Type 0) (flags : ℕ → Bool) → ((slot : Slot) → S slot → IsTrue (flags
+    slot.alloca)) → (a : ℕ) → flags a ≡ false → (ss ts : List Slot) → AreSlots l S (λ t. ⊥) flags ss ts → BothHave l
+    (block_of_slot ss a) (block_of_slot ts a)
 listed_block l S flags flagged a off _ _ NoSlots = refl
-listed_block l S flags flagged a off _ _ (Both al b c ss ts unflagged home none rest) = on (listed_block l S flags flagged a off
-    ss ts rest) (al == a)
+listed_block l S flags flagged a off _ _ (Both al b c ss ts unflagged home none rest) = on (listed_block l S flags
+    flagged a off ss ts rest) (al == a)
   where
     on : BothHave l (block_of_slot ss a) (block_of_slot ts a) → (u : Bool) → BothHave l (option_map (λ (slot : Slot).
         slot.block) (cond u (Some (record { alloca = al; block = b })) (find (λ (slot : Slot). slot.alloca == a) ss)))
@@ -114,9 +114,10 @@ module _ (m : Module) (flags : Flags) (roots : Roots) (keeps : (func : ℕ)
       both (Some a) e = listed_block l _ (flags x.coroutine) (λ slot is. is.flagged) a (promise_off x.coroutine a e)
           x.slots b.slots b.listed
 
-      on : (o : Option ℕ) → promise_of (function_at m x.coroutine) ≡ o → BothHave l (promise_block g x) (promise_block h y)
-      on o e = subst (λ (z : Option ℕ × Option ℕ). BothHave l z.0 z.1) (λ j. (sym first j, sym second j)) (both (promise_of
-          (function_at m x.coroutine)) refl)
+      on : (o : Option ℕ) → promise_of (function_at m x.coroutine) ≡ o
+          → BothHave l (promise_block g x) (promise_block h y)
+      on o e = subst (λ (z : Option ℕ × Option ℕ). BothHave l z.0 z.1) (λ j. (sym first j, sym second j)) (both
+          (promise_of (function_at m x.coroutine)) refl)
 
   over_same : (n : ℕ) (x y : Instance) → IsInstanceBeside m flags roots beside.ledger s.world.memory n x y → is_over y ≡
       is_over x
@@ -145,14 +146,14 @@ module _ (m : Module) (flags : Flags) (roots : Roots) (keeps : (func : ℕ)
     where
       on : (o : Option ℕ) → promise_block g x ≡ o → BothHave l (promise_block g x) (promise_block h y) → (u : Bool)
           → is_over x ≡ u → look g x ≡ Ok v → Gives v (look h y)
-      on None is both u over k = let c : Err Cause.Promise ≡ Ok v = ap (λ o. and_then (found Cause.Promise o) (λ b. ok_if (not
-          (is_over x)) Cause.Dead (pointer_to b))) (sym is) ∙ k in absurd (cc)
-      on (Some d) is both true over k = let c : Err Cause.Dead ≡ Ok v = (λ j. and_then (found Cause.Promise (sym is j)) (λ b.
-          ok_if (not (sym over j)) Cause.Dead (pointer_to b))) ∙ k in absurd (cc)
+      on None is both u over k = let c : Err Cause.Promise ≡ Ok v = ap (λ o. and_then (found Cause.Promise o) (λ b.
+          ok_if (not (is_over x)) Cause.Dead (pointer_to b))) (sym is) ∙ k in absurd (cc)
+      on (Some d) is both true over k = let c : Err Cause.Dead ≡ Ok v = (λ j. and_then (found Cause.Promise (sym is j))
+          (λ b. ok_if (not (sym over j)) Cause.Dead (pointer_to b))) ∙ k in absurd (cc)
       on (Some d) is both false over k =
           let r = subst (λ o. BothHave l o (promise_block h y)) is both in
-          let v_is : pointer_to d ≡ v = same_ok ((λ j. and_then (found Cause.Promise (sym is j)) (λ b. ok_if (not (sym over
-          j)) Cause.Dead (pointer_to b))) ∙ k) in (
+          let v_is : pointer_to d ≡ v = same_ok ((λ j. and_then (found Cause.Promise (sym is j)) (λ b. ok_if (not (sym
+          over j)) Cause.Dead (pointer_to b))) ∙ k) in (
             pointer_to r.0,
             (λ j. and_then (found Cause.Promise (r.1 j)) (λ d. ok_if (not ((over_same n x y b ∙ over) j)) Cause.Dead
                 (pointer_to d))),
@@ -166,12 +167,13 @@ module _ (m : Module) (flags : Flags) (roots : Roots) (keeps : (func : ℕ)
       → Gives v (promise_of_frame h t q)
   promise_there p q k v e = on (instance_at s.instances p) refl e
     where
-      on : (o : Option (ℕ × Instance)) → instance_at s.instances p ≡ o → and_then (found Cause.Frame o) (λ (i, x). look g
-          x) ≡ Ok v → Gives v (promise_of_frame h t q)
+      on : (o : Option (ℕ × Instance)) → instance_at s.instances p ≡ o → and_then (found Cause.Frame o) (λ (i, x). look
+          g x) ≡ Ok v → Gives v (promise_of_frame h t q)
       on None none z = absurd (cc)
       on (Some r) at z =
           let f = found_beside m flags roots s t beside p q k r at in
-          subst (λ o. Gives v (and_then (found Cause.Frame o) (λ (i, x). look h x))) (sym f.1) (looked r.0 r.1 f.0 f.2 v z)
+          subst (λ o. Gives v (and_then (found Cause.Frame o) (λ (i, x). look h x))) (sym f.1) (looked r.0 r.1 f.0 f.2
+          v z)
 
   -- ---- from the promise to a frame address
 
@@ -229,7 +231,8 @@ module _ (m : Module) (flags : Flags) (roots : Roots) (keeps : (func : ℕ)
         → has_promise_at h c y ≡ has_promise_at g b x
     promise_same n x y k = on (promise_block g x) (promise_block h y) (instance_promise n x y k)
       where
-        on : (o q : Option ℕ) → BothHave l o q → option_map_or (λ d. c == d) q false ≡ option_map_or (λ d. b == d) o false
+        on : (o q : Option ℕ) → BothHave l o q
+            → option_map_or (λ d. c == d) q false ≡ option_map_or (λ d. b == d) o false
         on None q f = ap (λ z. option_map_or (λ d. c == d) z false) f
         on (Some d) q f = ap (λ z. option_map_or (λ d. c == d) z false) f.1 ∙ block_same d f.0 f.2
 
@@ -242,10 +245,11 @@ module _ (m : Module) (flags : Flags) (roots : Roots) (keeps : (func : ℕ)
   found_some test i (z ∷ xs) (y ∷ ys) h x e = on (found_some test (i + 1) xs ys h.1 x) (test z) refl e
     where
       Some_of : Type 0
-      Some_of = (n : ℕ) × (w : Instance) × (test x ≡ true) × IsInstanceBeside m flags roots beside.ledger s.world.memory n
-          x w
+      Some_of = (n : ℕ) × (w : Instance) × (test x ≡ true) × IsInstanceBeside m flags roots beside.ledger
+          s.world.memory n x w
 
-      on : (find test xs ≡ Some x → Some_of) → (u : Bool) → test z ≡ u → cond u (Some z) (find test xs) ≡ Some x → Some_of
+      on : (find test xs ≡ Some x → Some_of) → (u : Bool) → test z ≡ u → cond u (Some z) (find test xs) ≡ Some x
+          → Some_of
       on later true t' k =
           let is : z ≡ x = same_some z x k in (
             i,
@@ -278,11 +282,11 @@ module _ (m : Module) (flags : Flags) (roots : Roots) (keeps : (func : ℕ)
       ∙ mate.there) ∙ ap (λ o. option_map_or (λ (x : MemoryBlock). is_live x.life) o false) (sym there.1) ∙ live
 
   abbrev back : Given → State → ℕ → Bool → Result Value Cause
-  back z u b start = and_then (found Cause.Promise (if start then find (has_promise_at z b) u.instances else None)) (λ x.
-      ok_if (is_live_at u.world.memory b) Cause.Promise (frame_address_of x))
+  back z u b start = and_then (found Cause.Promise (if start then find (has_promise_at z b) u.instances else None))
+      (λ x. ok_if (is_live_at u.world.memory b) Cause.Promise (frame_address_of x))
 
-  frame_there : (b : ℕ) (o : Offset) (q : Value) → IsValue beside.ledger.homes (Value.Ptr (Pointer.At b o)) q → (v : Value)
-      → frame_of_promise g s (Value.Ptr (Pointer.At b o)) ≡ Ok v → Gives v (frame_of_promise h t q)
+  frame_there : (b : ℕ) (o : Offset) (q : Value) → IsValue beside.ledger.homes (Value.Ptr (Pointer.At b o)) q
+      → (v : Value) → frame_of_promise g s (Value.Ptr (Pointer.At b o)) ≡ Ok v → Gives v (frame_of_promise h t q)
   frame_there b o q k v e = on (o.bits == 0) refl e
     where
       by_live : (x : Instance) → find (has_promise_at g b) s.instances ≡ Some x → (o.bits == 0) ≡ true → (u : Bool)
@@ -311,9 +315,9 @@ module _ (m : Module) (flags : Flags) (roots : Roots) (keeps : (func : ℕ)
           zero_moved : (n : ℕ) → (n == 0) ≡ true → ((n + 0) % 2 ^ 64 == 0) ≡ true
           zero_moved n e = subst (λ k. ((k + 0) % 2 ^ 64 == 0) ≡ true) (sym (eqb-true n 0 e)) refl
 
-      by_found : (r : Option Instance) → find (has_promise_at g b) s.instances ≡ r → (o.bits == 0) ≡ true → and_then (found
-          Cause.Promise r) (λ x. ok_if (is_live_at s.world.memory b) Cause.Promise (frame_address_of x)) ≡ Ok v → Gives v
-          (frame_of_promise h t q)
+      by_found : (r : Option Instance) → find (has_promise_at g b) s.instances ≡ r → (o.bits == 0) ≡ true → and_then
+          (found Cause.Promise r) (λ x. ok_if (is_live_at s.world.memory b) Cause.Promise (frame_address_of x)) ≡ Ok v
+          → Gives v (frame_of_promise h t q)
       by_found None is start z = absurd (cc)
       by_found (Some x) is start z = by_live x is start (is_live_at s.world.memory b) refl z
 

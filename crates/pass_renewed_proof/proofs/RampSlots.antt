@@ -31,8 +31,8 @@ more_listed : (a : ℕ) (i : Instr) (is : List Instr) → has_name (allocas_in i
 more_listed a (Instr.Alloca name ty align) is h = or_more (name == a) _ h
 more_listed a _ is h = h
 
-instr_listed : (a : ℕ) (ty : Ty) (align : ℕ) (is : List Instr) (at : ℕ) → slice_get is at ≡ Some (Instr.Alloca a ty align)
-    → has_name (allocas_in is) a ≡ true
+instr_listed : (a : ℕ) (ty : Ty) (align : ℕ) (is : List Instr) (at : ℕ) → slice_get is at ≡ Some (Instr.Alloca a ty
+    align) → has_name (allocas_in is) a ≡ true
 instr_listed a ty align [] at e = absurd (cc)
 instr_listed a ty align (i ∷ is) zero e = ap (λ o. has_name (listed_of o) a) e ∙ or_left (a == a) _ (eq_itself a)
   where
@@ -65,11 +65,11 @@ module _ (m : Module) (f : Function) (flags : ℕ → Bool) (roots : ℕ → Opt
       on false e = e
 
   made_listed : has_name (allocas_of f) slot.alloca ≡ true
-  made_listed = let made = keeps.made slot.alloca flagged in alloca_listed f.blocks slot.alloca made.at made.ty made.align
-      made.stands
+  made_listed = let made = keeps.made slot.alloca flagged in alloca_listed f.blocks slot.alloca made.at made.ty
+      made.align made.stands
 
-flagged_names : (flags : ℕ → Bool) (names : List ℕ) (a : ℕ) → has_name (filter flags names) a ≡ (flags a && has_name names
-    a)
+flagged_names : (flags : ℕ → Bool) (names : List ℕ) (a : ℕ) → has_name (filter flags names) a ≡ (flags a && has_name
+    names a)
 flagged_names flags names a = any-filter_same (λ u. u == a) flags (flags a) (λ k e. ap flags (is_eq k a e)) names
   where
     is_eq : (n k : ℕ) → (n == k) ≡ true → n ≡ k

@@ -87,7 +87,11 @@ pub suspend_saves : (m : Module) (flags : Flags) (roots : Roots) → ((func : �
     → IsSuspendOf m roots a i result → IsSavingAt m flags a (place_in a)
 suspend_saves m flags roots keeps a i result is =
     let f : Function = function_at m a.func in
-    let call : IsCallAt Intrinsic.CoroSuspend f (place_in a) = record { instr = i; stands = is.giving.here; is = is.is } in
+    let call : IsCallAt Intrinsic.CoroSuspend f (place_in a) = record {
+      instr = i;
+      stands = is.giving.here;
+      is = is.is;
+    } in
     let edge = next_edge f a.block a.at i is.giving.here in
     record {
       edge = edge;

@@ -55,9 +55,9 @@ use Rattle.pass_renewed_proof.specs.SlotRules.{KeepsSlots}
 module _ (m : Module) (flags : Flags) (roots : Roots) (keeps : (func : ℕ)
     → KeepsSlots m (function_at m func) (flags func) (roots func)) (s t : State) (beside : IsBeside m flags roots s t)
     (u : Point) (is : IsSavingAt m flags s.top u) (result : Option ℕ) (v : Value) (name : IsGivenName m flags roots
-    beside.ledger s.top result v v) (stands : IsValue beside.ledger.homes v v) (n : ℕ) (x y : Instance) (own : s.top.instance ≡ Some n)
-    (there : slice_get s.instances n ≡ Some x) (there' : slice_get t.instances n ≡ Some y) (same_func : x.coroutine ≡
-    s.top.func) (kept : x.freed ≡ false) (outdone : AreOutdone s.instances s.top s.below) where
+    beside.ledger s.top result v v) (stands : IsValue beside.ledger.homes v v) (n : ℕ) (x y : Instance)
+    (own : s.top.instance ≡ Some n) (there : slice_get s.instances n ≡ Some x) (there' : slice_get t.instances n ≡ Some
+    y) (same_func : x.coroutine ≡ s.top.func) (kept : x.freed ≡ false) (outdone : AreOutdone s.instances s.top s.below) where
   abbrev l : Ledger
   l = beside.ledger
 

@@ -77,8 +77,8 @@ pub record IsMarkingOther (m : Module) (flags : Flags) (roots : Roots) (a : Acti
 
 -- ---- allocas
 
--- an alloca of a slot that may be made anew stands at the activation's place, and gives a name that the activation has a
--- value of; the activation hasn't left
+-- an alloca of a slot that may be made anew stands at the activation's place, and gives a name that the activation has
+-- a value of; the activation hasn't left
 pub record IsAllocaOfSlot (m : Module) (flags : Flags) (a : Activation) (name : ℕ) (ty : Ty) (align : ℕ) : Type 0 where
   pub place : IsOrdinary (function_at m a.func) (place_in a)
   pub here : fetch (function_at m a.func) a.block a.at ≡ AtInstr (Instr.Alloca name ty align)
