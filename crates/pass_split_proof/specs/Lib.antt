@@ -5,3 +5,4 @@ pub mod places
 pub mod simulation
 pub mod states
 pub mod steps
+pub mod waking

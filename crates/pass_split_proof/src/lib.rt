@@ -9,3 +9,4 @@ pub mod places;
 pub mod simulation;
 pub mod states;
 pub mod steps;
+pub mod waking;
