@@ -5,4 +5,5 @@ pub mod places
 pub mod simulation
 pub mod states
 pub mod steps
+pub mod transfers
 pub mod waking

@@ -54,7 +54,7 @@ phis_by m env label (p ∷ ps)
 
 -- ---- the framed run: an edge that leaves windows makes a Suspended instance run again
 
-own_there : (s : State) (i : ℕ) (x : Instance) → own_instance s ≡ Some (numbering i x)
+pub own_there : (s : State) (i : ℕ) (x : Instance) → own_instance s ≡ Some (numbering i x)
     → slice_get s.instances i ≡ Some x
 own_there s i x e = on s.top.instance refl
   where
