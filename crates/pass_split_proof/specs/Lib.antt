@@ -1,5 +1,6 @@
 pub mod code
 pub mod first_exits
+pub mod held
 pub mod names
 pub mod places
 pub mod simulation

@@ -3,6 +3,7 @@
 
 pub mod code;
 pub mod first_exits;
+pub mod held;
 pub mod names;
 pub mod numbers;
 pub mod places;
