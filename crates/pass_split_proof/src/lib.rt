@@ -12,3 +12,4 @@ pub mod states;
 pub mod steps;
 pub mod transfers;
 pub mod waking;
+pub mod worked;
