@@ -132,20 +132,24 @@ module _ (g : FramedGiven) (s : State) where
       (step_only c w (AtInstr (Instr.Call result must_tail ty (Callee.Local name) args)) tt)
 
   instr_acts : (i : Instr) → MarksNoHeap g s (AtInstr i) → ActsKept s.world.memory (instr_action c w i)
-  instr_acts (Instr.Binary name op flags ty a b) h = refills s.world.memory (instr_action c w (Instr.Binary name op flags ty a b))
+  instr_acts (Instr.Binary name op flags ty a b) h
+      = refills s.world.memory (instr_action c w (Instr.Binary name op flags ty a b))
       (step_only c w (AtInstr (Instr.Binary name op flags ty a b)) tt)
   instr_acts (Instr.Icmp name pred ty a b) h = refills s.world.memory (instr_action c w (Instr.Icmp name pred ty a b))
       (step_only c w (AtInstr (Instr.Icmp name pred ty a b)) tt)
   instr_acts (Instr.Select name x a b) h = refills s.world.memory (instr_action c w (Instr.Select name x a b))
       (step_only c w (AtInstr (Instr.Select name x a b)) tt)
-  instr_acts (Instr.Cast name op nneg arg to) h = refills s.world.memory (instr_action c w (Instr.Cast name op nneg arg to))
+  instr_acts (Instr.Cast name op nneg arg to) h
+      = refills s.world.memory (instr_action c w (Instr.Cast name op nneg arg to))
       (step_only c w (AtInstr (Instr.Cast name op nneg arg to)) tt)
-  instr_acts (Instr.Alloca name ty align) h = alloca_kept c w (size_of g.given.code ty) align name (is_alignment align)
+  instr_acts (Instr.Alloca name ty align) h
+      = alloca_kept c w (size_of g.given.code ty) align name (is_alignment align)
   instr_acts (Instr.Load name ty p align) h = refills s.world.memory (instr_action c w (Instr.Load name ty p align))
       (step_only c w (AtInstr (Instr.Load name ty p align)) tt)
   instr_acts (Instr.Store arg p align) h = refills s.world.memory (instr_action c w (Instr.Store arg p align))
       (step_only c w (AtInstr (Instr.Store arg p align)) tt)
-  instr_acts (Instr.Gep name inbounds ty base indices) h = refills s.world.memory (instr_action c w (Instr.Gep name inbounds ty base indices))
+  instr_acts (Instr.Gep name inbounds ty base indices) h
+      = refills s.world.memory (instr_action c w (Instr.Gep name inbounds ty base indices))
       (step_only c w (AtInstr (Instr.Gep name inbounds ty base indices)) tt)
   instr_acts (Instr.Call result must_tail ty callee args) h = call_acts result must_tail ty callee args h
 

@@ -105,7 +105,8 @@ owned_by : (m : List MemoryBlock) (mem : Value) (n : ℕ) (kind : Kind) (k : Lis
 owned_by m (Value.Ptr (Pointer.At b o)) n kind k h = on ((o.bits == 0) && may_be_owned kind n (slice_get m b)) refl h
   where
     on : (t : Bool) → ((o.bits == 0) && may_be_owned kind n (slice_get m b)) ≡ t
-        → check t Cause.Begin (Ok (with_block m b (owned_to n))) ≡ Ok k → Owned m (Value.Ptr (Pointer.At b o)) n kind k
+        → check t Cause.Begin (Ok (with_block m b (owned_to n))) ≡ Ok k
+        → Owned m (Value.Ptr (Pointer.At b o)) n kind k
     on false e h = absurd (cc)
     on true e h = record {
       at = b;
@@ -125,7 +126,8 @@ keeps_owned m b n = keeps_changed m b (owned_to n) (λ u e. record {
 
 module _ (g : FramedGiven) (s : State) (kind : Kind) (kept : IsKeptState s) where
   -- the block is owned, and the instance begins in it
-  module _ (mem : Value) (k : List MemoryBlock) (y : Owned s.world.memory mem (own_frame g.given s).size kind k) (b : ℕ)
+  module _ (mem : Value) (k : List MemoryBlock) (y : Owned s.world.memory mem (own_frame g.given s).size kind k)
+      (b : ℕ)
       (is_at : block_of mem ≡ Some b) where
     abbrev l : List MemoryBlock
     l = with_block s.world.memory y.at (owned_to (own_frame g.given s).size)
@@ -161,7 +163,8 @@ module _ (g : FramedGiven) (s : State) (kind : Kind) (kept : IsKeptState s) wher
     owned : ◌≡◌ {A = ℕ} 0 0 → is_heap_in (slice_get l y.at) ≡ true → is_kept_in (slice_get l y.at) ≡ true
     owned e h = ap is_kept_in now ∙ and_from (is_live u.life) true y.may.alive refl
 
-    alone : (i : ℕ) (z : Instance) → slice_get s.instances i ≡ Some z → z.freed ≡ false → ◌≡◌ {A = ℕ} 0 0 → z.start ≡ 0
+    alone : (i : ℕ) (z : Instance) → slice_get s.instances i ≡ Some z → z.freed ≡ false → ◌≡◌ {A = ℕ} 0 0
+        → z.start ≡ 0
         → z.block ≡ y.at → is_heap_in (slice_get l y.at) ≡ true → ⊥
     alone i z e unfreed begins start same heap =
         let at : slice_get s.world.memory z.block ≡ Some u = ap (slice_get s.world.memory) same ∙ y.may.there in
@@ -223,10 +226,12 @@ module _ (g : FramedGiven) (s : State) (kept : IsKeptState s) where
 
   frame_kept : (b : ℕ) (o : Offset) → (o.bits ≡ 0 → ⊥) → StaysKept (begin_in_frame g s b o)
   frame_kept b o behind = if_kept (is_live_at s.world.memory b) Cause.Begin (begun g.given s b o.bits) (λ h.
-      begun_kept g.given s b o.bits kept (live_known b h) (λ z. absurd (behind z)) (λ i y e unfreed z. absurd (behind z)))
+      begun_kept g.given s b o.bits kept (live_known b h) (λ z. absurd (behind z)) (λ i y e unfreed z. absurd
+      (behind z)))
 
   block_kept : (b : ℕ) (o : Offset) → StaysKept (begin_in_block g s b o)
-  block_kept b o = then_kept (ok_if ((o.bits == 0) && has_size s.world.memory b (own_frame g.given s).size) Cause.Begin s)
+  block_kept b o = then_kept (ok_if ((o.bits == 0) && has_size s.world.memory b
+      (own_frame g.given s).size) Cause.Begin s)
       (λ (u : State). begin_at g.given u (Value.Ptr (Pointer.At b o)) Kind.Stack)
       (λ u e. subst (λ (v : State). StaysKept (begin_at g.given v (Value.Ptr (Pointer.At b o)) Kind.Stack))
       (ok_is ((o.bits == 0) && has_size s.world.memory b (own_frame g.given s).size) Cause.Begin s u e).1

@@ -42,7 +42,13 @@ killed_ok m b o k h = on ((o.bits == 0) && is_unkilled Kind.Allocator (slice_get
     inner true e f h = absurd (cc)
     inner false e f h =
         let p = and_parts (o.bits == 0) (is_unkilled Kind.Allocator (slice_get m b)) f in
-        record { start = p.0; unkilled = p.1; unowned = e; memory = sym (ok_same (Ok (killed m b)) (killed m b) k refl h) }
+        record {
+          start = p.0;
+          unkilled = p.1;
+          unowned = e;
+          memory
+              = sym (ok_same (Ok (killed m b)) (killed m b) k refl h);
+        }
 
     on : (t : Bool) → ((o.bits == 0) && is_unkilled Kind.Allocator (slice_get m b)) ≡ t
         → (if not t then Err Cause.Free else if is_owned (slice_get m b) then Err Cause.Owned else Ok (killed m b))
@@ -53,7 +59,8 @@ killed_ok m b o k h = on ((o.bits == 0) && is_unkilled Kind.Allocator (slice_get
 keeps_killed : (m : List MemoryBlock) (b : ℕ) → is_owned (slice_get m b) ≡ false → Keeps m (killed m b)
 keeps_killed m b unowned = keeps_changed m b killed_block (λ u e. record {
   heap = refl;
-  kept = λ h c. absurd (false≢true (sym unowned ∙ ap is_owned e ∙ (and_parts (is_live u.life) (is_some u.owned) c).1));
+  kept = λ h c. absurd (false≢true (sym unowned ∙ ap is_owned e
+      ∙ (and_parts (is_live u.life) (is_some u.owned) c).1));
   gone = λ h c. refl;
 })
 

@@ -24,7 +24,8 @@ kept_on xs m k keeps a = record {
       p.kept h (a.kept i x e unfreed start h);
   gone = λ i x e freed heap. let p = keeps.each x.block (a.known i x e) in let h = sym p.heap ∙ heap in
       p.gone h (a.gone i x e freed h);
-  apart = λ i j x y e f ne unfreed unfreed' start start' same heap. a.apart i j x y e f ne unfreed unfreed' start start'
+  apart = λ i j x y e f ne unfreed unfreed' start start' same heap. a.apart i j x y e f ne unfreed unfreed' start
+      start'
       same (sym (keeps.each x.block (a.known i x e)).heap ∙ heap);
   unfreed = a.unfreed;
   slots = λ i x e. slots_on m k keeps x.slots (a.slots i x e);
@@ -90,7 +91,8 @@ module _ (xs : List Instance) (m : List MemoryBlock) (i : ℕ) (x now : Instance
         ap (λ (b : ℕ). is_killed_in (slice_get m b)) w.block_is
         ∙ a.gone j w.old w.there (sym w.freed_is ∙ freed')
         (ap (λ (b : ℕ). is_heap_in (slice_get m b)) (sym w.block_is) ∙ heap);
-    apart = λ j k z u f f' ne unfreed unfreed' at_start at_start' same heap. let w = was j z f in let v = was k u f' in
+    apart = λ j k z u f f' ne unfreed unfreed' at_start at_start' same heap. let w = was j z f in let v
+        = was k u f' in
         a.apart j k w.old v.old w.there v.there ne (sym w.freed_is ∙ unfreed) (sym v.freed_is ∙ unfreed')
         (sym w.start_is ∙ at_start)
         (sym v.start_is ∙ at_start') (sym w.block_is ∙ same ∙ v.block_is)
@@ -102,7 +104,8 @@ module _ (xs : List Instance) (m : List MemoryBlock) (i : ℕ) (x now : Instance
 -- ---- an instance more
 
 module _ (xs : List Instance) (x : Instance) (m : List MemoryBlock) (known : x.block < length m)
-    (runs : is_suspended x.status ≡ false) (fresh : x.freed ≡ false) (slots : Each (λ (slot : Slot). IsNoHeap m slot.block) x.slots)
+    (runs : is_suspended x.status ≡ false) (fresh : x.freed
+    ≡ false) (slots : Each (λ (slot : Slot). IsNoHeap m slot.block) x.slots)
     (kept : x.start ≡ 0 → is_heap_in (slice_get m x.block) ≡ true → is_kept_in (slice_get m x.block) ≡ true)
     (alone : (i : ℕ) (y : Instance) → slice_get xs i ≡ Some y → y.freed ≡ false → x.start ≡ 0 → y.start ≡ 0
     → y.block ≡ x.block → is_heap_in (slice_get m x.block) ≡ true → ⊥) (a : AreKept xs m) where
@@ -110,7 +113,8 @@ module _ (xs : List Instance) (x : Instance) (m : List MemoryBlock) (known : x.b
   more = xs ++ x ∷ []
 
   -- one of the old ones, or the new one
-  parted : (i : ℕ) (z : Instance) → slice_get more i ≡ Some z → (slice_get xs i ≡ Some z) ⊎ ((i ≡ length xs) × (z ≡ x))
+  parted : (i : ℕ) (z : Instance) → slice_get more i ≡ Some z
+      → (slice_get xs i ≡ Some z) ⊎ ((i ≡ length xs) × (z ≡ x))
   parted i z e = on (cases_lt i (length xs))
     where
       past : (ys : List Instance) (i : ℕ) → slice_get (ys ++ x ∷ []) i ≡ Some z → length ys < i → ⊥

@@ -36,7 +36,8 @@ unkilled_at m b h = on (slice_get m b) refl h
         record { block = u; there = e; heap = p.0; alive = no_true (is_killed u.life) p.1 }
 
 -- of its kind it is what it was, in a memory where it was disowned and killed
-heap_dead : (m : List MemoryBlock) (b : ℕ) → is_heap_in (slice_get (killed (disown m b) b) b) ≡ is_heap_in (slice_get m b)
+heap_dead : (m : List MemoryBlock) (b : ℕ)
+    → is_heap_in (slice_get (killed (disown m b) b) b) ≡ is_heap_in (slice_get m b)
 heap_dead m b = on (slice_get m b) refl
   where
     nothing : (m : List MemoryBlock) (b : ℕ) → slice_get m b ≡ None → slice_get (killed (disown m b) b) b ≡ None
@@ -110,7 +111,8 @@ module _ (xs : List Instance) (m : List MemoryBlock) (i : ℕ) (x : Instance) (e
     -- no other frame that isn't freed begins there
     others_apart : (j : ℕ) (z : Instance) → slice_get xs j ≡ Some z → j ≢ i → z.freed ≡ false → z.start ≡ 0
         → z.block ≢ b
-    others_apart j z f ne unfreed start' same = a.apart i j x z e f (λ h. ne (sym h)) unfreed_before unfreed start start'
+    others_apart j z f ne unfreed start' same
+        = a.apart i j x z e f (λ h. ne (sym h)) unfreed_before unfreed start start'
         (sym same) heap
 
     long : length k ≡ length m

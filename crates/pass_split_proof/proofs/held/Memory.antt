@@ -21,7 +21,8 @@ pub record IsKeptOn (o p : Option MemoryBlock) : Type 0 where
   pub kept : is_heap_in o ≡ true → is_kept_in o ≡ true → is_kept_in p ≡ true
   pub gone : is_heap_in o ≡ true → is_killed_in o ≡ true → is_killed_in p ≡ true
 
--- there are no fewer blocks, and those there were are of allocators as before; one that lived and was owned does so still
+-- there are no fewer blocks, and those there were are of allocators as before; one that lived and was owned does so
+-- still
 pub record Keeps (m k : List MemoryBlock) : Type 0 where
   pub longer : length m ≤ length k
   pub each : (b : ℕ) → b < length m → IsKeptOn (slice_get m b) (slice_get k b)
@@ -71,7 +72,8 @@ keeps_refilled m k long r = record {
 
 -- ---- one block more
 
-get_front : (m : List MemoryBlock) (x : MemoryBlock) (b : ℕ) → b < length m → slice_get (m ++ x ∷ []) b ≡ slice_get m b
+get_front : (m : List MemoryBlock) (x : MemoryBlock) (b : ℕ) → b < length m
+    → slice_get (m ++ x ∷ []) b ≡ slice_get m b
 get_front [] x b lt = absurd (omega arith)
 get_front (y ∷ m) x zero lt = refl
 get_front (y ∷ m) x (suc b) lt = get_front m x b (omega arith)
@@ -123,7 +125,8 @@ keeps_changed m c f on = record {
     here = at (slice_get m c) refl
 
 -- a block that is no allocator's may be anything of its kind
-pub keeps_no_heap : (m : List MemoryBlock) (c : ℕ) (f : MemoryBlock → MemoryBlock) → is_heap_in (slice_get m c) ≡ false
+pub keeps_no_heap : (m : List MemoryBlock) (c : ℕ) (f : MemoryBlock → MemoryBlock)
+    → is_heap_in (slice_get m c) ≡ false
     → ((u : MemoryBlock) → (f u).kind ≡ u.kind) → Keeps m (with_block m c f)
 keeps_no_heap m c f none kind = keeps_changed m c f (λ u e. record {
   heap = ap (λ (k : Kind). same_kind k Kind.Allocator) (kind u);
@@ -134,7 +137,11 @@ keeps_no_heap m c f none kind = keeps_changed m c f (λ u e. record {
 pub started_kind : (u : MemoryBlock) → (started u).kind ≡ u.kind
 started_kind u = on (is_killed u.life)
   where
-    on : (b : Bool) → (if b then u else record u { life = Life.Live; bytes = replicate u.size Byte.Undefined }).kind ≡ u.kind
+    on : (b : Bool) → (if b then u else record u {
+      life = Life.Live;
+      bytes
+          = replicate u.size Byte.Undefined;
+    }).kind ≡ u.kind
     on true = refl
     on false = refl
 

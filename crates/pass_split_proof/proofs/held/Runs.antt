@@ -39,7 +39,8 @@ module _ (g : FramedGiven) (entry : ℕ) (args : List Word) (marks : MarksNoHeap
 
   pub runs_kept : (n : ℕ) → IsKeptState (framed_state_at g entry args n)
   runs_kept zero = first_kept g entry args
-  runs_kept (suc n) = subst IsKeptState (one_more n) (step_kept g (framed_state_at g entry args n) (runs_kept n) (marks n))
+  runs_kept (suc n) = subst IsKeptState (one_more n) (step_kept g (framed_state_at g entry args n) (runs_kept n)
+      (marks n))
 
 -- ---- held
 
@@ -60,7 +61,8 @@ sleeps_on Status.Finished e = absurd (false≢true e)
 
 module _ (g : FramedGiven) (entry : ℕ) (args : List Word) (marks : MarksNoHeaps g entry args)
     (given : DoGivenFramesLive g entry args) (n i : ℕ) (x : Instance)
-    (e : slice_get (framed_state_at g entry args n).instances i ≡ Some x) (sleeps : is_suspended x.status ≡ true) where
+    (e : slice_get (framed_state_at g entry args n).instances i ≡ Some x) (sleeps : is_suspended x.status
+    ≡ true) where
   abbrev m : List MemoryBlock
   m = (framed_state_at g entry args n).world.memory
 

@@ -239,7 +239,8 @@ module _ (g : FramedGiven) (s : State) (k : IsKeptState s) where
   instr_kept (Instr.Alloca name ty align) h = other_kept (AtInstr (Instr.Alloca name ty align)) h
   instr_kept (Instr.Load name ty p align) h = other_kept (AtInstr (Instr.Load name ty p align)) h
   instr_kept (Instr.Store arg p align) h = other_kept (AtInstr (Instr.Store arg p align)) h
-  instr_kept (Instr.Gep name inbounds ty base indices) h = other_kept (AtInstr (Instr.Gep name inbounds ty base indices)) h
+  instr_kept (Instr.Gep name inbounds ty base indices) h
+      = other_kept (AtInstr (Instr.Gep name inbounds ty base indices)) h
   instr_kept (Instr.Call result must_tail ty callee args) h = call_kept result must_tail ty callee args h
 
   next_kept : (here : Fetched) → MarksNoHeap g s here → StaysKept (framed_next g s here)

@@ -70,7 +70,8 @@ module _ (g : FramedGiven) (h : PlainGiven) (s : State) (t : PlainState) (r : Ar
   p = arg_value g.given.code s.top.values k.arg
 
   does : framed_step g s ≡ or_undefined g.given s (resume g.given (continue_framed g) s p)
-  does = framed_does g s (AtInstr here) (Coro Intrinsic.CoroResume (k.arg ∷ k.rest) k.result) k.running k.there refl refl
+  does = framed_does g s (AtInstr here) (Coro Intrinsic.CoroResume
+      (k.arg ∷ k.rest) k.result) k.running k.there refl refl
 
   pub heavy : weight (fetched_at g s) ≡ 4
   heavy = ap weight k.there
@@ -262,7 +263,8 @@ module _ (g : FramedGiven) (h : PlainGiven) (s : State) (t : PlainState) (r : Ar
     pub stays_followed : (n : ℕ) → AreNew f q n 1 → StandAt q t.top.block t.top.at (resume_call n k.arg.value)
         → IsPlace r.top.shape r.top.part f q s.top.block (s.top.at + 1) t.top.block (t.top.at + 2)
         → IsFollowed g h s t
-    stays_followed n new line place = woken_followed g h s t r k.running k.settled p w Part.Resume label wakes.waking is
+    stays_followed n new line place
+        = woken_followed g h s t r k.running k.settled p w Part.Resume label wakes.waking is
         heavy wakes.ends
         (staying w wakes stored (r.frames.laid.known w.number w.instance w.there) small_start n new line place)
 
@@ -272,22 +274,27 @@ module _ (g : FramedGiven) (h : PlainGiven) (s : State) (t : PlainState) (r : Ar
         → IsFollowed g h s t
     passes_followed pass n new jumps line ret leaving resumed = woken_followed g h s t r k.running k.settled p w
         Part.Resume label wakes.waking is heavy wakes.ends
-        (passing w wakes stored (r.frames.laid.known w.number w.instance w.there) small_start pass n new jumps line ret
+        (passing w wakes stored (r.frames.laid.known w.number w.instance w.there) small_start pass n new jumps
+        line ret
         leaving resumed)
 
     -- by the code that stands there
     code : HasCode r.top.shape r.top.part f q s.top.block s.top.at t.top.block t.top.at here
     code = has_code r.top.shape r.top.part f q s.top.block s.top.at t.top.block t.top.at here k.place k.there
 
-    pub stays_by_code : (after : List Instr) (term : Terminator) → cut_at r.top.shape r.top.part here after ≡ Cut.Stays
+    pub stays_by_code : (after : List Instr) (term : Terminator)
+        → cut_at r.top.shape r.top.part here after ≡ Cut.Stays
         → IsCode r.top.shape r.top.part f q s.top.block s.top.at t.top.block t.top.at here after term
         → IsFollowed g h s t
     stays_by_code behind_it term e (Stays n begins cut new stand place) = stays_followed n new stand place
-    stays_by_code behind_it term e (Marks n mark begins cut new remain bare place) = absurd (marks_stays mark (sym cut ∙ e))
+    stays_by_code behind_it term e (Marks n mark begins cut new remain bare place)
+        = absurd (marks_stays mark (sym cut ∙ e))
     stays_by_code behind_it term e (Suspends begins cut jump) = absurd (suspends_stays (sym cut ∙ e))
     stays_by_code behind_it term e (Returns begins cut ret) = absurd (returns_stays (sym cut ∙ e))
-    stays_by_code behind_it term e (Transfers n j begins cut new jump bare remain) = absurd (transfers_stays j (sym cut ∙ e))
-    stays_by_code behind_it term e (BeginsAgain begins jump) = absurd (false≢true (sym (not_again r.top.part) ∙ begins))
+    stays_by_code behind_it term e (Transfers n j begins cut new jump bare remain)
+        = absurd (transfers_stays j (sym cut ∙ e))
+    stays_by_code behind_it term e (BeginsAgain begins jump)
+        = absurd (false≢true (sym (not_again r.top.part) ∙ begins))
 
     -- a ramp, or a function that is no coroutine, has no transfers
     pub ramp_followed : goes_on r.top.part ≡ false → IsFollowed g h s t

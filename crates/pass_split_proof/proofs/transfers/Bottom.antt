@@ -31,7 +31,8 @@ module _ (f : Function) (a : Activation) (slots : List Slot) where
 
   leaving_on : (end : ℕ) → IsLeaving f end a → IsLeaving f end (record a { slots = slots })
   leaving_on end (AtSuspend i here is stop) = AtSuspend i here is stop
-  leaving_on end (AtSwitch m arg cases before here both is) = AtSwitch m arg cases (behind_on true before) here both is
+  leaving_on end (AtSwitch m arg cases before here both is)
+      = AtSwitch m arg cases (behind_on true before) here both is
   leaving_on end (AtEnd block at) = AtEnd block at
 
   pub place_on : (sh : Shape) (part : Part) (q : Function) (b : PlainActivation) (mode : Mode)
@@ -62,7 +63,8 @@ module _ (g : FramedGiven) (h : PlainGiven) (s : State) (t : PlainState) (r : Ar
       func = r.top.func;
       place = place_on (function_at g.given.code s.top.func) s.top [] r.top.shape r.top.part
           (function_at h.code t.top.func) t.top s.top.mode r.top.place;
-      values = subst (λ (hs : List Home). AreValuesOf (function_at g.given.code s.top.func) hs s.top.values t.top.values)
+      values = subst (λ (hs : List Home). AreValuesOf
+          (function_at g.given.code s.top.func) hs s.top.values t.top.values)
           (homes_stay g h s t r None None) r.top.values;
       room = r.top.room;
       frame = r.top.frame;

@@ -60,7 +60,13 @@ module _ (g : FramedGiven) (xs : List Instance) (m n : List MemoryBlock) (b : �
           same = refl;
           kept = λ a. absurd (false≢true (sym (ap (λ (d : Kind). same_kind d Kind.Stack) a) ∙ block_there.kind));
         }))
-        (λ ne. record { block = y; stood = sym (changed_elsewhere m b c disowned ne) ∙ e; same = refl; kept = λ a. refl })
+        (λ ne. record {
+          block = y;
+          stood = sym (changed_elsewhere m b c disowned ne) ∙ e;
+          same = refl;
+          kept
+              = λ a. refl;
+        })
         (cases_eq c b)
 
     twins : AreTwins m n → AreTwins k n
@@ -81,7 +87,8 @@ module _ (g : FramedGiven) (xs : List Instance) (m n : List MemoryBlock) (b : �
     -- frames are held as before
     held_in : (c : ℕ) (x : Instance) → is_held_in (slice_get k c) x ≡ is_held_in (slice_get m c) x
     held_in c x = ⊎_elim
-        (λ e. ap (λ (a : ℕ). is_held_in (slice_get k a) x) e ∙ ap (λ (o : Option MemoryBlock). is_held_in o x) now_here
+        (λ e. ap (λ (a : ℕ). is_held_in (slice_get k a) x) e
+        ∙ ap (λ (o : Option MemoryBlock). is_held_in o x) now_here
         ∙ ap (λ (o : Option MemoryBlock). is_held_in o x) (sym block_there.there)
         ∙ ap (λ (a : ℕ). is_held_in (slice_get m a) x) (sym e))
         (λ ne. ap (λ (o : Option MemoryBlock). is_held_in o x) (changed_elsewhere m b c disowned ne))

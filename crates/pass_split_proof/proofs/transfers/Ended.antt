@@ -63,25 +63,33 @@ module _ (g : FramedGiven) (h : PlainGiven) (s : State) (t : PlainState) (r : Ar
     ys = slice_set s.instances i now
 
     beside : AreBeside g ys s.world.memory t.world.memory
-    beside = status_beside g s.instances s.world.memory t.world.memory i x there Status.Finished x.last_save x.released
+    beside = status_beside g s.instances s.world.memory t.world.memory i x there Status.Finished x.last_save
+        x.released
         r.world.memory
 
     frames : AreFrames g ys s.world.memory t.world.memory
-    frames = status_frames g s.instances s.world.memory t.world.memory i x there Status.Finished x.last_save x.released
+    frames = status_frames g s.instances s.world.memory t.world.memory i x there Status.Finished x.last_save
+        x.released
         (held_before (slice_get s.world.memory x.block) x) r.frames
-        (λ held. runs_headed g s.instances s.world.memory t.world.memory i x there Status.Finished x.last_save x.released
+        (λ held. runs_headed g s.instances s.world.memory t.world.memory i x there Status.Finished x.last_save
+        x.released
         (r.frames.headed i x there (held_before (slice_get s.world.memory x.block) x held)) (inr refl))
 
     by_memory : (k : List MemoryBlock) → length k ≡ length s.world.memory → AreBeside g ys k t.world.memory
         → AreFrames g ys k t.world.memory → AreRelated g h (changed_to s ys k) t
     by_memory k long memory held = advanced g h s t r
-        (record { world = record s.world { memory = k }; values = s.top.values }) (plain_work t) ys s.top.block s.top.at
+        (record {
+          world = record s.world { memory = k };
+          values
+              = s.top.values;
+        }) (plain_work t) ys s.top.block s.top.at
         t.top.block t.top.at s.top.has_left settled
         (record { memory = memory; events = r.world.events; answers = r.world.answers; allocs = r.world.allocs })
         held (state_frames s.instances i x Status.Finished x.last_save x.released there) (same_long long)
         (subst (λ (l : ℕ). Extends (homes_of s.world.memory) (own_homes 0 l)) (sym long)
         (record { each = λ b e. refl }))
-        (subst (λ (l : ℕ). AreValuesOf (function_at g.given.code s.top.func) (own_homes 0 l) s.top.values t.top.values)
+        (subst (λ (l : ℕ). AreValuesOf (function_at g.given.code s.top.func)
+        (own_homes 0 l) s.top.values t.top.values)
         (sym long) r.top.values) refl refl r.top.place
       where
         same_long : {a b : ℕ} → a ≡ b → b ≤ a

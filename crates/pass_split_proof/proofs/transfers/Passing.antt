@@ -135,7 +135,8 @@ module _ (g : FramedGiven) (h : PlainGiven) (s : State) (t : PlainState) (r : Ar
     named : call.result ≡ Some stop.result
     named = sym (ap call_result call.is) ∙ stop.named
 
-    written : i ≡ Instr.Call (Some stop.result) call.must_tail call.ty (Callee.Intrinsic Intrinsic.CoroSuspend) call.args
+    written : i ≡ Instr.Call (Some stop.result) call.must_tail call.ty
+        (Callee.Intrinsic Intrinsic.CoroSuspend) call.args
     written = call.is ∙ ap (λ (o : Option ℕ). Instr.Call o call.must_tail call.ty
         (Callee.Intrinsic Intrinsic.CoroSuspend) call.args) named
 

@@ -73,7 +73,8 @@ address_no_number m None (Some g) d x e = cc
 address_no_number m None None (Some d) x e = cc
 address_no_number m None None None x e = cc
 
-pub same_number : (m n : Module) (env : Env) (ty : Ty) (x : Operand) (w : Word) → operand_value m env ty x ≡ Value.Int w
+pub same_number : (m n : Module) (env : Env) (ty : Ty) (x : Operand) (w : Word)
+    → operand_value m env ty x ≡ Value.Int w
     → operand_value n env ty x ≡ Value.Int w
 same_number m n env ty (Operand.Global name) w e
     = absurd (address_no_number m (function_named m name) (global_named m name) (declaration_named m name) w e)
@@ -94,7 +95,8 @@ module _ (m : Module) (k : ℕ) (f : Function) (begin : ℕ) (x : IsSplittable m
   labelled = same_end f.blocks ∙ (the_end m k f begin x).is
 
   pub at_end_block : position_of f (shape_of f layout).end ≡ end_block f
-  at_end_block = ap (position_of f) (end_is m k f begin x layout) ∙ on (slice_get f.blocks (end_block f)) refl labelled
+  at_end_block = ap (position_of f) (end_is m k f begin x layout)
+      ∙ on (slice_get f.blocks (end_block f)) refl labelled
     where
       on : (o : Option Block) → slice_get f.blocks (end_block f) ≡ o
           → option_map (λ (b : Block). b.label) o ≡ Some (the_end m k f begin x).block.label

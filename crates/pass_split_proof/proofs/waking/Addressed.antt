@@ -26,7 +26,8 @@ module _ (g : FramedGiven) (h : PlainGiven) (s : State) (t : PlainState) (r : Ar
     (low : x.block < length s.world.memory) where
   stands : IsValue (own_homes 0 (length s.world.memory)) (operand_value g.given.code s.top.values ptr k.arg.value)
       (operand_value h.code t.top.values ptr k.arg.value)
-  stands = operand_stands g.given.code h.code (function_of g.given s) (length s.world.memory) s.top.values t.top.values
+  stands = operand_stands g.given.code h.code (function_of g.given s)
+      (length s.world.memory) s.top.values t.top.values
       r.globals r.top.values k.arg.value k.readable ptr
 
   ours_is : operand_value g.given.code s.top.values ptr k.arg.value ≡ pointer_at x.block x.start

@@ -202,7 +202,8 @@ module _ (g : FramedGiven) (h : PlainGiven) (s : State) (t : PlainState) (r : Ar
         → IsFollowed g h s t
     stays n new line place = woken_followed g h s t r k.running k.settled p w headed.destroyer label wakes.waking is
         heavy wakes.ends
-        (called w headed.destroyer wakes.takes headed.destroys (r.frames.laid.known w.number w.instance w.there) inside
+        (called w headed.destroyer wakes.takes headed.destroys
+        (r.frames.laid.known w.number w.instance w.there) inside
         n new line place)
 
     -- by the code that stands there
@@ -216,7 +217,8 @@ module _ (g : FramedGiven) (h : PlainGiven) (s : State) (t : PlainState) (r : Ar
     by_code behind_it term e (Marks n mark begins cut new remain bare place) = absurd (marks_stays mark (sym cut ∙ e))
     by_code behind_it term e (Suspends begins cut jump) = absurd (suspends_stays (sym cut ∙ e))
     by_code behind_it term e (Returns begins cut ret) = absurd (returns_stays (sym cut ∙ e))
-    by_code behind_it term e (Transfers n j begins cut new jump bare remain) = absurd (transfers_stays j (sym cut ∙ e))
+    by_code behind_it term e (Transfers n j begins cut new jump bare remain)
+        = absurd (transfers_stays j (sym cut ∙ e))
     by_code behind_it term e (BeginsAgain begins jump) = absurd (false≢true (sym (begins_none r.top.part) ∙ begins))
 
     pub destroys_followed : IsFollowed g h s t

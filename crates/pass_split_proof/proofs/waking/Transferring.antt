@@ -79,7 +79,8 @@ module _ (g : FramedGiven) (h : PlainGiven) (s : State) (t : PlainState) (r : Ar
   leaving : (j : ℕ) (after : List Instr) → StandAt f s.top.block s.top.at (here ∷ after)
       → cut_at r.top.shape r.top.part here after ≡ Cut.Transfers j → goes_on r.top.part ≡ true
       → IsLeaving f r.top.shape.end (record s.top { at = s.top.at + 1 })
-  leaving j after stand e goes = on (suspend_behind r.top.shape r.top.part f s.top.block s.top.at j here after stand e)
+  leaving j after stand e goes = on
+      (suspend_behind r.top.shape r.top.part f s.top.block s.top.at j here after stand e)
     where
       on : IsSuspendOf r.top.shape f s.top.block (s.top.at + 1) j
           → IsLeaving f r.top.shape.end (record s.top { at = s.top.at + 1 })

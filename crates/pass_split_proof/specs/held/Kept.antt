@@ -1,4 +1,5 @@
--- Frames in blocks of allocators, while a framed run keeps them: each lives, and is owned, until its instance is freed.
+-- Frames in blocks of allocators, while a framed run keeps them: each lives, and is owned, until its instance is
+-- freed.
 use Rattle.std.specs.Prelude.{◌≡◌, ◌≢◌, ℕ, ◌<◌, Bool, true, false, List, [], ◌∷◌, length, slice_get, Some, Option, is_some, ◌&&◌, ◌==◌}
 use Rattle.std.specs.Option.{option_map_or}
 use Rattle.ir_base.specs.declared.outcome.Word.{Word}
@@ -71,7 +72,8 @@ pub record IsKeptState (s : State) : Type 0 where
 abbrev pub MarksNoHeap : FramedGiven → State → Fetched → Type 0
 MarksNoHeap g s (AtInstr (Instr.Call result must_tail ty (Callee.Intrinsic i) args)) =
     is_lifetime (Callee.Intrinsic i) ≡ true → (b : ℕ)
-    → block_of (nth (arg_values g.given.code s.top.values args) 1) ≡ Some b → is_heap_in (slice_get s.world.memory b) ≡ false
+    → block_of (nth (arg_values g.given.code s.top.values args) 1) ≡ Some b
+    → is_heap_in (slice_get s.world.memory b) ≡ false
 MarksNoHeap g s _ = Unit {0}
 
 -- so it is in each state of a run
@@ -84,8 +86,8 @@ MarksNoHeaps g entry args = (n : ℕ) → MarksNoHeap g (framed_state_at g entry
 abbrev pub begins_heap : List MemoryBlock → Instance → Bool
 begins_heap m x = is_heap_in (slice_get m x.block) && (x.start == 0)
 
--- In each state of a run the block of a frame that was given lives while its instance isn't Finished: each such instance
--- is destroyed before its block dies.
+-- In each state of a run the block of a frame that was given lives while its instance isn't Finished: each such
+-- instance is destroyed before its block dies.
 abbrev pub DoGivenFramesLive : FramedGiven → ℕ → List Word → Type 0
 DoGivenFramesLive g entry args = (n i : ℕ) (x : Instance)
     → slice_get (framed_state_at g entry args n).instances i ≡ Some x
