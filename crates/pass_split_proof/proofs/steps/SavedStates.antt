@@ -103,7 +103,7 @@ module _ (g : FramedGiven) (h : PlainGiven) (s : State) (t : PlainState) (r : Ar
       (omega arith) (record { each = λ b k. refl })
       (values_extra (function_at g.given.code s.top.func) _ s.top.values t.top.values code.name
       (pointer_at x.block (x.start + (layout_of g.layouts x.coroutine).index)) code.new r.top.values)
-      (set_length t.top.values code.name (pointer_at x.block (x.start + (layout_of g.layouts x.coroutine).index)))
+      refl (set_length t.top.values code.name (pointer_at x.block (x.start + (layout_of g.layouts x.coroutine).index)))
       (set_elsewhere t.top.values code.name r.top.shape.begin
       (pointer_at x.block (x.start + (layout_of g.layouts x.coroutine).index)) (λ k. other_name (k
       ∙ ap (λ (z : Shape). z.begin) code.same)))

@@ -88,6 +88,7 @@ module _ (g : FramedGiven) (h : PlainGiven) (s : State) (t : PlainState) (r : Ar
       place = more_slots r.top.shape r.top.part (function_at g.given.code s.top.func) (function_at h.code t.top.func)
           s.top t.top (slot ∷ s.top.slots) (slot ∷ t.top.slots) s.top.mode r.top.place;
       values = r.top.values;
+      whole = r.top.whole;
       room = r.top.room;
       frame = λ i own. let f = r.top.frame i own
           in record { instance = f.instance; there = f.there; coroutine = f.coroutine; is = f.is };
@@ -174,6 +175,7 @@ module _ (g : FramedGiven) (h : PlainGiven) (s : State) (t : PlainState) (r : Ar
         allocs = refl;
       })
       (slot_frames g s.instances s.world.memory t.world.memory size align kind small unlike long marked r.frames)
-      (same_frames s.instances) grows homes_grow stand (result_length t.top.values result
-      (pointer_to (length t.world.memory)))
+      (same_frames s.instances) grows homes_grow stand
+      (result_length s.top.values result (pointer_to (length s.world.memory)))
+      (result_length t.top.values result (pointer_to (length t.world.memory)))
       (result_elsewhere t.top.values result (pointer_to (length t.world.memory)) r.top.shape.begin other) place
