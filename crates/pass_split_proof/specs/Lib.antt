@@ -3,6 +3,7 @@ pub mod code
 pub mod first_exits
 pub mod names
 pub mod places
+pub mod silent
 pub mod simulation
 pub mod states
 pub mod steps

@@ -7,6 +7,7 @@ pub mod first_exits;
 pub mod names;
 pub mod numbers;
 pub mod places;
+pub mod silent;
 pub mod simulation;
 pub mod states;
 pub mod steps;
