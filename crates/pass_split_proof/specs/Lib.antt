@@ -1,3 +1,4 @@
+pub mod begins
 pub mod branching
 pub mod code
 pub mod first_exits

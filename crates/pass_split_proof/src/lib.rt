@@ -1,6 +1,7 @@
 //! Splitting keeps meaning: the parts of a coroutine, called by its ramp and its resumes, do what the framed form does.
 #![tactic(auto)]
 
+pub mod begins;
 pub mod branching;
 pub mod code;
 pub mod first_exits;

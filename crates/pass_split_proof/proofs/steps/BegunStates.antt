@@ -120,7 +120,7 @@ module _ (g : FramedGiven) (h : PlainGiven) (s : State) (t : PlainState) (r : Ar
   room_for : shape.begin < length t.top.values
   room_for = let a = r.top.values.room in let b = code.begin in omega arith
 
-  runs : Runs (plain_context h t) (begin_stores shape r.top.part code.name p) (plain_work t) four
+  pub runs : Runs (plain_context h t) (begin_stores shape r.top.part code.name p) (plain_work t) four
   runs = (
     one,
     (
