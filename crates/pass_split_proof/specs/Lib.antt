@@ -1,7 +1,11 @@
 pub mod begins
 pub mod branching
+pub mod calling
 pub mod code
+pub mod ends
 pub mod first_exits
+pub mod giving
+pub mod making
 pub mod names
 pub mod places
 pub mod silent

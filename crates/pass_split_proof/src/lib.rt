@@ -3,8 +3,12 @@
 
 pub mod begins;
 pub mod branching;
+pub mod calling;
 pub mod code;
+pub mod ends;
 pub mod first_exits;
+pub mod giving;
+pub mod making;
 pub mod names;
 pub mod numbers;
 pub mod places;

@@ -44,7 +44,7 @@ use Rattle.run_step.specs.declared.world.Slot.{Slot}
 
 -- ---- a slot more
 
-more_slots : (s : Shape) (part : Part) (f q : Function) (a : Activation) (b : PlainActivation)
+pub more_slots : (s : Shape) (part : Part) (f q : Function) (a : Activation) (b : PlainActivation)
     (slots others : List Slot) (mode : Mode)
     → IsPlaced s part f q a b mode → IsPlaced s part f q (record a { slots = slots }) (record b { slots = others }) mode
 more_slots s part f q a b slots others _ (Inside mode e place) = Inside mode e place
