@@ -3,6 +3,7 @@ pub mod branching
 pub mod calling
 pub mod code
 pub mod ends
+pub mod entering
 pub mod first_exits
 pub mod giving
 pub mod making

@@ -15,7 +15,7 @@ use Rattle.pass_split_proof.proofs.steps.Followed.{framed_does, one_followed}
 use Rattle.pass_split_proof.proofs.steps.Ordinary.{IsCopied, alone}
 use Rattle.pass_split_proof.proofs.steps.Settled.{plain_does}
 use Rattle.pass_split_proof.proofs.steps.Slots.{blocks_related, slot_related}
-use Rattle.pass_split_proof.specs.making.Blocks.{IsAtAlloca}
+use Rattle.pass_split_proof.specs.making.Blocks.{IsAlloca, IsAtAlloca}
 use Rattle.pass_split_proof.specs.places.Places.{IsCodeOf, OfCoroutine, OfPlain}
 use Rattle.pass_split_proof.specs.simulation.Followed.{IsFollowed}
 use Rattle.pass_split_proof.specs.states.Activations.{Inside, is_entering}
@@ -30,7 +30,7 @@ use Rattle.run_plain.specs.declared.state.PlainState.{PlainState}
 use Rattle.run_source.specs.State.{function_of, settled, with_slots, work_of}
 use Rattle.run_source.specs.declared.state.Mode.{Mode}
 use Rattle.run_source.specs.declared.state.State.{State}
-use Rattle.run_step.specs.Step.{AtInstr, NewSlot, Stuck, Work, action_of, alloca, alloca_kind, has_markers, is_alignment}
+use Rattle.run_step.specs.Step.{AtInstr, NewSlot, Stuck, Work, action_of, alloca, alloca_kind, fetch, has_markers, is_alignment}
 use Rattle.run_step.specs.declared.world.Slot.{Slot}
 
 -- parts are no coroutines
@@ -62,7 +62,7 @@ slot_on g z slot (Mode.GivenRamp frame) e = refl
 slot_on g z slot (Mode.Entering from label) e = absurd (false≢true (sym e))
 
 module _ (g : FramedGiven) (h : PlainGiven) (s : State) (t : PlainState) (r : AreRelated g h s t)
-    (runs : s.outcome ≡ Outcome.Running) (fine : IsFine (framed_step g s).outcome) (k : IsAtAlloca g h s t r) where
+    (runs : s.outcome ≡ Outcome.Running) (fine : IsFine (framed_step g s).outcome) (k : IsAlloca g h s t r) where
   abbrev f : Function
   f = function_of g.given s
 
@@ -75,18 +75,14 @@ module _ (g : FramedGiven) (h : PlainGiven) (s : State) (t : PlainState) (r : Ar
   abbrev size : ℕ
   size = size_of g.given.code k.ty
 
-  copied : IsCopied r.top.shape r.top.part f q s.top.block s.top.at t.top.block t.top.at i
-  copied = alone r.top.shape r.top.part f q s.top.block s.top.at t.top.block t.top.at i i
-      (record { begins = not_again r.top.part i refl; cut = λ after. refl; lowered = λ n. refl }) k.place k.there
-
-  abbrev made : Work
+  abbrev pub made : Work
   made = with_made (work_of s) (Some k.name) size k.align (alloca_kind f) (has_markers f k.name) s.world.allocs
 
-  abbrev made_too : Work
+  abbrev pub made_too : Work
   made_too = with_made (plain_work t) (Some k.name) size k.align (plain_kind (alloca_kind f)) (has_markers f k.name)
       s.world.allocs
 
-  abbrev slot : Slot
+  abbrev pub slot : Slot
   slot = record { alloca = k.name; block = length s.world.memory }
 
   aligned : is_alignment k.align ≡ true
@@ -102,9 +98,8 @@ module _ (g : FramedGiven) (h : PlainGiven) (s : State) (t : PlainState) (r : Ar
   ours = ap (λ (b : Bool). if b then alloca (framed_context g s) (work_of s) k.name size k.align
       else Stuck Cause.Align) aligned
 
-  is : framed_step g s ≡ with_slots (settled s made) (slot ∷ s.top.slots)
-  is = framed_does g s (AtInstr i) (NewSlot made slot) runs k.there refl ours
-      ∙ slot_on g (settled s made) slot s.top.mode k.settled
+  pub slot_made : framed_step g s ≡ framed_slot g (settled s made) slot s.top.mode
+  slot_made = framed_does g s (AtInstr i) (NewSlot made slot) runs k.there refl ours
 
   theirs : action_of (plain_context h t) (plain_work t) (AtInstr i) ≡ NewSlot made_too slot
   theirs = ap (λ (b : Bool). if b then alloca (plain_context h t) (plain_work t) k.name (size_of h.code k.ty) k.align
@@ -119,26 +114,53 @@ module _ (g : FramedGiven) (h : PlainGiven) (s : State) (t : PlainState) (r : Ar
       (has_markers f k.name) n) (record { alloca = k.name; block = length t.world.memory })) r.world.allocs
       ∙ ap (λ (n : ℕ). NewSlot made_too (record { alloca = k.name; block = n })) r.world.memory.twins.long
 
-  goes : plain_step h t ≡ plain_slot (plain_settled t made_too) slot
-  goes = plain_does h t (AtInstr i) (NewSlot made_too slot) (r.outcome ∙ runs) copied.0 theirs
+  pub makes_slot : fetch q t.top.block t.top.at ≡ AtInstr i → plain_step h t ≡ plain_slot (plain_settled t made_too)
+      slot
+  makes_slot here = plain_does h t (AtInstr i) (NewSlot made_too slot) (r.outcome ∙ runs) here theirs
 
-  no_allocator : (b : Bool) → (if b then Kind.Slot else Kind.Stack) ≡ Kind.Allocator → k.align ≡ 16
+  pub no_allocator : (b : Bool) → (if b then Kind.Slot else Kind.Stack) ≡ Kind.Allocator → k.align ≡ 16
   no_allocator true e = absurd (cc)
   no_allocator false e = absurd (cc)
 
-  made_related : AreRelated g h (settled s made) (plain_settled t made_too)
-  made_related = blocks_related g h s t r (Some k.name) size k.align (alloca_kind f) (has_markers f k.name)
-      s.world.allocs k.small (no_allocator f.coroutine) k.settled (λ e. k.others (same e))
-      (Inside s.top.mode k.settled copied.1)
+-- ---- of an activation that is settled
+
+module _ (g : FramedGiven) (h : PlainGiven) (s : State) (t : PlainState) (r : AreRelated g h s t)
+    (runs : s.outcome ≡ Outcome.Running) (fine : IsFine (framed_step g s).outcome) (k : IsAtAlloca g h s t r) where
+  abbrev here : Instr
+  here = Instr.Alloca k.alloca.name k.alloca.ty k.alloca.align
+
+  abbrev work : Work
+  work = made g h s t r runs fine k.alloca
+
+  abbrev work_too : Work
+  work_too = made_too g h s t r runs fine k.alloca
+
+  abbrev new : Slot
+  new = slot g h s t r runs fine k.alloca
+
+  copied : IsCopied r.top.shape r.top.part (function_of g.given s) (function_at h.code t.top.func) s.top.block s.top.at
+      t.top.block t.top.at here
+  copied = alone r.top.shape r.top.part (function_of g.given s) (function_at h.code t.top.func) s.top.block s.top.at
+      t.top.block t.top.at here here
+      (record { begins = not_again r.top.part here refl; cut = λ after. refl; lowered = λ n. refl }) k.place
+      k.alloca.there
+
+  made_related : AreRelated g h (settled s work) (plain_settled t work_too)
+  made_related = blocks_related g h s t r (Some k.alloca.name) (size_of g.given.code k.alloca.ty) k.alloca.align
+      (alloca_kind (function_of g.given s)) (has_markers (function_of g.given s) k.alloca.name) s.world.allocs
+      k.alloca.small (no_allocator g h s t r runs fine k.alloca (function_of g.given s).coroutine) k.settled
+      (λ e. k.alloca.others (same e)) (Inside s.top.mode k.settled copied.1)
     where
-      same : Some k.name ≡ Some r.top.shape.begin → k.name ≡ r.top.shape.begin
+      same : Some k.alloca.name ≡ Some r.top.shape.begin → k.alloca.name ≡ r.top.shape.begin
       same e = cc
 
   pub alloca_followed : IsFollowed g h s t
-  alloca_followed = one_followed g h s t r runs (with_slots (settled s made) (slot ∷ s.top.slots))
-      (plain_slot (plain_settled t made_too) slot) is goes (reach (credit_of s))
-      (slot_related g h (settled s made) (plain_settled t made_too) made_related slot
-      (k.among (length s.world.memory)) k.settled)
+  alloca_followed = one_followed g h s t r runs (with_slots (settled s work) (new ∷ s.top.slots))
+      (plain_slot (plain_settled t work_too) new)
+      (slot_made g h s t r runs fine k.alloca ∙ slot_on g (settled s work) new s.top.mode k.settled)
+      (makes_slot g h s t r runs fine k.alloca copied.0) (reach (credit_of s))
+      (slot_related g h (settled s work) (plain_settled t work_too) made_related new
+      (k.alloca.among (length s.world.memory)) k.settled)
     where
       reach : (n : ℕ) → n ≤ n
       reach n = omega arith

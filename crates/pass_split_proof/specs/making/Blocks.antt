@@ -47,13 +47,10 @@ pub record IsAtAllocator (g : FramedGiven) (h : PlainGiven) (s : State) (t : Pla
   pub small : (x : Word) → nth (arg_values g.given.code s.top.values args) 0 ≡ Value.Int x → x.bits < 2 ^ 64
   pub others : result ≡ Some r.top.shape.begin → ⊥
 
--- The framed run is at an alloca, and the part is at the same place. The type has the same size in both modules, and both
--- functions have markers of the alloca or neither has.
-pub record IsAtAlloca (g : FramedGiven) (h : PlainGiven) (s : State) (t : PlainState) (r : AreRelated g h s t)
+-- The framed run is at an alloca. Its type has the same size in both modules, and both functions have markers of the alloca
+-- or neither has.
+pub record IsAlloca (g : FramedGiven) (h : PlainGiven) (s : State) (t : PlainState) (r : AreRelated g h s t)
     : Type 0 where
-  pub settled : is_entering s.top.mode ≡ false
-  pub place : IsPlace r.top.shape r.top.part (function_of g.given s) (function_at h.code t.top.func) s.top.block
-      s.top.at t.top.block t.top.at
   pub name : ℕ
   pub ty : Ty
   pub align : ℕ
@@ -64,3 +61,11 @@ pub record IsAtAlloca (g : FramedGiven) (h : PlainGiven) (s : State) (t : PlainS
   pub among : (block : ℕ) → (function_of g.given s).coroutine ≡ true → is_among (allocas_of (function_of g.given s))
       (record { alloca = name; block = block }) ≡ true
   pub others : name ≡ r.top.shape.begin → ⊥
+
+-- the part is at the same place
+pub record IsAtAlloca (g : FramedGiven) (h : PlainGiven) (s : State) (t : PlainState) (r : AreRelated g h s t)
+    : Type 0 where
+  pub alloca : IsAlloca g h s t r
+  pub settled : is_entering s.top.mode ≡ false
+  pub place : IsPlace r.top.shape r.top.part (function_of g.given s) (function_at h.code t.top.func) s.top.block
+      s.top.at t.top.block t.top.at
