@@ -1,8 +1,16 @@
+pub mod begins
+pub mod branching
+pub mod calling
 pub mod code
+pub mod ends
+pub mod entering
 pub mod first_exits
+pub mod giving
 pub mod held
+pub mod making
 pub mod names
 pub mod places
+pub mod silent
 pub mod simulation
 pub mod states
 pub mod steps

@@ -148,6 +148,7 @@ module _ (g : FramedGiven) (h : PlainGiven) (s : State) (t : PlainState) (r : Ar
           (with_result a.values s.top.result (unwrap_or v Value.Poison)) (with_result b.values t.top.result
           (unwrap_or u Value.Poison)) a.mode w.behind w.settled w.beside.place;
       values = given;
+      whole = result_length a.values s.top.result (unwrap_or v Value.Poison) ∙ w.beside.whole;
       room = result_length b.values t.top.result (unwrap_or u Value.Poison) ∙ w.beside.room;
       frame = λ i own. frame_on s.instances s.instances a.func i _ _ (same_frames s.instances) begin_stays
           (w.beside.frame i own);
@@ -221,6 +222,7 @@ module _ (g : FramedGiven) (h : PlainGiven) (s : State) (t : PlainState) (r : Ar
           func = r.top.func;
           place = place;
           values = stand;
+          whole = r.top.whole;
           room = room ∙ r.top.room;
           frame = λ i own. frame_on s.instances ys s.top.func i _ _ keeps (begin i own)
               (r.top.frame i own);

@@ -66,6 +66,7 @@ module _ (g : FramedGiven) (h : PlainGiven) (s : State) (t : PlainState) (r : Ar
       values = subst (λ (hs : List Home). AreValuesOf
           (function_at g.given.code s.top.func) hs s.top.values t.top.values)
           (homes_stay g h s t r None None) r.top.values;
+      whole = r.top.whole;
       room = r.top.room;
       frame = r.top.frame;
       result = r.top.result;

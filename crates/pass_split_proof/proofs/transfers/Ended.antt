@@ -90,7 +90,7 @@ module _ (g : FramedGiven) (h : PlainGiven) (s : State) (t : PlainState) (r : Ar
         (record { each = λ b e. refl }))
         (subst (λ (l : ℕ). AreValuesOf (function_at g.given.code s.top.func)
         (own_homes 0 l) s.top.values t.top.values)
-        (sym long) r.top.values) refl refl r.top.place
+        (sym long) r.top.values) refl refl refl r.top.place
       where
         same_long : {a b : ℕ} → a ≡ b → b ≤ a
         same_long e = omega arith

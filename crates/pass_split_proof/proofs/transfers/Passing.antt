@@ -188,6 +188,7 @@ module _ (g : FramedGiven) (h : PlainGiven) (s : State) (t : PlainState) (r : Ar
         (goes_to s s.world s.instances s.top.block (s.top.at + 1) values s.top.has_left) over (same (credit_of s))
         (one_less_ahead f s.top.block s.top.at i here)
         (stays_related g h s t r values s.instances s.top.block (s.top.at + 1) s.top.has_left settled Stayed stand
+        (set_length s.top.values stop.result minus)
         (subst (λ (mode : Mode). IsPlaced r.top.shape r.top.part f q
         (moved_to s.top s.top.block (s.top.at + 1) values s.top.has_left) t.top mode) (sym k.mode)
         (Passed k.returns (AtSwitch g.given.code stop.arg stop.cases
@@ -226,7 +227,7 @@ module _ (g : FramedGiven) (h : PlainGiven) (s : State) (t : PlainState) (r : Ar
     stop_followed = none_followed g h s t r k.running after over_switch (same (credit_of s))
         (end_less_ahead f s.top.block s.top.at (position_of f end) has.at elsewhere)
         (stays_related g h s t r s.top.values entered.instances (position_of f end) 0 entered.left settled entered.was
-        r.top.values
+        r.top.values refl
         (subst (λ (mode : Mode). IsPlaced r.top.shape r.top.part f q
         (moved_to s.top (position_of f end) 0 s.top.values entered.left) t.top mode) (sym k.mode)
         (Passed k.returns (AtEnd refl refl))))

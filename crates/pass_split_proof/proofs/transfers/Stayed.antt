@@ -29,10 +29,11 @@ module _ (g : FramedGiven) (h : PlainGiven) (s : State) (t : PlainState) (r : Ar
     (ys : List Instance) (block at : ℕ) (left : Bool) where
   pub stays_related : is_entering s.top.mode ≡ false → WasLeft s.instances ys
       → AreValuesOf (function_at g.given.code s.top.func) (homes_of s.world.memory) values t.top.values
+      → length values ≡ length s.top.values
       → IsPlaced r.top.shape r.top.part (function_at g.given.code s.top.func) (function_at h.code t.top.func)
       (moved_to s.top block at values left) t.top s.top.mode
       → AreRelated g h (goes_to s s.world ys block at values left) t
-  stays_related settled was stand place = advanced g h s t r (record { world = s.world; values = values })
+  stays_related settled was stand whole place = advanced g h s t r (record { world = s.world; values = values })
       (plain_work t) ys block at t.top.block t.top.at left settled
       (record {
         memory = left_beside g s.world.memory t.world.memory s.instances ys was r.world.memory;
@@ -41,7 +42,7 @@ module _ (g : FramedGiven) (h : PlainGiven) (s : State) (t : PlainState) (r : Ar
         allocs = r.world.allocs;
       })
       (left_all g s.world.memory t.world.memory s.instances ys was r.frames) (left_frames s.instances ys was)
-      (omega arith) (record { each = λ b e. refl }) stand refl refl place
+      (omega arith) (record { each = λ b e. refl }) stand whole refl refl place
 
 -- ---- what is ahead
 
