@@ -44,7 +44,7 @@ use Rattle.run_step.specs.declared.world.Slot.{Slot}
 
 -- ---- a slot more
 
-more_slots : (s : Shape) (part : Part) (f q : Function) (a : Activation) (b : PlainActivation)
+pub more_slots : (s : Shape) (part : Part) (f q : Function) (a : Activation) (b : PlainActivation)
     (slots others : List Slot) (mode : Mode)
     → IsPlaced s part f q a b mode → IsPlaced s part f q (record a { slots = slots }) (record b { slots = others }) mode
 more_slots s part f q a b slots others _ (Inside mode e place) = Inside mode e place
@@ -88,6 +88,7 @@ module _ (g : FramedGiven) (h : PlainGiven) (s : State) (t : PlainState) (r : Ar
       place = more_slots r.top.shape r.top.part (function_at g.given.code s.top.func) (function_at h.code t.top.func)
           s.top t.top (slot ∷ s.top.slots) (slot ∷ t.top.slots) s.top.mode r.top.place;
       values = r.top.values;
+      whole = r.top.whole;
       room = r.top.room;
       frame = λ i own. let f = r.top.frame i own
           in record { instance = f.instance; there = f.there; coroutine = f.coroutine; is = f.is };
@@ -109,7 +110,7 @@ slot_length m size align kind false = grown_length m (blank_block size align kin
 
 module _ (g : FramedGiven) (xs : List Instance) (m n : List MemoryBlock) (size align : ℕ) (kind : Kind)
     (small : size < 2 ^ 64) (unlike : kind ≡ Kind.Allocator → align ≡ 16) (long : length n ≡ length m) where
-  slot_beside : (marked : Bool) → AreFrames g xs m n → AreBeside g xs m n
+  pub slot_beside : (marked : Bool) → AreFrames g xs m n → AreBeside g xs m n
       → AreBeside g xs (slot_memory m size align kind marked) (slot_memory n size align (plain_kind kind) marked)
   slot_beside false frames beside = fresh_beside g xs m n size align kind small unlike frames.laid beside
   slot_beside true frames beside = subst (λ (b : ℕ). AreBeside g xs (end (fresh m size align kind) (length m))
@@ -118,7 +119,7 @@ module _ (g : FramedGiven) (xs : List Instance) (m n : List MemoryBlock) (size a
       (fresh_frames g xs m n size align kind small unlike frames).laid
       (fresh_beside g xs m n size align kind small unlike frames.laid beside))
 
-  slot_frames : (marked : Bool) → AreFrames g xs m n → AreFrames g xs (slot_memory m size align kind marked)
+  pub slot_frames : (marked : Bool) → AreFrames g xs m n → AreFrames g xs (slot_memory m size align kind marked)
       (slot_memory n size align (plain_kind kind) marked)
   slot_frames false frames = fresh_frames g xs m n size align kind small unlike frames
   slot_frames true frames = subst (λ (b : ℕ). AreFrames g xs (end (fresh m size align kind) (length m))
@@ -138,14 +139,14 @@ module _ (g : FramedGiven) (h : PlainGiven) (s : State) (t : PlainState) (r : Ar
   long : length t.world.memory ≡ length s.world.memory
   long = r.world.memory.twins.long
 
-  homes_grow : Extends (homes_of s.world.memory) (homes_of made.world.memory)
+  pub homes_grow : Extends (homes_of s.world.memory) (homes_of made.world.memory)
   homes_grow = subst (λ (k : ℕ). Extends (homes_of s.world.memory) (own_homes 0 k))
       (sym (slot_length s.world.memory size align kind marked)) (own_extends (length s.world.memory))
 
-  grows : length s.world.memory ≤ length made.world.memory
+  pub grows : length s.world.memory ≤ length made.world.memory
   grows = let e = slot_length s.world.memory size align kind marked in omega arith
 
-  stand : AreValuesOf (function_at g.given.code s.top.func) (homes_of made.world.memory) made.values made_too.values
+  pub stand : AreValuesOf (function_at g.given.code s.top.func) (homes_of made.world.memory) made.values made_too.values
   stand = values_set (function_at g.given.code s.top.func) (homes_of made.world.memory) result s.top.values
       t.top.values made.values made_too.values
       (values_on (function_at g.given.code s.top.func) (homes_of s.world.memory) (homes_of made.world.memory)
@@ -174,6 +175,7 @@ module _ (g : FramedGiven) (h : PlainGiven) (s : State) (t : PlainState) (r : Ar
         allocs = refl;
       })
       (slot_frames g s.instances s.world.memory t.world.memory size align kind small unlike long marked r.frames)
-      (same_frames s.instances) grows homes_grow stand (result_length t.top.values result
-      (pointer_to (length t.world.memory)))
+      (same_frames s.instances) grows homes_grow stand
+      (result_length s.top.values result (pointer_to (length s.world.memory)))
+      (result_length t.top.values result (pointer_to (length t.world.memory)))
       (result_elsewhere t.top.values result (pointer_to (length t.world.memory)) r.top.shape.begin other) place

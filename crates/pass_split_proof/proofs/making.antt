@@ -1,0 +1,2 @@
+pub mod Allocas
+pub mod Allocators

@@ -1,0 +1,7 @@
+pub mod Bottom
+pub mod Disowned
+pub mod Ended
+pub mod Ends
+pub mod Passing
+pub mod Stayed
+pub mod Stop
