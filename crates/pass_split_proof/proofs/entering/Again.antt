@@ -74,12 +74,29 @@ module _ (g : FramedGiven) (h : PlainGiven) (s : State) (t : PlainState) (r : Ar
   abbrev new : Slot
   new = slot g h s t r runs fine k.alloca
 
-  here : fetch q t.top.block t.top.at ≡ AtInstr i
+  pub here : fetch q t.top.block t.top.at ≡ AtInstr i
   here = ap (λ (b : ℕ). fetch q b t.top.at) k.piece ∙ ap (fetch q 0) k.at
       ∙ k.front.alike s.top.at k.among i (sym (ap (λ (b : ℕ). fetch f b s.top.at) k.block) ∙ k.alloca.there)
 
-  unlike : alloca_kind f ≡ Kind.Allocator → k.alloca.align ≡ 16
+  pub unlike : alloca_kind f ≡ Kind.Allocator → k.alloca.align ≡ 16
   unlike = no_allocator g h s t r runs fine k.alloca f.coroutine
+
+  -- the index leads back as before
+  abbrev pub old : IsReturning g r.top.shape r.top.part f s.instances t.world.memory s.top.instance from label
+  old = r.making from label k.mode
+
+  pub known : old.frame.block < length t.world.memory
+  known = subst (λ (n : ℕ). old.frame.block < n) (sym r.world.memory.twins.long)
+      (r.frames.laid.known old.own old.frame old.there)
+
+  pub indexed : IsIndexed g work_too.world.memory old.frame old.number
+  indexed = record {
+    holds = same_held owner_rights t.world.memory work_too.world.memory old.frame.block
+        (old.frame.start + (layout_of g.layouts old.frame.coroutine).index)
+        (index_length g old.frame.coroutine) (digits (index_length g old.frame.coroutine) old.number)
+        (old_there t.world.memory size k.alloca.align (plain_kind (alloca_kind f)) marked old.frame.block known)
+        old.index.holds;
+  }
 
   module _ (more : s.top.at + 1 < length (allocas_of (function_of g.given s).blocks)) where
     abbrev z : State
@@ -94,23 +111,6 @@ module _ (g : FramedGiven) (h : PlainGiven) (s : State) (t : PlainState) (r : Ar
     is : framed_step g s ≡ u
     is = slot_made g h s t r runs fine k.alloca ∙ ap (framed_slot g (settled s work) new) k.mode
         ∙ ap (enter_after g z from label) (k.front.next (s.top.at + 1) more)
-
-    -- the index leads back as before
-    abbrev old : IsReturning g r.top.shape r.top.part f s.instances t.world.memory s.top.instance from label
-    old = r.making from label k.mode
-
-    known : old.frame.block < length t.world.memory
-    known = subst (λ (n : ℕ). old.frame.block < n) (sym r.world.memory.twins.long)
-        (r.frames.laid.known old.own old.frame old.there)
-
-    indexed : IsIndexed g work_too.world.memory old.frame old.number
-    indexed = record {
-      holds = same_held owner_rights t.world.memory work_too.world.memory old.frame.block
-          (old.frame.start + (layout_of g.layouts old.frame.coroutine).index)
-          (index_length g old.frame.coroutine) (digits (index_length g old.frame.coroutine) old.number)
-          (old_there t.world.memory size k.alloca.align (plain_kind (alloca_kind f)) marked old.frame.block known)
-          old.index.holds;
-    }
 
     returning : IsReturning g r.top.shape r.top.part f s.instances work_too.world.memory s.top.instance from label
     returning = record {

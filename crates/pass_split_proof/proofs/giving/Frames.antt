@@ -39,7 +39,7 @@ use Rattle.run_step.specs.Step.{AtInstr, Coro, Done, instr_action, set_value, va
 use Rattle.run_step.specs.Values.{distance, element, indices_of, value_in}
 
 -- a block that a memory has
-block_there : (m : List MemoryBlock) (b : ℕ) → b < length m → (y : MemoryBlock) × (slice_get m b ≡ Some y)
+pub block_there : (m : List MemoryBlock) (b : ℕ) → b < length m → (y : MemoryBlock) × (slice_get m b ≡ Some y)
 block_there [] b lt = absurd (none b lt)
   where
     none : (b : ℕ) → b < 0 → ⊥

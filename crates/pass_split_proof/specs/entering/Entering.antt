@@ -1,10 +1,14 @@
 -- An activation that goes on behind a suspend, at one of the allocas that it makes again first.
 use Rattle.std.specs.Prelude.{◌≡◌, ℕ, ◌<◌, length}
+use Rattle.ir_laws.specs.paths.rows.Returns.{IsOwnBlock}
 use Rattle.ir_model.specs.Names.{function_at}
 use Rattle.pass_front.specs.Front.{allocas_of}
 use Rattle.pass_split_proof.specs.code.Entry.{HasFrontAllocas}
 use Rattle.pass_split_proof.specs.making.Blocks.{IsAlloca}
+use Rattle.pass_split_proof.specs.places.Places.{StartsWithEnd}
+use Rattle.pass_split_proof.specs.states.Instances.{IsLaidOut, shape_at}
 use Rattle.pass_split_proof.specs.states.Related.{AreRelated}
+use Rattle.pass_split_proof.specs.steps.Woken.{IsPartThere}
 use Rattle.run_framed.specs.Framed.{FramedGiven}
 use Rattle.run_plain.specs.Plain.{PlainGiven}
 use Rattle.run_plain.specs.declared.state.PlainState.{PlainState}
@@ -24,3 +28,12 @@ pub record IsMakingAgain (g : FramedGiven) (h : PlainGiven) (s : State) (t : Pla
   pub front : HasFrontAllocas (function_of g.given s) (function_at h.code t.top.func)
       (length (allocas_of (function_of g.given s).blocks))
   pub among : s.top.at < length (allocas_of (function_of g.given s).blocks)
+
+-- The part stands in the module of parts, and the frame is laid out. The label at which the activation goes on is that of
+-- a block of its own, and the end stands first in its block.
+pub record GoesBehind (g : FramedGiven) (h : PlainGiven) (s : State) (t : PlainState) (r : AreRelated g h s t)
+    (label : ℕ) : Type 0 where
+  pub part_there : IsPartThere g h.code s.top.func r.top.part
+  pub laid : IsLaidOut g s.top.func
+  pub own : IsOwnBlock (function_of g.given s) label
+  pub ends : StartsWithEnd (function_of g.given s) (shape_at g s.top.func).end
