@@ -3,5 +3,6 @@ pub mod Disowned
 pub mod Ended
 pub mod Ends
 pub mod Passing
+pub mod Returning
 pub mod Stayed
 pub mod Stop

@@ -1,12 +1,11 @@
--- The end of a coroutine is followed: a ramp goes on behind it, and a resumed activation returns.
-use Rattle.std.proofs.Common.{◌≡◌, ℕ, ◌+◌, ◌≤◌, Bool, true, false, List, length, Option, Some, None, refl, sym, ap, ◌∙◌, arith, if◌then◌else◌}
+-- The end of a coroutine is followed in a ramp, which goes on behind it.
+use Rattle.std.proofs.Common.{◌≡◌, ℕ, ◌+◌, ◌≤◌, Bool, false, List, length, Option, Some, None, refl, sym, ap, ◌∙◌, arith, if◌then◌else◌}
 use Rattle.std.proofs.lemmas.Bool.{false≢true}
 use Rattle.ir_base.specs.declared.ops.BinOp.{BinOp}
 use Rattle.ir_base.specs.declared.outcome.Outcome.{Outcome}
 use Rattle.ir_model.specs.Names.{function_at}
 use Rattle.ir_model.specs.Ty.{Ty, int}
 use Rattle.ir_model.specs.declared.instr.Instr.{Instr}
-use Rattle.ir_model.specs.declared.instr.Terminator.{Terminator}
 use Rattle.ir_model.specs.declared.module.Function.{Function}
 use Rattle.ir_model.specs.declared.operand.Arg.{Arg}
 use Rattle.ir_model.specs.declared.operand.Callee.{Callee}
@@ -16,12 +15,10 @@ use Rattle.pass_intrinsics.specs.Lowered.{no_flags, truth_of}
 use Rattle.pass_intrinsics.specs.declared.cuts.Cut.{Cut}
 use Rattle.pass_intrinsics.specs.declared.shape.Part.{Part}
 use Rattle.pass_intrinsics.specs.declared.shape.Shape.{Shape}
-use Rattle.pass_split_proof.proofs.calling.Returned.{both_return}
 use Rattle.pass_split_proof.proofs.ends.Finished.{HasEnded, has_ended}
 use Rattle.pass_split_proof.proofs.giving.Constants.{not_again}
 use Rattle.pass_split_proof.proofs.giving.Given.{nothing_there}
 use Rattle.pass_split_proof.proofs.giving.Small.{truth_done}
-use Rattle.pass_split_proof.proofs.places.Coded.{has_code}
 use Rattle.pass_split_proof.proofs.silent.Measure.{next_lower}
 use Rattle.pass_split_proof.proofs.states.Advanced.{advanced}
 use Rattle.pass_split_proof.proofs.states.Values.{values_set}
@@ -30,13 +27,12 @@ use Rattle.pass_split_proof.proofs.steps.Ordinary.{IsCopied, alone}
 use Rattle.pass_split_proof.proofs.steps.Settled.{plain_does}
 use Rattle.pass_split_proof.specs.ends.Ending.{HasOwnFrame}
 use Rattle.pass_split_proof.specs.giving.Intrinsics.{IsAtIntrinsic}
-use Rattle.pass_split_proof.specs.places.Places.{BeginsAgain, HasCode, IsCode, Marks, Returns, Stays, Suspends, Transfers}
+use Rattle.pass_split_proof.specs.places.Places.{Returns, Stays}
 use Rattle.pass_split_proof.specs.simulation.Followed.{IsFollowed}
-use Rattle.pass_split_proof.specs.states.Activations.{Inside, RunsPart, is_entering}
+use Rattle.pass_split_proof.specs.states.Activations.{Inside, RunsPart}
 use Rattle.pass_split_proof.specs.states.Memories.{AreWorldsBeside, homes_of}
 use Rattle.pass_split_proof.specs.states.Related.{AreRelated, credit_of}
 use Rattle.pass_split_proof.specs.states.Values.{AreValuesOf}
-use Rattle.run_agreement.specs.Machines.{IsFine}
 use Rattle.run_framed.specs.Framed.{FramedGiven, framed_step}
 use Rattle.run_laws.proofs.transfer.Sets.{set_elsewhere, set_length, sets_name}
 use Rattle.run_plain.specs.Plain.{PlainGiven, plain_context, plain_settled, plain_work}
@@ -46,50 +42,16 @@ use Rattle.run_source.specs.State.{function_of, gives, next, or_undefined}
 use Rattle.run_source.specs.declared.state.Instance.{Instance}
 use Rattle.run_source.specs.declared.state.Mode.{Mode}
 use Rattle.run_source.specs.declared.state.State.{State}
-use Rattle.run_step.specs.Step.{AtInstr, AtTerm, Coro, Done, Return, fetch, set_value}
+use Rattle.run_step.specs.Step.{AtInstr, Coro, Done, fetch, set_value}
 use Rattle.run_step.specs.Values.{truth_value, with_value}
 
 abbrev at_end : Option ℕ → Bool → Option Ty → List Arg → Instr
 at_end result must_tail ty args = Instr.Call result must_tail ty (Callee.Intrinsic Intrinsic.CoroEnd) args
 
--- in a part that doesn't go on the end stays, and else it returns
+-- in a part that doesn't go on the end stays
 cut_stays : (s : Shape) (part : Part) (result : Option ℕ) (must_tail : Bool) (ty : Option Ty) (args : List Arg)
     (after : List Instr) → goes_on part ≡ false → cut_at s part (at_end result must_tail ty args) after ≡ Cut.Stays
 cut_stays s part result must_tail ty args after e = ap (λ (b : Bool). if b then Cut.Returns else Cut.Stays) e
-
-cut_returns : (s : Shape) (part : Part) (result : Option ℕ) (must_tail : Bool) (ty : Option Ty) (args : List Arg)
-    (after : List Instr) → goes_on part ≡ true → cut_at s part (at_end result must_tail ty args) after ≡ Cut.Returns
-cut_returns s part result must_tail ty args after e = ap (λ (b : Bool). if b then Cut.Returns else Cut.Stays) e
-
-returns_there : (s : Shape) (part : Part) (f q : Function) (block at piece offset : ℕ) (result : Option ℕ)
-    (must_tail : Bool) (ty : Option Ty) (args : List Arg) (after : List Instr) (t : Terminator) → goes_on part ≡ true
-    → IsCode s part f q block at piece offset (at_end result must_tail ty args) after t
-    → fetch q piece offset ≡ AtTerm (Terminator.Ret None)
-returns_there s part f q block at piece offset result must_tail ty args after t goes (Returns again cuts ret) = ret
-returns_there s part f q block at piece offset result must_tail ty args after t goes (Stays n again cuts new line place)
-    = absurd (other (sym (cut_returns s part result must_tail ty args after goes) ∙ cuts))
-  where
-    other : Cut.Returns ≡ Cut.Stays → ⊥
-    other e = cc
-returns_there s part f q block at piece offset result must_tail ty args after t goes
-    (Marks n mark again cuts new line bare place)
-    = absurd (other (sym (cut_returns s part result must_tail ty args after goes) ∙ cuts))
-  where
-    other : Cut.Returns ≡ Cut.Marks mark → ⊥
-    other e = cc
-returns_there s part f q block at piece offset result must_tail ty args after t goes (Suspends again cuts jump)
-    = absurd (other (sym (cut_returns s part result must_tail ty args after goes) ∙ cuts))
-  where
-    other : Cut.Returns ≡ Cut.Suspends → ⊥
-    other e = cc
-returns_there s part f q block at piece offset result must_tail ty args after t goes
-    (Transfers n j again cuts new jump bare line)
-    = absurd (other (sym (cut_returns s part result must_tail ty args after goes) ∙ cuts))
-  where
-    other : Cut.Returns ≡ Cut.Transfers j → ⊥
-    other e = cc
-returns_there s part f q block at piece offset result must_tail ty args after t goes (BeginsAgain again stops)
-    = absurd (false≢true (sym (not_again part (at_end result must_tail ty args) refl) ∙ again))
 
 module _ (g : FramedGiven) (h : PlainGiven) (s : State) (t : PlainState) (r : AreRelated g h s t)
     (runs : s.outcome ≡ Outcome.Running) (allocated : HasOwnFrame s) where
@@ -204,29 +166,3 @@ module _ (g : FramedGiven) (h : PlainGiven) (s : State) (t : PlainState) (r : Ar
 
     pub ramp_ends : IsFollowed g h s t
     ramp_ends = by_result k.result refl
-
-  -- ---- in a resumed activation
-
-  module _ (fine : IsFine (framed_step g s).outcome) (mode : s.top.mode ≡ Mode.Resumed) where
-    settled : is_entering s.top.mode ≡ false
-    settled = ap is_entering mode
-
-    pub resumed_ends : (result : Option ℕ) (must_tail : Bool) (ty : Option Ty) (args : List Arg)
-        → fetch f s.top.block s.top.at ≡ AtInstr (Instr.Call result must_tail ty (Callee.Intrinsic Intrinsic.CoroEnd)
-        args)
-        → fetch q t.top.block t.top.at ≡ AtTerm (Terminator.Ret None) → IsFollowed g h s t
-    resumed_ends result must_tail ty args there waits = both_return g h s t r runs fine (record s { instances = ys })
-        (advanced g h s t r (record { world = s.world; values = s.top.values }) (plain_work t) ys s.top.block
-        s.top.at t.top.block t.top.at s.top.has_left settled world ended.frames ended.keeps
-        (reach (length s.world.memory)) (record { each = λ b e. refl }) r.top.values refl refl refl r.top.place)
-        settled (reach (credit_of s)) None None tt (λ o e. e)
-        (does Mode.Resumed result must_tail ty args mode there)
-        (plain_does h t (AtTerm (Terminator.Ret None)) (Return None) (r.outcome ∙ runs) waits refl)
-
-    pub inside_ends : (k : IsAtIntrinsic g h s t r Intrinsic.CoroEnd) → goes_on r.top.part ≡ true → IsFollowed g h s t
-    inside_ends k goes = let c : HasCode r.top.shape r.top.part f q s.top.block s.top.at t.top.block t.top.at
-        (at_end k.result k.must_tail k.ty k.args) = has_code r.top.shape r.top.part f q s.top.block s.top.at t.top.block
-        t.top.at (at_end k.result k.must_tail k.ty k.args) k.place k.there in
-        resumed_ends k.result k.must_tail k.ty k.args k.there
-        (returns_there r.top.shape r.top.part f q s.top.block s.top.at t.top.block t.top.at k.result k.must_tail k.ty
-        k.args c.after c.end goes c.code)

@@ -134,7 +134,7 @@ module _ (g : FramedGiven) (h : PlainGiven) (s : State) (t : PlainState) (r : Ar
 
       kept : AreValuesOf f (homes_of s.world.memory) s.top.values after
       kept = values_extra f (homes_of s.world.memory) s.top.values t.top.values n callee
-          (subst (λ (l : ℕ). l ≤ n) (sym k.own) new.low) r.top.values
+          (subst (λ (l : ℕ). l ≤ n) (sym r.top.whole) new.low) r.top.values
 
       begin_stays : (i : ℕ) → s.top.instance ≡ Some i
           → value_in after r.top.shape.begin ≡ value_in t.top.values r.top.shape.begin

@@ -154,7 +154,7 @@ module _ (g : FramedGiven) (h : PlainGiven) (s : State) (t : PlainState) (r : Ar
         Ok (gives u (Some stop.result) minus)))) (no_save s call.args token)
 
     low : stop.result < length s.top.values
-    low = subst (λ (l : ℕ). stop.result < l) (sym k.whole) (has.below s.top.block s.top.at stop.result
+    low = subst (λ (l : ℕ). stop.result < l) (sym r.top.whole) (has.below s.top.block s.top.at stop.result
         (Instr.Call (Some stop.result) call.must_tail call.ty (Callee.Intrinsic Intrinsic.CoroSuspend) call.args)
         (here ∙ ap AtInstr written) refl)
 

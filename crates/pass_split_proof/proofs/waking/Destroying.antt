@@ -117,7 +117,7 @@ module _ (g : FramedGiven) (h : PlainGiven) (s : State) (t : PlainState) (r : Ar
         room n l e le same = omega arith
 
     past : length s.top.values ≤ n
-    past = subst (λ (l : ℕ). l ≤ n) (sym k.own) new.low
+    past = subst (λ (l : ℕ). l ≤ n) (sym r.top.whole) new.low
 
     kept : AreValuesOf f (homes_of s.world.memory) s.top.values after
     kept = values_extra f (homes_of s.world.memory) s.top.values (with_value t.top.values n header) (n + 1) callee

@@ -1,5 +1,5 @@
 -- A resumed activation at its end, and one that comes there from behind a transfer.
-use Rattle.std.specs.Prelude.{◌≡◌, ℕ, true, None, is_some, length}
+use Rattle.std.specs.Prelude.{◌≡◌, ℕ, true, None, is_some}
 use Rattle.ir_base.specs.declared.outcome.Outcome.{Outcome}
 use Rattle.ir_model.specs.Names.{position_of}
 use Rattle.ir_model.specs.declared.instr.Instr.{Instr}
@@ -40,5 +40,4 @@ pub record IsPassing (g : FramedGiven) (h : PlainGiven) (s : State) (t : PlainSt
   pub mode : s.top.mode ≡ Mode.Resumed
   pub returns : fetch (plain_function h t) t.top.block t.top.at ≡ AtTerm (Terminator.Ret None)
   pub leaving : IsLeaving (function_of g.given s) r.top.shape.end s.top
-  pub whole : length s.top.values ≡ length (function_of g.given s).names
   pub suspends : HasSuspendsBeforeEnd (function_of g.given s) r.top.shape.end
