@@ -27,7 +27,6 @@ use Rattle.pass_split_proof.proofs.steps.Ordinary.{IsCopied, alone}
 use Rattle.pass_split_proof.proofs.steps.Settled.{plain_does}
 use Rattle.pass_split_proof.specs.ends.Ending.{HasOwnFrame}
 use Rattle.pass_split_proof.specs.giving.Intrinsics.{IsAtIntrinsic}
-use Rattle.pass_split_proof.specs.places.Places.{Returns, Stays}
 use Rattle.pass_split_proof.specs.simulation.Followed.{IsFollowed}
 use Rattle.pass_split_proof.specs.states.Activations.{Inside, RunsPart}
 use Rattle.pass_split_proof.specs.states.Memories.{AreWorldsBeside, homes_of}

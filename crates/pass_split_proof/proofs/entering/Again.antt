@@ -7,7 +7,7 @@ use Rattle.ir_model.specs.Names.{function_at}
 use Rattle.ir_model.specs.declared.instr.Instr.{Instr}
 use Rattle.ir_model.specs.declared.module.Function.{Function}
 use Rattle.pass_front.specs.Front.{allocas_of}
-use Rattle.pass_split_proof.proofs.making.Allocas.{made, made_too, makes_slot, no_allocator, slot, slot_made}
+use Rattle.pass_split_proof.proofs.making.Allocas.{fewer_markers, made, made_too, makes_slot, no_allocator, slot, slot_made}
 use Rattle.pass_split_proof.proofs.states.Advanced.{all_beside_on, frame_on, same_frames}
 use Rattle.pass_split_proof.proofs.states.Fresh.{got_before}
 use Rattle.pass_split_proof.proofs.steps.Followed.{one_followed}
@@ -65,6 +65,12 @@ module _ (g : FramedGiven) (h : PlainGiven) (s : State) (t : PlainState) (r : Ar
   abbrev marked : Bool
   marked = has_markers f k.alloca.name
 
+  abbrev too : Bool
+  too = has_markers q k.alloca.name
+
+  less : has_markers q k.alloca.name ≡ true → has_markers f k.alloca.name ≡ true
+  less = fewer_markers g h s t r runs fine k.alloca
+
   abbrev work : Work
   work = made g h s t r runs fine k.alloca
 
@@ -94,7 +100,7 @@ module _ (g : FramedGiven) (h : PlainGiven) (s : State) (t : PlainState) (r : Ar
     holds = same_held owner_rights t.world.memory work_too.world.memory old.frame.block
         (old.frame.start + (layout_of g.layouts old.frame.coroutine).index)
         (index_length g old.frame.coroutine) (digits (index_length g old.frame.coroutine) old.number)
-        (old_there t.world.memory size k.alloca.align (plain_kind (alloca_kind f)) marked old.frame.block known)
+        (old_there t.world.memory size k.alloca.align (plain_kind (alloca_kind f)) too old.frame.block known)
         old.index.holds;
   }
 
@@ -139,16 +145,17 @@ module _ (g : FramedGiven) (h : PlainGiven) (s : State) (t : PlainState) (r : Ar
     related = record {
       outcome = r.outcome;
       globals = chain (length g.given.code.globals) (length s.world.memory) (length work.world.memory) r.globals
-          (grows g h s t r (Some k.alloca.name) size k.alloca.align (alloca_kind f) marked s.world.allocs);
+          (grows g h s t r (Some k.alloca.name) size k.alloca.align (alloca_kind f) marked too s.world.allocs);
       world = record {
         memory = slot_beside g s.instances s.world.memory t.world.memory size k.alloca.align (alloca_kind f)
-            k.alloca.small unlike r.world.memory.twins.long marked r.frames r.world.memory;
+            k.alloca.small unlike r.world.memory.twins.long marked too less r.frames
+            r.world.memory;
         events = r.world.events;
         answers = r.world.answers;
         allocs = refl;
       };
       frames = slot_frames g s.instances s.world.memory t.world.memory size k.alloca.align (alloca_kind f)
-          k.alloca.small unlike r.world.memory.twins.long marked r.frames;
+          k.alloca.small unlike r.world.memory.twins.long marked too less r.frames;
       top = record {
         shape = r.top.shape;
         part = r.top.part;
@@ -157,7 +164,7 @@ module _ (g : FramedGiven) (h : PlainGiven) (s : State) (t : PlainState) (r : Ar
         runs = subst (λ (m : Mode). RunsPart m r.top.part) k.mode r.top.runs;
         func = r.top.func;
         place = Making from label refl k.piece (ap (λ (n : ℕ). n + 1) k.at) more;
-        values = stand g h s t r (Some k.alloca.name) size k.alloca.align (alloca_kind f) marked s.world.allocs;
+        values = stand g h s t r (Some k.alloca.name) size k.alloca.align (alloca_kind f) marked too s.world.allocs;
         whole = set_length s.top.values k.alloca.name (pointer_to (length s.world.memory)) ∙ r.top.whole;
         room = set_length t.top.values k.alloca.name (pointer_to (length t.world.memory)) ∙ r.top.room;
         frame = λ j own. frame_on s.instances s.instances s.top.func j _ _ (same_frames s.instances)
@@ -168,7 +175,7 @@ module _ (g : FramedGiven) (h : PlainGiven) (s : State) (t : PlainState) (r : Ar
         own = λ c. (k.alloca.among (length s.world.memory) c, r.top.own c);
       };
       below = all_beside_on g h.code s.instances s.instances (homes_of s.world.memory) (homes_of work.world.memory)
-          (homes_grow g h s t r (Some k.alloca.name) size k.alloca.align (alloca_kind f) marked s.world.allocs)
+          (homes_grow g h s t r (Some k.alloca.name) size k.alloca.align (alloca_kind f) marked too s.world.allocs)
           (same_frames s.instances) s.top.result s.below t.below r.below;
       making = going_back;
     }

@@ -18,7 +18,7 @@ use Rattle.pass_split.specs.Pieces.{going_on, redirected}
 use Rattle.pass_split_proof.proofs.begins.SaveCode.{shape_is}
 use Rattle.pass_split_proof.proofs.entering.Again.{here, indexed, old, unlike}
 use Rattle.pass_split_proof.proofs.giving.Frames.{block_there}
-use Rattle.pass_split_proof.proofs.making.Allocas.{made, made_too, makes_slot, slot, slot_made}
+use Rattle.pass_split_proof.proofs.making.Allocas.{fewer_markers, made, made_too, makes_slot, slot, slot_made}
 use Rattle.pass_split_proof.proofs.states.Advanced.{all_beside_on, frame_on, same_frames}
 use Rattle.pass_split_proof.proofs.states.Twins.{twin_at}
 use Rattle.pass_split_proof.proofs.steps.Dispatched.{leads_on, quiet_on}
@@ -69,6 +69,12 @@ module _ (g : FramedGiven) (h : PlainGiven) (s : State) (t : PlainState) (r : Ar
 
   abbrev marked : Bool
   marked = has_markers f k.alloca.name
+
+  abbrev too : Bool
+  too = has_markers q k.alloca.name
+
+  less : has_markers q k.alloca.name ≡ true → has_markers f k.alloca.name ≡ true
+  less = fewer_markers g h s t r runs fine k.alloca
 
   abbrev work : Work
   work = made g h s t r runs fine k.alloca
@@ -246,7 +252,7 @@ module _ (g : FramedGiven) (h : PlainGiven) (s : State) (t : PlainState) (r : Ar
         (with_value w.top.values (slot_name shape) (pointer_at x.block (x.start + shape.index))) (index_name shape) _
         (low_by 5)
         (values_extra f (homes_of work.world.memory) z.top.values w.top.values (slot_name shape) _ (low_by 4)
-        (stand g h s t r (Some k.alloca.name) size k.alloca.align (alloca_kind f) marked s.world.allocs))
+        (stand g h s t r (Some k.alloca.name) size k.alloca.align (alloca_kind f) marked too s.world.allocs))
 
     room_now : length after.values ≡ length q.names
     room_now = set_length (with_value w.top.values (slot_name shape) (pointer_at x.block (x.start + shape.index)))
@@ -271,17 +277,18 @@ module _ (g : FramedGiven) (h : PlainGiven) (s : State) (t : PlainState) (r : Ar
     related = record {
       outcome = r.outcome;
       globals = chain (length g.given.code.globals) (length s.world.memory) (length work.world.memory) r.globals
-          (grows g h s t r (Some k.alloca.name) size k.alloca.align (alloca_kind f) marked s.world.allocs);
+          (grows g h s t r (Some k.alloca.name) size k.alloca.align (alloca_kind f) marked too s.world.allocs);
       world = record {
         memory = slot_beside g s.instances s.world.memory t.world.memory size k.alloca.align (alloca_kind f)
-            k.alloca.small (unlike g h s t r runs fine from label k) r.world.memory.twins.long marked r.frames
-            r.world.memory;
+            k.alloca.small (unlike g h s t r runs fine from label k) r.world.memory.twins.long marked too
+            less r.frames r.world.memory;
         events = r.world.events;
         answers = r.world.answers;
         allocs = refl;
       };
       frames = slot_frames g s.instances s.world.memory t.world.memory size k.alloca.align (alloca_kind f)
-          k.alloca.small (unlike g h s t r runs fine from label k) r.world.memory.twins.long marked r.frames;
+          k.alloca.small (unlike g h s t r runs fine from label k) r.world.memory.twins.long marked too
+          less r.frames;
       top = record {
         shape = r.top.shape;
         part = r.top.part;
@@ -301,7 +308,7 @@ module _ (g : FramedGiven) (h : PlainGiven) (s : State) (t : PlainState) (r : Ar
         own = λ c. (k.alloca.among (length s.world.memory) c, r.top.own c);
       };
       below = all_beside_on g h.code s.instances s.instances (homes_of s.world.memory) (homes_of work.world.memory)
-          (homes_grow g h s t r (Some k.alloca.name) size k.alloca.align (alloca_kind f) marked s.world.allocs)
+          (homes_grow g h s t r (Some k.alloca.name) size k.alloca.align (alloca_kind f) marked too s.world.allocs)
           (same_frames s.instances) s.top.result s.below t.below r.below;
       making = λ a c e. absurd (cc);
     }

@@ -11,6 +11,7 @@ use Rattle.pass_intrinsics.specs.declared.shape.Part.{Part}
 use Rattle.pass_intrinsics.specs.declared.shape.Shape.{Shape}
 use Rattle.pass_proofs.specs.split.rules.Parted.{IsCleanup, IsDestroy, IsGivenRamp, IsPartOf, IsRamp, IsResume}
 use Rattle.pass_split_proof.proofs.giving.Constants.{not_again}
+use Rattle.pass_split_proof.proofs.making.Markers.{markers_from}
 use Rattle.pass_split_proof.proofs.steps.Followed.{framed_does, one_followed}
 use Rattle.pass_split_proof.proofs.steps.Ordinary.{IsCopied, alone}
 use Rattle.pass_split_proof.proofs.steps.Settled.{plain_does}
@@ -79,11 +80,15 @@ module _ (g : FramedGiven) (h : PlainGiven) (s : State) (t : PlainState) (r : Ar
   made = with_made (work_of s) (Some k.name) size k.align (alloca_kind f) (has_markers f k.name) s.world.allocs
 
   abbrev pub made_too : Work
-  made_too = with_made (plain_work t) (Some k.name) size k.align (plain_kind (alloca_kind f)) (has_markers f k.name)
+  made_too = with_made (plain_work t) (Some k.name) size k.align (plain_kind (alloca_kind f)) (has_markers q k.name)
       s.world.allocs
 
   abbrev pub slot : Slot
   slot = record { alloca = k.name; block = length s.world.memory }
+
+  -- the part has no markers that the function hasn't
+  pub fewer_markers : has_markers q k.name ≡ true → has_markers f k.name ≡ true
+  fewer_markers = markers_from f k.name q r.top.shape r.top.part r.top.coded
 
   aligned : is_alignment k.align ≡ true
   aligned = on (is_alignment k.align) refl
@@ -108,10 +113,8 @@ module _ (g : FramedGiven) (h : PlainGiven) (s : State) (t : PlainState) (r : Ar
       ∙ ap (λ (c : Kind). NewSlot (with_made (plain_work t) (Some k.name) size k.align c (has_markers q k.name)
       t.world.allocs) (record { alloca = k.name; block = length t.world.memory }))
       (kind_there f q (code_plain f q r.top.shape r.top.part r.top.coded))
-      ∙ ap (λ (b : Bool). NewSlot (with_made (plain_work t) (Some k.name) size k.align (plain_kind (alloca_kind f)) b
-      t.world.allocs) (record { alloca = k.name; block = length t.world.memory })) k.marked
       ∙ ap (λ (n : ℕ). NewSlot (with_made (plain_work t) (Some k.name) size k.align (plain_kind (alloca_kind f))
-      (has_markers f k.name) n) (record { alloca = k.name; block = length t.world.memory })) r.world.allocs
+      (has_markers q k.name) n) (record { alloca = k.name; block = length t.world.memory })) r.world.allocs
       ∙ ap (λ (n : ℕ). NewSlot made_too (record { alloca = k.name; block = n })) r.world.memory.twins.long
 
   pub makes_slot : fetch q t.top.block t.top.at ≡ AtInstr i → plain_step h t ≡ plain_slot (plain_settled t made_too)
@@ -147,7 +150,9 @@ module _ (g : FramedGiven) (h : PlainGiven) (s : State) (t : PlainState) (r : Ar
 
   made_related : AreRelated g h (settled s work) (plain_settled t work_too)
   made_related = blocks_related g h s t r (Some k.alloca.name) (size_of g.given.code k.alloca.ty) k.alloca.align
-      (alloca_kind (function_of g.given s)) (has_markers (function_of g.given s) k.alloca.name) s.world.allocs
+      (alloca_kind (function_of g.given s)) (has_markers (function_of g.given s) k.alloca.name)
+      (has_markers (function_at h.code t.top.func) k.alloca.name) s.world.allocs
+      (fewer_markers g h s t r runs fine k.alloca)
       k.alloca.small (no_allocator g h s t r runs fine k.alloca (function_of g.given s).coroutine) k.settled
       (λ e. k.alloca.others (same e)) (Inside s.top.mode k.settled copied.1)
     where

@@ -96,7 +96,8 @@ module _ (g : FramedGiven) (h : PlainGiven) (s : State) (t : PlainState) (r : Ar
     made_followed = one_followed g h s t r runs (settled s made) (plain_settled t made_too)
         (framed_does g s (AtInstr i) (Done made) runs k.there refl ours)
         (plain_does h t (AtInstr i) (Done made_too) (r.outcome ∙ runs) copied.0 theirs) (reach (credit_of s))
-        (blocks_related g h s t r k.result x.bits 16 Kind.Allocator false (risen s.world.allocs) (k.small x e)
+        (blocks_related g h s t r k.result x.bits 16 Kind.Allocator false false (risen s.world.allocs)
+        (λ same. same) (k.small x e)
         (λ same. refl) k.settled k.others (Inside s.top.mode k.settled copied.1))
       where
         reach : (n : ℕ) → n ≤ n

@@ -74,7 +74,14 @@ module _ (g : FramedGiven) (xs : List Instance) (m n : List MemoryBlock) (b : �
       where
         twin : (o : Option MemoryBlock) → AreTwinsAt (Some u) o → AreTwinsAt (Some (disowned u)) o
         twin None t = absurd t
-        twin (Some v) t = record { is = t.is; long = t.long; full = t.full; small = t.small; sixteen = t.sixteen }
+        twin (Some v) t = record {
+          is = t.is;
+          life = t.life;
+          long = t.long;
+          full = t.full;
+          small = t.small;
+          sixteen = t.sixteen;
+        }
 
         at : (c : ℕ) → AreTwinsAt (slice_get k c) (slice_get n c)
         at c = ⊎_elim

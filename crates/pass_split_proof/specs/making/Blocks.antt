@@ -21,7 +21,7 @@ use Rattle.run_plain.specs.declared.state.PlainState.{PlainState}
 use Rattle.run_source.specs.Source.{is_among}
 use Rattle.run_source.specs.State.{function_of}
 use Rattle.run_source.specs.declared.state.State.{State}
-use Rattle.run_step.specs.Step.{AtInstr, fetch, has_markers}
+use Rattle.run_step.specs.Step.{AtInstr, fetch}
 use Rattle.run_step.specs.Values.{arg_values, nth}
 
 abbrev pub allocates : Allocator → Bool
@@ -47,8 +47,7 @@ pub record IsAtAllocator (g : FramedGiven) (h : PlainGiven) (s : State) (t : Pla
   pub small : (x : Word) → nth (arg_values g.given.code s.top.values args) 0 ≡ Value.Int x → x.bits < 2 ^ 64
   pub others : result ≡ Some r.top.shape.begin → ⊥
 
--- The framed run is at an alloca. Its type has the same size in both modules, and both functions have markers of the alloca
--- or neither has.
+-- The framed run is at an alloca, and its type has the same size in both modules.
 pub record IsAlloca (g : FramedGiven) (h : PlainGiven) (s : State) (t : PlainState) (r : AreRelated g h s t)
     : Type 0 where
   pub name : ℕ
@@ -57,7 +56,6 @@ pub record IsAlloca (g : FramedGiven) (h : PlainGiven) (s : State) (t : PlainSta
   pub there : fetch (function_of g.given s) s.top.block s.top.at ≡ AtInstr (Instr.Alloca name ty align)
   pub sized : size_of h.code ty ≡ size_of g.given.code ty
   pub small : size_of g.given.code ty < 2 ^ 64
-  pub marked : has_markers (function_at h.code t.top.func) name ≡ has_markers (function_of g.given s) name
   pub among : (block : ℕ) → (function_of g.given s).coroutine ≡ true → is_among (allocas_of (function_of g.given s))
       (record { alloca = name; block = block }) ≡ true
   pub others : name ≡ r.top.shape.begin → ⊥
