@@ -8,6 +8,7 @@ pub mod first_exits
 pub mod giving
 pub mod held
 pub mod making
+pub mod marking
 pub mod places
 pub mod silent
 pub mod simulation

@@ -11,6 +11,7 @@ pub mod first_exits;
 pub mod giving;
 pub mod held;
 pub mod making;
+pub mod marking;
 pub mod numbers;
 pub mod places;
 pub mod silent;
