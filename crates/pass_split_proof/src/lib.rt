@@ -1,10 +1,23 @@
 //! Splitting keeps meaning: the parts of a coroutine, called by its ramp and its resumes, do what the framed form does.
 #![tactic(auto)]
 
+pub mod begins;
+pub mod branching;
+pub mod calling;
 pub mod code;
+pub mod ends;
+pub mod entering;
 pub mod first_exits;
+pub mod giving;
+pub mod held;
+pub mod making;
+pub mod marking;
 pub mod numbers;
 pub mod places;
+pub mod silent;
 pub mod simulation;
 pub mod states;
 pub mod steps;
+pub mod transfers;
+pub mod waking;
+pub mod worked;

@@ -205,19 +205,19 @@ pub fn calls_leave_states_related()
 {}
 
 /// Where both runs make a block, of an alloca or of an allocator, the states are related behind it. An alloca's slot is
-/// then one of both topmost activations.
+/// then one of both topmost activations. Where it has markers in the framed run alone, it lives in the part.
 pub fn blocks_leave_states_related()
     ensures block { (g : FramedGiven) (h : PlainGiven) (s : TheState) (t : ThePlainState) (r : AreRelated g h s t)
-        (result : Option ℕ) (size align : ℕ) (kind : Kind) (marked : Bool) (count : ℕ)
-        → size < 2 ^ 64 → (kind ≡ Kind.Allocator → align ≡ 16) → is_entering s.top.mode ≡ false
+        (result : Option ℕ) (size align : ℕ) (kind : Kind) (marked too : Bool) (count : ℕ)
+        → (too ≡ true → marked ≡ true) → size < 2 ^ 64 → (kind ≡ Kind.Allocator → align ≡ 16) → is_entering s.top.mode ≡ false
         → (result ≡ Some r.top.shape.begin → ⊥)
         → IsPlaced r.top.shape r.top.part (function_at g.given.code s.top.func) (function_at h.code t.top.func)
         (moved_to s.top s.top.block (s.top.at + 1) (with_made (work_of s) result size align kind marked count).values
         s.top.has_left)
         (placed_at t.top t.top.block (t.top.at + 1)
-        (with_made (plain_work t) result size align (plain_kind kind) marked count).values) s.top.mode
+        (with_made (plain_work t) result size align (plain_kind kind) too count).values) s.top.mode
         → AreRelated g h (settled s (with_made (work_of s) result size align kind marked count))
-        (plain_settled t (with_made (plain_work t) result size align (plain_kind kind) marked count)) }
+        (plain_settled t (with_made (plain_work t) result size align (plain_kind kind) too count)) }
     ensures slot { (g : FramedGiven) (h : PlainGiven) (s : TheState) (t : ThePlainState) → AreRelated g h s t
         → (slot : TheSlot)
         → ((function_at g.given.code s.top.func).coroutine ≡ true

@@ -62,6 +62,7 @@ module _ (g : FramedGiven) (h : PlainGiven) (entry other : ℕ) (args : List Wor
       place = Inside Mode.Plain refl place;
       values = entries_stand f q (homes_of (first_world g.given.code).memory) (map Value.Int args)
           (map Value.Int args) params names (words_stand (homes_of (first_world g.given.code).memory) args);
+      whole = entry_length f (map Value.Int args);
       room = entry_length q (map Value.Int args);
       frame = λ i own. absurd (cc);
       result = refl;

@@ -49,6 +49,7 @@ module _ (g : FramedGiven) (h : Module) (xs ys : List Instance) (homes more : Li
     func = x.func;
     place = x.place;
     values = values_on (function_at g.given.code a.func) homes more a.values b.values ext x.values;
+    whole = x.whole;
     room = x.room;
     frame = λ i own. frame_on xs ys a.func i _ _ keeps refl (x.frame i own);
     result = x.result;
@@ -79,12 +80,12 @@ module _ (g : FramedGiven) (h : PlainGiven) (s : State) (t : PlainState) (r : Ar
       → length s.world.memory ≤ length v.world.memory
       → Extends (homes_of s.world.memory) (homes_of v.world.memory)
       → AreValuesOf (function_at g.given.code s.top.func) (homes_of v.world.memory) v.values y.values
-      → length y.values ≡ length t.top.values
+      → length v.values ≡ length s.top.values → length y.values ≡ length t.top.values
       → value_in y.values r.top.shape.begin ≡ value_in t.top.values r.top.shape.begin
       → IsPlaced r.top.shape r.top.part (function_at g.given.code s.top.func) (function_at h.code t.top.func)
       (moved_to s.top block at v.values left) (placed_at t.top piece offset y.values) s.top.mode
       → AreRelated g h (goes_to s v.world ys block at v.values left) (stands_at t piece offset y)
-  advanced mode world frames keeps long ext values room begin place = record {
+  advanced mode world frames keeps long ext values whole room begin place = record {
     outcome = r.outcome;
     globals = chain (length g.given.code.globals) (length s.world.memory) (length v.world.memory) r.globals long;
     world = world;
@@ -98,6 +99,7 @@ module _ (g : FramedGiven) (h : PlainGiven) (s : State) (t : PlainState) (r : Ar
       func = r.top.func;
       place = place;
       values = values;
+      whole = whole ∙ r.top.whole;
       room = room ∙ r.top.room;
       frame = λ i own. frame_on s.instances ys s.top.func i _ _ keeps begin (r.top.frame i own);
       result = r.top.result;

@@ -78,7 +78,7 @@ module _ (g : FramedGiven) (xs : List Instance) (x : Instance) (m n : List Memor
       where
         owned_twin : (o : Option MemoryBlock) → AreTwinsAt (Some u) o → AreTwinsAt (Some (owned_to size u)) o
         owned_twin None t = absurd t
-        owned_twin (Some v) t = record { is = t.is; long = t.long; full = t.full; small = t.small; sixteen = t.sixteen }
+        owned_twin (Some v) t = record { is = t.is; life = t.life; long = t.long; full = t.full; small = t.small; sixteen = t.sixteen }
 
     pub owned_twins : AreTwins source n
     owned_twins = record { each = owned_at; long = beside.twins.long ∙ sym (length-changed m x.block (owned_to size)) }

@@ -67,8 +67,9 @@ pub blank_twin : (size align : ℕ) (kind : Kind) → size < 2 ^ 64 → (kind �
     → IsTwin (blank_block size align kind) (blank_block size align (plain_kind kind))
 blank_twin size align kind small sixteen = record {
   is = refl;
+  life = refl;
   long = refl;
-  full = λ live. length-replicate size Byte.Undefined;
+  full = λ left. length-replicate size Byte.Undefined;
   small = small;
   sixteen = sixteen;
 }

@@ -7,7 +7,7 @@ use Rattle.pass_split_proof.proofs.states.Closed.{headed_held, lies_by}
 use Rattle.pass_split_proof.proofs.states.Standing.{open_bytes, twins_stand}
 use Rattle.pass_split_proof.proofs.states.Written.{length-changed}
 use Rattle.pass_split_proof.specs.states.Instances.{AreFrames, AreLaidFrames, LiesAligned, is_held, is_held_in}
-use Rattle.pass_split_proof.specs.states.Memories.{AreBeside, AreTwins, AreTwinsAt, IsTwin}
+use Rattle.pass_split_proof.specs.states.Memories.{AreBeside, AreTwins, AreTwinsAt, IsTwin, LivesAs}
 use Rattle.run_framed.specs.Framed.{FramedGiven}
 use Rattle.run_laws.proofs.access.Held.{same_held}
 use Rattle.run_laws.proofs.memory.Written.{changed_elsewhere, changed_here, same_some}
@@ -44,8 +44,9 @@ module _ (f h : MemoryBlock → MemoryBlock) (keeps : (x y : MemoryBlock) → Is
 killed_twin : (x y : MemoryBlock) → IsTwin x y → IsTwin (killed_block x) (killed_block y)
 killed_twin x y t = record {
   is = ap killed_block t.is;
+  life = refl;
   long = refl;
-  full = λ live. absurd (false≢true live);
+  full = λ left. absurd (false≢true (sym left));
   small = t.small;
   sixteen = t.sixteen;
 }
@@ -71,48 +72,75 @@ ended_size x Life.Live e = ap (λ (z : MemoryBlock). z.size) (is_ended x (ap is_
 ended_size x Life.Ended e = ap (λ (z : MemoryBlock). z.size) (is_ended x (ap is_killed e))
 ended_size x Life.Killed e = ap (λ (z : MemoryBlock). z.size) (stays_killed x (ap is_killed e))
 
-ended_twins : (x y : MemoryBlock) → IsTwin x y
+ended_twins : (x y : MemoryBlock) → is_killed x.life ≡ false → IsTwin x y
     → IsTwin (record x { life = Life.Ended }) (record y { life = Life.Ended })
-ended_twins x y t = record {
+ended_twins x y left t = record {
   is = ap (λ (z : MemoryBlock). record z { life = Life.Ended }) t.is;
+  life = refl;
   long = t.long;
-  full = λ live. absurd (false≢true live);
+  full = λ same. t.full left;
   small = t.small;
   sixteen = t.sixteen;
 }
 
-ended_twin : (x y : MemoryBlock) → IsTwin x y → (l : Life) → x.life ≡ l → IsTwin (ended x) (ended y)
-ended_twin x y t l e = on l e
-  where
-    life : y.life ≡ x.life
-    life = ap (λ (z : MemoryBlock). z.life) t.is
+-- or the second stays as it is
+ended_alone : (x y : MemoryBlock) → is_killed x.life ≡ false → is_killed y.life ≡ false → IsTwin x y
+    → IsTwin (record x { life = Life.Ended }) y
+ended_alone x y left too t = record {
+  is = t.is;
+  life = too;
+  long = t.long;
+  full = λ same. t.full left;
+  small = t.small;
+  sixteen = t.sixteen;
+}
 
-    both : is_killed x.life ≡ false → IsTwin (ended x) (ended y)
-    both f = subst (λ (p : MemoryBlock × MemoryBlock). IsTwin p.0 p.1)
-        (λ i. (sym (is_ended x f) i, sym (is_ended y (ap is_killed life ∙ f)) i)) (ended_twins x y t)
+left_too : (l k : Life) → LivesAs l k → is_killed k ≡ is_killed l
+left_too Life.Live k same = ap is_killed same
+left_too Life.Ended k same = same
+left_too Life.Killed k same = ap is_killed same
 
-    neither : is_killed x.life ≡ true → IsTwin (ended x) (ended y)
-    neither f = subst (λ (p : MemoryBlock × MemoryBlock). IsTwin p.0 p.1)
-        (λ i. (sym (stays_killed x f) i, sym (stays_killed y (ap is_killed life ∙ f)) i)) t
+module _ (x y : MemoryBlock) (t : IsTwin x y) where
+  same_killed : is_killed y.life ≡ is_killed x.life
+  same_killed = left_too x.life y.life t.life
 
-    on : (l : Life) → x.life ≡ l → IsTwin (ended x) (ended y)
-    on Life.Live e = both (ap is_killed e)
-    on Life.Ended e = both (ap is_killed e)
-    on Life.Killed e = neither (ap is_killed e)
+  both : is_killed x.life ≡ false → IsTwin (ended x) (ended y)
+  both f = subst (λ (p : MemoryBlock × MemoryBlock). IsTwin p.0 p.1)
+      (λ i. (sym (is_ended x f) i, sym (is_ended y (same_killed ∙ f)) i)) (ended_twins x y f t)
+
+  neither : is_killed x.life ≡ true → IsTwin (ended x) (ended y)
+  neither f = subst (λ (p : MemoryBlock × MemoryBlock). IsTwin p.0 p.1)
+      (λ i. (sym (stays_killed x f) i, sym (stays_killed y (same_killed ∙ f)) i)) t
+
+  first : is_killed x.life ≡ false → IsTwin (ended x) y
+  first f = subst (λ (z : MemoryBlock). IsTwin z y) (sym (is_ended x f)) (ended_alone x y f (same_killed ∙ f) t)
+
+  first_killed : is_killed x.life ≡ true → IsTwin (ended x) y
+  first_killed f = subst (λ (z : MemoryBlock). IsTwin z y) (sym (stays_killed x f)) t
+
+  ended_twin : (l : Life) → x.life ≡ l → IsTwin (ended x) (ended y)
+  ended_twin Life.Live e = both (ap is_killed e)
+  ended_twin Life.Ended e = both (ap is_killed e)
+  ended_twin Life.Killed e = neither (ap is_killed e)
+
+  ended_first : (l : Life) → x.life ≡ l → IsTwin (ended x) y
+  ended_first Life.Live e = first (ap is_killed e)
+  ended_first Life.Ended e = first (ap is_killed e)
+  ended_first Life.Killed e = first_killed (ap is_killed e)
 
 -- ---- a block that dies
 
--- a way in which a block dies
-pub record IsDeath (f : MemoryBlock → MemoryBlock) : Type 0 where
+-- a way in which a block dies in the framed run, and what becomes of its twin
+pub record IsDeath (f h : MemoryBlock → MemoryBlock) : Type 0 where
   pub dead : (x : MemoryBlock) → is_live (f x).life ≡ false
-  pub twin : (x y : MemoryBlock) → IsTwin x y → IsTwin (f x) (f y)
+  pub twin : (x y : MemoryBlock) → IsTwin x y → IsTwin (f x) (h y)
   pub align : (x : MemoryBlock) → (f x).align ≡ x.align
   pub size : (x : MemoryBlock) → (f x).size ≡ x.size
 
-pub kills : IsDeath killed_block
+pub kills : IsDeath killed_block killed_block
 kills = record { dead = λ x. refl; twin = killed_twin; align = λ x. refl; size = λ x. refl }
 
-pub ends : IsDeath ended
+pub ends : IsDeath ended ended
 ends = record {
   dead = λ x. ended_dead x x.life refl;
   twin = λ x y t. ended_twin x y t x.life refl;
@@ -120,7 +148,24 @@ ends = record {
   size = λ x. ended_size x x.life refl;
 }
 
-module _ (f : MemoryBlock → MemoryBlock) (death : IsDeath f) (g : FramedGiven) (xs : List Instance)
+-- the twin of a block that ends may stay
+abbrev pub stays : MemoryBlock → MemoryBlock
+stays y = y
+
+pub ends_alone : IsDeath ended stays
+ends_alone = record {
+  dead = λ x. ended_dead x x.life refl;
+  twin = λ x y t. ended_first x y t x.life refl;
+  align = λ x. ended_align x x.life refl;
+  size = λ x. ended_size x x.life refl;
+}
+
+pub all_stay : (n : List MemoryBlock) (b : ℕ) → with_block n b stays ≡ n
+all_stay [] b = refl
+all_stay (y ∷ n) zero = refl
+all_stay (y ∷ n) (suc b) = ap (λ (rest : List MemoryBlock). y ∷ rest) (all_stay n b)
+
+module _ (f h : MemoryBlock → MemoryBlock) (death : IsDeath f h) (g : FramedGiven) (xs : List Instance)
     (m n : List MemoryBlock) (b : ℕ) where
   none_there : (m : List MemoryBlock) (b : ℕ) → slice_get m b ≡ None → slice_get (with_block m b f) b ≡ None
   none_there [] b e = refl
@@ -208,30 +253,30 @@ module _ (f : MemoryBlock → MemoryBlock) (death : IsDeath f) (g : FramedGiven)
     apart = λ i j z w at ne e f held held'. frames.apart i j z w at ne e f (was_held z held) (was_held w held');
   }
 
-  pub dead_frames : AreFrames g xs m n → AreFrames g xs (with_block m b f) (with_block n b f)
+  pub dead_frames : AreFrames g xs m n → AreFrames g xs (with_block m b f) (with_block n b h)
   dead_frames frames = record {
     laid = dead_laid frames.laid;
-    headed = λ i z e held. headed_held g n (with_block n b f) z
-        (λ o most bytes some control h. same_held owner_rights n (with_block n b f) z.block o most bytes
-        (changed_elsewhere n b z.block f (held_elsewhere z held)) h)
+    headed = λ i z e held. headed_held g n (with_block n b h) z
+        (λ o most bytes some control holds. same_held owner_rights n (with_block n b h) z.block o most bytes
+        (changed_elsewhere n b z.block h (held_elsewhere z held)) holds)
         (frames.headed i z e (was_held z held));
   }
 
   -- the memories stand beside each other without the block
-  pub dead_beside : AreLaidFrames g xs m → AreBeside g xs m n → AreBeside g xs (with_block m b f) (with_block n b f)
+  pub dead_beside : AreLaidFrames g xs m → AreBeside g xs m n → AreBeside g xs (with_block m b f) (with_block n b h)
   dead_beside frames beside = record {
     twins = twins;
-    stands = twins_stand g xs (with_block m b f) (with_block n b f) twins (dead_laid frames).lies
+    stands = twins_stand g xs (with_block m b f) (with_block n b h) twins (dead_laid frames).lies
         (λ c i u v e at live lt opened.
         let other = lives_elsewhere c
         (ap (λ (o : Option MemoryBlock). option_map_or (λ (x : MemoryBlock). is_live x.life) o false) e ∙ live) in
         subst (λ (k : ℕ). IsByte (own_homes 0 k) (byte_of u i) (byte_of v i)) (sym (length-changed m b f))
-        (open_bytes g xs m n beside.stands c i u v (live_block c u e live) (sym (changed_elsewhere n b c f other)
+        (open_bytes g xs m n beside.stands c i u v (live_block c u e live) (sym (changed_elsewhere n b c h other)
         ∙ at) live lt opened));
   }
     where
-      twins : AreTwins (with_block m b f) (with_block n b f)
-      twins = changed_twins f f death.twin m n b beside.twins
+      twins : AreTwins (with_block m b f) (with_block n b h)
+      twins = changed_twins f h death.twin m n b beside.twins
 
 -- ---- the slots of an activation
 
@@ -240,11 +285,11 @@ module _ (g : FramedGiven) (xs : List Instance) where
       → AreFrames g xs (without_slots m slots) (without_slots n slots)
   returned_frames [] m n frames = frames
   returned_frames (s ∷ slots) m n frames = returned_frames slots (killed m s.block) (killed n s.block)
-      (dead_frames killed_block kills g xs m n s.block frames)
+      (dead_frames killed_block killed_block kills g xs m n s.block frames)
 
   pub returned_beside : (slots : List Slot) (m n : List MemoryBlock) → AreLaidFrames g xs m → AreBeside g xs m n
       → AreBeside g xs (without_slots m slots) (without_slots n slots)
   returned_beside [] m n frames beside = beside
   returned_beside (s ∷ slots) m n frames beside = returned_beside slots (killed m s.block) (killed n s.block)
-      (dead_laid killed_block kills g xs m n s.block frames) (dead_beside killed_block kills g xs m n s.block frames
+      (dead_laid killed_block killed_block kills g xs m n s.block frames) (dead_beside killed_block killed_block kills g xs m n s.block frames
       beside)

@@ -1,18 +1,19 @@
 -- Twins stay twins where what their bytes hold changes.
 use Rattle.std.proofs.Common.{◌≡◌, ◌<◌, ◌^◌, List, length, Option, Some, None, sym, ap, ◌∙◌, subst}
 use Rattle.std.specs.Prelude.{slice_get}
-use Rattle.pass_split_proof.specs.states.Memories.{AreTwins, AreTwinsAt, IsTwin, plain_kind}
+use Rattle.pass_split_proof.specs.states.Memories.{AreTwins, AreTwinsAt, IsTwin, LivesAs, plain_kind}
 use Rattle.run_laws.proofs.access.Reading.{as_many}
 use Rattle.run_laws.specs.access.Changed.{WritesOnly}
 use Rattle.run_laws.specs.access.Accessed.{Span}
 use Rattle.run_laws.specs.embedded.Refilled.{IsRefilled}
-use Rattle.run_memory.specs.Memory.{bytes_in, is_live}
+use Rattle.run_memory.specs.Memory.{bytes_in, is_killed}
 use Rattle.run_memory.specs.declared.block.Byte.{Byte}
+use Rattle.run_memory.specs.declared.block.Life.{Life}
 use Rattle.run_memory.specs.declared.block.MemoryBlock.{MemoryBlock}
 
--- the plain block of a block, with these bytes
-abbrev plain_with : List Byte → MemoryBlock → MemoryBlock
-plain_with bytes x = record x { kind = plain_kind x.kind; owned = None; bytes = bytes }
+-- the plain block of a block, with this life and these bytes
+abbrev plain_with : Life → List Byte → MemoryBlock → MemoryBlock
+plain_with life bytes x = record x { kind = plain_kind x.kind; life = life; owned = None; bytes = bytes }
 
 abbrev with_these : List Byte → MemoryBlock → MemoryBlock
 with_these bytes x = record x { bytes = bytes }
@@ -20,13 +21,21 @@ with_these bytes x = record x { bytes = bytes }
 pub refilled_twin : (x y u v : MemoryBlock) → IsTwin x y → u ≡ record x { bytes = u.bytes }
     → v ≡ record y { bytes = v.bytes } → length u.bytes ≡ length x.bytes → length v.bytes ≡ length y.bytes → IsTwin u v
 refilled_twin x y u v t is_u is_v long_u long_v = record {
-  is = is_v ∙ ap (with_these v.bytes) t.is ∙ sym (ap (plain_with v.bytes) is_u);
+  is = is_v ∙ ap (with_these v.bytes) t.is ∙ sym (ap (plain_with y.life v.bytes) is_u)
+      ∙ ap (λ (l : Life). plain_with l v.bytes u) (sym life_v);
+  life = subst (λ (p : Life × Life). LivesAs p.0 p.1) (λ j. (sym life_u j, sym life_v j)) t.life;
   long = long_v ∙ t.long ∙ sym long_u;
-  full = λ live. long_u ∙ t.full (sym (ap (λ (z : MemoryBlock). is_live z.life) is_u) ∙ live)
+  full = λ left. long_u ∙ t.full (sym (ap is_killed life_u) ∙ left)
       ∙ sym (ap (λ (z : MemoryBlock). z.size) is_u);
   small = subst (λ (z : MemoryBlock). z.size < 2 ^ 64) (sym is_u) t.small;
   sixteen = λ e. ap (λ (z : MemoryBlock). z.align) is_u ∙ t.sixteen (sym (ap (λ (z : MemoryBlock). z.kind) is_u) ∙ e);
 }
+  where
+    life_u : u.life ≡ x.life
+    life_u = ap (λ (z : MemoryBlock). z.life) is_u
+
+    life_v : v.life ≡ y.life
+    life_v = ap (λ (z : MemoryBlock). z.life) is_v
 
 refilled_twins_at : (a b c d : Option MemoryBlock) → AreTwinsAt a b → IsRefilled a c → IsRefilled b d
     → length (bytes_in c) ≡ length (bytes_in a) → length (bytes_in d) ≡ length (bytes_in b) → AreTwinsAt c d

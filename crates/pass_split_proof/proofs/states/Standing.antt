@@ -5,7 +5,7 @@ use Rattle.std.proofs.lemmas.Bool.{and_from, and_parts, eqb-true, eq-eqb, le-leb
 use Rattle.std.proofs.lemmas.Option.{slice_get_within}
 use Rattle.pass_split_proof.proofs.states.Judged.{judge_is}
 use Rattle.pass_split_proof.proofs.states.OwnHomes.{own_home, own_length}
-use Rattle.pass_split_proof.proofs.states.Twins.{twin_at, unowned}
+use Rattle.pass_split_proof.proofs.states.Twins.{twin_at, twin_full, twin_lives, unowned}
 use Rattle.pass_split_proof.specs.states.Instances.{LiesAligned}
 use Rattle.pass_split_proof.specs.states.Memories.{AreTwins, IsTwin, homes_of, plain_kind}
 use Rattle.run_framed.specs.Framed.{FramedGiven, frame_rights, judge_of, layout_of, meets_in}
@@ -129,13 +129,13 @@ module _ (g : FramedGiven) (xs : List Instance) (m n : List MemoryBlock) (twins 
         let y = twin_at m n twins b u e in
         let v = y.twin in
         let size : v.size ≡ u.size = ap (λ (z : MemoryBlock). z.size) y.is.is in
-        let full = y.is.full live in
+        let full = twin_full u v y.is live in
         let small = y.is.small in
         record {
           known = subst (λ (k : ℕ). b < k) (sym (own_length (length m))) lt;
           block = v;
           there = ap (λ (q : Home). slice_get n q.block) h ∙ y.there;
-          live = ap (λ (z : MemoryBlock). is_live z.life) y.is.is ∙ live;
+          live = twin_lives u v y.is live;
           full = full;
           whole = y.is.long ∙ full ∙ sym size;
           fits = subst (λ (q : Home). q.offset + u.size ≤ v.size) (sym h) (within u.size v.size size);

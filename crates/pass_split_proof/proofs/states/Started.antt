@@ -49,8 +49,9 @@ twin_global : (m : Module) (x : GlobalItem) → (global_block m x).size < 2 ^ 64
     → IsTwin (global_block m x) (global_block m x)
 twin_global m x small = record {
   is = ap (λ (k : Kind). record (global_block m x) { kind = k }) (sym (plain_global x.constant));
+  life = refl;
   long = refl;
-  full = λ live. length-encode (access_bytes (access_of x.ty))
+  full = λ left. length-encode (access_bytes (access_of x.ty))
       (stored (access_of x.ty) (operand_value m [] x.ty x.init));
   small = small;
   sixteen = λ e. absurd (no_allocator x.constant e);

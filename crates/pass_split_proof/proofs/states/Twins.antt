@@ -1,16 +1,18 @@
 -- What is known of memories of twins.
 use Rattle.std.proofs.Common.{◌≡◌, ℕ, ◌<◌, ◌^◌, ◌||◌, Bool, true, false, not, List, [], ◌∷◌, length, map, Option, Some, None, refl, sym, ap, ◌∙◌, subst, arith}
 use Rattle.std.specs.Prelude.{slice_get, ◌==◌}
+use Rattle.std.proofs.lemmas.Bool.{false≢true}
 use Rattle.pass_split_proof.proofs.states.OwnHomes.{own_home, own_seen}
-use Rattle.pass_split_proof.specs.states.Memories.{AreTwins, AreTwinsAt, AreWorldsBeside, IsTwin, homes_of}
+use Rattle.pass_split_proof.specs.states.Memories.{AreTwins, AreTwinsAt, AreWorldsBeside, IsTwin, LivesAs, homes_of}
 use Rattle.run_framed.specs.Framed.{FramedGiven, frame_rights}
 use Rattle.run_laws.proofs.transfer.Carried.{muted_none}
 use Rattle.run_laws.specs.embedded.Related.{AreWorlds, moved_event}
 use Rattle.run_laws.specs.memory.Pointers.{Home, home_of}
 use Rattle.run_laws.specs.memory.Standing.{AreBoundsKept, AreNullsKept, HasBounds}
 use Rattle.run_laws.specs.transfer.Transfer.{AreOver}
-use Rattle.run_memory.specs.Memory.{Rights, is_live, may_compare_at, owner_rights}
+use Rattle.run_memory.specs.Memory.{Rights, is_killed, is_live, may_compare_at, owner_rights}
 use Rattle.run_memory.specs.Pointers.{moved}
+use Rattle.run_memory.specs.declared.block.Life.{Life}
 use Rattle.run_memory.specs.declared.block.MemoryBlock.{MemoryBlock}
 use Rattle.run_memory.specs.declared.pointer.Offset.{Offset}
 use Rattle.run_source.specs.declared.state.Instance.{Instance}
@@ -28,6 +30,33 @@ pub record IsTwinOf (m : List MemoryBlock) (b : ℕ) (y : MemoryBlock) : Type 0 
   pub source : MemoryBlock
   pub there : slice_get m b ≡ Some source
   pub is : IsTwin source y
+
+-- what lives isn't killed, and its twin lives too
+live_unkilled : (l : Life) → is_live l ≡ true → is_killed l ≡ false
+live_unkilled Life.Live e = refl
+live_unkilled Life.Ended e = refl
+live_unkilled Life.Killed e = absurd (cc)
+
+lives_too : (l k : Life) → LivesAs l k → is_live l ≡ true → is_live k ≡ true
+lives_too Life.Live k same e = ap is_live same
+lives_too Life.Ended k same e = absurd (cc)
+lives_too Life.Killed k same e = absurd (cc)
+
+lived_before : (l k : Life) → LivesAs l k → is_live k ≡ true → is_killed l ≡ false
+lived_before Life.Live k same e = refl
+lived_before Life.Ended k same e = refl
+lived_before Life.Killed k same e = absurd (false≢true (sym (ap is_live same) ∙ e))
+
+pub twin_lives : (x y : MemoryBlock) → IsTwin x y → is_live x.life ≡ true → is_live y.life ≡ true
+twin_lives x y t live = lives_too x.life y.life t.life live
+
+-- so both have all their bytes where one of them lives
+pub twin_full : (x y : MemoryBlock) → IsTwin x y → is_live x.life ≡ true → length x.bytes ≡ x.size
+twin_full x y t live = t.full (live_unkilled x.life live)
+
+pub full_twin : (x y : MemoryBlock) → IsTwin x y → is_live y.life ≡ true → length y.bytes ≡ y.size
+full_twin x y t live = t.long ∙ t.full (lived_before x.life y.life t.life live)
+    ∙ sym (ap (λ (z : MemoryBlock). z.size) t.is)
 
 twin_of : (n : List MemoryBlock) (b : ℕ) (x : MemoryBlock) (o : Option MemoryBlock) → slice_get n b ≡ o
     → AreTwinsAt (Some x) o → HasTwin n b x

@@ -79,7 +79,7 @@ module _ (given : Given) where
   small k (inl e) = omega arith
   small k (inr e) = omega arith
 
-  laid : IsLaidOut (frame_given given) 0
+  pub laid : IsLaidOut (frame_given given) 0
   laid = record {
     alignment = inl refl;
     within = omega arith;

@@ -4,7 +4,7 @@ use Rattle.std.specs.Prelude.{slice_get, nat_le}
 use Rattle.std.proofs.lemmas.Bool.{and_from, cases_eq, eq-eqb, le-leb}
 use Rattle.std.proofs.lemmas.List.{length-take-le}
 use Rattle.pass_split_proof.proofs.states.Standing.{same_writable}
-use Rattle.pass_split_proof.proofs.states.Twins.{twin_at, unowned}
+use Rattle.pass_split_proof.proofs.states.Twins.{twin_at, twin_full, twin_lives, unowned}
 use Rattle.pass_split_proof.specs.states.Memories.{AreTwins, AreTwinsAt, IsTwin}
 use Rattle.run_laws.proofs.memory.Written.{changed_elsewhere, changed_here}
 use Rattle.run_laws.specs.access.Lines.{Holds, refilled_at}
@@ -28,14 +28,14 @@ module _ (m n : List MemoryBlock) (twins : AreTwins m n) (b : ℕ) (u : MemoryBl
       let v = y.twin in
       let size : v.size ≡ u.size = ap (λ (z : MemoryBlock). z.size) y.is.is in
       let align : v.align ≡ u.align = ap (λ (z : MemoryBlock). z.align) y.is.is in
-      let full : length v.bytes ≡ v.size = y.is.long ∙ y.is.full live ∙ sym size in
+      let full : length v.bytes ≡ v.size = y.is.long ∙ twin_full u v y.is live ∙ sym size in
       let long : length (take len (drop o v.bytes)) ≡ len = cut (v.bytes) o len (omega arith) in (
         take len (drop o v.bytes),
         (
           record {
             block = v;
             there = y.there;
-            live = ap (λ (z : MemoryBlock). is_live z.life) y.is.is ∙ live;
+            live = twin_lives u v y.is live;
             writable = ap (λ (z : MemoryBlock). same_kind z.kind Kind.Constant) y.is.is ∙ same_writable u.kind changes;
             whole = full;
             within = omega arith;
@@ -67,6 +67,7 @@ written_twin : (x y : MemoryBlock) (o : ℕ) (new : List Byte) → o + length ne
     → IsTwin x (with_bytes o new y)
 written_twin x y o new within t = record {
   is = ap (λ (z : MemoryBlock). record z { bytes = written y.bytes o new }) t.is;
+  life = t.life;
   long = length-written y.bytes o new within ∙ t.long;
   full = t.full;
   small = t.small;

@@ -120,7 +120,7 @@ module _ (g : FramedGiven) (h : PlainGiven) (s : State) (t : PlainState) (r : Ar
   room_for : shape.begin < length t.top.values
   room_for = let a = r.top.values.room in let b = code.begin in omega arith
 
-  runs : Runs (plain_context h t) (begin_stores shape r.top.part code.name p) (plain_work t) four
+  pub runs : Runs (plain_context h t) (begin_stores shape r.top.part code.name p) (plain_work t) four
   runs = (
     one,
     (
@@ -222,6 +222,7 @@ module _ (g : FramedGiven) (h : PlainGiven) (s : State) (t : PlainState) (r : Ar
       func = r.top.func;
       place = Inside s.top.mode mode code.place;
       values = stand;
+      whole = set_length s.top.values shape.begin (pointer_at x.block 0) ∙ r.top.whole;
       room = set_length with_frame code.name (pointer_at x.block 8)
           ∙ set_length t.top.values shape.begin (pointer_at x.block 0) ∙ r.top.room;
       frame = λ i own. record {

@@ -54,7 +54,7 @@ phis_by m env label (p ∷ ps)
 
 -- ---- the framed run: an edge that leaves windows makes a Suspended instance run again
 
-own_there : (s : State) (i : ℕ) (x : Instance) → own_instance s ≡ Some (numbering i x)
+pub own_there : (s : State) (i : ℕ) (x : Instance) → own_instance s ≡ Some (numbering i x)
     → slice_get s.instances i ≡ Some x
 own_there s i x e = on s.top.instance refl
   where
@@ -209,6 +209,7 @@ module _ (g : FramedGiven) (h : PlainGiven) (s : State) (t : PlainState) (r : Ar
         (left_all g s.world.memory t.world.memory s.instances entered.instances entered.was r.frames)
         (left_frames s.instances entered.instances entered.was)
         (omega arith) (record { each = λ b e. refl }) stand
+        (all_length s.top.values (phi_values g.given.code s.top.values from phis))
         (all_length t.top.values (phi_values h.code t.top.values from phis))
         (all_elsewhere t.top.values (phi_values h.code t.top.values from phis) r.top.shape.begin
         (others phis readable.others))

@@ -77,29 +77,29 @@ result_length env (Some name) v = set_length env name v
 
 -- ---- a return
 
-length_gone : (slots : List Slot) (m : List MemoryBlock) → length (without_slots m slots) ≡ length m
+pub length_gone : (slots : List Slot) (m : List MemoryBlock) → length (without_slots m slots) ≡ length m
 length_gone [] m = refl
 length_gone (x ∷ slots) m = length_gone slots (killed m x.block) ∙ length-changed m x.block killed_block
 
 module _ (g : FramedGiven) (h : PlainGiven) (s : State) (t : PlainState) (r : AreRelated g h s t)
     (v u : Option Value) where
-  abbrev gone : List MemoryBlock
+  abbrev pub gone : List MemoryBlock
   gone = without_slots s.world.memory s.top.slots
 
-  abbrev gone_too : List MemoryBlock
+  abbrev pub gone_too : List MemoryBlock
   gone_too = without_slots t.world.memory t.top.slots
 
   same_gone : without_slots t.world.memory s.top.slots ≡ gone_too
   same_gone = ap (without_slots t.world.memory) (sym r.top.slots)
 
-  homes_stay : homes_of s.world.memory ≡ homes_of gone
+  pub homes_stay : homes_of s.world.memory ≡ homes_of gone
   homes_stay = ap (own_homes 0) (sym (length_gone s.top.slots s.world.memory))
 
-  ext : Extends (homes_of s.world.memory) (homes_of gone)
+  pub ext : Extends (homes_of s.world.memory) (homes_of gone)
   ext = subst (Extends (homes_of s.world.memory)) homes_stay (record { each = λ b e. refl })
 
   -- the world, without the slots of the activation that returns
-  world_gone : AreWorldsBeside g s.instances (record s.world { memory = gone }) (record t.world { memory = gone_too })
+  pub world_gone : AreWorldsBeside g s.instances (record s.world { memory = gone }) (record t.world { memory = gone_too })
   world_gone = record {
     memory = subst (AreBeside g s.instances gone) same_gone (returned_beside g s.instances s.top.slots s.world.memory
         t.world.memory r.frames.laid r.world.memory);
@@ -108,7 +108,7 @@ module _ (g : FramedGiven) (h : PlainGiven) (s : State) (t : PlainState) (r : Ar
     allocs = r.world.allocs;
   }
 
-  frames_gone : AreFrames g s.instances gone gone_too
+  pub frames_gone : AreFrames g s.instances gone gone_too
   frames_gone
       = subst (AreFrames g s.instances gone) same_gone (returned_frames g s.instances s.top.slots s.world.memory
       t.world.memory r.frames)
@@ -148,6 +148,7 @@ module _ (g : FramedGiven) (h : PlainGiven) (s : State) (t : PlainState) (r : Ar
           (with_result a.values s.top.result (unwrap_or v Value.Poison)) (with_result b.values t.top.result
           (unwrap_or u Value.Poison)) a.mode w.behind w.settled w.beside.place;
       values = given;
+      whole = result_length a.values s.top.result (unwrap_or v Value.Poison) ∙ w.beside.whole;
       room = result_length b.values t.top.result (unwrap_or u Value.Poison) ∙ w.beside.room;
       frame = λ i own. frame_on s.instances s.instances a.func i _ _ (same_frames s.instances) begin_stays
           (w.beside.frame i own);
@@ -221,6 +222,7 @@ module _ (g : FramedGiven) (h : PlainGiven) (s : State) (t : PlainState) (r : Ar
           func = r.top.func;
           place = place;
           values = stand;
+          whole = r.top.whole;
           room = room ∙ r.top.room;
           frame = λ i own. frame_on s.instances ys s.top.func i _ _ keeps (begin i own)
               (r.top.frame i own);

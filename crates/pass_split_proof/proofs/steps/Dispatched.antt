@@ -1,5 +1,5 @@
 -- Four steps lead a part from its index to where it goes on.
-use Rattle.std.proofs.Common.{◌≡◌, ℕ, zero, suc, ◌+◌, ◌<◌, ◌≤◌, ◌^◌, Bool, true, false, [], List, length, Some, refl, sym, ap, ◌∙◌, subst, arith, if◌then◌else◌}
+use Rattle.std.proofs.Common.{◌≡◌, ℕ, zero, suc, ◌+◌, ◌<◌, ◌≤◌, ◌^◌, Bool, true, false, List, length, Some, refl, sym, ap, ◌∙◌, subst, arith, if◌then◌else◌}
 use Rattle.std.specs.Prelude.{nat_le, pos, slice_get}
 use Rattle.std.proofs.Math.Nat.{mod-eq_of_lt}
 use Rattle.std.proofs.lemmas.Option.{slice_get_within}
@@ -41,7 +41,7 @@ use Rattle.run_step.specs.Runs.{iterate}
 use Rattle.run_step.specs.Step.{AtInstr, AtTerm, Done, GoTo, Work, fetch, label_of, phi_values, set_value, switch, term_action, with_all}
 use Rattle.run_step.specs.Values.{literal}
 
-width_is_one : (n : ℕ) → IsIndexWidth (if nat_le n 256 then IntWidth.I8 else IntWidth.I16)
+pub width_is_one : (n : ℕ) → IsIndexWidth (if nat_le n 256 then IntWidth.I8 else IntWidth.I16)
 width_is_one n = on (nat_le n 256)
   where
     on : (b : Bool) → IsIndexWidth (if b then IntWidth.I8 else IntWidth.I16)

@@ -1,10 +1,10 @@
 -- An ordinary step that is done in a framed run is done in a part.
-use Rattle.std.proofs.Common.{◌≡◌, ℕ, ◌≤◌, true, false, List, [], ◌∷◌, length, refl, sym, ap, ◌∙◌, subst}
+use Rattle.std.proofs.Common.{◌≡◌, ℕ, ◌≤◌, false, List, [], ◌∷◌, length, refl, sym, subst}
 use Rattle.std.specs.Prelude.{ℤ}
 use Rattle.ir_model.specs.declared.module.Function.{Function}
 use Rattle.ir_model.specs.declared.module.Module.{Module}
 use Rattle.pass_split_proof.proofs.states.Refilled.{written_twins}
-use Rattle.pass_split_proof.proofs.states.Twins.{IsTwinOf, beside_of, over_of, source_at, twin_at}
+use Rattle.pass_split_proof.proofs.states.Twins.{IsTwinOf, beside_of, full_twin, over_of, source_at, twin_at, twin_full}
 use Rattle.pass_split_proof.specs.states.Memories.{AreTwins, AreWorldsBeside, homes_of}
 use Rattle.pass_split_proof.specs.steps.Done.{IsDoneToo, ours, part_maps, theirs}
 use Rattle.run_framed.specs.Framed.{FramedGiven, frame_rights}
@@ -22,7 +22,6 @@ use Rattle.run_laws.specs.memory.Pointers.{Home, IsValue}
 use Rattle.run_laws.specs.memory.Standing.{own_homes}
 use Rattle.run_laws.specs.transfer.Transfer.{AreJoined, AreOver, GoesOver, IsTransferred, Maps, args_at, given_at}
 use Rattle.run_laws_worked.proofs.Frames.{frame_rights_fit}
-use Rattle.run_memory.specs.Memory.{is_live}
 use Rattle.run_memory.specs.declared.block.MemoryBlock.{MemoryBlock}
 use Rattle.run_source.specs.declared.state.Instance.{Instance}
 use Rattle.run_step.specs.Step.{Action, Context, Done, Fetched, Work, action_of}
@@ -35,13 +34,10 @@ each_of P f (x ∷ xs) = (f x, each_of P f xs)
 
 module _ (m n : List MemoryBlock) (t : AreTwins m n) where
   source_full : (b : ℕ) → IsFull m b
-  source_full b x e live = (twin_at m n t b x e).is.full live
+  source_full b x e live = let y = twin_at m n t b x e in twin_full x y.twin y.is live
 
   target_full : (b : ℕ) → IsFull n b
-  target_full b y e live =
-      let x : IsTwinOf m b y = source_at m n t b y e in
-      let alive : is_live x.source.life ≡ true = sym (ap (λ (z : MemoryBlock). is_live z.life) x.is.is) ∙ live in
-      x.is.long ∙ x.is.full alive ∙ sym (ap (λ (z : MemoryBlock). z.size) x.is.is)
+  target_full b y e live = let x : IsTwinOf m b y = source_at m n t b y e in full_twin x.source y x.is live
 
 -- ---- the step
 

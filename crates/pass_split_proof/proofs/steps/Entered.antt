@@ -49,6 +49,7 @@ module _ (g : FramedGiven) (h : PlainGiven) (instances : List Instance) (homes :
         c.place;
     values = entries_stand (function_at g.given.code func) (function_at h.code (part_position g func Part.Ramp)) homes
         args others c.params c.names stand;
+    whole = entry_length (function_at g.given.code func) args;
     room = entry_length (function_at h.code (part_position g func Part.Ramp)) others;
     frame = λ i own. absurd (cc);
     result = refl;

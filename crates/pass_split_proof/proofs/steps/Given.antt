@@ -61,7 +61,8 @@ module _ (g : FramedGiven) (h : PlainGiven) (s : State) (t : PlainState) (r : Ar
       → AreRelated g h (gives s (Some name) v) (plain_settled t (set_value (plain_work t) name u))
   given_related place = advanced g h s t r (set_value (work_of s) name v) (set_value (plain_work t) name u) s.instances
       s.top.block (s.top.at + 1) t.top.block (t.top.at + 1) s.top.has_left mode r.world r.frames
-      (same_frames s.instances) le (record { each = λ b e. refl }) values (set_length t.top.values name u)
+      (same_frames s.instances) le (record { each = λ b e. refl }) values
+      (set_length s.top.values name v) (set_length t.top.values name u)
       (set_elsewhere t.top.values name r.top.shape.begin u kept) place
     where
       le : length s.world.memory ≤ length s.world.memory

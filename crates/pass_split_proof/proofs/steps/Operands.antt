@@ -64,7 +64,7 @@ module _ (m n : Module) (f : Function) (k : ℕ) (env other : Env) (globals : le
   operand_stands Operand.None h ty = tt
   operand_stands Operand.Poison h ty = tt
 
-  same_nowhere : (x : Operand) → IsReadable m n f x → (ty : Ty) → operand_value n [] ty x ≡ operand_value m [] ty x
+  pub same_nowhere : (x : Operand) → IsReadable m n f x → (ty : Ty) → operand_value n [] ty x ≡ operand_value m [] ty x
   same_nowhere (Operand.Local v) h ty = refl
   same_nowhere (Operand.Global name) h ty = h.same
   same_nowhere (Operand.Number z) h ty = refl

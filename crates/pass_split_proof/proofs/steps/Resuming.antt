@@ -1,9 +1,8 @@
 -- A resume is followed in a part: where the part goes on behind it, and where it returns.
-use Rattle.std.proofs.Common.{◌≡◌, ℕ, ◌+◌, ◌<◌, ◌≤◌, ◌^◌, ◌⊎◌, inl, inr, Bool, true, false, List, [], ◌∷◌, length, Option, None, Some, Ok, refl, sym, ap, ◌∙◌, subst, arith, if◌then◌else◌}
+use Rattle.std.proofs.Common.{◌≡◌, ℕ, zero, suc, ◌+◌, ◌<◌, ◌≤◌, ◌^◌, Bool, false, List, ◌∷◌, length, None, Some, Ok, refl, sym, ap, ◌∙◌, subst, arith, if◌then◌else◌}
 use Rattle.std.proofs.lemmas.Bool.{false≢true}
 use Rattle.ir_base.specs.declared.outcome.Outcome.{Outcome}
 use Rattle.ir_model.specs.Names.{function_at}
-use Rattle.ir_model.specs.Ty.{Ty, ptr}
 use Rattle.ir_model.specs.declared.instr.Instr.{Instr}
 use Rattle.ir_model.specs.declared.instr.Terminator.{Terminator}
 use Rattle.ir_model.specs.declared.module.Function.{Function}
@@ -14,20 +13,19 @@ use Rattle.pass_intrinsics.specs.Cuts.{cut_at, goes_on, next_suspend, transfers}
 use Rattle.pass_intrinsics.specs.Lowered.{resume_call}
 use Rattle.pass_intrinsics.specs.declared.cuts.Cut.{Cut}
 use Rattle.pass_intrinsics.specs.declared.shape.Part.{Part}
-use Rattle.pass_intrinsics.specs.declared.shape.Shape.{Shape}
 use Rattle.pass_split_proof.proofs.places.Coded.{has_code}
-use Rattle.pass_split_proof.proofs.states.OwnHomes.{own_pointer}
 use Rattle.pass_split_proof.proofs.steps.Calling.{resume_calls, resume_quiet}
 use Rattle.pass_split_proof.proofs.steps.Followed.{fine_ok, framed_does}
-use Rattle.pass_split_proof.proofs.steps.Operands.{operand_stands}
 use Rattle.pass_split_proof.proofs.steps.Saves.{values_extra}
 use Rattle.pass_split_proof.proofs.steps.Waking.{index_inside}
 use Rattle.pass_split_proof.proofs.steps.Woken.{resume_goes}
 use Rattle.pass_split_proof.proofs.steps.WokenStates.{woken_followed}
+use Rattle.pass_split_proof.proofs.waking.Addressed.{leads}
+use Rattle.pass_split_proof.proofs.waking.Cut.{begins_none, marks_stays, returns_stays, suspends_stays, transfers_stays}
 use Rattle.pass_split_proof.specs.places.Places.{AreNew, IsPlace, BeginsAgain, HasCode, IsCode, Marks, Returns, Stays, Suspends, Transfers}
 use Rattle.pass_split_proof.specs.simulation.Followed.{IsFollowed}
-use Rattle.pass_split_proof.specs.states.Activations.{Inside, IsBehind, RunsPart, is_entering}
-use Rattle.pass_split_proof.specs.states.Going.{stands_at}
+use Rattle.pass_split_proof.specs.states.Activations.{Inside, IsBehind, IsLeaving, IsPlaced, Passed}
+use Rattle.pass_split_proof.specs.states.Going.{placed_at, stands_at}
 use Rattle.pass_split_proof.specs.states.Instances.{part_position, address_of_part, resumer_of}
 use Rattle.pass_split_proof.specs.states.Memories.{homes_of}
 use Rattle.pass_split_proof.specs.states.Related.{AreRelated, fetched_at, weight}
@@ -37,26 +35,24 @@ use Rattle.pass_split_proof.specs.steps.Calling.{IsCallable, calling}
 use Rattle.pass_split_proof.specs.steps.Resuming.{CanWake, IsAtWaking}
 use Rattle.pass_split_proof.specs.steps.Woken.{IsWoken}
 use Rattle.pass_split.specs.Pieces.{begins_again}
+use Rattle.run_agreement.proofs.Runs.{iterate-add}
 use Rattle.run_agreement.specs.Machines.{iterate, IsFine}
 use Rattle.run_framed.specs.Framed.{FramedGiven, continue_framed, framed_step}
 use Rattle.run_laws.proofs.transfer.Sets.{set_elsewhere, set_length}
-use Rattle.run_laws.specs.access.Lines.{Holds, StandAt, pointer_at}
-use Rattle.run_laws.specs.memory.Pointers.{IsValue}
-use Rattle.run_laws.specs.memory.Standing.{own_homes}
+use Rattle.run_laws.specs.access.Lines.{Holds, StandAt}
 use Rattle.run_memory.specs.Memory.{encode, owner_rights}
-use Rattle.run_memory.specs.Pointers.{offset_of}
 use Rattle.run_memory.specs.declared.pointer.Pointer.{Pointer}
 use Rattle.run_memory.specs.declared.pointer.Value.{Value}
-use Rattle.run_plain.specs.Plain.{PlainGiven, counted, plain_context, plain_function, plain_step, plain_work}
+use Rattle.run_plain.specs.Plain.{PlainGiven, counted, plain_function, plain_step, plain_work}
 use Rattle.run_plain.specs.declared.state.PlainState.{PlainState}
 use Rattle.run_source.specs.Source.{resume}
-use Rattle.run_source.specs.State.{frame_address_of, function_of, or_undefined}
+use Rattle.run_source.specs.State.{function_of, or_undefined}
 use Rattle.run_source.specs.declared.state.Instance.{Instance}
 use Rattle.run_source.specs.declared.state.Mode.{Mode}
 use Rattle.run_source.specs.declared.state.State.{State}
 use Rattle.run_source_tables.specs.Given.{is_final}
-use Rattle.run_step.specs.Step.{AtInstr, Coro, value_at}
-use Rattle.run_step.specs.Values.{Env, arg_value, operand_value, value_in, with_value}
+use Rattle.run_step.specs.Step.{AtInstr, AtTerm, Coro, fetch}
+use Rattle.run_step.specs.Values.{Env, arg_value, value_in, with_value}
 
 module _ (g : FramedGiven) (h : PlainGiven) (s : State) (t : PlainState) (r : AreRelated g h s t)
     (k : IsAtWaking g h s t r Intrinsic.CoroResume) where
@@ -74,7 +70,8 @@ module _ (g : FramedGiven) (h : PlainGiven) (s : State) (t : PlainState) (r : Ar
   p = arg_value g.given.code s.top.values k.arg
 
   does : framed_step g s ≡ or_undefined g.given s (resume g.given (continue_framed g) s p)
-  does = framed_does g s (AtInstr here) (Coro Intrinsic.CoroResume (k.arg ∷ k.rest) k.result) k.running k.there refl refl
+  does = framed_does g s (AtInstr here) (Coro Intrinsic.CoroResume
+      (k.arg ∷ k.rest) k.result) k.running k.there refl refl
 
   pub heavy : weight (fetched_at g s) ≡ 4
   heavy = ap weight k.there
@@ -82,58 +79,10 @@ module _ (g : FramedGiven) (h : PlainGiven) (s : State) (t : PlainState) (r : Ar
   pub behind : IsBehind f false (record s.top { at = s.top.at + 1 })
   behind = record { before = s.top.at; at = refl; instr = here; there = k.there; is = refl }
 
-  -- what the part has for it
-  module _ (x : Instance) (is : p ≡ frame_address_of x) (small : x.start < 2 ^ 64) (low : x.block < length s.world.memory)
-    where
-      stands : IsValue (own_homes 0 (length s.world.memory)) (operand_value g.given.code s.top.values ptr k.arg.value)
-          (operand_value h.code t.top.values ptr k.arg.value)
-      stands = operand_stands g.given.code h.code f (length s.world.memory) s.top.values t.top.values r.globals
-          r.top.values k.arg.value k.readable ptr
-
-      ours_is : operand_value g.given.code s.top.values ptr k.arg.value ≡ pointer_at x.block x.start
-      ours_is = ap (λ (ty : Ty). operand_value g.given.code s.top.values ty k.arg.value) (sym k.typed) ∙ is
-
-      moved_is : (v u : Value) → v ≡ pointer_at x.block x.start
-          → IsValue (own_homes 0 (length s.world.memory)) v u → u ≡ pointer_at x.block x.start
-      moved_is v u e stand = (subst (λ (y : Value). IsValue (own_homes 0 (length s.world.memory)) y u) e stand).1
-          ∙ ap Value.Ptr (own_pointer (length s.world.memory) x.block (offset_of x.start) low small)
-
-      pub leads : value_at (plain_context h t) (plain_work t) ptr k.arg.value ≡ pointer_at x.block x.start
-      leads = moved_is (operand_value g.given.code s.top.values ptr k.arg.value) _ ours_is stands
-
   -- ---- how the part is cut there
 
-  cut_is : (sh : Shape) (part : Part) (after : List Instr)
-      → cut_at sh part here after ≡ (if goes_on part then transfers (next_suspend sh after) else Cut.Stays)
-  cut_is sh part after = refl
-
   not_again : (part : Part) → begins_again part here ≡ false
-  not_again Part.Ramp = refl
-  not_again Part.GivenRamp = refl
-  not_again Part.Resume = refl
-  not_again Part.Destroy = refl
-  not_again Part.Cleanup = refl
-
-  -- it stays or transfers, and transfers where the part goes on
-  stays_or : (part : Part) (o : Option ℕ) (c : Cut) → (if goes_on part then transfers o else Cut.Stays) ≡ c
-      → (c ≡ Cut.Stays) ⊎ ((j : ℕ) × ((c ≡ Cut.Transfers j) × (goes_on part ≡ true)))
-  stays_or Part.Ramp o c e = inl (sym e)
-  stays_or Part.GivenRamp o c e = inl (sym e)
-  stays_or Part.Resume None c e = inl (sym e)
-  stays_or Part.Resume (Some j) c e = inr (j, (sym e, refl))
-  stays_or Part.Destroy None c e = inl (sym e)
-  stays_or Part.Destroy (Some j) c e = inr (j, (sym e, refl))
-  stays_or Part.Cleanup None c e = inl (sym e)
-  stays_or Part.Cleanup (Some j) c e = inr (j, (sym e, refl))
-
-  -- an activation of a part that goes on is a resumed one
-  resumed_mode : (mode : Mode) (part : Part) → RunsPart mode part → goes_on part ≡ true → is_entering mode ≡ false
-      → mode ≡ Mode.Resumed
-  resumed_mode Mode.Plain part runs goes settled = absurd (false≢true (sym (ap goes_on runs) ∙ goes))
-  resumed_mode Mode.Ramp part runs goes settled = absurd (false≢true (sym (ap goes_on runs) ∙ goes))
-  resumed_mode Mode.Resumed part runs goes settled = refl
-  resumed_mode (Mode.GivenRamp frame) part runs goes settled = absurd (false≢true (sym (ap goes_on runs) ∙ goes))
-  resumed_mode (Mode.Entering from label) part runs goes settled = absurd (false≢true (sym settled))
+  not_again = begins_none
 
   -- ---- the call
 
@@ -163,7 +112,7 @@ module _ (g : FramedGiven) (h : PlainGiven) (s : State) (t : PlainState) (r : Ar
       callable = record {
         running = r.outcome ∙ k.running;
         takes = can.takes;
-        leads = leads x w.address small low;
+        leads = leads g h s t r Intrinsic.CoroResume k x w.address small low;
         local = λ v e. below v n (length f.names) (k.known v e) new.low;
         room = room n (length q.names) (length t.top.values) new.high (sym r.top.room);
         stored = stored;
@@ -185,7 +134,7 @@ module _ (g : FramedGiven) (h : PlainGiven) (s : State) (t : PlainState) (r : Ar
 
       kept : AreValuesOf f (homes_of s.world.memory) s.top.values after
       kept = values_extra f (homes_of s.world.memory) s.top.values t.top.values n callee
-          (subst (λ (l : ℕ). l ≤ n) (sym k.own) new.low) r.top.values
+          (subst (λ (l : ℕ). l ≤ n) (sym r.top.whole) new.low) r.top.values
 
       begin_stays : (i : ℕ) → s.top.instance ≡ Some i
           → value_in after r.top.shape.begin ≡ value_in t.top.values r.top.shape.begin
@@ -218,6 +167,46 @@ module _ (g : FramedGiven) (h : PlainGiven) (s : State) (t : PlainState) (r : Ar
       where
         two_more : (n : ℕ) → n + 2 ≡ n + 1 + 1
         two_more n = omega arith
+
+    -- it transfers: the part jumps to the block from which it calls, and returns from there behind the call
+    module _ (pass n : ℕ) (new : AreNew f q n 1) (jumps : plain_step h t ≡ stands_at t pass 0 (plain_work t))
+        (line : StandAt q pass 0 (resume_call n k.arg.value)) where
+      comes_passing : iterate (plain_step h) 3 t ≡ counted h func (calling h (at_line pass 0 n new line) func x.block
+          x.start (0 + 1 + 1) (after pass 0 n new line))
+      comes_passing = iterate-add (plain_step h) 1 2 t ∙ ap (iterate (plain_step h) 2) jumps ∙ comes pass 0 n new line
+
+      quiet_passing : (i : ℕ) → i < 3 → ((iterate (plain_step h) i t).outcome ≡ Outcome.Running)
+          × ((iterate (plain_step h) i t).world ≡ t.world)
+      quiet_passing zero lt = (r.outcome ∙ k.running, refl)
+      quiet_passing (suc i) lt = subst (λ (y : PlainState). (y.outcome ≡ Outcome.Running) × (y.world ≡ t.world))
+          (sym (ap (λ (k : ℕ). iterate (plain_step h) k t) (one_more i) ∙ iterate-add (plain_step h) 1 i t
+          ∙ ap (iterate (plain_step h) i) jumps)) (quiet pass 0 n new line i (one_less i lt))
+        where
+          one_more : (i : ℕ) → suc i ≡ 1 + i
+          one_more i = omega arith
+
+          one_less : (i : ℕ) → suc i < 3 → i < 2
+          one_less i lt = omega arith
+
+      pub passing : fetch q pass 2 ≡ AtTerm (Terminator.Ret None)
+          → IsLeaving f r.top.shape.end (record s.top { at = s.top.at + 1 }) → s.top.mode ≡ Mode.Resumed
+          → HasCalled g h s t r w.instance Part.Resume
+      passing ret leaving resumed = record {
+        calls = 3;
+        few = omega arith;
+        some = omega arith;
+        piece = pass;
+        offset = 2;
+        values = after pass 0 n new line;
+        comes = comes_passing;
+        quiet = quiet_passing;
+        kept = kept pass 0 n new line;
+        long = set_length t.top.values n callee;
+        begin = begin_stays pass 0 n new line;
+        waiting = subst (λ (mode : Mode). IsPlaced r.top.shape r.top.part f q (record s.top { at = s.top.at + 1 })
+            (placed_at t.top pass 2 (after pass 0 n new line)) mode) (sym resumed) (Passed ret leaving);
+        behind = behind;
+      }
 
   -- ---- the step
 
@@ -265,44 +254,49 @@ module _ (g : FramedGiven) (h : PlainGiven) (s : State) (t : PlainState) (r : Ar
         none_more : (n : ℕ) → n ≡ n + 0
         none_more n = omega arith
 
-    pub stays_followed : (n : ℕ) → AreNew f q n 1 → StandAt q t.top.block t.top.at (resume_call n k.arg.value)
-        → IsPlace r.top.shape r.top.part f q s.top.block (s.top.at + 1) t.top.block (t.top.at + 2)
-        → IsFollowed g h s t
-    stays_followed n new line place = woken_followed g h s t r k.running k.settled p w Part.Resume label wakes.waking is
-        heavy wakes.ends
-        (staying w wakes stored (r.frames.laid.known w.number w.instance w.there)
-        (small w.instance.start _ (index_inside g h s t r p w Part.Resume label wakes.waking)) n new line place)
+    small_start : w.instance.start < 2 ^ 64
+    small_start = small w.instance.start _ (index_inside g h s t r p w Part.Resume label wakes.waking)
       where
         small : (a b : ℕ) → a + b < 2 ^ 64 → a < 2 ^ 64
         small a b lt = omega arith
+
+    pub stays_followed : (n : ℕ) → AreNew f q n 1 → StandAt q t.top.block t.top.at (resume_call n k.arg.value)
+        → IsPlace r.top.shape r.top.part f q s.top.block (s.top.at + 1) t.top.block (t.top.at + 2)
+        → IsFollowed g h s t
+    stays_followed n new line place
+        = woken_followed g h s t r k.running k.settled p w Part.Resume label wakes.waking is
+        heavy wakes.ends
+        (staying w wakes stored (r.frames.laid.known w.number w.instance w.there) small_start n new line place)
+
+    pub passes_followed : (pass n : ℕ) → AreNew f q n 1 → plain_step h t ≡ stands_at t pass 0 (plain_work t)
+        → StandAt q pass 0 (resume_call n k.arg.value) → fetch q pass 2 ≡ AtTerm (Terminator.Ret None)
+        → IsLeaving f r.top.shape.end (record s.top { at = s.top.at + 1 }) → s.top.mode ≡ Mode.Resumed
+        → IsFollowed g h s t
+    passes_followed pass n new jumps line ret leaving resumed = woken_followed g h s t r k.running k.settled p w
+        Part.Resume label wakes.waking is heavy wakes.ends
+        (passing w wakes stored (r.frames.laid.known w.number w.instance w.there) small_start pass n new jumps
+        line ret
+        leaving resumed)
 
     -- by the code that stands there
     code : HasCode r.top.shape r.top.part f q s.top.block s.top.at t.top.block t.top.at here
     code = has_code r.top.shape r.top.part f q s.top.block s.top.at t.top.block t.top.at here k.place k.there
 
-    by_code : (after : List Instr) (term : Terminator) → cut_at r.top.shape r.top.part here after ≡ Cut.Stays
+    pub stays_by_code : (after : List Instr) (term : Terminator)
+        → cut_at r.top.shape r.top.part here after ≡ Cut.Stays
         → IsCode r.top.shape r.top.part f q s.top.block s.top.at t.top.block t.top.at here after term
         → IsFollowed g h s t
-    by_code after term e (Stays n begins cut new stand place) = stays_followed n new stand place
-    by_code after term e (Marks n mark begins cut new remain bare place) = absurd (other (sym cut ∙ e))
-      where
-        other : Cut.Marks mark ≡ Cut.Stays → ⊥
-        other h = absurd (cc)
-    by_code after term e (Suspends begins cut jump) = absurd (other (sym cut ∙ e))
-      where
-        other : Cut.Suspends ≡ Cut.Stays → ⊥
-        other h = absurd (cc)
-    by_code after term e (Returns begins cut ret) = absurd (other (sym cut ∙ e))
-      where
-        other : Cut.Returns ≡ Cut.Stays → ⊥
-        other h = absurd (cc)
-    by_code after term e (Transfers n j begins cut new jump bare remain) = absurd (other (sym cut ∙ e))
-      where
-        other : Cut.Transfers j ≡ Cut.Stays → ⊥
-        other h = absurd (cc)
-    by_code after term e (BeginsAgain begins jump) = absurd (false≢true (sym (not_again r.top.part) ∙ begins))
+    stays_by_code behind_it term e (Stays n begins cut new stand place) = stays_followed n new stand place
+    stays_by_code behind_it term e (Marks n mark begins cut new remain bare place)
+        = absurd (marks_stays mark (sym cut ∙ e))
+    stays_by_code behind_it term e (Suspends begins cut jump) = absurd (suspends_stays (sym cut ∙ e))
+    stays_by_code behind_it term e (Returns begins cut ret) = absurd (returns_stays (sym cut ∙ e))
+    stays_by_code behind_it term e (Transfers n j begins cut new jump bare remain)
+        = absurd (transfers_stays j (sym cut ∙ e))
+    stays_by_code behind_it term e (BeginsAgain begins jump)
+        = absurd (false≢true (sym (not_again r.top.part) ∙ begins))
 
     -- a ramp, or a function that is no coroutine, has no transfers
     pub ramp_followed : goes_on r.top.part ≡ false → IsFollowed g h s t
-    ramp_followed ramp = by_code code.after code.end
+    ramp_followed ramp = stays_by_code code.after code.end
         (ap (λ (b : Bool). if b then transfers (next_suspend r.top.shape code.after) else Cut.Stays) ramp) code.code

@@ -103,7 +103,7 @@ module _ (g : FramedGiven) (h : PlainGiven) (s : State) (t : PlainState) (r : Ar
       (omega arith) (record { each = λ b k. refl })
       (values_extra (function_at g.given.code s.top.func) _ s.top.values t.top.values code.name
       (pointer_at x.block (x.start + (layout_of g.layouts x.coroutine).index)) code.new r.top.values)
-      (set_length t.top.values code.name (pointer_at x.block (x.start + (layout_of g.layouts x.coroutine).index)))
+      refl (set_length t.top.values code.name (pointer_at x.block (x.start + (layout_of g.layouts x.coroutine).index)))
       (set_elsewhere t.top.values code.name r.top.shape.begin
       (pointer_at x.block (x.start + (layout_of g.layouts x.coroutine).index)) (λ k. other_name (k
       ∙ ap (λ (z : Shape). z.begin) code.same)))
@@ -124,7 +124,7 @@ module _ (g : FramedGiven) (h : PlainGiven) (s : State) (t : PlainState) (r : Ar
       = set_memory (set_value (plain_work t) code.name
       (pointer_at x.block (x.start + (layout_of g.layouts x.coroutine).index))) (with_save g t.world.memory x number v)
 
-  runs_here : Runs (plain_context h t) (save_stores (shape_at g x.coroutine) code.name number) (plain_work t) after
+  pub runs_here : Runs (plain_context h t) (save_stores (shape_at g x.coroutine) code.name number) (plain_work t) after
   runs_here = subst (λ (b : Bool). Runs (plain_context h t) (line_by b) (plain_work t) after) (sym final)
       (subst (λ (v : Value). Runs (plain_context h t) (line_by numbered.suspend.is_final) (plain_work t)
       (after_with v)) (sym (resumer_is g x.coroutine numbered.suspend))

@@ -53,7 +53,7 @@ module _ (g : FramedGiven) (h : PlainGiven) (s : State) (t : PlainState) (r : Ar
       (t.top.at + 1) s.top.has_left mode d.world
       (frames_stay g s.instances s.world.memory t.world.memory v.world.memory d.work.world.memory r.frames d.refilled
       d.free)
-      (same_frames s.instances) long ext stand d.set.length_target (d.set.target r.top.shape.begin kept) place
+      (same_frames s.instances) long ext stand d.set.length_source d.set.length_target (d.set.target r.top.shape.begin kept) place
     where
       long : length s.world.memory ≤ length v.world.memory
       long = let e = as_many s.world.memory v.world.memory d.refilled in omega arith

@@ -8,7 +8,7 @@ use Rattle.pass_intrinsics.specs.declared.shape.Part.{Part}
 use Rattle.pass_intrinsics.specs.declared.shape.Shape.{Shape}
 use Rattle.pass_split_proof.proofs.states.Advanced.{advanced, same_frames}
 use Rattle.pass_split_proof.proofs.states.Fresh.{fresh_beside, fresh_frames, grown_length}
-use Rattle.pass_split_proof.proofs.states.Killed.{dead_beside, dead_frames, ends}
+use Rattle.pass_split_proof.proofs.states.Killed.{all_stay, dead_beside, dead_frames, ends, ends_alone, stays}
 use Rattle.pass_split_proof.proofs.states.OwnHomes.{own_extends}
 use Rattle.pass_split_proof.proofs.states.Values.{values_on, values_set}
 use Rattle.pass_split_proof.proofs.states.Written.{length-changed}
@@ -44,7 +44,7 @@ use Rattle.run_step.specs.declared.world.Slot.{Slot}
 
 -- ---- a slot more
 
-more_slots : (s : Shape) (part : Part) (f q : Function) (a : Activation) (b : PlainActivation)
+pub more_slots : (s : Shape) (part : Part) (f q : Function) (a : Activation) (b : PlainActivation)
     (slots others : List Slot) (mode : Mode)
     → IsPlaced s part f q a b mode → IsPlaced s part f q (record a { slots = slots }) (record b { slots = others }) mode
 more_slots s part f q a b slots others _ (Inside mode e place) = Inside mode e place
@@ -88,6 +88,7 @@ module _ (g : FramedGiven) (h : PlainGiven) (s : State) (t : PlainState) (r : Ar
       place = more_slots r.top.shape r.top.part (function_at g.given.code s.top.func) (function_at h.code t.top.func)
           s.top t.top (slot ∷ s.top.slots) (slot ∷ t.top.slots) s.top.mode r.top.place;
       values = r.top.values;
+      whole = r.top.whole;
       room = r.top.room;
       frame = λ i own. let f = r.top.frame i own
           in record { instance = f.instance; there = f.there; coroutine = f.coroutine; is = f.is };
@@ -109,43 +110,61 @@ slot_length m size align kind false = grown_length m (blank_block size align kin
 
 module _ (g : FramedGiven) (xs : List Instance) (m n : List MemoryBlock) (size align : ℕ) (kind : Kind)
     (small : size < 2 ^ 64) (unlike : kind ≡ Kind.Allocator → align ≡ 16) (long : length n ≡ length m) where
-  slot_beside : (marked : Bool) → AreFrames g xs m n → AreBeside g xs m n
-      → AreBeside g xs (slot_memory m size align kind marked) (slot_memory n size align (plain_kind kind) marked)
-  slot_beside false frames beside = fresh_beside g xs m n size align kind small unlike frames.laid beside
-  slot_beside true frames beside = subst (λ (b : ℕ). AreBeside g xs (end (fresh m size align kind) (length m))
-      (end (fresh n size align (plain_kind kind)) b)) (sym long)
-      (dead_beside ended ends g xs (fresh m size align kind) (fresh n size align (plain_kind kind)) (length m)
+  abbrev made_source : List MemoryBlock
+  made_source = fresh m size align kind
+
+  abbrev made_target : List MemoryBlock
+  made_target = fresh n size align (plain_kind kind)
+
+  -- a part may have no markers where the coroutine has some
+  pub slot_beside : (marked too : Bool) → (too ≡ true → marked ≡ true) → AreFrames g xs m n → AreBeside g xs m n
+      → AreBeside g xs (slot_memory m size align kind marked) (slot_memory n size align (plain_kind kind) too)
+  slot_beside false false less frames beside = fresh_beside g xs m n size align kind small unlike frames.laid beside
+  slot_beside false true less frames beside = absurd (false≢true (less refl))
+  slot_beside true false less frames beside
+      = subst (AreBeside g xs (end made_source (length m))) (all_stay made_target (length m))
+      (dead_beside ended stays ends_alone g xs made_source made_target (length m)
+      (fresh_frames g xs m n size align kind small unlike frames).laid
+      (fresh_beside g xs m n size align kind small unlike frames.laid beside))
+  slot_beside true true less frames beside
+      = subst (λ (b : ℕ). AreBeside g xs (end made_source (length m)) (end made_target b)) (sym long)
+      (dead_beside ended ended ends g xs made_source made_target (length m)
       (fresh_frames g xs m n size align kind small unlike frames).laid
       (fresh_beside g xs m n size align kind small unlike frames.laid beside))
 
-  slot_frames : (marked : Bool) → AreFrames g xs m n → AreFrames g xs (slot_memory m size align kind marked)
-      (slot_memory n size align (plain_kind kind) marked)
-  slot_frames false frames = fresh_frames g xs m n size align kind small unlike frames
-  slot_frames true frames = subst (λ (b : ℕ). AreFrames g xs (end (fresh m size align kind) (length m))
-      (end (fresh n size align (plain_kind kind)) b)) (sym long)
-      (dead_frames ended ends g xs (fresh m size align kind) (fresh n size align (plain_kind kind)) (length m)
+  pub slot_frames : (marked too : Bool) → (too ≡ true → marked ≡ true) → AreFrames g xs m n
+      → AreFrames g xs (slot_memory m size align kind marked) (slot_memory n size align (plain_kind kind) too)
+  slot_frames false false less frames = fresh_frames g xs m n size align kind small unlike frames
+  slot_frames false true less frames = absurd (false≢true (less refl))
+  slot_frames true false less frames
+      = subst (AreFrames g xs (end made_source (length m))) (all_stay made_target (length m))
+      (dead_frames ended stays ends_alone g xs made_source made_target (length m)
+      (fresh_frames g xs m n size align kind small unlike frames))
+  slot_frames true true less frames
+      = subst (λ (b : ℕ). AreFrames g xs (end made_source (length m)) (end made_target b)) (sym long)
+      (dead_frames ended ended ends g xs made_source made_target (length m)
       (fresh_frames g xs m n size align kind small unlike frames))
 
 module _ (g : FramedGiven) (h : PlainGiven) (s : State) (t : PlainState) (r : AreRelated g h s t) (result : Option ℕ)
-    (size align : ℕ) (kind : Kind) (marked : Bool) (count : ℕ) where
+    (size align : ℕ) (kind : Kind) (marked too : Bool) (count : ℕ) where
   -- what comes of the works
   abbrev made : Work
   made = with_made (work_of s) result size align kind marked count
 
   abbrev made_too : Work
-  made_too = with_made (plain_work t) result size align (plain_kind kind) marked count
+  made_too = with_made (plain_work t) result size align (plain_kind kind) too count
 
   long : length t.world.memory ≡ length s.world.memory
   long = r.world.memory.twins.long
 
-  homes_grow : Extends (homes_of s.world.memory) (homes_of made.world.memory)
+  pub homes_grow : Extends (homes_of s.world.memory) (homes_of made.world.memory)
   homes_grow = subst (λ (k : ℕ). Extends (homes_of s.world.memory) (own_homes 0 k))
       (sym (slot_length s.world.memory size align kind marked)) (own_extends (length s.world.memory))
 
-  grows : length s.world.memory ≤ length made.world.memory
+  pub grows : length s.world.memory ≤ length made.world.memory
   grows = let e = slot_length s.world.memory size align kind marked in omega arith
 
-  stand : AreValuesOf (function_at g.given.code s.top.func) (homes_of made.world.memory) made.values made_too.values
+  pub stand : AreValuesOf (function_at g.given.code s.top.func) (homes_of made.world.memory) made.values made_too.values
   stand = values_set (function_at g.given.code s.top.func) (homes_of made.world.memory) result s.top.values
       t.top.values made.values made_too.values
       (values_on (function_at g.given.code s.top.func) (homes_of s.world.memory) (homes_of made.world.memory)
@@ -158,22 +177,24 @@ module _ (g : FramedGiven) (h : PlainGiven) (s : State) (t : PlainState) (r : Ar
       (let e = slot_length s.world.memory size align kind marked in omega arith))))
 
   -- both runs go on with the block
-  pub blocks_related : size < 2 ^ 64 → (kind ≡ Kind.Allocator → align ≡ 16) → is_entering s.top.mode ≡ false
+  pub blocks_related : (too ≡ true → marked ≡ true) → size < 2 ^ 64 → (kind ≡ Kind.Allocator → align ≡ 16) → is_entering s.top.mode ≡ false
       → (result ≡ Some r.top.shape.begin → ⊥)
       → IsPlaced r.top.shape r.top.part (function_at g.given.code s.top.func) (function_at h.code t.top.func)
       (moved_to s.top s.top.block (s.top.at + 1) made.values s.top.has_left) (placed_at t.top t.top.block
       (t.top.at + 1) made_too.values) s.top.mode
       → AreRelated g h (settled s made) (plain_settled t made_too)
-  blocks_related small unlike mode other place = advanced g h s t r made made_too s.instances s.top.block
+  blocks_related less small unlike mode other place = advanced g h s t r made made_too s.instances s.top.block
       (s.top.at + 1) t.top.block (t.top.at + 1) s.top.has_left mode
       (record {
         memory = slot_beside g s.instances s.world.memory t.world.memory size align kind small unlike long marked
-            r.frames r.world.memory;
+            too less r.frames r.world.memory;
         events = r.world.events;
         answers = r.world.answers;
         allocs = refl;
       })
-      (slot_frames g s.instances s.world.memory t.world.memory size align kind small unlike long marked r.frames)
-      (same_frames s.instances) grows homes_grow stand (result_length t.top.values result
-      (pointer_to (length t.world.memory)))
+      (slot_frames g s.instances s.world.memory t.world.memory size align kind small unlike long marked too less
+      r.frames)
+      (same_frames s.instances) grows homes_grow stand
+      (result_length s.top.values result (pointer_to (length s.world.memory)))
+      (result_length t.top.values result (pointer_to (length t.world.memory)))
       (result_elsewhere t.top.values result (pointer_to (length t.world.memory)) r.top.shape.begin other) place

@@ -16,7 +16,7 @@ use Rattle.pass_split_proof.proofs.states.Advanced.{KeepsFrames}
 use Rattle.pass_split_proof.proofs.states.Twins.{twin_at}
 use Rattle.pass_split_proof.proofs.states.Values.{no_values, params_stand}
 use Rattle.pass_split_proof.proofs.steps.Branches.{left_all, left_beside, left_frames}
-use Rattle.pass_split_proof.proofs.steps.Calls.{pushes_related}
+use Rattle.pass_split_proof.proofs.steps.Calls.{pushes_related, result_length}
 use Rattle.pass_split_proof.proofs.steps.Given.{address_itself}
 use Rattle.pass_split_proof.proofs.steps.Saves.{set_there}
 use Rattle.pass_proofs.specs.split.rules.Parted.{IsCleanup, IsDestroy, IsGivenRamp, IsPartOf, IsRamp, IsResume}
@@ -28,7 +28,7 @@ use Rattle.pass_split_proof.specs.states.Related.{AreRelated}
 use Rattle.pass_split_proof.specs.states.Values.{AreValuesOf}
 use Rattle.pass_split_proof.specs.steps.Branches.{Left, WasLeft}
 use Rattle.pass_split_proof.specs.steps.Woken.{IsWaking, IsWoken}
-use Rattle.run_framed.specs.Framed.{FramedGiven, layout_of, reentry_values}
+use Rattle.run_framed.specs.Framed.{FramedGiven, begin_name, layout_of, reentry_values}
 use Rattle.run_laws.specs.memory.Pointers.{Home, IsValue}
 use Rattle.run_memory.specs.declared.block.MemoryBlock.{MemoryBlock}
 use Rattle.run_memory.specs.declared.pointer.Value.{Value}
@@ -193,6 +193,8 @@ module _ (g : FramedGiven) (h : PlainGiven) (s : State) (t : PlainState) (r : Ar
       func = refl;
       place = place;
       values = values;
+      whole = result_length (replicate (length f.names) no_one) (begin_name f) frame
+          ∙ length-replicate (length f.names) no_one;
       room = room;
       frame = λ i own. record {
         instance = now;

@@ -25,7 +25,7 @@ use Rattle.run_step.specs.Values.{Env}
 
 -- ---- the instance at an address
 
-found_there : (xs : List Instance) (test : Instance → Bool) (i : ℕ) (x : Instance)
+pub found_there : (xs : List Instance) (test : Instance → Bool) (i : ℕ) (x : Instance)
     → last_where test xs ≡ Some (numbering i x) → (last_from test 0 xs ≡ Some i) × (slice_get xs i ≡ Some x)
 found_there xs test i x e = on (last_from test 0 xs) refl e
   where

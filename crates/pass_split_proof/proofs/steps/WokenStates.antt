@@ -1,5 +1,5 @@
 -- A part that a resume or destroy has called follows the framed run: among its allocas, or behind the suspend.
-use Rattle.std.proofs.Common.{◌≡◌, ℕ, zero, suc, ◌+◌, ◌-◌, ◌<◌, ◌≤◌, ◌⊎◌, inl, inr, ⊎_elim, Bool, true, false, List, [], ◌∷◌, length, replicate, Option, None, Some, refl, sym, ap, ◌∙◌, subst, arith}
+use Rattle.std.proofs.Common.{◌≡◌, ℕ, zero, suc, ◌+◌, ◌-◌, ◌<◌, ◌≤◌, inl, inr, ⊎_elim, Bool, true, false, List, [], ◌∷◌, length, replicate, Option, None, Some, refl, sym, ap, ◌∙◌, subst, arith}
 use Rattle.std.specs.Prelude.{slice_get, slice_set, ◌||◌, ◌==◌}
 use Rattle.std.proofs.lemmas.List.{length-replicate}
 use Rattle.std.proofs.lemmas.Bool.{cases_lt, eq-eqb, or_left, or_right}
@@ -60,13 +60,13 @@ no_one = None
 
 -- ---- phis that there are none of
 
-none_entering : (label : ℕ) (ps : List Phi) → entering label ps ≡ [] → ps ≡ []
+pub none_entering : (label : ℕ) (ps : List Phi) → entering label ps ≡ [] → ps ≡ []
 none_entering label [] e = refl
 none_entering label (p ∷ ps) e = absurd (cc)
 
 -- ---- labels behind suspends
 
-returns_there : (ps : List SuspendPoint) (j : ℕ) (p : SuspendPoint) (label : ℕ) → slice_get ps j ≡ Some p
+pub returns_there : (ps : List SuspendPoint) (j : ℕ) (p : SuspendPoint) (label : ℕ) → slice_get ps j ≡ Some p
     → ((label == p.resume) || (label == p.destroy)) ≡ true → is_return_label ps label ≡ true
 returns_there [] j p label e is = absurd (cc)
 returns_there (q ∷ ps) zero p label e is =
@@ -76,7 +76,7 @@ returns_there (q ∷ ps) zero p label e is =
 returns_there (q ∷ ps) (suc j) p label e is =
     or_right ((label == q.resume) || (label == q.destroy)) (is_return_label ps label) (returns_there ps j p label e is)
 
-is_edge : (part : Part) (p : SuspendPoint) (label : ℕ) → going_on part (Some p) ≡ Some label
+pub is_edge : (part : Part) (p : SuspendPoint) (label : ℕ) → going_on part (Some p) ≡ Some label
     → ((label == p.resume) || (label == p.destroy)) ≡ true
 is_edge Part.Ramp p label e = absurd (cc)
 is_edge Part.GivenRamp p label e = absurd (cc)

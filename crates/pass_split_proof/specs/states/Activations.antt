@@ -115,8 +115,9 @@ pub record HasFrame (instances : List Instance) (func : ℕ) (address : Value) (
   pub coroutine : instance.coroutine ≡ func
   pub is : address ≡ frame_address_of instance
 
--- The second is the activation of a part for the first. Each name has what stands for its value, and the name of the
--- frame has the frame's address. Slots are the same blocks; those of a coroutine are of its allocas.
+-- The second is the activation of a part for the first, which has a value for each name of its function, or none yet.
+-- Each name has what stands for its value, and the name of the frame has the frame's address. Slots are the same
+-- blocks; those of a coroutine are of its allocas.
 pub record IsBeside (g : FramedGiven) (h : Module) (instances : List Instance) (homes : List Home)
     (a : Activation) (b : PlainActivation) : Type 0 where
   pub shape : Shape
@@ -127,6 +128,7 @@ pub record IsBeside (g : FramedGiven) (h : Module) (instances : List Instance) (
   pub func : b.func ≡ part_position g a.func part
   pub place : IsPlaced shape part (function_at g.given.code a.func) (function_at h b.func) a b a.mode
   pub values : AreValuesOf (function_at g.given.code a.func) homes a.values b.values
+  pub whole : length a.values ≡ length (function_at g.given.code a.func).names
   pub room : length b.values ≡ length (function_at h b.func).names
   pub frame : (i : ℕ) → a.instance ≡ Some i → HasFrame instances a.func (value_in b.values shape.begin) i
   pub result : b.result ≡ a.result

@@ -1,11 +1,12 @@
 -- The memory of a framed run and that of the run of its parts: block by block, each at its own number.
-use Rattle.std.specs.Prelude.{◌≡◌, ℕ, true, List, length, slice_get, None, Some, Option, ◌<◌, ◌^◌}
+use Rattle.std.specs.Prelude.{◌≡◌, ℕ, false, List, length, slice_get, None, Some, Option, ◌<◌, ◌^◌}
 use Rattle.ir_model.specs.declared.module.Module.{Module}
 use Rattle.run_framed.specs.Framed.{FramedGiven, frame_rights}
 use Rattle.run_laws.specs.memory.Pointers.{Home}
 use Rattle.run_laws.specs.memory.Standing.{AreOffsets, Embeds, byte_of, own_homes}
-use Rattle.run_memory.specs.Memory.{is_live, owner_rights}
+use Rattle.run_memory.specs.Memory.{is_killed, owner_rights}
 use Rattle.run_memory.specs.declared.block.Kind.{Kind}
+use Rattle.run_memory.specs.declared.block.Life.{Life}
 use Rattle.run_memory.specs.declared.block.MemoryBlock.{MemoryBlock}
 use Rattle.run_source.specs.declared.state.Instance.{Instance}
 use Rattle.run_step.specs.Step.{first_world}
@@ -19,12 +20,20 @@ plain_kind Kind.Slot = Kind.Stack
 plain_kind Kind.Global = Kind.Global
 plain_kind Kind.Constant = Kind.Constant
 
--- The second is the block of the parts' run: it is as the first but for its kind, its owner, which it hasn't, and
--- what its bytes hold. What an allocator gives is aligned to 16.
+-- A block that has ended in the framed run may live in the parts' run: a part has no markers of a slot whose markers
+-- stand before the suspend.
+abbrev pub LivesAs : Life → Life → Type 0
+LivesAs Life.Live l = l ≡ Life.Live
+LivesAs Life.Ended l = is_killed l ≡ false
+LivesAs Life.Killed l = l ≡ Life.Killed
+
+-- The second is the block of the parts' run: it is as the first but for its kind, its owner, which it hasn't, its life
+-- where the first has ended, and what its bytes hold. What an allocator gives is aligned to 16.
 pub record IsTwin (x y : MemoryBlock) : Type 0 where
-  pub is : y ≡ record x { kind = plain_kind x.kind; owned = None; bytes = y.bytes }
+  pub is : y ≡ record x { kind = plain_kind x.kind; life = y.life; owned = None; bytes = y.bytes }
+  pub life : LivesAs x.life y.life
   pub long : length y.bytes ≡ length x.bytes
-  pub full : is_live x.life ≡ true → length x.bytes ≡ x.size
+  pub full : is_killed x.life ≡ false → length x.bytes ≡ x.size
   pub small : x.size < 2 ^ 64
   pub sixteen : x.kind ≡ Kind.Allocator → x.align ≡ 16
 

@@ -42,7 +42,6 @@ pub record IsAtWaking (g : FramedGiven) (h : PlainGiven) (s : State) (t : PlainS
   pub typed : arg.ty ≡ ptr
   pub readable : IsReadable g.given.code h.code (function_of g.given s) arg.value
   pub known : (v : ℕ) → arg.value ≡ Operand.Local v → v < length (function_of g.given s).names
-  pub own : length s.top.values ≡ length (function_of g.given s).names
   pub begin : (i : ℕ) → s.top.instance ≡ Some i → r.top.shape.begin < length (function_of g.given s).names
 
 -- each Suspended instance whose frame has an address goes on in the part that the header names

@@ -1,0 +1,239 @@
+-- A save is followed in its part, in four steps.
+use Rattle.std.proofs.Common.{◌≡◌, ℕ, ◌+◌, ◌<◌, ◌≤◌, ◌^◌, Bool, true, false, List, length, Option, Some, None, Ok, Err, Result, refl, sym, ap, ◌∙◌, subst, arith}
+use Rattle.std.proofs.lemmas.Bool.{and_parts, false≢true}
+use Rattle.std.specs.Prelude.{not, option_and_then, option_map, slice_get, ◌&&◌}
+use Rattle.ir_base.specs.declared.cause.Cause.{Cause}
+use Rattle.ir_base.specs.declared.outcome.Outcome.{Outcome}
+use Rattle.ir_model.specs.Names.{function_at}
+use Rattle.ir_model.specs.declared.instr.Instr.{Instr}
+use Rattle.ir_model.specs.declared.operand.Callee.{Callee}
+use Rattle.ir_model.specs.declared.operand.Intrinsic.{Intrinsic}
+use Rattle.ir_paths.specs.Windows.{suspend_of}
+use Rattle.ir_paths.specs.declared.point.Point.{Point}
+use Rattle.pass_intrinsics.specs.Lowered.{number_of_save, save_stores}
+use Rattle.pass_intrinsics.specs.declared.shape.Shape.{Shape}
+use Rattle.pass_split_proof.proofs.begins.Calm.{IsQuiet, line_quiet}
+use Rattle.pass_split_proof.proofs.begins.SaveCode.{save_code, save_number}
+use Rattle.pass_split_proof.proofs.states.Judged.{numbering}
+use Rattle.pass_split_proof.proofs.states.Twins.{twin_at}
+use Rattle.pass_split_proof.proofs.steps.Followed.{framed_does, many_followed}
+use Rattle.pass_split_proof.proofs.steps.SavedStates.{runs_here, save_related, save_steps}
+use Rattle.pass_split_proof.specs.begins.Saving.{IsAtSave}
+use Rattle.pass_proofs.specs.split.rules.Reached.{IsLedTo}
+use Rattle.pass_split_proof.specs.code.Numbers.{IsNumbered}
+use Rattle.pass_split_proof.specs.simulation.Followed.{IsFollowed}
+use Rattle.pass_split_proof.specs.states.Instances.{IsLaidOut, is_given_in, is_held, is_held_in, lives_in, resumer_of, shape_at}
+use Rattle.pass_split_proof.specs.states.Related.{AreRelated, IsOn, credit_of, weight}
+use Rattle.pass_split_proof.specs.steps.Saves.{HasSaveCode, saved_work}
+use Rattle.run_agreement.specs.Machines.{IsFine, iterate}
+use Rattle.run_framed.specs.Framed.{FramedGiven, framed_step, layout_of}
+use Rattle.run_laws.proofs.memory.Written.{same_some}
+use Rattle.run_laws.specs.access.Lines.{Runs, pointer_at}
+use Rattle.run_memory.specs.declared.block.MemoryBlock.{MemoryBlock}
+use Rattle.run_plain.specs.Plain.{PlainGiven, plain_context, plain_step, plain_work}
+use Rattle.run_plain.specs.declared.state.PlainState.{PlainState}
+use Rattle.run_source.specs.Source.{save}
+use Rattle.run_source.specs.State.{frame_address_of, function_of, is_finished, next, numbered as instance_numbered, or_undefined, point_of, with_instance, with_left}
+use Rattle.run_source.specs.declared.state.Instance.{Instance}
+use Rattle.run_source.specs.declared.state.Saved.{Saved}
+use Rattle.run_source.specs.declared.state.State.{State}
+use Rattle.run_source.specs.declared.state.Status.{Status}
+use Rattle.run_step.specs.Results.{and_then, found, ok_if}
+use Rattle.run_step.specs.Step.{AtInstr, Coro, Fetched, Work}
+use Rattle.run_step.specs.Values.{value_in}
+
+-- ---- the framed run
+
+-- the instance is Suspended, with a save of the topmost activation
+abbrev saved_at : State → Point → ℕ → Instance → State
+saved_at s p i x
+    = with_left (with_instance s i (record x {
+      status = Status.Suspended p s.top.values;
+      last_save = Some (record { depth = length s.below; save = point_of s });
+    })) true
+
+-- what a save does with an instance
+abbrev saving : State → Point → Option (ℕ × Instance) → Result State Cause
+saving s p o = and_then (and_then (found Cause.State o) (λ (w : ℕ × Instance).
+    ok_if (not w.1.freed) Cause.State (saved_at s p w.0 w.1))) (λ (u : State). Ok (next u))
+
+-- a save that isn't undefined has a suspend, and an instance that isn't freed
+pub record HasSaved (g : FramedGiven) (s : State) : Type 0 where
+  pub suspend : Point
+  pub found_it : suspend_of (function_of g.given s) (point_of s) ≡ Some suspend
+  pub number : ℕ
+  pub instance : Instance
+  pub own : s.top.instance ≡ Some number
+  pub there : slice_get s.instances number ≡ Some instance
+  pub unfreed : instance.freed ≡ false
+  pub is : framed_step g s ≡ next (saved_at s suspend number instance)
+
+module _ (g : FramedGiven) (s : State) (fine : IsFine (framed_step g s).outcome)
+    (does : framed_step g s ≡ or_undefined g.given s (save g.given s)) where
+  not_fine : (c : Cause) → framed_step g s ≡ or_undefined g.given s (Err c) → ⊥
+  not_fine c e = subst (λ (x : State). IsFine x.outcome) e fine
+
+  by_freed : (p : Point) → suspend_of (function_of g.given s) (point_of s) ≡ Some p → (i : ℕ)
+      → s.top.instance ≡ Some i → (x : Instance) → slice_get s.instances i ≡ Some x
+      → framed_step g s ≡ or_undefined g.given s (saving s p (Some (numbering i x)))
+      → (b : Bool) → x.freed ≡ b → HasSaved g s
+  by_freed p a i own x there d true e = absurd (not_fine Cause.State (d
+      ∙ ap (λ (b : Bool). or_undefined g.given s (and_then (ok_if (not b) Cause.State (saved_at s p i x))
+      (λ (u : State). Ok (next u)))) e))
+  by_freed p a i own x there d false e = record {
+    suspend = p;
+    found_it = a;
+    number = i;
+    instance = x;
+    own = own;
+    there = there;
+    unfreed = e;
+    is = d ∙ ap (λ (b : Bool). or_undefined g.given s (and_then (ok_if (not b) Cause.State (saved_at s p i x))
+        (λ (u : State). Ok (next u)))) e;
+  }
+
+  by_there : (p : Point) → suspend_of (function_of g.given s) (point_of s) ≡ Some p → (i : ℕ)
+      → s.top.instance ≡ Some i
+      → framed_step g s ≡ or_undefined g.given s (saving s p (option_map (numbering i) (slice_get s.instances i)))
+      → (o : Option Instance) → slice_get s.instances i ≡ o → HasSaved g s
+  by_there p a i own d None e = absurd (not_fine Cause.State (d
+      ∙ ap (λ (o : Option Instance). or_undefined g.given s (saving s p (option_map (numbering i) o))) e))
+  by_there p a i own d (Some x) e = by_freed p a i own x e (d
+      ∙ ap (λ (o : Option Instance). or_undefined g.given s (saving s p (option_map (numbering i) o))) e) x.freed refl
+
+  by_own : (p : Point) → suspend_of (function_of g.given s) (point_of s) ≡ Some p
+      → framed_step g s ≡ or_undefined g.given s (saving s p (option_and_then (instance_numbered s.instances)
+      s.top.instance))
+      → (o : Option ℕ) → s.top.instance ≡ o → HasSaved g s
+  by_own p a d None e = absurd (not_fine Cause.State (d ∙ ap (λ (o : Option ℕ). or_undefined g.given s
+      (saving s p (option_and_then (instance_numbered s.instances) o))) e))
+  by_own p a d (Some i) e = by_there p a i e (d ∙ ap (λ (o : Option ℕ). or_undefined g.given s
+      (saving s p (option_and_then (instance_numbered s.instances) o))) e) (slice_get s.instances i) refl
+
+  by_suspend : (o : Option Point) → suspend_of (function_of g.given s) (point_of s) ≡ o → HasSaved g s
+  by_suspend None e = absurd (not_fine Cause.State (does ∙ ap (λ (o : Option Point). or_undefined g.given s
+      (and_then (found Cause.State o) (λ (p : Point). saving s p
+      (option_and_then (instance_numbered s.instances) s.top.instance)))) e))
+  by_suspend (Some p) e = by_own p e (does ∙ ap (λ (o : Option Point). or_undefined g.given s
+      (and_then (found Cause.State o) (λ (p : Point). saving s p
+      (option_and_then (instance_numbered s.instances) s.top.instance)))) e) s.top.instance refl
+
+  pub has_saved : HasSaved g s
+  has_saved = by_suspend (suspend_of (function_of g.given s) (point_of s)) refl
+
+-- ---- where a frame lies
+
+-- the block of a frame that is there
+pub held_block : (m : List MemoryBlock) (x : Instance) → is_held m x ≡ true
+    → (y : MemoryBlock) × (slice_get m x.block ≡ Some y)
+held_block m x = on (slice_get m x.block) refl
+  where
+    on : (o : Option MemoryBlock) → slice_get m x.block ≡ o → is_held_in o x ≡ true
+        → (y : MemoryBlock) × (slice_get m x.block ≡ Some y)
+    on None e held = absurd (false≢true (and_parts (not (is_given_in None && is_finished x.status)) (lives_in None)
+        (and_parts (not x.freed) (not (is_given_in None && is_finished x.status) && lives_in None) held).1).1)
+    on (Some y) e held = (y, e)
+
+-- the index lies at a small offset
+pub index_low : (g : FramedGiven) (h : PlainGiven) (s : State) (t : PlainState) (r : AreRelated g h s t) (i : ℕ)
+    (x : Instance) → slice_get s.instances i ≡ Some x → is_held s.world.memory x ≡ true → IsLaidOut g x.coroutine
+    → x.start + (layout_of g.layouts x.coroutine).index < 2 ^ 64
+index_low g h s t r i x there held laid =
+    let y = held_block s.world.memory x held in
+    below x.start (layout_of g.layouts x.coroutine).index _ (layout_of g.layouts x.coroutine).size y.0.size laid.index
+    (r.frames.laid.lies i x y.0 there y.1).inside
+    (twin_at s.world.memory t.world.memory r.world.memory.twins x.block y.0 y.1).is.small
+  where
+    below : (a b l c z : ℕ) → b + l ≤ c → a + c ≤ z → z < 2 ^ 64 → a + b < 2 ^ 64
+    below a b l c z le inside small = omega arith
+
+-- ---- both runs
+
+module _ (g : FramedGiven) (h : PlainGiven) (s : State) (t : PlainState) (r : AreRelated g h s t)
+    (runs : s.outcome ≡ Outcome.Running) (fine : IsFine (framed_step g s).outcome) (k : IsAtSave g h s t r) where
+  saved : HasSaved g s
+  saved = has_saved g s fine (framed_does g s
+      (AtInstr (Instr.Call (Some k.result) k.must_tail k.ty (Callee.Intrinsic Intrinsic.CoroSave) k.args))
+      (Coro Intrinsic.CoroSave k.args (Some k.result)) runs k.there refl refl)
+
+  abbrev x : Instance
+  x = saved.instance
+
+  number : (j : ℕ) × ((number_of_save r.top.shape (Some k.result) ≡ Some j)
+      × IsNumbered (function_of g.given s) saved.suspend j)
+  number = save_number (function_of g.given s) (function_at h.code t.top.func) r.top.shape r.top.part k.result
+      s.top.block s.top.at
+      (Instr.Call (Some k.result) k.must_tail k.ty (Callee.Intrinsic Intrinsic.CoroSave) k.args) saved.suspend
+      r.top.coded k.coroutine k.there refl saved.found_it
+
+  code : HasSaveCode g h s t r number.0
+  code = save_code g h s t r k number.0 number.1.0 saved.suspend number.1.1
+
+  -- the instance is the activation's own
+  same : (r.top.frame saved.number saved.own).instance ≡ x
+  same = let w = r.top.frame saved.number saved.own in same_some w.instance x (sym w.there ∙ saved.there)
+
+  mine : x.coroutine ≡ s.top.func
+  mine = let w = r.top.frame saved.number saved.own in ap (λ (z : Instance). z.coroutine) (sym same) ∙ w.coroutine
+
+  at_begin : value_in t.top.values (shape_at g s.top.func).begin ≡ pointer_at x.block x.start
+  at_begin = let w = r.top.frame saved.number saved.own in
+      ap (λ (z : Shape). value_in t.top.values z.begin) (sym code.same) ∙ w.is ∙ ap frame_address_of same
+
+  held : is_held s.world.memory x ≡ true
+  held = k.held saved.number x saved.own saved.there saved.unfreed
+
+  laid : IsLaidOut g x.coroutine
+  laid = subst (IsLaidOut g) (sym mine) k.laid
+
+  -- the suspend with its number, to which a path leads
+  counted : (z : IsNumbered (function_at g.given.code x.coroutine) saved.suspend number.0)
+      × IsLedTo (function_at g.given.code x.coroutine) z.suspend.block
+  counted = subst (λ (n : ℕ). (z : IsNumbered (function_at g.given.code n) saved.suspend number.0)
+      × IsLedTo (function_at g.given.code n) z.suspend.block) (sym mine)
+      (number.1.1, k.led saved.suspend number.0 saved.found_it number.1.1)
+
+  small : x.start + (layout_of g.layouts x.coroutine).index < 2 ^ 64
+  small = index_low g h s t r saved.number x saved.there held laid
+
+  abbrev kept : Option Saved
+  kept = Some (record { depth = length s.below; save = point_of s })
+
+  abbrev u : State
+  u = next (saved_at s saved.suspend saved.number x)
+
+  related : AreRelated g h u (iterate (plain_step h) 4 t)
+  related = subst (AreRelated g h u)
+      (sym (save_steps g h s t r saved.number x number.0 code saved.there mine at_begin held laid small saved.suspend
+      counted.0 counted.1 kept (r.outcome ∙ runs)))
+      (save_related g h s t r saved.number x number.0 code saved.there mine at_begin held laid small saved.suspend
+      counted.0 counted.1 kept k.settled)
+
+  abbrev w : Work
+  w = saved_work g (plain_work t) code.name x number.0 (resumer_of g x.coroutine counted.0.suspend)
+
+  quiet : (n : ℕ) → n ≤ 3 → IsQuiet t (iterate (plain_step h) n t)
+  quiet n le = line_quiet h (save_stores (shape_at g s.top.func) code.name number.0) t w (r.outcome ∙ runs)
+      code.stands.stand
+      (subst (λ (f : ℕ). Runs (plain_context h t) (save_stores (shape_at g f) code.name number.0) (plain_work t) w) mine
+      (runs_here g h s t r saved.number x number.0 code saved.there mine at_begin held laid small saved.suspend
+      counted.0 counted.1 kept)) (refl, (refl, (refl, tt))) n le
+
+  on_way : (n : ℕ) → n < 4 → IsOn s (iterate (plain_step h) n t)
+  on_way n lt = let z = quiet n (less n lt) in record {
+    goes = runs;
+    running = z.0;
+    events = z.1.0 ∙ r.world.events;
+    allocs = z.1.1 ∙ r.world.allocs;
+  }
+    where
+      less : (n : ℕ) → n < 4 → n ≤ 3
+      less n lt = omega arith
+
+  pub save_followed : IsFollowed g h s t
+  save_followed = many_followed g h s t r runs 4 u (omega arith) (omega arith) saved.is
+      (subst (λ (y : Fetched). 4 + credit_of u ≤ weight y + credit_of s) (sym k.there) (reach (credit_of s))) on_way
+      related
+    where
+      reach : (n : ℕ) → 4 + n ≤ 4 + n
+      reach n = omega arith

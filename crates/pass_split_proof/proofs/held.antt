@@ -1,0 +1,9 @@
+pub mod Acts
+pub mod Begins
+pub mod Freed
+pub mod Instances
+pub mod LetGo
+pub mod Memory
+pub mod Moves
+pub mod Runs
+pub mod Steps

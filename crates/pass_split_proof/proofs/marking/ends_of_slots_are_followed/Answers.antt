@@ -1,0 +1,5 @@
+use Rattle.pass_split_proof.proofs.marking.Ends.{end_followed}
+use Rattle.pass_split_proof.proofs.marking.ends_of_slots_are_followed.Goals as goal
+
+pub returns : goal.returns
+returns c = end_followed

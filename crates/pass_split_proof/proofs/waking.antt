@@ -1,0 +1,4 @@
+pub mod Addressed
+pub mod Cut
+pub mod Destroying
+pub mod Transferring
