@@ -8,6 +8,7 @@ pub mod code;
 pub mod ends;
 pub mod entering;
 pub mod first_exits;
+pub mod freeing;
 pub mod giving;
 pub mod held;
 pub mod making;

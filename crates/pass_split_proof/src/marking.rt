@@ -3,7 +3,7 @@
 ghost use Rattle.std.specs.Prelude.{◌≡◌};
 ghost use Rattle.ir_base.specs.declared.outcome.Outcome.{Outcome};
 ghost use Rattle.ir_model.specs.declared.operand.Intrinsic.{Intrinsic};
-ghost use Rattle.pass_split_proof.specs.marking.Markers.{IsAtMarker};
+ghost use Rattle.pass_split_proof.specs.marking.Markers.{HoldsNoFrame, IsAtMarker};
 ghost use Rattle.pass_split_proof.specs.simulation.Followed.{IsFollowed};
 ghost use Rattle.pass_split_proof.specs.states.Related.{AreRelated};
 ghost use Rattle.run_framed.specs.Framed.{FramedGiven};
@@ -15,4 +15,11 @@ ghost use Rattle.run_source.specs.declared.state.State.{State as TheState};
 pub fn ends_of_slots_are_followed()
     ensures { (g : FramedGiven) (h : PlainGiven) (s : TheState) (t : ThePlainState) (r : AreRelated g h s t)
         → s.outcome ≡ Outcome.Running → IsAtMarker g h s t r Intrinsic.LifetimeEnd → IsFollowed g h s t }
+{}
+
+/// So is its start, if no frame is held in the block then. Its bytes are undefined in both runs.
+pub fn starts_of_slots_are_followed()
+    ensures { (g : FramedGiven) (h : PlainGiven) (s : TheState) (t : ThePlainState) (r : AreRelated g h s t)
+        → s.outcome ≡ Outcome.Running → (k : IsAtMarker g h s t r Intrinsic.LifetimeStart)
+        → HoldsNoFrame s.instances s.world.memory k.block → IsFollowed g h s t }
 {}

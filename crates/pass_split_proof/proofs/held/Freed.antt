@@ -26,13 +26,13 @@ use Rattle.run_step.specs.Step.{deallocated, without_slots}
 
 -- ---- what a deallocator does to memory
 
-record Killed (m : List MemoryBlock) (b : ℕ) (o : Offset) (k : List MemoryBlock) : Type 0 where
-  start : (o.bits == 0) ≡ true
-  unkilled : is_unkilled Kind.Allocator (slice_get m b) ≡ true
-  unowned : is_owned (slice_get m b) ≡ false
-  memory : k ≡ killed m b
+pub record Killed (m : List MemoryBlock) (b : ℕ) (o : Offset) (k : List MemoryBlock) : Type 0 where
+  pub start : (o.bits == 0) ≡ true
+  pub unkilled : is_unkilled Kind.Allocator (slice_get m b) ≡ true
+  pub unowned : is_owned (slice_get m b) ≡ false
+  pub memory : k ≡ killed m b
 
-killed_ok : (m : List MemoryBlock) (b : ℕ) (o : Offset) (k : List MemoryBlock)
+pub killed_ok : (m : List MemoryBlock) (b : ℕ) (o : Offset) (k : List MemoryBlock)
     → kill m (Value.Ptr (Pointer.At b o)) Kind.Allocator ≡ Ok k → Killed m b o k
 killed_ok m b o k h = on ((o.bits == 0) && is_unkilled Kind.Allocator (slice_get m b)) refl h
   where
@@ -83,7 +83,7 @@ plain_freed s p k = then_kept (deallocated s.world.memory p)
 
 -- ---- where one is
 
-unkilled_disowned : (m : List MemoryBlock) (b : ℕ) → is_unkilled Kind.Allocator (slice_get (disown m b) b) ≡ true
+pub unkilled_disowned : (m : List MemoryBlock) (b : ℕ) → is_unkilled Kind.Allocator (slice_get (disown m b) b) ≡ true
     → is_unkilled Kind.Allocator (slice_get m b) ≡ true
 unkilled_disowned m b h = on (slice_get m b) refl
   where

@@ -40,7 +40,7 @@ action_is w result vs Allocator.Malloc e = refl
 action_is w result vs Allocator.Znwm e = refl
 action_is w result vs _ e = absurd (cc)
 
-first_stands : (homes : List Home) (vs us : List Value) → AreValues homes vs us → IsValue homes (nth vs 0) (nth us 0)
+pub first_stands : (homes : List Home) (vs us : List Value) → AreValues homes vs us → IsValue homes (nth vs 0) (nth us 0)
 first_stands homes [] [] stand = tt
 first_stands homes [] (u ∷ us) stand = absurd stand
 first_stands homes (v ∷ vs) [] stand = absurd stand

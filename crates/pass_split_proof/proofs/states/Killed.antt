@@ -95,7 +95,7 @@ ended_alone x y left too t = record {
   sixteen = t.sixteen;
 }
 
-left_too : (l k : Life) → LivesAs l k → is_killed k ≡ is_killed l
+pub left_too : (l k : Life) → LivesAs l k → is_killed k ≡ is_killed l
 left_too Life.Live k same = ap is_killed same
 left_too Life.Ended k same = same
 left_too Life.Killed k same = ap is_killed same

@@ -63,28 +63,30 @@ set_there [] n v lt = absurd (omega arith)
 set_there (u ∷ env) zero v lt = refl
 set_there (u ∷ env) (suc n) v lt = set_there env n v (omega arith)
 
--- ---- an instance that is saved has its frame where it had it
+-- ---- an instance that changes has its frame where it had it
 
-pub state_frames : (xs : List Instance) (i : ℕ) (x : Instance) (status : Status) (saved : Option Saved)
-    (released : Bool) → slice_get xs i ≡ Some x → KeepsFrames xs (slice_set xs i (in_state x status saved released))
-state_frames xs i x status saved released e = record {
+pub set_keeps : (xs : List Instance) (i : ℕ) (x now : Instance) → slice_get xs i ≡ Some x
+    → now.coroutine ≡ x.coroutine → frame_address_of now ≡ frame_address_of x → KeepsFrames xs (slice_set xs i now)
+set_keeps xs i x now e coroutine address = record {
   each = λ j z f. ⊎_elim
       (λ is. let same : x ≡ z = one x z (sym e ∙ ap (slice_get xs) (sym is) ∙ f) in (
-        in_state x status saved released,
+        now,
         (
-          ap (slice_get (slice_set xs i (in_state x status saved released))) is
-              ∙ set_here xs i (in_state x status saved released) (slice_get_within xs i x e),
-          ap
-              (λ (w : Instance). w.coroutine) same,
-          ap frame_address_of same,
+          ap (slice_get (slice_set xs i now)) is ∙ set_here xs i now (slice_get_within xs i x e),
+          coroutine ∙ ap (λ (w : Instance). w.coroutine) same,
+          address ∙ ap frame_address_of same,
         ),
       ))
-      (λ ne. (z, (set_other xs i j (in_state x status saved released) ne ∙ f, refl, refl)))
+      (λ ne. (z, (set_other xs i j now ne ∙ f, refl, refl)))
       (cases_eq j i);
 }
   where
     one : (x z : Instance) → Some x ≡ Some z → x ≡ z
     one x z h = cc
+
+pub state_frames : (xs : List Instance) (i : ℕ) (x : Instance) (status : Status) (saved : Option Saved)
+    (released : Bool) → slice_get xs i ≡ Some x → KeepsFrames xs (slice_set xs i (in_state x status saved released))
+state_frames xs i x status saved released e = set_keeps xs i x (in_state x status saved released) e refl refl
 
 -- ---- the line of a save
 

@@ -1,5 +1,5 @@
 -- A lifetime marker that the framed run and its part are at.
-use Rattle.std.specs.Prelude.{◌≡◌, ℕ, Bool, false, List, Option}
+use Rattle.std.specs.Prelude.{◌≡◌, ℕ, Bool, false, List, Option, Some, slice_get}
 use Rattle.ir_model.specs.Names.{function_at}
 use Rattle.ir_model.specs.Ty.{Ty}
 use Rattle.ir_model.specs.declared.instr.Instr.{Instr}
@@ -8,16 +8,21 @@ use Rattle.ir_model.specs.declared.operand.Callee.{Callee}
 use Rattle.ir_model.specs.declared.operand.Intrinsic.{Intrinsic}
 use Rattle.pass_split_proof.specs.places.Places.{IsPlace}
 use Rattle.pass_split_proof.specs.states.Activations.{is_entering}
+use Rattle.pass_split_proof.specs.states.Instances.{is_held}
 use Rattle.pass_split_proof.specs.states.Related.{AreRelated}
 use Rattle.pass_split_proof.specs.steps.Operands.{IsReadable}
 use Rattle.run_framed.specs.Framed.{FramedGiven}
 use Rattle.run_laws.specs.changed.Changed.{Each, values_of}
+use Rattle.run_memory.specs.Memory.{start}
+use Rattle.run_memory.specs.declared.block.Kind.{Kind}
+use Rattle.run_memory.specs.declared.block.MemoryBlock.{MemoryBlock}
 use Rattle.run_memory.specs.declared.pointer.Offset.{Offset}
 use Rattle.run_memory.specs.declared.pointer.Pointer.{Pointer}
 use Rattle.run_memory.specs.declared.pointer.Value.{Value}
 use Rattle.run_plain.specs.Plain.{PlainGiven}
 use Rattle.run_plain.specs.declared.state.PlainState.{PlainState}
 use Rattle.run_source.specs.State.{function_of}
+use Rattle.run_source.specs.declared.state.Instance.{Instance}
 use Rattle.run_source.specs.declared.state.State.{State}
 use Rattle.run_step.specs.Step.{AtInstr, fetch}
 use Rattle.run_step.specs.Values.{arg_values, nth}
@@ -39,3 +44,8 @@ pub record IsAtMarker (g : FramedGiven) (h : PlainGiven) (s : State) (t : PlainS
   pub block : ℕ
   pub offset : Offset
   pub marks : nth (arg_values g.given.code s.top.values args) 1 ≡ Value.Ptr (Pointer.At block offset)
+
+-- the block is no allocator's, and no frame in it is held once it has started
+pub record HoldsNoFrame (instances : List Instance) (m : List MemoryBlock) (b : ℕ) : Type 0 where
+  pub heap : (y : MemoryBlock) → slice_get m b ≡ Some y → y.kind ≡ Kind.Allocator → ⊥
+  pub free : (i : ℕ) (x : Instance) → slice_get instances i ≡ Some x → x.block ≡ b → is_held (start m b) x ≡ false
