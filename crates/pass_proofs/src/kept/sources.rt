@@ -9,8 +9,11 @@
 //! K3, K6
 //! and K7 (`coroutines_keep_suspend_rules`). Blocks on edges leave these (`edge_blocks_keep_suspend_rules`). It also
 //! holds by N1, K1, K2, Y1 and Y2 (`functions_have_plain_names`).
+//!
+//! What the invariants of runs ask of places holds by K2, K3, K5, K6, N1 and F2. It is said in
+//! `coroutines_keep_places_closed`, `suspends_stop_at_the_end` and `suspends_come_behind_their_saves`.
 
-ghost use Rattle.std.specs.Prelude.{ℕ, ◌≡◌, None, true, Some, List, ℤ, Option};
+ghost use Rattle.std.specs.Prelude.{ℕ, ◌≡◌, ◌⊎◌, ◌+◌, ◌∷◌, [], negsuc, None, true, Some, List, ℤ, Option};
 ghost use Rattle.rule_laws.specs.rules.function_rules.Kept.{KeepsFunctionRules};
 ghost use Rattle.ir_model.specs.declared.module.Function.{Function};
 ghost use Rattle.ir_model.specs.declared.module.Module.{Module};
@@ -19,9 +22,15 @@ ghost use Rattle.rule_shape.specs.Switches.{wrong_switch};
 ghost use Rattle.ir_model.specs.declared.instr.Terminator.{Terminator};
 ghost use Rattle.ir_model.specs.declared.operand.Arg.{Arg};
 ghost use Rattle.ir_model.specs.declared.operand.Intrinsic.{Intrinsic};
-ghost use Rattle.ir_paths.specs.Windows.{IsInWindow, suspend_of};
+ghost use Rattle.ir_paths.specs.Windows.{IsInWindow, call_result, end_block, suspend_of};
 ghost use Rattle.rule_windows.specs.Sets.{IsAfterEnd, RunsOut};
-ghost use Rattle.run_step.specs.Step.{AtTerm, fetch};
+ghost use Rattle.run_step.specs.Step.{AtTerm, AtInstr, fetch, target_of};
+ghost use Rattle.run_ints.specs.Numbers.{word_of};
+ghost use Rattle.ir_model.specs.Names.{position_of};
+ghost use Rattle.ir_model.specs.declared.instr.Case.{Case};
+ghost use Rattle.ir_model.specs.declared.instr.Instr.{Instr};
+ghost use Rattle.ir_model.specs.declared.operand.Operand.{Operand};
+ghost use Rattle.ir_paths.specs.Paths.{Leads, entry_point};
 ghost use Rattle.ir_paths.specs.declared.point.Point.{Point};
 ghost use Rattle.pass_kept_proof.specs.SuspendRules.{IsCallAt, IsSwitched, KeepsSuspendRules, AllKeepSuspendRules, KeepsNeeded};
 ghost use Rattle.pass_kept_proof.specs.Needed.{IsNeededBehind, given_by};
@@ -79,6 +88,49 @@ pub fn coroutines_keep_places_closed()
     ensures suspend_inside { (m : Module) (k : ℕ) (f : Function) → f.coroutine ≡ true → KeepsFunctionRules m k f
         → KeepsShape k f → KeepsPaths k f → (save s p : Point) → IsCallAt Intrinsic.CoroSave f save
         → suspend_of f save ≡ Some s → IsInWindow f save s p → IsCallAt Intrinsic.CoroSuspend f p → ⊥ }
+{}
+
+/// In a coroutine that breaks none of these rules each suspend is followed by a switch on what it makes. The switch
+/// takes -1 to the block of the end, and the end stands first in that.
+pub fn suspends_stop_at_the_end()
+    ensures switch { (k : ℕ) (f : Function) → f.coroutine ≡ true → KeepsShape k f → (s : Point)
+        → IsCallAt Intrinsic.CoroSuspend f s → (arg : Arg) × (default : ℕ) × (cases : List Case)
+        × (fetch f s.block (s.at + 1) ≡ AtTerm (Terminator.Switch arg default cases)) }
+    ensures result { (k : ℕ) (f : Function) → f.coroutine ≡ true → KeepsShape k f → (s : Point)
+        → IsCallAt Intrinsic.CoroSuspend f s → (arg : Arg) (default : ℕ) (cases : List Case)
+        → fetch f s.block (s.at + 1) ≡ AtTerm (Terminator.Switch arg default cases) → (i : Instr)
+        → fetch f s.block s.at ≡ AtInstr i
+        → (n : ℕ) × (call_result i ≡ Some n) × (arg.value ≡ Operand.Local n) }
+    ensures stop { (k : ℕ) (f : Function) → f.coroutine ≡ true → KeepsShape k f → (s : Point)
+        → IsCallAt Intrinsic.CoroSuspend f s → (arg : Arg) (default : ℕ) (cases : List Case)
+        → fetch f s.block (s.at + 1) ≡ AtTerm (Terminator.Switch arg default cases) → (m : Module)
+        → target_of m (word_of 8 (negsuc 0)) default cases ≡ default }
+    ensures end { (m : Module) (k : ℕ) (f : Function) → f.coroutine ≡ true → KeepsFunctionRules m k f
+        → KeepsShape k f → (s : Point) → IsCallAt Intrinsic.CoroSuspend f s
+        → (arg : Arg) (default : ℕ) (cases : List Case)
+        → fetch f s.block (s.at + 1) ≡ AtTerm (Terminator.Switch arg default cases)
+        → position_of f default ≡ end_block f }
+    ensures first { (m : Module) (k : ℕ) (f : Function) → f.coroutine ≡ true → KeepsFunctionRules m k f
+        → KeepsShape k f → (s : Point) → IsCallAt Intrinsic.CoroSuspend f s
+        → (arg : Arg) (default : ℕ) (cases : List Case)
+        → fetch f s.block (s.at + 1) ≡ AtTerm (Terminator.Switch arg default cases)
+        → IsCallAt Intrinsic.CoroEnd f (entry_point f default) }
+{}
+
+/// A suspend of a function that breaks none of the rules of functions takes the token of one save. No path from the
+/// entry leads to it without that save. In a coroutine that breaks none of these rules no path does so from its switch.
+pub fn suspends_come_behind_their_saves()
+    ensures once { (m : Module) (k : ℕ) (f : Function) → KeepsFunctionRules m k f → (save other s : Point)
+        → IsCallAt Intrinsic.CoroSave f save → suspend_of f save ≡ Some s
+        → IsCallAt Intrinsic.CoroSave f other → suspend_of f other ≡ Some s → other ≡ save }
+    ensures entry { (m : Module) (k : ℕ) (f : Function) → KeepsFunctionRules m k f → (save s : Point)
+        → IsCallAt Intrinsic.CoroSave f save → suspend_of f save ≡ Some s
+        → (record { block = 0; at = 0 } ≡ save → ⊥)
+        → (record { block = 0; at = 0 } ≡ s) ⊎ Leads f (save ∷ []) (record { block = 0; at = 0 }) s → ⊥ }
+    ensures back { (m : Module) (k : ℕ) (f : Function) → f.coroutine ≡ true → KeepsFunctionRules m k f
+        → KeepsShape k f → KeepsPaths k f → (save s : Point) → IsCallAt Intrinsic.CoroSave f save
+        → suspend_of f save ≡ Some s → (record { block = s.block; at = s.at + 1 } ≡ s)
+        ⊎ Leads f (save ∷ []) (record { block = s.block; at = s.at + 1 }) s → ⊥ }
 {}
 
 /// A function that breaks none of the rules of functions, and as a coroutine none of its calls, keeps what is asked of names and of the end's block.
