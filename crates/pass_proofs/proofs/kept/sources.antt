@@ -15,3 +15,4 @@ pub mod Closed
 pub mod Stops
 pub mod SaveTokens
 pub mod WaysBack
+pub mod Typed

@@ -69,10 +69,10 @@ module _ (m : Module) (k : ℕ) (f : Function) (rules : KeepsFunctionRules m k f
     pub call_fits : (at : ℕ) (i : Instr) → slice_get b.instrs at ≡ Some i → FitsCallee m i
     call_fits at i e = let x = at_each _ b.instrs at i (block_passes (calls_otherwise m) k f rules.calls j b got).instrs e in callee_fits m x.0 i x.2
 
-    term_fits : fits_ending (value_kind f) f.result b.term ≡ true
+    pub term_fits : fits_ending (value_kind f) f.result b.term ≡ true
     term_fits = let x = (block_passes (breaks_values m (value_kind f) f.result) k f rules.local.values j b got).ending in holds (fits_ending (value_kind f) f.result b.term) x.1
 
-    phis_fit : Each (λ p. fits_phi (value_kind f) p.ty p.incoming ≡ true) b.phis
+    pub phis_fit : Each (λ p. fits_phi (value_kind f) p.ty p.incoming ≡ true) b.phis
     phis_fit = each_there _ b.phis (λ at p e. let x = at_each _ b.phis at p (block_passes (breaks_values m (value_kind f) f.result) k f rules.local.values j b got).phis e in holds (fits_phi (value_kind f) p.ty p.incoming) x.2)
 
   module _ (v : ℕ) where
@@ -100,7 +100,7 @@ module _ (m : Module) (k : ℕ) (f : Function) (rules : KeepsFunctionRules m k f
       pub made : result_of instr ≡ Some v
       pub not_given : given_by instr ≡ Some v → ⊥
 
-    once : times v (numbers f) ≤ 1
+    pub once : times v (numbers f) ≤ 1
     once = apart_times v (numbers f) (subst Apart (names_are k f) (apart_names [] (locals_of k f) rules.definitions))
 
     pub ungiven_no_scalar : IsUngiven → IsScalarValue (value_kind f) v → ⊥
