@@ -12,3 +12,7 @@ pub mod Tokens
 pub mod Whole
 pub mod Windows
 pub mod Closed
+pub mod Stops
+pub mod SaveTokens
+pub mod WaysBack
+pub mod Typed

@@ -9,8 +9,12 @@
 //! K3, K6
 //! and K7 (`coroutines_keep_suspend_rules`). Blocks on edges leave these (`edge_blocks_keep_suspend_rules`). It also
 //! holds by N1, K1, K2, Y1 and Y2 (`functions_have_plain_names`).
+//!
+//! What the invariants of runs ask of places holds by K2, K3, K5, K6, N1 and F2. It is said in
+//! `coroutines_keep_places_closed`, `suspends_stop_at_the_end` and `suspends_come_behind_their_saves`.
+//! What they ask of types is said in `functions_keep_types`.
 
-ghost use Rattle.std.specs.Prelude.{ℕ, ◌≡◌, None, true, Some, List, ℤ, Option};
+ghost use Rattle.std.specs.Prelude.{ℕ, ◌≡◌, ◌⊎◌, ◌+◌, ◌∷◌, [], negsuc, slice_get, Bool, None, true, Some, List, ℤ, Option};
 ghost use Rattle.rule_laws.specs.rules.function_rules.Kept.{KeepsFunctionRules};
 ghost use Rattle.ir_model.specs.declared.module.Function.{Function};
 ghost use Rattle.ir_model.specs.declared.module.Module.{Module};
@@ -19,9 +23,27 @@ ghost use Rattle.rule_shape.specs.Switches.{wrong_switch};
 ghost use Rattle.ir_model.specs.declared.instr.Terminator.{Terminator};
 ghost use Rattle.ir_model.specs.declared.operand.Arg.{Arg};
 ghost use Rattle.ir_model.specs.declared.operand.Intrinsic.{Intrinsic};
-ghost use Rattle.ir_paths.specs.Windows.{IsInWindow, suspend_of};
+ghost use Rattle.ir_paths.specs.Windows.{IsInWindow, call_result, end_block, suspend_of};
 ghost use Rattle.rule_windows.specs.Sets.{IsAfterEnd, RunsOut};
-ghost use Rattle.run_step.specs.Step.{AtTerm, fetch};
+ghost use Rattle.run_step.specs.Step.{AtTerm, AtInstr, fetch, target_of};
+ghost use Rattle.run_ints.specs.Numbers.{word_of};
+ghost use Rattle.ir_laws.specs.facts.counted.Widths.{has_width};
+ghost use Rattle.ir_model.specs.Ty.{Ty};
+ghost use Rattle.ir_model.specs.declared.instr.Phi.{Phi};
+ghost use Rattle.ir_model.specs.declared.module.Block.{Block};
+ghost use Rattle.ir_model.specs.declared.module.Param.{Param};
+ghost use Rattle.ir_model.specs.declared.operand.Callee.{Callee};
+ghost use Rattle.rule_laws.specs.rules.counted.Widths.{first_other_width};
+ghost use Rattle.rule_types.specs.Signatures.{fits_callee};
+ghost use Rattle.rule_values.specs.Instrs.{fits_instr};
+ghost use Rattle.rule_values.specs.Kinds.{instr_kind, kind_of, value_kind};
+ghost use Rattle.rule_values.specs.Values.{fits_ending, fits_phi};
+ghost use Rattle.rule_values.specs.declared.kinds.Kind.{Kind};
+ghost use Rattle.ir_model.specs.Names.{position_of};
+ghost use Rattle.ir_model.specs.declared.instr.Case.{Case};
+ghost use Rattle.ir_model.specs.declared.instr.Instr.{Instr};
+ghost use Rattle.ir_model.specs.declared.operand.Operand.{Operand};
+ghost use Rattle.ir_paths.specs.Paths.{Leads, entry_point};
 ghost use Rattle.ir_paths.specs.declared.point.Point.{Point};
 ghost use Rattle.pass_kept_proof.specs.SuspendRules.{IsCallAt, IsSwitched, KeepsSuspendRules, AllKeepSuspendRules, KeepsNeeded};
 ghost use Rattle.pass_kept_proof.specs.Needed.{IsNeededBehind, given_by};
@@ -79,6 +101,73 @@ pub fn coroutines_keep_places_closed()
     ensures suspend_inside { (m : Module) (k : ℕ) (f : Function) → f.coroutine ≡ true → KeepsFunctionRules m k f
         → KeepsShape k f → KeepsPaths k f → (save s p : Point) → IsCallAt Intrinsic.CoroSave f save
         → suspend_of f save ≡ Some s → IsInWindow f save s p → IsCallAt Intrinsic.CoroSuspend f p → ⊥ }
+{}
+
+/// In a coroutine that breaks none of these rules each suspend is followed by a switch on what it makes. The switch
+/// takes -1 to the block of the end, and the end stands first in that.
+pub fn suspends_stop_at_the_end()
+    ensures switch { (k : ℕ) (f : Function) → f.coroutine ≡ true → KeepsShape k f → (s : Point)
+        → IsCallAt Intrinsic.CoroSuspend f s → (arg : Arg) × (default : ℕ) × (cases : List Case)
+        × (fetch f s.block (s.at + 1) ≡ AtTerm (Terminator.Switch arg default cases)) }
+    ensures result { (k : ℕ) (f : Function) → f.coroutine ≡ true → KeepsShape k f → (s : Point)
+        → IsCallAt Intrinsic.CoroSuspend f s → (arg : Arg) (default : ℕ) (cases : List Case)
+        → fetch f s.block (s.at + 1) ≡ AtTerm (Terminator.Switch arg default cases) → (i : Instr)
+        → fetch f s.block s.at ≡ AtInstr i
+        → (n : ℕ) × (call_result i ≡ Some n) × (arg.value ≡ Operand.Local n) }
+    ensures stop { (k : ℕ) (f : Function) → f.coroutine ≡ true → KeepsShape k f → (s : Point)
+        → IsCallAt Intrinsic.CoroSuspend f s → (arg : Arg) (default : ℕ) (cases : List Case)
+        → fetch f s.block (s.at + 1) ≡ AtTerm (Terminator.Switch arg default cases) → (m : Module)
+        → target_of m (word_of 8 (negsuc 0)) default cases ≡ default }
+    ensures end { (m : Module) (k : ℕ) (f : Function) → f.coroutine ≡ true → KeepsFunctionRules m k f
+        → KeepsShape k f → (s : Point) → IsCallAt Intrinsic.CoroSuspend f s
+        → (arg : Arg) (default : ℕ) (cases : List Case)
+        → fetch f s.block (s.at + 1) ≡ AtTerm (Terminator.Switch arg default cases)
+        → position_of f default ≡ end_block f }
+    ensures first { (m : Module) (k : ℕ) (f : Function) → f.coroutine ≡ true → KeepsFunctionRules m k f
+        → KeepsShape k f → (s : Point) → IsCallAt Intrinsic.CoroSuspend f s
+        → (arg : Arg) (default : ℕ) (cases : List Case)
+        → fetch f s.block (s.at + 1) ≡ AtTerm (Terminator.Switch arg default cases)
+        → IsCallAt Intrinsic.CoroEnd f (entry_point f default) }
+{}
+
+/// A suspend of a function that breaks none of the rules of functions takes the token of one save. No path from the
+/// entry leads to it without that save. In a coroutine that breaks none of these rules no path does so from its switch.
+pub fn suspends_come_behind_their_saves()
+    ensures once { (m : Module) (k : ℕ) (f : Function) → KeepsFunctionRules m k f → (save other s : Point)
+        → IsCallAt Intrinsic.CoroSave f save → suspend_of f save ≡ Some s
+        → IsCallAt Intrinsic.CoroSave f other → suspend_of f other ≡ Some s → other ≡ save }
+    ensures entry { (m : Module) (k : ℕ) (f : Function) → KeepsFunctionRules m k f → (save s : Point)
+        → IsCallAt Intrinsic.CoroSave f save → suspend_of f save ≡ Some s
+        → (record { block = 0; at = 0 } ≡ save → ⊥)
+        → (record { block = 0; at = 0 } ≡ s) ⊎ Leads f (save ∷ []) (record { block = 0; at = 0 }) s → ⊥ }
+    ensures back { (m : Module) (k : ℕ) (f : Function) → f.coroutine ≡ true → KeepsFunctionRules m k f
+        → KeepsShape k f → KeepsPaths k f → (save s : Point) → IsCallAt Intrinsic.CoroSave f save
+        → suspend_of f save ≡ Some s → (record { block = s.block; at = s.at + 1 } ≡ s)
+        ⊎ Leads f (save ∷ []) (record { block = s.block; at = s.at + 1 }) s → ⊥ }
+{}
+
+/// In a function that breaks none of the rules of functions each name is of the kind of what gives it (N1). Operands fit
+/// the types with which they are used (Y1), and a call is of the types of its callee (Y2). Where all integers are of the
+/// widths of the grammar, a load is of such a width.
+pub fn functions_keep_types()
+    ensures instrs { (m : Module) (k : ℕ) (f : Function) → KeepsFunctionRules m k f → (block at : ℕ) (i : Instr)
+        → fetch f block at ≡ AtInstr i → fits_instr m (value_kind f) i ≡ true }
+    ensures ends { (m : Module) (k : ℕ) (f : Function) → KeepsFunctionRules m k f → (block at : ℕ) (t : Terminator)
+        → fetch f block at ≡ AtTerm t → fits_ending (value_kind f) f.result t ≡ true }
+    ensures given { (m : Module) (k : ℕ) (f : Function) → KeepsFunctionRules m k f → (block at n : ℕ) (i : Instr)
+        (kind : Kind) → fetch f block at ≡ AtInstr i → instr_kind i n ≡ Some kind → value_kind f n ≡ Some kind }
+    ensures phis { (m : Module) (k : ℕ) (f : Function) → KeepsFunctionRules m k f → (block : ℕ) (b : Block) (at : ℕ)
+        (p : Phi) → slice_get f.blocks block ≡ Some b → slice_get b.phis at ≡ Some p
+        → (fits_phi (value_kind f) p.ty p.incoming ≡ true) × (value_kind f p.result ≡ Some (kind_of p.ty)) }
+    ensures params { (m : Module) (k : ℕ) (f : Function) → KeepsFunctionRules m k f → (at : ℕ) (p : Param)
+        → slice_get f.params at ≡ Some p → value_kind f p.name ≡ Some (kind_of p.ty) }
+    ensures calls { (m : Module) (k : ℕ) (f : Function) → KeepsFunctionRules m k f → (block at : ℕ)
+        (result : Option ℕ) (must_tail : Bool) (ty : Option Ty) (callee : Callee) (args : List Arg)
+        → fetch f block at ≡ AtInstr (Instr.Call result must_tail ty callee args)
+        → fits_callee m ty args callee ≡ true }
+    ensures loads { (m : Module) (k : ℕ) (f : Function) → KeepsFunctionRules m k f → first_other_width k f ≡ None
+        → (block at name : ℕ) (ty : Ty) (p : Operand) (align : ℕ)
+        → fetch f block at ≡ AtInstr (Instr.Load name ty p align) → has_width ty ≡ true }
 {}
 
 /// A function that breaks none of the rules of functions, and as a coroutine none of its calls, keeps what is asked of names and of the end's block.

@@ -69,10 +69,10 @@ module _ (m : Module) (k : ℕ) (f : Function) (rules : KeepsFunctionRules m k f
     pub call_fits : (at : ℕ) (i : Instr) → slice_get b.instrs at ≡ Some i → FitsCallee m i
     call_fits at i e = let x = at_each _ b.instrs at i (block_passes (calls_otherwise m) k f rules.calls j b got).instrs e in callee_fits m x.0 i x.2
 
-    term_fits : fits_ending (value_kind f) f.result b.term ≡ true
+    pub term_fits : fits_ending (value_kind f) f.result b.term ≡ true
     term_fits = let x = (block_passes (breaks_values m (value_kind f) f.result) k f rules.local.values j b got).ending in holds (fits_ending (value_kind f) f.result b.term) x.1
 
-    phis_fit : Each (λ p. fits_phi (value_kind f) p.ty p.incoming ≡ true) b.phis
+    pub phis_fit : Each (λ p. fits_phi (value_kind f) p.ty p.incoming ≡ true) b.phis
     phis_fit = each_there _ b.phis (λ at p e. let x = at_each _ b.phis at p (block_passes (breaks_values m (value_kind f) f.result) k f rules.local.values j b got).phis e in holds (fits_phi (value_kind f) p.ty p.incoming) x.2)
 
   module _ (v : ℕ) where
@@ -100,7 +100,7 @@ module _ (m : Module) (k : ℕ) (f : Function) (rules : KeepsFunctionRules m k f
       pub made : result_of instr ≡ Some v
       pub not_given : given_by instr ≡ Some v → ⊥
 
-    once : times v (numbers f) ≤ 1
+    pub once : times v (numbers f) ≤ 1
     once = apart_times v (numbers f) (subst Apart (names_are k f) (apart_names [] (locals_of k f) rules.definitions))
 
     pub ungiven_no_scalar : IsUngiven → IsScalarValue (value_kind f) v → ⊥
@@ -113,11 +113,11 @@ module _ (m : Module) (k : ℕ) (f : Function) (rules : KeepsFunctionRules m k f
     -- ---- paths
 
     -- a path leads from the entry to a place, and nothing on it makes v
-    record Comes (block at : ℕ) : Type 0 where
-      reaches : ReachesWithout f v block
-      no_param : is_param f v ≡ false
-      no_phi : phis_give v (phis_of (slice_get f.blocks block)) ≡ false
-      unmade : (j : ℕ) → j < at → makes f v (point block j) ≡ false
+    pub record Comes (block at : ℕ) : Type 0 where
+      pub reaches : ReachesWithout f v block
+      pub no_param : is_param f v ≡ false
+      pub no_phi : phis_give v (phis_of (slice_get f.blocks block)) ≡ false
+      pub unmade : (j : ℕ) → j < at → makes f v (point block j) ≡ false
 
     phis_unmade : (block : ℕ) (b : Block) → slice_get f.blocks block ≡ Some b → phis_give v (phis_of (slice_get f.blocks block)) ≡ false → IsListed v (phi_values b) → ⊥
     phis_unmade block b e none h = on (made_phi v b.phis [] h)
@@ -134,12 +134,18 @@ module _ (m : Module) (k : ℕ) (f : Function) (rules : KeepsFunctionRules m k f
         none_made (λ u. Unit {0}) v (phi_values b) b.instrs (phis_unmade block b e c.no_phi)
         (λ j x d. sym (made_is block b e j x d) ∙ c.unmade j (subst (λ (n : ℕ). j < n) (sym last) (get_within b.instrs j x d)))
 
-    result_there : (o : Option ℕ) → is_result v o ≡ true → o ≡ Some v
+    pub result_there : (o : Option ℕ) → is_result v o ≡ true → o ≡ Some v
     result_there None e = absurd (cc)
     result_there (Some n) e = ap Some (equal_numbers n v e)
 
-    over : (block at : ℕ) (i : Instr) → fetch f block at ≡ AtInstr i → (given_by i ≡ Some v → ⊥) → Comes block at → Comes block (at + 1) ⊎ IsUngiven
-    over block at i e none c = on (is_result v (result_of i)) refl
+    pub over_unmade : (block at : ℕ) (i : Instr) → fetch f block at ≡ AtInstr i → is_result v (result_of i) ≡ false
+        → Comes block at → Comes block (at + 1)
+    over_unmade block at i e d c = record {
+      reaches = c.reaches;
+      no_param = c.no_param;
+      no_phi = c.no_phi;
+      unmade = λ j lt. earlier j lt (j == at) refl;
+    }
       where
         there : instr_at f (point block at) ≡ Some i
         there = instr_there f block at i e
@@ -147,15 +153,27 @@ module _ (m : Module) (k : ℕ) (f : Function) (rules : KeepsFunctionRules m k f
         below : (j : ℕ) → j < at + 1 → (j ≡ at → ⊥) → j < at
         below j lt ne = omega (arith, ne)
 
-        on : (b : Bool) → is_result v (result_of i) ≡ b → Comes block (at + 1) ⊎ IsUngiven
-        on true d = inr (record { place = point block at; instr = i; stands = there; made = result_there (result_of i) d; not_given = none })
-        on false d = inl (record { reaches = c.reaches; no_param = c.no_param; no_phi = c.no_phi; unmade = λ j lt. earlier j lt (j == at) refl })
-          where
-            earlier : (j : ℕ) → j < at + 1 → (b : Bool) → (j == at) ≡ b → makes f v (point block j) ≡ false
-            earlier j lt true s = ap (λ (n : ℕ). makes f v (point block n)) (equal_numbers j at s) ∙ ap (passes (λ i. is_result v (result_of i))) there ∙ d
-            earlier j lt false s = c.unmade j (below j lt (not_equal j at s))
+        earlier : (j : ℕ) → j < at + 1 → (b : Bool) → (j == at) ≡ b → makes f v (point block j) ≡ false
+        earlier j lt true s =
+            ap (λ (n : ℕ). makes f v (point block n)) (equal_numbers j at s)
+            ∙ ap (passes (λ i. is_result v (result_of i))) there ∙ d
+        earlier j lt false s = c.unmade j (below j lt (not_equal j at s))
 
-    across : (block at label : ℕ) → BranchesTo label (fetch f block at) → phis_give v (phis_at f label) ≡ false → Comes block at → Comes (position_of f label) 0
+    over : (block at : ℕ) (i : Instr) → fetch f block at ≡ AtInstr i → (given_by i ≡ Some v → ⊥) → Comes block at
+        → Comes block (at + 1) ⊎ IsUngiven
+    over block at i e none c = on (is_result v (result_of i)) refl
+      where
+        on : (b : Bool) → is_result v (result_of i) ≡ b → Comes block (at + 1) ⊎ IsUngiven
+        on true d = inr (record {
+          place = point block at;
+          instr = i;
+          stands = instr_there f block at i e;
+          made = result_there (result_of i) d;
+          not_given = none;
+        })
+        on false d = inl (over_unmade block at i e d c)
+
+    pub across : (block at label : ℕ) → BranchesTo label (fetch f block at) → phis_give v (phis_at f label) ≡ false → Comes block at → Comes (position_of f label) 0
     across block at label br none c =
         let x = branch_there f block at label br in
         let own = x.1.0 in
@@ -194,7 +212,7 @@ module _ (m : Module) (k : ℕ) (f : Function) (rules : KeepsFunctionRules m k f
         use_at IsDefined v (instr_place k block (length b.phis + length b.instrs)) block (block_values b) (ending_operands b.term) (uses_in block b e).term (any_local v (ending_operands b.term) used)
         (record { reaches = c.reaches; not_before = values_unmade block at b e last c; no_param = not_param c.no_param })
 
-    not_read : (block at : ℕ) → Comes block at → IsListed v (used_by (fetch f block at)) → ⊥
+    pub not_read : (block at : ℕ) → Comes block at → IsListed v (used_by (fetch f block at)) → ⊥
     not_read block at c h = on (fetch f block at) refl h
       where
         on : (x : Fetched) → fetch f block at ≡ x → IsListed v (used_by x) → ⊥

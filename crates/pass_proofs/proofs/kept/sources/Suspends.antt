@@ -106,10 +106,10 @@ given_suspend _ e = absurd (cc)
 
 module _ (k : ℕ) (f : Function) (coroutine : f.coroutine ≡ true) (switches : wrong_switch k f ≡ None) where
   module _ (s : Point) (c : IsCallAt Intrinsic.CoroSuspend f s) where
-    where_it_is : StandsIn f s c.instr
+    pub where_it_is : StandsIn f s c.instr
     where_it_is = stands_in f s c.instr (instr_there f s.block s.at c.instr c.stands)
 
-    own : IsSuspendSwitched f where_it_is.block s.at c.instr
+    pub own : IsSuspendSwitched f where_it_is.block s.at c.instr
     own = suspend_switched k f coroutine switches s.block s.at where_it_is.block c.instr where_it_is.got where_it_is.stands c.is
 
     pub is_switched : IsSwitched f s

@@ -45,11 +45,11 @@ use Rattle.ir_laws.proofs.paths.replaced.Known.{of_listed as each_at}
 use Rattle.rule_laws.proofs.rules.source_rules.Windows.{end_ends}
 
 -- a path that avoids points is a path
-none_avoided : (f : Function) (avoided : List Point) (between : List Point) (p q : Point) → IsPath f avoided p between q → IsPath f [] p between q
+pub none_avoided : (f : Function) (avoided : List Point) (between : List Point) (p q : Point) → IsPath f avoided p between q → IsPath f [] p between q
 none_avoided f avoided [] p q h = h
 none_avoided f avoided (v ∷ between) p q h = (h.0, refl, none_avoided f avoided between v q h.2)
 
-phis_listed : (v : ℕ) (ps : List Phi) → phis_give v ps ≡ true → IsListed v (map (λ p. p.result) ps)
+pub phis_listed : (v : ℕ) (ps : List Phi) → phis_give v ps ≡ true → IsListed v (map (λ p. p.result) ps)
 phis_listed v [] h = absurd (cc)
 phis_listed v (p ∷ ps) h = on (p.result == v) refl h (phis_listed v ps)
   where
