@@ -1,7 +1,10 @@
 pub mod Cells
 pub mod Filled
+pub mod Fillers
 pub mod Loads
+pub mod Names
 pub mod Results
 pub mod Rows
+pub mod SavedRows
 pub mod Saves
 pub mod Stored

@@ -1,3 +1,4 @@
+pub mod Behind
 pub mod Made
 pub mod Operands
 pub mod Quiet

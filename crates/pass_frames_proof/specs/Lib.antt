@@ -5,6 +5,7 @@ pub mod Distances
 pub mod Entry
 pub mod Fetched
 pub mod Framings
+pub mod Geps
 pub mod Layers
 pub mod Lines
 pub mod Loaded

@@ -9,7 +9,7 @@ use Rattle.pass_cells.specs.Moves.{load_from, store_to}
 use Rattle.pass_cells.specs.declared.plan.KeptValue.{KeptValue}
 use Rattle.pass_fetch.specs.Fetching.{value_bytes}
 use Rattle.pass_frames_proof.specs.Places.{Framing, edged, named, plan}
-use Rattle.pass_frames_proof.specs.Related.{IsCell, IsDistanceOf, IsKeptValue, root_of}
+use Rattle.pass_frames_proof.specs.Related.{Anything, IsCell, IsDistanceOf, IsKeptValue, root_of}
 use Rattle.run_laws.specs.access.Accessed.{Span}
 use Rattle.run_laws.specs.access.Lines.{AreDisjoint, Holds, Runs, refilled_at}
 use Rattle.run_laws.specs.changed.Changed.{Each}
@@ -120,7 +120,7 @@ pub record AreCellsRightBut (x : Framing) (homes : List Home) (rights : Rights) 
   pub distances : (v cell slot : ℕ) → v ≢ but → entry (plan x).cells v ≡ Some cell → root_of x v ≡ Some slot
       → IsCell rights memory a cell (int 64) (IsDistanceOf (value_in env slot) (value_in env v))
 
--- a line is executed, fills cells of the activation alone, and then all are right but that distance
+-- a line is executed, fills cells of the activation alone, and then all are right but that distance, whose cell is there
 pub record LeavesCellsBut (x : Framing) (homes : List Home) (c : Context) (w : Work) (a : Activation) (env : Env)
     (but n : ℕ) (line : List Instr) : Type 0 where
   pub work : Work
@@ -129,6 +129,8 @@ pub record LeavesCellsBut (x : Framing) (homes : List Home) (c : Context) (w : W
   pub values : work.values ≡ w.values
   pub inside : AreInCells x a spans
   pub right : AreCellsRightBut x homes c.rights work.world.memory env (at_work a work) but
+  pub there : (cell : ℕ) → entry (plan x).cells but ≡ Some cell
+      → IsCell c.rights work.world.memory (at_work a work) cell (int 64) Anything
 
 -- a name that gets a value: it is no local slot from whose address distances go on
 abbrev pub IsNoRoot : Framing → ℕ → Type 0

@@ -16,7 +16,7 @@ use Rattle.pass_fetch.specs.Fetching.{fetches_of_all, next_after_all}
 use Rattle.pass_fetch.specs.Instrs.{with_fetched}
 use Rattle.pass_fetch.specs.declared.fetch.Fetch.{Fetch}
 use Rattle.pass_frames_proof.specs.Distances.{IsBelow, SetsFrom}
-use Rattle.pass_frames_proof.specs.Fetched.{CanFetch, seen_of}
+use Rattle.pass_frames_proof.specs.Fetched.{AreSeenAs, CanFetch, seen_of}
 use Rattle.pass_frames_proof.specs.Lines.{HasOwnBlocks, IsCellOf, IsNoRoot, IsStorable, at_work}
 use Rattle.pass_frames_proof.specs.Places.{Framing, edged, named, plan}
 use Rattle.pass_frames_proof.specs.Related.{AreCellsRight, IsFreeOf, IsKeptValue}
@@ -48,7 +48,7 @@ pub record MayBeMade (homes : List Home) (hides : ℕ → Bool) (maps : Maps) (t
   pub seen : Each (IsSeenFor homes t given c d w y) (instr_operands i)
   pub callee : IsNamedAlike maps c d (callee_at (AtInstr i))
   pub pointed : IsPointedAlike maps c d w.values (AtInstr i)
-  pub distance : (z : Work) → SetsFrom n y z
+  pub distance : (z : Work) → SetsFrom n y z → AreSeenAs t given d y z n (instr_operands i)
       → AreSameDistances c d w.values z.values (AtInstr i) (AtInstr (with_fetched t n i))
   pub no_slot : HasNoSlot (AtInstr i)
   pub bytes : HasBytes (AtInstr i)
@@ -81,13 +81,18 @@ StandsUnkept x homes c d w y (Operand.Local v) =
 StandsUnkept x homes c d w y a =
     (ty : Ty) → IsValue homes (operand_value c.code w.values ty a) (operand_value d.code y.values ty a)
 
--- the name that is set has no cell of a distance, and no distance goes on from it
-pub record IsPlainName (x : Framing) (r : ℕ) : Type 0 where
+-- the name that is set is one of the coroutine's, and no distance goes on from it
+pub record IsResultName (x : Framing) (r : ℕ) : Type 0 where
   pub low : r < length (edged x).names
   pub no_root : IsNoRoot x r
+
+-- nor has it a cell of a distance
+pub record IsPlainName (x : Framing) (r : ℕ) : Type 0 where
+  pub name : IsResultName x r
   pub no_distance : entry (plan x).cells r ≡ None
 
-pub record MayStep (x : Framing) (homes : List Home) (hides : ℕ → Bool) (c d : Context) (w y : Work) (a : Activation)
+-- what is asked of the works, and of the operands of an instruction
+pub record MayFetch (x : Framing) (homes : List Home) (hides : ℕ → Bool) (c d : Context) (w y : Work) (a : Activation)
     (n : ℕ) (i : Instr) : Type 0 where
   pub joined : AreJoined homes hides same_maps c d w y
   pub cells : AreCellsRight x homes d.rights y.world.memory w.values (at_work a y)
@@ -100,19 +105,28 @@ pub record MayStep (x : Framing) (homes : List Home) (hides : ℕ → Bool) (c d
   pub stands : Each (StandsUnkept x homes c d w y) (instr_operands i)
   pub callee : IsNamedAlike same_maps c d (callee_at (AtInstr i))
   pub bytes : HasBytes (AtInstr i)
-  pub result : (r : ℕ) → result_of i ≡ Some r → IsPlainName x r
   pub storable : (v : Work) → instr_action c w i ≡ Done v → (r : ℕ) (k : KeptValue) → result_of i ≡ Some r
       → IsKeptValue x r k → IsStorable k.ty (value_in v.values r)
 
--- operands are loaded, the instruction is executed, and its result is stored: the relation holds behind it
-pub record Steps (x : Framing) (homes : List Home) (hides : ℕ → Bool) (c d : Context) (y v : Work) (a : Activation)
+-- and of its result
+pub record MayStep (x : Framing) (homes : List Home) (hides : ℕ → Bool) (c d : Context) (w y : Work) (a : Activation)
     (n : ℕ) (i : Instr) : Type 0 where
+  pub operands : MayFetch x homes hides c d w y a n i
+  pub result : (r : ℕ) → result_of i ≡ Some r → IsPlainName x r
+
+-- operands are loaded, the instruction is executed, and what stands behind it is: the relation holds there
+pub record StepsBy (x : Framing) (homes : List Home) (hides : ℕ → Bool) (c d : Context) (y v : Work) (a : Activation)
+    (n : ℕ) (i : Instr) (behind : List Instr) : Type 0 where
   pub work : Work
   pub runs : Runs d
       (fetches_of_all (fetches_of (plan x)) n (instr_operands i)
-      ++ (with_fetched (fetches_of (plan x)) n i ∷ stored_result (plan x) (result_of i))) y work
+      ++ (with_fetched (fetches_of (plan x)) n i ∷ behind)) y work
   pub over : AreOver c.rights d.rights homes hides (λ k. k) v.world work.world
   pub cells : AreCellsRight x homes d.rights work.world.memory v.values (at_work a work)
   pub set : (r : ℕ) → result_of i ≡ Some r → IsValue homes (value_in v.values r) (value_in work.values r)
   pub others : (u : ℕ) → u < n → (result_of i ≡ Some u → ⊥) → value_in work.values u ≡ value_in y.values u
   pub room : length work.values ≡ length y.values
+
+-- behind it its result is stored
+abbrev pub Steps : Framing → List Home → (ℕ → Bool) → (c d : Context) → (y v : Work) → Activation → ℕ → Instr → Type 0
+Steps x homes hides c d y v a n i = StepsBy x homes hides c d y v a n i (stored_result (plan x) (result_of i))

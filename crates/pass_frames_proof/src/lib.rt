@@ -8,6 +8,7 @@ pub mod distances;
 pub mod entry;
 pub mod fetched;
 pub mod framings;
+pub mod geps;
 pub mod layers;
 pub mod lines;
 pub mod offsets;

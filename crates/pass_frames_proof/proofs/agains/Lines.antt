@@ -22,7 +22,7 @@ use Rattle.pass_frames_proof.proofs.code.Left.{Far, addressed_idle, calm_address
 use Rattle.pass_frames_proof.proofs.code.Names.{Count, First, IsLeft, cell_left, far_left, local}
 use Rattle.pass_frames_proof.proofs.layers.Grown.{both_becomes}
 use Rattle.pass_frames_proof.proofs.layers.Idle.{all_stay, state_stays}
-use Rattle.pass_frames_proof.proofs.lines.Saves.{field_fetched}
+use Rattle.pass_frames_proof.proofs.lines.Fillers.{field_fetched}
 use Rattle.pass_frames_proof.specs.Framings.{IsFraming}
 use Rattle.pass_frames_proof.specs.Layers.{IsIdle, Layer, becomes, grown, only, passed}
 use Rattle.pass_frames_proof.specs.Passes.{fetching_at}

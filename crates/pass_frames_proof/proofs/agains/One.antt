@@ -17,7 +17,7 @@ use Rattle.pass_frames_proof.proofs.distances.Sums.{set_from, sets_on, value_set
 use Rattle.pass_frames_proof.proofs.lines.Cells.{AreOf, cell_has, cell_on, cell_stays, cell_stores, inside_of, kept_type}
 use Rattle.pass_frames_proof.proofs.lines.Filled.{over_joined, over_sets}
 use Rattle.pass_frames_proof.proofs.lines.Results.{storable_stands}
-use Rattle.pass_frames_proof.proofs.lines.Saves.{distance_stored}
+use Rattle.pass_frames_proof.proofs.lines.Fillers.{distance_stored}
 use Rattle.pass_proofs.proofs.addresses.numbers.Done.{address_done}
 use Rattle.pass_frames_proof.specs.Distances.{SetsFrom}
 use Rattle.pass_frames_proof.specs.Lines.{HasOwnBlocks, IsKeptType, IsStorable, RunsOver, StoresCell, at_work}

@@ -20,7 +20,7 @@ use Rattle.pass_frames_proof.proofs.code.Names.{Count, F, First, Kept, keeping, 
 use Rattle.pass_frames_proof.proofs.layers.Grown.{grown_append}
 use Rattle.pass_frames_proof.proofs.lines.Cells.{cell_has}
 use Rattle.pass_frames_proof.proofs.lines.Filled.{over_fewer, over_joined, over_none}
-use Rattle.pass_frames_proof.proofs.lines.Saves.{filler_left}
+use Rattle.pass_frames_proof.proofs.lines.Fillers.{filler_left}
 use Rattle.pass_frames_proof.specs.Agains.{LoadsValues, MayLoadAgain}
 use Rattle.pass_frames_proof.specs.Code.{addressed}
 use Rattle.pass_frames_proof.specs.Framings.{IsFraming}

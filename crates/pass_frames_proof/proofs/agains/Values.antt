@@ -19,7 +19,7 @@ use Rattle.pass_frames_proof.proofs.code.Names.{Count, F, First, Kept, has_cells
 use Rattle.pass_frames_proof.proofs.lines.Cells.{cell_has, cell_stays, kept_type, other_block}
 use Rattle.pass_frames_proof.proofs.lines.Filled.{elsewhere_apart, others_stay}
 use Rattle.pass_frames_proof.proofs.lines.Results.{distance_apart, kept_is_cell, kept_once, same_kept, storable_stands}
-use Rattle.pass_frames_proof.proofs.lines.Saves.{distance_low, distance_of, kept_low}
+use Rattle.pass_frames_proof.proofs.lines.Names.{distance_low, distance_of, kept_low}
 use Rattle.pass_frames_proof.specs.Framings.{IsFraming}
 use Rattle.pass_frames_proof.specs.Lines.{AreElsewhere, HasOwnBlocks, IsCellOf, IsKeptType, IsStorable, RunsOver, at_work}
 use Rattle.pass_frames_proof.specs.Places.{Framing, edged, named, plan}

@@ -19,7 +19,8 @@ use Rattle.pass_frames_proof.proofs.distances.Ways.{distance_sum}
 use Rattle.pass_frames_proof.proofs.lines.Cells.{AreOf, StoresOperand, cell_has, cell_loads, cell_on, cell_stays, inside_of, kept_type, operand_stores}
 use Rattle.pass_frames_proof.proofs.lines.Filled.{over_joined, over_sets}
 use Rattle.pass_frames_proof.proofs.lines.Results.{distance_apart}
-use Rattle.pass_frames_proof.proofs.lines.Saves.{distance_low, distance_of, distance_stored, kept_low}
+use Rattle.pass_frames_proof.proofs.lines.Fillers.{distance_stored}
+use Rattle.pass_frames_proof.proofs.lines.Names.{distance_low, distance_of, kept_low}
 use Rattle.pass_frames_proof.specs.Distances.{IsBelow, IsNumber, SetsFrom, SumsUp, summed}
 use Rattle.pass_frames_proof.specs.Framings.{IsFraming}
 use Rattle.pass_frames_proof.specs.Lines.{IsCellOf, LoadsCell, RunsOver, at_work}

@@ -15,14 +15,14 @@ use Rattle.pass_frames_proof.proofs.code.Names.{Count, First, Kept, count_is, ha
 use Rattle.pass_frames_proof.proofs.lines.Cells.{cell_has, cell_stores, kept_type, others_kept}
 use Rattle.pass_frames_proof.proofs.lines.Filled.{over_none}
 use Rattle.pass_proofs.proofs.cells.rules.Fronts.{IsNumbered}
-use Rattle.pass_proofs.proofs.cells.rules.Links.{distance_there}
+use Rattle.pass_proofs.proofs.cells.rules.Links.{distance_there, marks_have}
 use Rattle.pass_proofs.proofs.frames.begin_order.Fields.{distance_far}
 use Rattle.pass_cells.specs.Links.{bases_of, links_from, marks_of, slots_of}
 use Rattle.pass_frames_proof.specs.Framings.{IsFraming}
 use Rattle.ir_model.specs.declared.instr.Instr.{Instr}
 use Rattle.pass_frames_proof.specs.Lines.{DifferAt, HasOwnBlocks, IsCellOf, IsNoRoot, IsStorable, LeavesCellsBut, StoresCell, at_work}
 use Rattle.pass_frames_proof.specs.Places.{Framing, edged, named, plan}
-use Rattle.pass_frames_proof.specs.Related.{AreCellsRight, IsCell, IsDistanceOf, IsKeptValue}
+use Rattle.pass_frames_proof.specs.Related.{Anything, AreCellsRight, IsCell, IsDistanceOf, IsKeptValue, root_of}
 use Rattle.run_laws.specs.access.Accessed.{Span}
 use Rattle.run_laws.specs.memory.Pointers.{Home, IsValue, moved_pointer}
 use Rattle.run_laws.specs.memory.Standing.{AreByteRights}
@@ -83,6 +83,16 @@ module _ (x : Framing) (is : IsFraming x) where
       let p : k.cell ≡ First x is + kept.number = n.cell in
       omega (arith, far, lt, long, p, same)
 
+  -- a name whose distance has a cell has a local slot
+  has_root : (v cell : ℕ) → entry (plan x).cells v ≡ Some cell → (slot : ℕ) × (root_of x v ≡ Some slot)
+  has_root v cell e =
+      let F = edged x in
+      let slots : List (Option ℕ) = slots_of (local x is) (bases_of F) in
+      let marks : List Bool = marks_of (bases_of F) slots (Kept x is).values in
+      let told = distance_there (First x is) (Count x is) (Kept x is).places marks v cell e in
+      let slot = marks_have (bases_of F) slots (Kept x is).values v told.marked in
+      (slot.0, slot.1)
+
   -- the cell of a kept value is one
   pub kept_is_cell : (v : ℕ) (k : KeptValue) → IsKeptValue x v k → IsCellOf x k.cell
   kept_is_cell v k kept =
@@ -103,6 +113,15 @@ module _ (x : Framing) (is : IsFraming x) where
     abbrev Leaves : List Instr → Type 0
     Leaves line = LeavesCellsBut x homes c w a env v n line
 
+    -- the cell of its distance is there
+    old_there : (cell : ℕ) → entry (plan x).cells v ≡ Some cell
+        → IsCell c.rights w.world.memory (at_work a w) cell (int 64) Anything
+    old_there cell e =
+        let root = has_root v cell e in
+        cell_has c.rights w.world.memory (at_work a w) cell (int 64)
+        (IsDistanceOf (value_in old root.0) (value_in old v)) Anything (λ u h. tt)
+        (right.distances v cell root.0 e root.1)
+
     none_stored : ((k : KeptValue) → IsKeptValue x v k → ⊥) → Leaves []
     none_stored none = record {
       work = w;
@@ -120,6 +139,7 @@ module _ (x : Framing) (is : IsFraming x) where
             (λ (z : Value × Value). IsCell c.rights w.world.memory (at_work a w) cell (int 64) (IsDistanceOf z.0 z.1))
             (λ i. (sym (differ slot (no_root u slot r)) i, sym (differ u d) i)) (right.distances u cell slot e r);
       };
+      there = old_there;
     }
 
     one_stored : (k : KeptValue) → IsKeptValue x v k → Leaves (store_to k.ty v k.cell ∷ [])
@@ -175,6 +195,9 @@ module _ (x : Framing) (is : IsFraming x) where
                 (value_in old u)) s
                 (distance_apart u cell v k e kept) (right.distances u cell slot e r));
           };
+          there = λ cell e.
+              others_kept c w a law own v k.cell n cell k.ty (int 64) Anything s (distance_apart v cell v k e kept)
+              (old_there cell e);
         }
 
     by_kept : (at : ℕ) → entry (plan x).places v ≡ Some at → (o : Option KeptValue) → slice_get (plan x).kept at ≡ o

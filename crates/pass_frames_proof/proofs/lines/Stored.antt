@@ -23,7 +23,7 @@ use Rattle.run_step.specs.Step.{Context, Work, with_all}
 use Rattle.run_step.specs.Values.{Env, access_of, stored, value_in, with_value}
 
 -- a name that is set has its value, or the names end before it
-set_or_none : (P : Value → Type 0) (env : Env) (v : ℕ) (u : Value) → P u → P Value.Poison
+pub set_or_none : (P : Value → Type 0) (env : Env) (v : ℕ) (u : Value) → P u → P Value.Poison
     → P (value_in (with_value env v u) v)
 set_or_none P [] v u h none = none
 set_or_none P (y ∷ env) zero u h none = h

@@ -61,13 +61,13 @@ module _ (homes : List Home) (hides : ℕ → Bool) (maps : Maps) (t : List (Opt
     shape = instr_related t Stand n i (all_stand n (instr_operands i) m.seen first.seen);
     callee = m.callee;
     pointed = m.pointed;
-    distance = m.distance first.work first.sets;
+    distance = m.distance first.work first.sets first.seen;
     cases = tt;
     no_slot = m.no_slot;
     bytes = m.bytes;
   }
 
-  pub made : IsMade homes hides maps t c d w y n i
+  abbrev pub made : IsMade homes hides maps t c d w y n i
   made = record {
     work = first.work;
     runs = first.runs;

@@ -17,13 +17,14 @@ use Rattle.pass_frames_proof.proofs.code.Left.{fetch_found}
 use Rattle.pass_frames_proof.proofs.code.Names.{Count, F, First, Kept, keeping, local}
 use Rattle.pass_frames_proof.proofs.lines.Loads.{can_load, loaded_stands}
 use Rattle.pass_frames_proof.specs.Distances.{SetsFrom}
-use Rattle.pass_frames_proof.specs.Fetched.{CanFetch, seen_by}
+use Rattle.pass_frames_proof.specs.Fetched.{AreSeenAs, CanFetch, seen_by}
 use Rattle.pass_frames_proof.specs.Framings.{IsFraming}
 use Rattle.pass_frames_proof.specs.Loaded.{loaded_value}
-use Rattle.pass_frames_proof.specs.Ordinary.{IsSeenFor, MayBeMade, MayStep, StandsUnkept}
+use Rattle.pass_frames_proof.specs.Ordinary.{IsSeenFor, MayBeMade, MayFetch, StandsUnkept}
 use Rattle.pass_frames_proof.specs.Places.{Framing, edged, plan}
 use Rattle.pass_proofs.proofs.cells.rules.Planned.{fetch_there}
 use Rattle.pass_proofs.proofs.cells.rules.Plans.{kept_as, kept_at}
+use Rattle.run_laws.specs.changed.Changed.{Each}
 use Rattle.run_laws.specs.embedded.Related.{HasNoSlot}
 use Rattle.run_laws.specs.memory.Pointers.{Home, IsValue}
 use Rattle.run_laws.specs.transfer.Transfer.{AreSameDistances, IsPointedAlike, same_maps}
@@ -33,7 +34,7 @@ use Rattle.run_step.specs.Step.{AtInstr, Context, Work}
 use Rattle.run_step.specs.Values.{value_in}
 
 module _ (x : Framing) (is : IsFraming x) (homes : List Home) (hides : ℕ → Bool) (c d : Context) (w y : Work)
-    (a : Activation) (n : ℕ) (i : Instr) (m : MayStep x homes hides c d w y a n i) where
+    (a : Activation) (n : ℕ) (i : Instr) (m : MayFetch x homes hides c d w y a n i) where
   abbrev T : List (Option Fetch)
   T = fetches_of (plan x)
 
@@ -79,9 +80,13 @@ module _ (x : Framing) (is : IsFraming x) (homes : List Home) (hides : ℕ → B
   can_one (Operand.Local u) = can_load x is homes d w.values a y m.cells n u m.low
   can_one _ = tt
 
+  pub seen_all : Each (IsSeenFor homes T given c d w y) (instr_operands i)
+  seen_all =
+      each_turns (StandsUnkept x homes c d w y) (IsSeenFor homes T given c d w y) seen_one (instr_operands i) m.stands
+
   -- so the instruction may be made
   pub may_make : IsPointedAlike same_maps c d w.values (AtInstr i)
-      → ((z : Work) → SetsFrom n y z
+      → ((z : Work) → SetsFrom n y z → AreSeenAs T given d y z n (instr_operands i)
       → AreSameDistances c d w.values z.values (AtInstr i) (AtInstr (with_fetched T n i)))
       → HasNoSlot (AtInstr i) → MayBeMade homes hides same_maps T given c d w y n i
   may_make pointed distance no_slot = record {
@@ -89,8 +94,7 @@ module _ (x : Framing) (is : IsFraming x) (homes : List Home) (hides : ℕ → B
     can = each_all (CanFetch T given n d y) can_one (instr_operands i);
     below = m.below;
     room = m.room;
-    seen = each_turns (StandsUnkept x homes c d w y) (IsSeenFor homes T given c d w y) seen_one (instr_operands i)
-        m.stands;
+    seen = seen_all;
     callee = m.callee;
     pointed = pointed;
     distance = distance;

@@ -1,10 +1,8 @@
 -- Arithmetic, loads and calls of outside functions: no memory changes but for the cell of the result.
-use Rattle.std.proofs.Common.{◌≡◌, inr, ⊎_elim, ℕ, ◌<◌, ◌≤◌, Bool, true, false, List, [], ◌∷◌, length, refl, sym, ap, ◌∙◌, subst, arith}
-use Rattle.std.specs.List.{Contains}
-use Rattle.std.specs.Prelude.{Err, None, Ok, Option, Result, Some, option_map, slice_get, if◌then◌else◌}
+use Rattle.std.proofs.Common.{◌≡◌, ⊎_elim, ℕ, Bool, true, false, List, [], ◌∷◌, refl, sym, ap, ◌∙◌, subst}
+use Rattle.std.specs.Prelude.{Err, None, Ok, Option, Result, Some, option_map, if◌then◌else◌}
 use Rattle.ir_base.specs.declared.cause.Cause.{Cause}
 use Rattle.ir_base.specs.declared.outcome.Word.{Word}
-use Rattle.ir_laws.proofs.facts.Members.{each_turns}
 use Rattle.ir_laws.proofs.facts.Truth.{is_number}
 use Rattle.ir_model.specs.Names.{declaration_named, function_named}
 use Rattle.ir_model.specs.Ty.{Ty, int, ptr}
@@ -17,17 +15,15 @@ use Rattle.pass_cells.specs.Written.{stored, stored_result}
 use Rattle.pass_fetch.specs.Fetching.{fetches_of_all}
 use Rattle.pass_fetch.specs.Instrs.{with_fetched}
 use Rattle.pass_fetch.specs.declared.fetch.Fetch.{Fetch}
-use Rattle.pass_frames_proof.proofs.lines.Cells.{cell_stays}
-use Rattle.pass_frames_proof.proofs.lines.Filled.{over_none, worlds_stand}
-use Rattle.pass_frames_proof.proofs.lines.Results.{kept_is_cell, result_stored}
-use Rattle.pass_frames_proof.proofs.lines.Saves.{distance_of}
+use Rattle.pass_frames_proof.proofs.lines.Filled.{over_none}
+use Rattle.pass_frames_proof.proofs.ordinary.Behind.{GoesBehind, done_is, done_over, done_work, over_line, result_behind, right_behind, values_set}
 use Rattle.pass_frames_proof.proofs.ordinary.Made.{made}
 use Rattle.pass_frames_proof.proofs.ordinary.Operands.{may_make}
 use Rattle.pass_frames_proof.specs.Framings.{IsFraming}
-use Rattle.pass_frames_proof.specs.Lines.{AreAway, AreInCells, Fills, IsCellOf, LeavesCellsBut, NoneFilled, RunsOver, at_work}
+use Rattle.pass_frames_proof.specs.Lines.{AreInCells, LeavesCellsBut, RunsOver, at_work}
 use Rattle.pass_frames_proof.specs.Loaded.{loaded_value}
-use Rattle.pass_frames_proof.specs.Ordinary.{IsMade, IsPlainName, IsQuiet, MayStep, Steps}
-use Rattle.pass_frames_proof.specs.Places.{Framing, edged, named, plan}
+use Rattle.pass_frames_proof.specs.Ordinary.{IsMade, IsQuiet, MayStep, Steps}
+use Rattle.pass_frames_proof.specs.Places.{Framing, plan}
 use Rattle.pass_frames_proof.specs.Related.{AreCellsRight, IsCell, IsDistanceOf}
 use Rattle.run_ints.specs.Numbers.{binary, icmp}
 use Rattle.run_ints.specs.declared.num.Num.{Num}
@@ -36,16 +32,13 @@ use Rattle.run_laws.specs.access.Accessed.{Span}
 use Rattle.run_laws.specs.changed.Changed.{callee_at}
 use Rattle.run_laws.specs.embedded.Related.{HasNoSlot}
 use Rattle.run_laws.specs.memory.Pointers.{Home, IsValue}
-use Rattle.run_laws.specs.memory.Standing.{AreByteRights, IsAway}
-use Rattle.run_laws.specs.transfer.Muted.{muted}
-use Rattle.run_laws.specs.transfer.Transfer.{AreOver, AreSameDistances, AreSet, GoesOver, IsNamedAlike, IsPointedAlike, args_at, given_at, muted_world, same_maps}
-use Rattle.run_memory.specs.Memory.{compare, is_live, load}
-use Rattle.run_memory.specs.declared.block.MemoryBlock.{MemoryBlock}
+use Rattle.run_laws.specs.memory.Standing.{AreByteRights}
+use Rattle.run_laws.specs.transfer.Transfer.{AreSameDistances, AreSet, IsNamedAlike, IsPointedAlike, given_at, same_maps}
+use Rattle.run_memory.specs.Memory.{compare, load}
 use Rattle.run_memory.specs.declared.pointer.Value.{Value}
 use Rattle.run_source.specs.declared.state.Activation.{Activation}
-use Rattle.run_step.specs.Step.{Action, AtInstr, Context, Done, Stuck, Work, answer, by_pred, cast_to, chosen, compared, done, instr_action, is_alignment, named_call, observed, risen, set_value, value_at, with_event, words_of}
+use Rattle.run_step.specs.Step.{AtInstr, Context, Done, Stuck, Work, answer, by_pred, cast_to, chosen, compared, done, instr_action, is_alignment, named_call, observed, risen, set_value, value_at, with_event, words_of}
 use Rattle.run_step.specs.Values.{Env, access_of, address, arg_value, arg_values, literal, number_at, number_of_width, truth_value, value_in, value_of, with_result}
-use Rattle.run_step.specs.declared.world.World.{World}
 
 -- ---- what quiet instructions are
 
@@ -154,71 +147,35 @@ module _ (x : Framing) (is : IsFraming x) (homes : List Home) (hides : ℕ → B
   abbrev T : List (Option Fetch)
   T = fetches_of (plan x)
 
-  abbrev given : ℕ → Value
-  given = loaded_value x d y
-
   abbrev AreRight : Env → Work → Type 0
   AreRight env u = AreCellsRight x homes d.rights u.world.memory env (at_work a u)
 
   abbrev simple : IsSimple c d T n i
-  simple = quiet_simple c d T n i q m.callee
+  simple = quiet_simple c d T n i q m.operands.callee
 
   step : IsMade homes hides same_maps T c d w y n i
-  step = made homes hides same_maps T given c d law law' w y n i
-      (may_make x is homes hides c d w y a n i m (simple.pointed w.values)
-      (λ z sets. simple.distance w.values z.values) simple.no_slot)
+  step = made homes hides same_maps T (loaded_value x d y) c d law law' w y n i
+      (may_make x is homes hides c d w y a n i m.operands (simple.pointed w.values)
+      (λ z sets seen. simple.distance w.values z.values) simple.no_slot)
 
-  -- ---- the instruction
-
-  went : GoesOver c.rights d.rights homes hides same_maps (given_at (AtInstr i)) (args_at (AtInstr i))
-      (args_at (AtInstr (with_fetched T n i))) w step.work (Done v) (instr_action d step.work (with_fetched T n i))
-  went =
-      subst
-      (λ (act : Action). GoesOver c.rights d.rights homes hides same_maps (given_at (AtInstr i)) (args_at (AtInstr i))
-      (args_at (AtInstr (with_fetched T n i))) w step.work act (instr_action d step.work (with_fetched T n i))) is_done
-      step.goes
+  abbrev goes : GoesBehind x homes hides c d w y v n i
+  goes = record {
+    step = step;
+    given = simple.given;
+    is_done = is_done;
+    source_same = quiet_memory c w v i q is_done;
+    target_same = λ z. quiet_memory d step.work z (with_fetched T n i) simple.quiet;
+    name = λ r e. (m.result r e).name;
+  }
 
   abbrev z : Work
-  z = went.0
+  z = done_work x is homes hides c d law law' w y v a n i m.operands goes
 
   set : AreSet homes (result_of i) w.values step.work.values v.values z.values
-  set =
-      subst (λ (o : Option ℕ). AreSet homes o w.values step.work.values v.values z.values) simple.given went.3
-
-  source_same : v.world.memory ≡ w.world.memory
-  source_same = quiet_memory c w v i q is_done
-
-  target_same : z.world.memory ≡ y.world.memory
-  target_same =
-      quiet_memory d step.work z (with_fetched T n i) simple.quiet went.1
-      ∙ ap (λ (k : World). k.memory) step.sets.world
-
-  -- names of cells have what they had
-  cells_on : (u : ℕ) → IsCellOf x u → value_in z.values u ≡ value_in y.values u
-  cells_on u cell =
-      let lt : u < length (named x).names = cell.1 in
-      let le : length (named x).names ≤ n = m.low in
-      set.target u (λ e. other cell.0 (m.result u e).low) ∙ step.sets.others u (omega (arith, lt, le))
-    where
-      other : length (edged x).names ≤ u → u < length (edged x).names → ⊥
-      other low small = omega (arith, low, small)
-
-  unfilled : Fills d.rights [] y.world.memory z.world.memory
-  unfilled =
-      subst (λ (k : List MemoryBlock). Fills d.rights [] y.world.memory k) (sym target_same)
-      (NoneFilled y.world.memory)
+  set = values_set x is homes hides c d law law' w y v a n i m.operands goes
 
   right : AreRight w.values z
-  right = record {
-    values = λ u k kept.
-        cell_stays d.rights law' [] y.world.memory z.world.memory a y z k.cell k.ty (IsValue homes (value_in
-        w.values u))
-        unfilled (m.cells.values u k kept) tt (cells_on k.cell (kept_is_cell x is u k kept));
-    distances = λ u cell slot e root.
-        cell_stays d.rights law' [] y.world.memory z.world.memory a y z cell (int 64)
-        (IsDistanceOf (value_in w.values slot) (value_in w.values u)) unfilled (m.cells.distances u cell slot e root) tt
-        (cells_on cell (distance_of x is u cell e));
-  }
+  right = right_behind x is homes hides c d law law' w y v a n i m.operands goes
 
   -- ---- its result
 
@@ -252,17 +209,8 @@ module _ (x : Framing) (is : IsFraming x) (homes : List Home) (hides : ℕ → B
       same u = set.source u (λ k. let no : None ≡ Some u = sym e ∙ k in absurd (cc))
 
   module _ (r : ℕ) (e : result_of i ≡ Some r) where
-    plain : IsPlainName x r
-    plain = m.result r e
-
     behind : LeavesCellsBut x homes d z a v.values r n (stored (plan x) r)
-    behind =
-        result_stored x is homes d law' w.values v.values a z r n m.own plain.no_root
-        (λ u differ. set.source u (λ k. differ (same_name u (sym e ∙ k)))) (set.stands r e)
-        (λ k kept. m.storable v is_done r k e kept) right
-      where
-        same_name : (u : ℕ) → Some r ≡ Some u → u ≡ r
-        same_name u k = cc
+    behind = result_behind x is homes hides c d law law' w y v a n i m.operands goes r e
 
     one_behind : IsBehind (Some r)
     one_behind = record {
@@ -275,7 +223,7 @@ module _ (x : Framing) (is : IsFraming x) (homes : List Home) (hides : ℕ → B
         values = behind.right.values;
         distances = λ u cell slot told root. ⊎_elim
             (λ (same : u ≡ r).
-            let none : None ≡ Some cell = sym plain.no_distance ∙ ap (entry (plan x).cells) (sym same) ∙ told in
+            let none : None ≡ Some cell = sym (m.result r e).no_distance ∙ ap (entry (plan x).cells) (sym same) ∙ told in
             absurd (cc))
             (λ differ. behind.right.distances u cell slot differ told root) (is_number u r);
       };
@@ -288,29 +236,14 @@ module _ (x : Framing) (is : IsFraming x) (homes : List Home) (hides : ℕ → B
   last : IsBehind (result_of i)
   last = by_result (result_of i) refl
 
-  away : AreAway c.rights homes (muted hides v.world.memory) last.spans
-  away =
-      each_turns
-      (λ (s : Span). (cell : ℕ) × IsCellOf x cell × Contains a.slots (record { alloca = cell; block = s.block }))
-      (λ (s : Span). (b : ℕ) (k : MemoryBlock) → slice_get (muted hides v.world.memory) b ≡ Some k
-      → is_live k.life ≡ true → IsAway c.rights homes b k s.block s.offset s.len)
-      (λ s h b k e live same. absurd (m.free (record { alloca = h.0; block = s.block }) h.2 h.1 b k
-      (ap (λ (o : List MemoryBlock). slice_get (muted hides o) b) (sym source_same) ∙ e) (inr live) same))
-      last.spans last.inside
-
-  over_behind : AreOver c.rights d.rights homes hides (λ k. k) v.world last.work.world
-  over_behind =
-      subst (λ (u : World). AreOver c.rights d.rights homes hides (λ k. k) v.world u) (sym last.over.world)
-      (worlds_stand c.rights d.rights law law' homes (λ k. k) (muted_world hides v.world) z.world last.spans
-      last.work.world.memory last.over.fills away went.2)
-
   pub quiet_step : Steps x homes hides c d y v a n i
   quiet_step = record {
     work = last.work;
     runs = runs_append d (fetches_of_all T n (instr_operands i))
         (with_fetched T n i ∷ stored_result (plan x) (result_of i)) y step.work last.work step.runs
-        (z, (went.1, last.over.runs));
-    over = over_behind;
+        (z, (done_is x is homes hides c d law law' w y v a n i m.operands goes, last.over.runs));
+    over = over_line x is homes hides c d law law' w y v a n i m.operands goes n (stored_result (plan x) (result_of i))
+        last.spans z last.work last.over last.inside (done_over x is homes hides c d law law' w y v a n i m.operands goes);
     cells = last.right;
     set = λ u e.
         subst (λ (env : Env). IsValue homes (value_in v.values u) (value_in env u)) (sym last.values) (set.stands u e);

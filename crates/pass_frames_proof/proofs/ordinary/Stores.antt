@@ -12,7 +12,7 @@ use Rattle.pass_fetch.specs.Fetching.{fetched_operand, fetches_of_all, next_afte
 use Rattle.pass_fetch.specs.Instrs.{with_fetched}
 use Rattle.pass_fetch.specs.declared.fetch.Fetch.{Fetch}
 use Rattle.pass_frames_proof.proofs.lines.Results.{kept_is_cell}
-use Rattle.pass_frames_proof.proofs.lines.Saves.{distance_of}
+use Rattle.pass_frames_proof.proofs.lines.Names.{distance_of}
 use Rattle.pass_frames_proof.proofs.ordinary.Made.{first, joined, transferred}
 use Rattle.pass_frames_proof.proofs.ordinary.Operands.{may_make}
 use Rattle.pass_frames_proof.specs.Fetched.{AreFetched}
@@ -85,7 +85,7 @@ module _ (x : Framing) (is : IsFraming x) (homes : List Home) (hides : ℕ → B
   j = with_fetched T n i
 
   may : MayBeMade homes hides same_maps T (loaded_value x d y) c d w y n i
-  may = may_make x is homes hides c d w y a n i m tt (λ z sets. tt) tt
+  may = may_make x is homes hides c d w y a n i m.operands tt (λ z sets seen. tt) tt
 
   abbrev step : AreFetched T (loaded_value x d y) d n (instr_operands i) y
   step = first homes hides same_maps T (loaded_value x d y) c d law law' w y n i may
@@ -153,7 +153,7 @@ module _ (x : Framing) (is : IsFraming x) (homes : List Home) (hides : ℕ → B
       → IsCell d.rights z.world.memory (at_work a z) cell ty Has
   cell_kept cell ty Has of h =
       let lt : cell < length (named x).names = of.1 in
-      let low : length (named x).names ≤ n = m.low in
+      let low : length (named x).names ≤ n = m.operands.low in
       record {
         block = h.block;
         address = set.target cell (λ e. absurd (cc)) ∙ step.sets.others cell (omega (arith, lt, low)) ∙ h.address;
@@ -166,7 +166,7 @@ module _ (x : Framing) (is : IsFraming x) (homes : List Home) (hides : ℕ → B
             h.holds)
             (λ k less. record {
               each = λ b o t e live small opens same at.
-                  m.free (record { alloca = cell; block = h.block }) h.own of b t e (inr live) same;
+                  m.operands.free (record { alloca = cell; block = h.block }) h.own of b t e (inr live) same;
             });
         has = h.has;
       }
@@ -179,12 +179,12 @@ module _ (x : Framing) (is : IsFraming x) (homes : List Home) (hides : ℕ → B
     values = λ u k kept.
         cell_kept k.cell k.ty (IsValue homes (value_in v.values u)) (kept_is_cell x is u k kept)
         (subst (λ (t : Value). IsCell d.rights y.world.memory (at_work a y) k.cell k.ty (IsValue homes t)) (sym (same u))
-        (m.cells.values u k kept));
+        (m.operands.cells.values u k kept));
     distances = λ u cell slot e root.
         cell_kept cell (int 64) (IsDistanceOf (value_in v.values slot) (value_in v.values u)) (distance_of x is u cell e)
         (subst
         (λ (t : Value × Value). IsCell d.rights y.world.memory (at_work a y) cell (int 64) (IsDistanceOf t.0 t.1))
-        (λ k. (sym (same slot) k, sym (same u) k)) (m.cells.distances u cell slot e root));
+        (λ k. (sym (same slot) k, sym (same u) k)) (m.operands.cells.distances u cell slot e root));
   }
 
   pub store_step : Steps x homes hides c d y v a n i
