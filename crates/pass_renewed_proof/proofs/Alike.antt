@@ -124,6 +124,7 @@ module _ (m : Module) (l : Ledger) (memory target : List MemoryBlock) (b c : ℕ
     owned = λ d depth h. subst (λ n. d < n) (sym (length_with target c f)) (e.owned d depth h);
     seated = λ d z h. subst (λ n. d < n) (sym (length_with memory b f)) (e.seated d z h);
     kinds = λ d z x h at. e.kinds d z x h (sym (changed_elsewhere memory b d f (no_seat d z h)) ∙ at);
+    shapes = λ d z x h at. e.shapes d z x h (sym (changed_elsewhere memory b d f (no_seat d z h)) ∙ at);
     placed = e.placed;
     unowned = λ d depth y h at. e.unowned d depth y h (sym (changed_elsewhere target c d f (not_owned d depth h))
         ∙ at);

@@ -115,6 +115,7 @@ module _ (m : Module) (l : Ledger) (memory target : List MemoryBlock) (y : Memor
         (cases_eq c (length target));
     seated = e.seated;
     kinds = e.kinds;
+    shapes = e.shapes;
     placed = λ b seat h. let old = e.placed b seat h in (
       old.0,
       updated_other l.owners (length target) (Some depth) _ (below_other _ (length target) (e.owned _ old.0 old.1))

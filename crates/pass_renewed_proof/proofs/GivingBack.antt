@@ -87,6 +87,7 @@ module _ (m : Module) (flags : Flags) (roots : Roots) (xs ys : List Instance) (n
       owned = e.owned;
       seated = e.seated;
       kinds = e.kinds;
+      shapes = e.shapes;
       placed = e.placed;
       unowned = e.unowned;
       mates = λ d x none at.
@@ -266,6 +267,7 @@ module _ (m : Module) (flags : Flags) (roots : Roots) (xs ys : List Instance) (n
       owned = λ d n own. subst (λ i. d < i) (sym (length_with target c killed_block)) (e.owned d n own);
       seated = e.seated;
       kinds = e.kinds;
+      shapes = e.shapes;
       placed = e.placed;
       unowned = λ d n y own at. unowned_killed target c d y (λ z there. e.unowned d n z own there) at;
       mates = λ d x none at.

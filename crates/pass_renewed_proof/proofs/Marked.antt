@@ -3,6 +3,8 @@ use Rattle.std.proofs.Common.{◌≡◌, ◌≢◌, ℕ, zero, suc, ◌<◌, ◌
 use Rattle.std.proofs.Common.{Option, Some, None, refl, sym, ap, ◌∙◌, subst, ⊎_elim, nat_le}
 use Rattle.std.proofs.lemmas.Bool.{cases_eq, false≢true}
 use Rattle.std.specs.Prelude.{slice_get, option_map}
+use Rattle.ir_model.specs.Names.{function_at}
+use Rattle.ir_model.specs.declared.module.Function.{Function}
 use Rattle.ir_model.specs.declared.module.Module.{Module}
 use Rattle.run_laws.proofs.memory.Written.{changed_elsewhere, changed_here, same_some}
 use Rattle.run_laws.specs.memory.Pointers.{home_of}
@@ -13,7 +15,7 @@ use Rattle.run_memory.specs.declared.block.MemoryBlock.{MemoryBlock}
 use Rattle.run_memory.specs.declared.pointer.Offset.{Offset}
 use Rattle.pass_renewed_proof.proofs.Carried.{IsCarried, IsSlotKept}
 use Rattle.pass_renewed_proof.proofs.Places.{fewer_stand, muted_at, unowned_compares}
-use Rattle.pass_renewed_proof.specs.Ledger.{AreEntered, IsAbout, Ledger, Lives, LivesIn, Seat, Seen}
+use Rattle.pass_renewed_proof.specs.Ledger.{AreEntered, IsAbout, IsOfAlloca, Ledger, Lives, LivesIn, Seat, Seen}
 use Rattle.pass_renewed_proof.specs.Muted.{ended_if, muted}
 use Rattle.pass_renewed_proof.specs.Places.{AreStanding, IsReady}
 use Rattle.pass_renewed_proof.specs.Shown.{AreShownBlocks, AreShownBytes}
@@ -44,6 +46,24 @@ pub record IsMark (f : MemoryBlock → MemoryBlock) : Type 0 where
   pub kind : (x : MemoryBlock) → (f x).kind ≡ x.kind
   pub gone : (x : MemoryBlock) → is_killed x.life ≡ true → is_killed (f x).life ≡ true
   pub shown : (hides : ℕ → Bool) (x : MemoryBlock) → AreShownBytes hides x.bytes → AreShownBytes hides (f x).bytes
+
+-- a block of that size and that alignment
+pub of_alloca_like : (m : Module) (f : Function) (alloca : ℕ) (x z : MemoryBlock) → z.size ≡ x.size
+    → z.align ≡ x.align → IsOfAlloca m f alloca x → IsOfAlloca m f alloca z
+of_alloca_like m f alloca x z size align is = record {
+  place = is.place;
+  ty = is.ty;
+  align = is.align;
+  stands = is.stands;
+  has_size = size ∙ is.has_size;
+  small = is.small;
+  has_align = align ∙ is.has_align;
+}
+
+pub of_alloca_refilled : (m : Module) (f : Function) (alloca : ℕ) (x z : MemoryBlock) → z ≡ record x { bytes = z.bytes }
+    → IsOfAlloca m f alloca x → IsOfAlloca m f alloca z
+of_alloca_refilled m f alloca x z e is = of_alloca_like m f alloca x z (ap (λ (q : MemoryBlock). q.size) e) (ap (λ (q :
+    MemoryBlock). q.align) e) is
 
 pub ready_like : (n : List MemoryBlock) (c : ℕ) (x z : MemoryBlock) → z.size ≡ x.size → z.align ≡ x.align
     → IsReady n c x → IsReady n c z
@@ -109,6 +129,7 @@ module _ (m : Module) (l : Ledger) (memory target : List MemoryBlock) (b : ℕ) 
     owned = e.owned;
     seated = λ d z h. subst (λ n. d < n) (sym (length_with memory b f)) (e.seated d z h);
     kinds = kinds_on;
+    shapes = shapes_on;
     placed = e.placed;
     unowned = e.unowned;
     mates = λ d z none at.
@@ -138,6 +159,17 @@ module _ (m : Module) (l : Ledger) (memory target : List MemoryBlock) (b : ℕ) 
           ∙ ap (λ k. same_kind k Kind.Allocator) (mark.kind from.0)
           ∙ e.kinds b seat from.0 seated from.1)
           (λ ne. e.kinds d z x h (sym (changed_elsewhere memory b d f ne) ∙ at))
+          (cases_eq d b)
+
+      shapes_on : (d : ℕ) (z : Seat) (x : MemoryBlock) → l.seats d ≡ Some z
+          → slice_get (with_block memory b f) d ≡ Some x → IsOfAlloca m (function_at m z.func) z.alloca x
+      shapes_on d z x h at = ⊎_elim
+          (λ is.
+          let from = with_from memory b f x (ap (slice_get (with_block memory b f)) (sym is) ∙ at) in
+          of_alloca_like m _ z.alloca from.0 x (ap (λ (q : MemoryBlock). q.size) from.2 ∙ mark.size from.0) (ap (λ (q :
+          MemoryBlock). q.align) from.2 ∙ mark.align from.0) (e.shapes d z from.0 h (ap (slice_get memory) is
+          ∙ from.1)))
+          (λ ne. e.shapes d z x h (sym (changed_elsewhere memory b d f ne) ∙ at))
           (cases_eq d b)
 
   pub marked_carried : IsCarried l (record l { hides = hides }) memory (with_block memory b f) target target

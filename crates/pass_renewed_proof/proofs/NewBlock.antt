@@ -118,6 +118,8 @@ module _ (m : Module) (l : Ledger) (memory target : List MemoryBlock) (x y : Mem
     );
     kinds = λ b z u h at. e.kinds b z u h (sym (get_other memory x b (below_other b (length memory) (e.seated b z
         h))) ∙ at);
+    shapes = λ b z u h at. e.shapes b z u h (sym (get_other memory x b (below_other b (length memory) (e.seated b z
+        h))) ∙ at);
     unowned = λ c d z h at. e.unowned c d z h (sym (get_other target y c (below_other c (length target) (e.owned c d
         h))) ∙ at);
     mates = λ b z none at. ⊎_elim

@@ -4,6 +4,7 @@ use Rattle.std.proofs.Common.{length-append, Some, None, refl, sym, ap, ◌∙�
 use Rattle.std.proofs.lemmas.Bool.{cases_eq, cases_lt, false≢true}
 use Rattle.std.proofs.lemmas.List.{length-replicate}
 use Rattle.std.specs.Prelude.{slice_get}
+use Rattle.ir_model.specs.Names.{function_at}
 use Rattle.ir_model.specs.declared.module.Module.{Module}
 use Rattle.run_laws.proofs.memory.Homes.{append_extends}
 use Rattle.run_laws.proofs.memory.Written.{same_some}
@@ -22,7 +23,7 @@ use Rattle.pass_renewed_proof.proofs.Grown.{kept_before, le_itself, longer, mute
 use Rattle.pass_renewed_proof.proofs.Made.{get_last, get_other, get_within, home_last, home_other}
 use Rattle.pass_renewed_proof.proofs.Places.{forgotten}
 use Rattle.pass_renewed_proof.proofs.Ready.{blocks_only}
-use Rattle.pass_renewed_proof.specs.Ledger.{AreEntered, IsAbout, IsMate, Ledger, Lives, Seat, Seen}
+use Rattle.pass_renewed_proof.specs.Ledger.{AreEntered, IsAbout, IsMate, IsOfAlloca, Ledger, Lives, Seat, Seen}
 use Rattle.pass_renewed_proof.specs.Ledger.{anew_ledger, is_quiet, slot_ledger, updated}
 use Rattle.pass_renewed_proof.specs.Muted.{muted}
 use Rattle.pass_renewed_proof.specs.Places.{AreStanding, IsBlank, IsReady, unseen}
@@ -30,7 +31,7 @@ use Rattle.pass_renewed_proof.specs.Places.{AreStanding, IsBlank, IsReady, unsee
 module _ (m : Module) (l : Ledger) (memory target : List MemoryBlock) (x : MemoryBlock) (kind : Kind) (depth : ℕ)
     (seat : Seat) (st : AreStanding l.homes (muted l.hides memory) target) (e : AreEntered m l memory target) (small :
     x.size < 2 ^ 64) (blank : IsBlank x) (writable : same_kind kind Kind.Constant ≡ false) (other : same_kind x.kind
-    Kind.Allocator ≡ false) where
+    Kind.Allocator ≡ false) (shape : IsOfAlloca m (function_at m seat.func) seat.alloca x) where
   abbrev first : ℕ
   first = length memory
 
@@ -118,6 +119,13 @@ module _ (m : Module) (l : Ledger) (memory target : List MemoryBlock) (x : Memor
         (λ ne. e.kinds b z u (sym (updated_other l.seats (length memory) (Some seat) b ne) ∙ h) (sym (get_other memory
         x b ne) ∙ at))
         (cases_eq b (length memory));
+    shapes = λ b z u h at. ⊎_elim
+        (λ is. shape_now z u (sym (updated_here l.seats (length memory) (Some seat))
+        ∙ ap (updated l.seats (length memory) (Some seat)) (sym is) ∙ h) (sym (get_last memory x) ∙ ap (slice_get
+        (memory ++ x ∷ [])) (sym is) ∙ at))
+        (λ ne. e.shapes b z u (sym (updated_other l.seats (length memory) (Some seat) b ne) ∙ h) (sym (get_other memory
+        x b ne) ∙ at))
+        (cases_eq b (length memory));
     unowned = base.unowned;
     mates = λ b z none at. ⊎_elim
         (λ is. let c : Some seat ≡ None = sym (updated_here l.seats (length memory) (Some seat))
@@ -136,6 +144,11 @@ module _ (m : Module) (l : Ledger) (memory target : List MemoryBlock) (x : Memor
     future = future_more m l memory target x st e blank;
   }
     where
+      shape_now : (z : Seat) (u : MemoryBlock) → Some seat ≡ Some z → Some x ≡ Some u
+          → IsOfAlloca m (function_at m z.func) z.alloca u
+      shape_now z u p q = subst (IsOfAlloca m (function_at m z.func) z.alloca) (same_some x u q) (subst (λ (w : Seat).
+          IsOfAlloca m (function_at m w.func) w.alloca x) (same_some seat z p) shape)
+
       base : AreEntered m (anew_ledger l (length target) depth (Some (length memory))) memory (target ++ blank_block
           x.size x.align kind ∷ [])
       base = anew_entered m l memory target (blank_block x.size x.align kind) depth (Some (length memory)) st e

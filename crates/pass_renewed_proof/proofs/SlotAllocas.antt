@@ -42,7 +42,7 @@ use Rattle.pass_renewed_proof.proofs.Places.{changed_last}
 use Rattle.pass_renewed_proof.proofs.Unmarked.{unmarked}
 use Rattle.pass_renewed_proof.specs.Beside.{AreInstancesBeside, Begun, Early, IsBeside, IsInstanceBeside}
 use Rattle.pass_renewed_proof.specs.Beside.{IsOverOf, place_in}
-use Rattle.pass_renewed_proof.specs.Ledger.{AreEntered, IsFresh, Ledger, LivesIn, Seat, slot_ledger}
+use Rattle.pass_renewed_proof.specs.Ledger.{AreEntered, IsFresh, IsOfAlloca, Ledger, LivesIn, Seat, slot_ledger}
 use Rattle.pass_renewed_proof.specs.Left.{behind}
 use Rattle.pass_renewed_proof.specs.Making.{IsAllocaOfSlot, slot_block}
 use Rattle.pass_renewed_proof.specs.Muted.{muted}
@@ -122,6 +122,17 @@ module _ (m : Module) (flags : Flags) (roots : Roots) (keeps : (func : ℕ)
   pub st : AreStanding beside.ledger.homes (muted beside.ledger.hides s.world.memory) t.world.memory
   st = record { memory = beside.world.memory; nulls = beside.world.nulls; bounds = beside.world.bounds }
 
+  pub shape : (u : Bool) → IsOfAlloca m (function_at m s.top.func) a (slot_block m s ty align u)
+  shape u = record {
+    place = place_in s.top;
+    ty = ty;
+    align = align;
+    stands = is.here;
+    has_size = refl;
+    small = small;
+    has_align = refl;
+  }
+
   module _ (u : Bool) where
     abbrev w : World
     w = record s.world { memory = s.world.memory ++ first u ∷ [] }
@@ -135,7 +146,7 @@ module _ (m : Module) (flags : Flags) (roots : Roots) (keeps : (func : ℕ)
         s.below) seat) (s.world.memory ++ first u ∷ []) (fresh t.world.memory (size_of m ty) align (alloca_kind
         (function_at m s.top.func)))
     entered = slot_entered m l s.world.memory t.world.memory (first u) kind (length s.below) seat st beside.entered
-        small refl writable other
+        small refl writable other (shape u)
 
     -- both have the block, and nobody has its address
     abbrev pub made : IsBeside m flags roots (record s { world = record s.world { memory = s.world.memory ++ first u ∷ [] } })
@@ -146,12 +157,12 @@ module _ (m : Module) (flags : Flags) (roots : Roots) (keeps : (func : ℕ)
         })
     made =
         let stands = slot_stands m l s.world.memory t.world.memory (first u) kind (length s.below) seat st
-        beside.entered small refl writable other in
+        beside.entered small refl writable other (shape u) in
         worlds_beside m flags roots s t beside k w v
         (slot_carried m l s.world.memory t.world.memory (first u) kind (length s.below) seat st beside.entered small
-        refl writable other)
+        refl writable other (shape u))
         (slot_kept_on m l s.world.memory t.world.memory (first u) kind (length s.below) seat st beside.entered small
-        refl writable other)
+        refl writable other (shape u))
         (record {
           memory = stands.memory;
           nulls = stands.nulls;

@@ -296,6 +296,7 @@ module _ (m : Module) (small : AreSmallGlobals m) where
     owned = λ c depth e. absurd (cc);
     seated = λ b seat e. absurd (cc);
     kinds = λ b seat x e. absurd (cc);
+    shapes = λ b seat x e. absurd (cc);
     placed = λ b seat e. absurd (cc);
     unowned = λ c depth y e at. absurd (cc);
     mates = λ b x e at. record {

@@ -17,6 +17,7 @@ use Rattle.run_memory.specs.declared.block.Kind.{Kind}
 use Rattle.run_memory.specs.declared.block.Life.{Life}
 use Rattle.run_memory.specs.declared.block.MemoryBlock.{MemoryBlock}
 use Rattle.pass_renewed_proof.proofs.Carried.{IsSlotKept}
+use Rattle.pass_renewed_proof.proofs.Marked.{of_alloca_refilled}
 use Rattle.pass_renewed_proof.proofs.Places.{muted_at, showing_it, showing_others}
 use Rattle.pass_renewed_proof.proofs.Ready.{each_map, shown_stays, still_hidden, stood_at, stood_extends, stood_length}
 use Rattle.pass_renewed_proof.proofs.Ready.{stood_others}
@@ -366,6 +367,8 @@ module _ (m : Module) (l : Ledger) (memory memory' target target' : List MemoryB
           (is_among ps b);
       kinds = λ b seat x h at. let z = refilled_from memory memory' b x refilled at in
           ap (λ (q : MemoryBlock). same_kind q.kind Kind.Allocator) z.2 ∙ e.kinds b seat z.0 h z.1;
+      shapes = λ b seat x h at. let z = refilled_from memory memory' b x refilled at in
+          of_alloca_refilled m _ seat.alloca z.0 x z.2 (e.shapes b seat z.0 h z.1);
       unowned = λ c depth y h at. let z = refilled_from target target' c y refilled' at in
           ap (λ (q : MemoryBlock). q.owned) z.2 ∙ e.unowned c depth z.0 h z.1;
       mates = mate_on;

@@ -6,16 +6,21 @@ use Rattle.run_memory.specs.Memory.{access_bytes, is_killed, is_live, same_kind}
 use Rattle.run_memory.specs.declared.block.Byte.{Byte}
 use Rattle.run_memory.specs.declared.block.Kind.{Kind}
 use Rattle.run_memory.specs.declared.block.MemoryBlock.{MemoryBlock}
+use Rattle.ir_model.specs.Layout.{size_of}
 use Rattle.ir_model.specs.Names.{function_at}
+use Rattle.ir_model.specs.Ty.{Ty}
+use Rattle.ir_model.specs.declared.instr.Instr.{Instr}
+use Rattle.ir_model.specs.declared.module.Function.{Function}
 use Rattle.ir_model.specs.declared.module.GlobalItem.{GlobalItem}
 use Rattle.ir_model.specs.declared.module.Module.{Module}
 use Rattle.ir_paths.specs.Slots.{is_escaped}
+use Rattle.ir_paths.specs.declared.point.Point.{Point}
 use Rattle.run_laws.specs.access.Changed.{IsFull}
 use Rattle.run_laws.specs.changed.Changed.{Each}
 use Rattle.run_laws.specs.embedded.Making.{whole_home}
 use Rattle.run_laws.specs.memory.Pointers.{Home, home_of}
 use Rattle.run_laws.specs.memory.Standing.{own_homes}
-use Rattle.run_step.specs.Step.{first_world}
+use Rattle.run_step.specs.Step.{AtInstr, fetch, first_world}
 use Rattle.run_step.specs.Values.{access_of}
 use Rattle.pass_renewed_proof.specs.Muted.{muted}
 use Rattle.pass_renewed_proof.specs.Places.{IsBlank, unseen}
@@ -74,6 +79,16 @@ pub record IsHomeOf (l : Ledger) (b c : ℕ) : Type 0 where
   pub home : home_of l.homes b ≡ record { block = c; offset = 0; is_seen = is_seen }
   pub shown : l.hides b ≡ false
 
+-- the block has the size of the alloca's type, which is one of 64 bits, and its alignment
+pub record IsOfAlloca (m : Module) (f : Function) (alloca : ℕ) (x : MemoryBlock) : Type 0 where
+  pub place : Point
+  pub ty : Ty
+  pub align : ℕ
+  pub stands : fetch f place.block place.at ≡ AtInstr (Instr.Alloca alloca ty align)
+  pub has_size : x.size ≡ size_of m ty
+  pub small : size_of m ty < 2 ^ 64
+  pub has_align : x.align ≡ align
+
 -- any other block stands in one that differs from it at most in its bytes
 pub record IsMate (l : Ledger) (n : List MemoryBlock) (b : ℕ) (x : MemoryBlock) : Type 0 where
   pub block : ℕ
@@ -97,6 +112,9 @@ pub record AreEntered (m : Module) (l : Ledger) (memory target : List MemoryBloc
   -- slots are of another kind than blocks of allocators
   pub kinds : (b : ℕ) (seat : Seat) (x : MemoryBlock) → l.seats b ≡ Some seat → slice_get memory b ≡ Some x
       → same_kind x.kind Kind.Allocator ≡ false
+  -- a slot has the size and the alignment of its alloca
+  pub shapes : (b : ℕ) (seat : Seat) (x : MemoryBlock) → l.seats b ≡ Some seat → slice_get memory b ≡ Some x
+      → IsOfAlloca m (function_at m seat.func) seat.alloca x
   -- a slot stands in a block that an activation has made, and nobody owns such a block
   pub placed : (b : ℕ) (seat : Seat) → l.seats b ≡ Some seat
       → (depth : ℕ) × (l.owners (home_of l.homes b).block ≡ Some depth)
