@@ -72,7 +72,8 @@ module _ (m : Module) (k : ℕ) (f : Function) (rules : KeepsFunctionRules m k f
 
     widths_known : first_other_width k f ≡ None → list_all has_width (instr_types i) ≡ true
     widths_known e =
-        let x = at_each _ there.block.instrs at i (block_passes is_of_other_width k f e block there.block there.got).instrs
+        let x = at_each _ there.block.instrs at i (block_passes is_of_other_width k f e block there.block
+        there.got).instrs
         there.stands in
         holds (list_all has_width (instr_types i)) x.2
 
