@@ -17,6 +17,7 @@
 
 pub mod cleanup;
 pub mod fit;
+pub mod kept;
 mod lowered;
 pub mod order;
 mod passes;
