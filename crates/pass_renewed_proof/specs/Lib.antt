@@ -22,3 +22,4 @@ pub mod Ordinary
 pub mod Making
 pub mod Found
 pub mod Branching
+pub mod Resuming

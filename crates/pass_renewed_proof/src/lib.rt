@@ -119,6 +119,10 @@ ghost use Rattle.run_source.specs.State.{is_suspended, own_facts, with_status};
 ghost use Rattle.run_step.specs.Step.{AtTerm, Enter, GoTo, Return};
 ghost use Rattle.std.specs.Prelude.{slice_set};
 ghost use Rattle.pass_renewed_proof.specs.Beside.{IsOverOf};
+ghost use Rattle.pass_kept_proof.specs.Kept.{continue_keeping};
+ghost use Rattle.pass_renewed_proof.specs.Renewed.{continue_renewed};
+ghost use Rattle.pass_renewed_proof.specs.Resuming.{IsResuming};
+ghost use Rattle.run_source.specs.Source.{resumed};
 ghost use Rattle.pass_renewed_proof.specs.LocalSlot as local_slot;
 ghost use Rattle.pass_renewed_proof.specs.RestartedSlots as restarted_slots;
 ghost use Rattle.pass_renewed_proof.specs.EscapedRestart as escaped_restart;
@@ -616,4 +620,22 @@ pub fn resumers_stay_beside()
         → slice_get s.instances n ≡ Some x → is_suspended x.status ≡ true → slice_get t.instances n ≡ Some y
         → IsBeside m flags roots (with_status (next s) n x TheStatus.Running)
         (with_status (next t) n y TheStatus.Running) }
+{}
+
+/// Where an instance is resumed or destroyed, the second run makes the slots of its new activation anew. Then the two
+/// are beside each other at the label. No other activation may go on in that instance.
+pub fn resumes_stay_beside()
+    ensures { (g : RenewedGiven) (d : Given) → d.code ≡ g.given.code
+        → KeepsAllSlots g.given.code g.keep g.flags g.roots → (s t : TheState)
+        → (beside : IsBeside g.given.code g.flags g.roots s t) → s.outcome ≡ TheOutcome.Running → (i : TheInstr)
+        (y z : Sleeper) (label : ℕ) → IsResuming g.given.code g.roots s i y label
+        → slice_get t.instances z.number ≡ Some z.instance
+        → IsSleeperBeside g.given.code g.flags g.roots beside.ledger s.world.memory y z → (b : TheBlock)
+        → slice_get (function_at g.given.code y.instance.coroutine).blocks 0 ≡ Some b
+        → AreOutdone (slice_set s.instances y.number (record y.instance { status = TheStatus.Running }))
+        (resumed y.number y.instance y.suspend y.values) (record s.top { at = s.top.at + 1 } ∷ s.below)
+        → IsBeside g.given.code g.flags g.roots
+        (continue_keeping d g.keep s y.number y.instance y.suspend y.values label)
+        (iterate (renewed_step g) (length (anew_in (g.flags y.instance.coroutine) 0 b.instrs))
+        (continue_renewed g t z.number z.instance z.suspend z.values label)) }
 {}
