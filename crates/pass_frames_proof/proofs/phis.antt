@@ -1,4 +1,5 @@
 pub mod Ends
 pub mod Framed
+pub mod Fronts
 pub mod Stored
 pub mod Values

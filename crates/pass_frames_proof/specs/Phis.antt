@@ -1,16 +1,19 @@
 -- Phis whose operands are fetched at the ends of the blocks from which they come, and stored behind their block's
 -- start.
-use Rattle.std.specs.Prelude.{◌≡◌, ℕ, List, [], ◌∷◌, length, map, Option}
+use Rattle.std.specs.Prelude.{◌≡◌, ◌≢◌, ℕ, false, List, [], ◌∷◌, length, map, None, Option}
 use Rattle.ir_model.specs.declared.instr.Incoming.{Incoming}
 use Rattle.ir_model.specs.declared.instr.Phi.{Phi}
 use Rattle.ir_model.specs.declared.module.Block.{Block}
 use Rattle.ir_model.specs.declared.module.Function.{Function}
+use Rattle.pass_cells.specs.Kept.{entry}
+use Rattle.pass_copies.specs.Uses.{flag_at}
 use Rattle.pass_fetch.specs.Blocks.{end_at, next_after_phi, next_after_phis}
 use Rattle.pass_fetch.specs.Fetching.{fetched_operand, next_after}
 use Rattle.pass_fetch.specs.declared.fetch.Fetch.{Fetch}
 use Rattle.pass_frames_proof.specs.Distances.{IsBelow, SetsFrom}
 use Rattle.pass_frames_proof.specs.Fetched.{CanFetch, IsSeenAs, seen_of}
-use Rattle.pass_frames_proof.specs.Passes.{phi_ends}
+use Rattle.pass_frames_proof.specs.Passes.{block_at, phi_ends}
+use Rattle.pass_frames_proof.specs.Places.{Framing, copies, fetched, plan, written}
 use Rattle.run_laws.specs.access.Lines.{Runs}
 use Rattle.run_laws.specs.changed.Changed.{Each}
 use Rattle.run_memory.specs.declared.pointer.Value.{Value}
@@ -59,6 +62,14 @@ pub record ArePhisFetched (t : List (Option Fetch)) (given : ℕ → Value) (c :
 abbrev pub seen_phis : List (Option Fetch) → (ℕ → Value) → Context → Work → ℕ → List Phi → List (ℕ × Value)
 seen_phis t given c w label ps =
     map (λ (p : Phi). (p.result, seen_of t given c w p.ty (incoming_from p.incoming label))) ps
+
+-- ---- blocks in front of which nothing is moved
+
+-- neither the entry, nor one to which a resume or destroy edge leads
+pub record IsOrdinaryBlock (x : Framing) (k : ℕ) : Type 0 where
+  pub later : k ≢ 0
+  pub unresumed : flag_at (copies x).resumed (block_at (written x) k).label ≡ false
+  pub unreturned : entry (plan x).returns (block_at (fetched x) k).label ≡ None
 
 -- ---- stores of phis
 

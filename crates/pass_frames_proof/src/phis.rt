@@ -8,10 +8,11 @@ ghost use Rattle.ir_model.specs.declared.module.Function.{Function};
 ghost use Rattle.pass_cells.specs.Written.{stored_phis};
 ghost use Rattle.pass_fetch.specs.Blocks.{next_after_phis_by, with_fetches};
 ghost use Rattle.pass_fetch.specs.declared.fetch.Fetch.{Fetch};
-ghost use Rattle.pass_frames_proof.specs.Code.{slot_table};
+ghost use Rattle.pass_frames_proof.specs.Code.{front_code, slot_table};
 ghost use Rattle.pass_frames_proof.specs.Framings.{IsFraming};
 ghost use Rattle.pass_frames_proof.specs.Lines.{HasOwnBlocks, at_work};
-ghost use Rattle.pass_frames_proof.specs.Phis.{AreBlocksSeen, ArePhisFetched, CanAllComeFrom, given_phis, seen_phis};
+ghost use Rattle.pass_frames_proof.specs.Passes.{block_at};
+ghost use Rattle.pass_frames_proof.specs.Phis.{AreBlocksSeen, ArePhisFetched, CanAllComeFrom, IsOrdinaryBlock, given_phis, seen_phis};
 ghost use Rattle.pass_frames_proof.specs.Places.{Framing, fetched, framed, plan, unmarked};
 ghost use Rattle.pass_frames_proof.specs.Related.{AreCellsRight};
 ghost use Rattle.pass_frames_proof.specs.Stores.{AreNamesStored, IsNameGiven};
@@ -50,4 +51,10 @@ pub fn phis_are_those_of_fetches()
         → slice_get (fetched x).blocks k ≡ Some e → d.phis ≡ e.phis }
     ensures placed { (x : Framing) (k : ℕ) (d e : Block) → slice_get (framed x).blocks k ≡ Some d
         → slice_get (with_fetches (unmarked x) (slot_table x) (codes "$c.at.")).blocks k ≡ Some e → d.phis ≡ e.phis }
+{}
+
+/// In front of a block that is neither the entry nor on a resume or destroy edge nothing stands but its phis' stores.
+pub fn fronts_are_stores()
+    ensures { (x : Framing) → IsFraming x → (k : ℕ) → IsOrdinaryBlock x k
+        → front_code x k ≡ stored_phis (plan x) (block_at (fetched x) k).phis }
 {}

@@ -233,7 +233,7 @@ module _ (x : Framing) (is : IsFraming x) (k : ℕ) where
       each_joined P (stored (plan x) p.name) (stored_params (plan x) ps) (calm_list P turns p.name)
       (params_each P turns ps)
 
-  phis_each : (P : Instr → Type 0) → ((j : Instr) → IsCalm x is j → P j) → (ps : List Phi)
+  pub phis_each : (P : Instr → Type 0) → ((j : Instr) → IsCalm x is j → P j) → (ps : List Phi)
       → Each P (stored_phis (plan x) ps)
   phis_each P turns [] = tt
   phis_each P turns (p ∷ ps) =
