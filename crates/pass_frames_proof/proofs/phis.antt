@@ -3,3 +3,5 @@ pub mod Framed
 pub mod Fronts
 pub mod Stored
 pub mod Values
+pub mod Twice
+pub mod Edges

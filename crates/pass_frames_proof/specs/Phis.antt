@@ -1,17 +1,21 @@
 -- Phis whose operands are fetched at the ends of the blocks from which they come, and stored behind their block's
 -- start.
-use Rattle.std.specs.Prelude.{◌≡◌, ◌≢◌, ℕ, false, List, [], ◌∷◌, length, map, None, Option}
+use Rattle.std.specs.Prelude.{◌≡◌, ◌≢◌, ℕ, false, List, [], ◌∷◌, length, map, None, Some, Option}
+use Rattle.ir_model.specs.Ty.{Ty}
 use Rattle.ir_model.specs.declared.instr.Incoming.{Incoming}
 use Rattle.ir_model.specs.declared.instr.Phi.{Phi}
 use Rattle.ir_model.specs.declared.module.Block.{Block}
 use Rattle.ir_model.specs.declared.module.Function.{Function}
+use Rattle.ir_model.specs.declared.operand.Operand.{Operand}
+use Rattle.pass_cells.specs.Cells.{fetches_of}
 use Rattle.pass_cells.specs.Kept.{entry}
 use Rattle.pass_copies.specs.Uses.{flag_at}
 use Rattle.pass_fetch.specs.Blocks.{end_at, next_after_phi, next_after_phis}
-use Rattle.pass_fetch.specs.Fetching.{fetched_operand, next_after}
+use Rattle.pass_fetch.specs.Fetching.{fetch_of, fetched_operand, next_after}
 use Rattle.pass_fetch.specs.declared.fetch.Fetch.{Fetch}
+use Rattle.pass_frames_proof.specs.Code.{slot_table}
 use Rattle.pass_frames_proof.specs.Distances.{IsBelow, SetsFrom}
-use Rattle.pass_frames_proof.specs.Fetched.{CanFetch, IsSeenAs, seen_of}
+use Rattle.pass_frames_proof.specs.Fetched.{CanFetch, IsSeenAs, given_of, seen_of}
 use Rattle.pass_frames_proof.specs.Passes.{block_at, phi_ends}
 use Rattle.pass_frames_proof.specs.Places.{Framing, copies, fetched, plan, written}
 use Rattle.run_laws.specs.access.Lines.{Runs}
@@ -62,6 +66,27 @@ pub record ArePhisFetched (t : List (Option Fetch)) (given : ℕ → Value) (c :
 abbrev pub seen_phis : List (Option Fetch) → (ℕ → Value) → Context → Work → ℕ → List Phi → List (ℕ × Value)
 seen_phis t given c w label ps =
     map (λ (p : Phi). (p.result, seen_of t given c w p.ty (incoming_from p.incoming label))) ps
+
+-- ---- operands that are loaded where they are kept, and then have addresses made where they lie in the frame
+
+-- by a table of loads, and then one of addresses
+abbrev pub seen_then : List (Option Fetch) → (given reached : ℕ → Value) → Context → Work → Ty → Operand → Option Fetch
+    → Value
+seen_then u given reached c w ty a None = seen_of u reached c w ty a
+seen_then u given reached c w ty a (Some f) = given_of given a
+
+abbrev pub seen_twice : (t u : List (Option Fetch)) → (given reached : ℕ → Value) → Context → Work → Ty → Operand → Value
+seen_twice t u given reached c w ty a = seen_then u given reached c w ty a (fetch_of t a)
+
+-- what phis get from a label
+abbrev pub phis_twice : (t u : List (Option Fetch)) → (given reached : ℕ → Value) → Context → Work → ℕ → List Phi
+    → List (ℕ × Value)
+phis_twice t u given reached c w label ps =
+    map (λ (p : Phi). (p.result, seen_twice t u given reached c w p.ty (incoming_from p.incoming label))) ps
+
+-- in the framed form
+abbrev pub framed_phis : Framing → (given reached : ℕ → Value) → Context → Work → ℕ → List Phi → List (ℕ × Value)
+framed_phis x given reached c w label ps = phis_twice (fetches_of (plan x)) (slot_table x) given reached c w label ps
 
 -- ---- blocks in front of which nothing is moved
 

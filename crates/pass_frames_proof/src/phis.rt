@@ -5,6 +5,7 @@ ghost use Rattle.std.specs.Prelude.{◌≡◌, ◌<◌, ◌≤◌, ℕ, List, Op
 ghost use Rattle.ir_model.specs.declared.instr.Phi.{Phi};
 ghost use Rattle.ir_model.specs.declared.module.Block.{Block};
 ghost use Rattle.ir_model.specs.declared.module.Function.{Function};
+ghost use Rattle.pass_cells.specs.Cells.{fetches_of};
 ghost use Rattle.pass_cells.specs.Written.{stored_phis};
 ghost use Rattle.pass_fetch.specs.Blocks.{next_after_phis_by, with_fetches};
 ghost use Rattle.pass_fetch.specs.declared.fetch.Fetch.{Fetch};
@@ -12,8 +13,8 @@ ghost use Rattle.pass_frames_proof.specs.Code.{front_code, slot_table};
 ghost use Rattle.pass_frames_proof.specs.Framings.{IsFraming};
 ghost use Rattle.pass_frames_proof.specs.Lines.{HasOwnBlocks, at_work};
 ghost use Rattle.pass_frames_proof.specs.Passes.{block_at};
-ghost use Rattle.pass_frames_proof.specs.Phis.{AreBlocksSeen, ArePhisFetched, CanAllComeFrom, IsOrdinaryBlock, given_phis, seen_phis};
-ghost use Rattle.pass_frames_proof.specs.Places.{Framing, fetched, framed, plan, unmarked};
+ghost use Rattle.pass_frames_proof.specs.Phis.{AreBlocksSeen, ArePhisFetched, CanAllComeFrom, IsOrdinaryBlock, framed_phis, given_phis, seen_phis};
+ghost use Rattle.pass_frames_proof.specs.Places.{Framing, edged, fetched, framed, named, plan, unmarked};
 ghost use Rattle.pass_frames_proof.specs.Related.{AreCellsRight};
 ghost use Rattle.pass_frames_proof.specs.Stores.{AreNamesStored, IsNameGiven};
 ghost use Rattle.run_laws.specs.changed.Changed.{Each};
@@ -51,6 +52,17 @@ pub fn phis_are_those_of_fetches()
         → slice_get (fetched x).blocks k ≡ Some e → d.phis ≡ e.phis }
     ensures placed { (x : Framing) (k : ℕ) (d e : Block) → slice_get (framed x).blocks k ≡ Some d
         → slice_get (with_fetches (unmarked x) (slot_table x) (codes "$c.at.")).blocks k ≡ Some e → d.phis ≡ e.phis }
+{}
+
+/// Operands are loaded where they are kept, and then addresses are made where they lie in the frame. Each phi of the
+/// framed form gets what is seen of its operand over both.
+pub fn phis_are_fetched_twice()
+    ensures { (x : Framing) → IsFraming x → (given reached : ℕ → Value) (c : Context) (label k : ℕ) (w y z : Work)
+        (b e : Block)
+        → AreBlocksSeen (fetches_of (plan x)) given c w y label (length (named x).names) (named x).blocks
+        → AreBlocksSeen (slot_table x) reached c y z label (length (unmarked x).names) (unmarked x).blocks
+        → slice_get (edged x).blocks k ≡ Some b → slice_get (framed x).blocks k ≡ Some e
+        → phi_values c.code z.values label e.phis ≡ framed_phis x given reached c y label b.phis }
 {}
 
 /// In front of a block that is neither the entry nor on a resume or destroy edge nothing stands but its phis' stores.
