@@ -380,7 +380,7 @@ pub fn starts_of_slots_stay_beside()
 
 /// The alloca of a slot that may be made anew makes a block in both runs, and leads to states beside each other. In the
 /// second run the block lives and is the activation's; in the first it is the activation's before begin, and then the
-/// instance's. The activation hasn't left.
+/// instance's. An activation that has left may come to it in a window.
 pub fn allocas_of_slots_stay_beside()
     ensures memory { (m : Module) (s : TheState) (ty : Ty) (align : ℕ) (marked : Bool) (n : List Block)
         → (if marked then end (fresh n (size_of m ty) align (alloca_kind (function_at m s.top.func))) (length n)
@@ -390,7 +390,7 @@ pub fn allocas_of_slots_stay_beside()
         → ((func : ℕ) → KeepsSlots m (function_at m func) (flags func) (roots func)) → (s t : TheState)
         → IsBeside m flags roots s t → (a : ℕ) (ty : Ty) (align : ℕ) → IsAllocaOfSlot m flags s.top a ty align
         → size_of m ty < 2 ^ 64 → (marked : Bool) → marked ≡ has_markers (function_at m s.top.func) a
-        → s.top.instance ≡ None
+        → s.top.instance ≡ None → s.top.has_left ≡ false
         → IsBeside m flags roots (with_slots (with_slot_of s (slot_block m s ty align marked) a)
         (record { alloca = a; block = length s.world.memory } ∷ s.top.slots))
         (with_slots (with_slot_of t (slot_block m s ty align false) a)
@@ -400,7 +400,9 @@ pub fn allocas_of_slots_stay_beside()
         → IsBeside m flags roots s t → (a : ℕ) (ty : Ty) (align : ℕ) → IsAllocaOfSlot m flags s.top a ty align
         → size_of m ty < 2 ^ 64 → (marked : Bool) → marked ≡ has_markers (function_at m s.top.func) a
         → (i : ℕ) (x : TheInstance) → s.top.instance ≡ Some i → slice_get s.instances i ≡ Some x
-        → is_over x ≡ false → x.coroutine ≡ s.top.func
+        → is_over x ≡ false
+        → (s.top.has_left ≡ true → IsAfterEnd (function_at m s.top.func) (place_in s.top) → ⊥)
+        → x.coroutine ≡ s.top.func
         → IsBeside m flags roots (with_instance (with_slot_of s (slot_block m s ty align marked) a) i
         (record x { slots = record { alloca = a; block = length s.world.memory } ∷ x.slots }))
         (with_slots (with_slot_of t (slot_block m s ty align false) a)
