@@ -14,6 +14,7 @@ pub mod Left
 pub mod History
 pub mod SlotEnvs
 pub mod Entering
+pub mod EntryBlock
 pub mod EnteredValues
 pub mod Way
 pub mod Next
