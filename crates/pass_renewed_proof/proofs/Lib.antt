@@ -25,6 +25,7 @@ pub mod Anew
 pub mod Grown
 pub mod NewSlot
 pub mod NewBlock
+pub mod Beginning
 pub mod Chosen
 pub mod Using
 pub mod Reading
