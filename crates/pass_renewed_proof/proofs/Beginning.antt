@@ -1,13 +1,18 @@
 -- Where an activation begins an instance, the slots that it has made become the instance's.
 use Rattle.std.proofs.Common.{◌≡◌, ◌≢◌, ℕ, Bool, true, false, List, Option, Some, None, refl, ap, ◌∙◌, subst}
-use Rattle.std.proofs.Common.{arith, ◌==◌}
+use Rattle.std.proofs.Common.{arith, inl, inr, ⊎_elim, ◌==◌}
 use Rattle.std.specs.Prelude.{option_map}
 use Rattle.ir_model.specs.Names.{function_at}
 use Rattle.ir_model.specs.declared.module.Module.{Module}
 use Rattle.run_memory.specs.declared.block.MemoryBlock.{MemoryBlock}
+use Rattle.run_source.specs.declared.state.Activation.{Activation}
+use Rattle.run_source.specs.declared.state.Instance.{Instance}
+use Rattle.run_source.specs.declared.state.Mode.{Mode}
 use Rattle.run_step.specs.declared.world.Slot.{Slot}
 use Rattle.pass_kept_proof.proofs.Same.{eq_itself}
-use Rattle.pass_renewed_proof.specs.Beside.{IsEarly, IsSeated}
+use Rattle.pass_renewed_proof.proofs.Carried.{AreInstancesOn, IsSlotKept, stand_kept, told_kept}
+use Rattle.pass_renewed_proof.specs.Beside.{AreSlots, Both, First, IsEarly, IsFirst, IsSeated, IsSlotBeside}
+use Rattle.pass_renewed_proof.specs.Beside.{NoSlots, Second}
 use Rattle.pass_renewed_proof.specs.Ledger.{AreEntered, IsAbout, IsMate, IsOfAlloca, Ledger, Lives, Seat, Seen}
 use Rattle.pass_renewed_proof.specs.Ledger.{begun_instance, begun_ledger, begun_seat, is_quiet}
 use Rattle.pass_renewed_proof.specs.Shown.{AreShownBlocks}
@@ -120,3 +125,72 @@ module _ (l : Ledger) (flags : ℕ → Bool) (func depth number : ℕ) (slot : S
       differs : (t : Bool) → (other == depth) ≡ t → (other == depth) ≡ false
       differs true k = absurd (ne (grind arith))
       differs false k = k
+
+-- slots that stand for one another still do, where those that may be made anew are told again
+pub slots_begun : (l : Ledger) (depth number : ℕ) (S Z O P : Slot → Type 0) (flags : ℕ → Bool) → ((slot : Slot)
+    → S slot → Z slot) → ((slot : Slot) → O slot → P slot) → (ss ts : List Slot) → AreSlots l S O flags ss ts
+    → AreSlots (begun_ledger l depth number) Z P flags ss ts
+slots_begun l depth number S Z O P flags first second _ _ NoSlots = NoSlots
+slots_begun l depth number S Z O P flags first second _ _ (Both alloca b d ss ts off home unseated rest)
+    = Both alloca b d ss ts off home (ap (option_map (begun_seat depth number)) unseated) (slots_begun l depth number S Z
+    O P flags first second ss ts rest)
+slots_begun l depth number S Z O P flags first second _ _ (First s ss ts is rest) = First s ss ts (first s is)
+    (slots_begun l depth number S Z O P flags first second ss ts rest)
+slots_begun l depth number S Z O P flags first second _ _ (Second t ss ts is rest) = Second t ss ts (second t is)
+    (slots_begun l depth number S Z O P flags first second ss ts rest)
+
+-- ---- one slot
+
+pub slot_begun_kept : (l : Ledger) (memory : List MemoryBlock) (depth number b : ℕ)
+    → IsSlotKept l (begun_ledger l depth number) memory memory b
+slot_begun_kept l memory depth number b = record {
+  home = refl;
+  hides = refl;
+  fresh = λ f. record { unseen = f.unseen; blank = f.blank };
+  lives = λ h. h;
+  gone = λ h. h;
+}
+
+module _ (m : Module) (l : Ledger) (xs ys : List Instance) (memory target : List MemoryBlock) (depth number other : ℕ)
+    (a : Activation) (ne : other ≢ depth) (begins : a.mode ≡ Mode.Resumed → a.instance ≢ None) (on : AreInstancesOn xs
+    ys other a) where
+  same_instance : (ramp : ℕ) → (IsFirst a → ramp ≡ other)
+      → begun_instance a.instance (ramp == depth) number ≡ a.instance
+  same_instance ramp is = by a.instance refl
+    where
+      differs : ramp ≡ other → (t : Bool) → (ramp == depth) ≡ t → (ramp == depth) ≡ false
+      differs e true k = absurd (ne (grind arith))
+      differs e false k = k
+
+      by : (o : Option ℕ) → a.instance ≡ o → begun_instance o (ramp == depth) number ≡ o
+      by (Some i) e = refl
+      by None e = ap (λ t. begun_instance None t number) (differs (is (λ resumed. begins resumed e)) (ramp == depth)
+          refl)
+
+  -- of an activation that isn't the one that begins
+  pub slot_still : (alloca b c : ℕ) → IsSlotBeside m l xs memory target other a alloca b c
+      → IsSlotBeside m (begun_ledger l depth number) ys memory target other a alloca b c
+  slot_still alloca b c s =
+      let kept = slot_begun_kept l memory depth number b in
+      let k = begun_ledger l depth number in
+      record {
+        slot = on.slots _ s.slot;
+        passed = s.passed;
+        ramp = s.ramp;
+        seat = ap (option_map (begun_seat depth number)) s.seat
+            ∙ ap (λ (o : Option ℕ). Some (record { func = a.func; alloca = alloca; depth = s.ramp; instance = o }))
+            (same_instance s.ramp s.depth_is);
+        depth_is = s.depth_is;
+        owner = s.owner;
+        tenant = s.tenant;
+        ready = s.ready;
+        first = λ is goes. stand_kept l k memory memory b kept c (s.first is (⊎_elim (λ g. inl (on.goes_on g)) (λ h. inr
+            h) goes));
+        resumed = λ is goes. ⊎_elim (λ h. inl (stand_kept l k memory memory b kept c h)) (λ h. inr h) (s.resumed is
+            (on.goes_on goes));
+        told_first = λ is goes. ⊎_elim (λ h. inl (kept.fresh h)) (λ h. inr h) (s.told_first is (on.goes_on goes));
+        told = λ is goes. told_kept l k memory memory b kept _ _ _ (s.told is (on.goes_on goes));
+        alive = λ goes lives. s.alive (on.goes_on goes) lives;
+        gone = s.gone;
+        away = s.away;
+      }
