@@ -1,20 +1,25 @@
 -- Where an activation begins an instance, the slots that it has made become the instance's.
-use Rattle.std.proofs.Common.{◌≡◌, ◌≢◌, ℕ, Bool, true, false, List, Option, Some, None, refl, ap, ◌∙◌, subst}
-use Rattle.std.proofs.Common.{arith, inl, inr, ⊎_elim, ◌==◌}
+use Rattle.std.proofs.Common.{◌≡◌, ◌≢◌, ℕ, ◌+◌, Bool, true, false, List, [], ◌∷◌, Option, Some, None, refl, ap}
+use Rattle.std.proofs.Common.{◌∙◌, subst, arith, inl, inr, ⊎_elim, ◌==◌}
 use Rattle.std.specs.Prelude.{option_map}
 use Rattle.ir_model.specs.Names.{function_at}
+use Rattle.ir_model.specs.declared.module.Function.{Function}
 use Rattle.ir_model.specs.declared.module.Module.{Module}
 use Rattle.run_memory.specs.declared.block.MemoryBlock.{MemoryBlock}
 use Rattle.run_source.specs.declared.state.Activation.{Activation}
 use Rattle.run_source.specs.declared.state.Instance.{Instance}
 use Rattle.run_source.specs.declared.state.Mode.{Mode}
+use Rattle.run_source.specs.declared.state.Status.{Status}
+use Rattle.run_step.specs.Values.{Env}
 use Rattle.run_step.specs.declared.world.Slot.{Slot}
 use Rattle.pass_kept_proof.proofs.Same.{eq_itself}
 use Rattle.pass_renewed_proof.proofs.Carried.{AreInstancesOn, IsSlotKept, stand_kept, told_kept}
+use Rattle.pass_renewed_proof.specs.Beside.{AreInstancesBeside, AreOthers, IsInstanceBeside, IsStatusBeside}
 use Rattle.pass_renewed_proof.specs.Beside.{AreSlots, Both, First, IsEarly, IsFirst, IsSeated, IsSlotBeside}
 use Rattle.pass_renewed_proof.specs.Beside.{NoSlots, Second}
 use Rattle.pass_renewed_proof.specs.Ledger.{AreEntered, IsAbout, IsMate, IsOfAlloca, Ledger, Lives, Seat, Seen}
 use Rattle.pass_renewed_proof.specs.Ledger.{begun_instance, begun_ledger, begun_seat, is_quiet}
+use Rattle.pass_renewed_proof.specs.Renewed.{Flags, Roots}
 use Rattle.pass_renewed_proof.specs.Shown.{AreShownBlocks}
 
 -- ---- seats
@@ -194,3 +199,62 @@ module _ (m : Module) (l : Ledger) (xs ys : List Instance) (memory target : List
         gone = s.gone;
         away = s.away;
       }
+
+-- ---- instances
+
+module _ (m : Module) (flags : Flags) (roots : Roots) (l : Ledger) (memory : List MemoryBlock) (depth number : ℕ) where
+  pub others_begun : (f : Function) (flags : ℕ → Bool) (roots : ℕ → Option ℕ) (env other : Env)
+      → AreOthers l f flags roots env other → AreOthers (begun_ledger l depth number) f flags roots env other
+  others_begun f flags roots env other h v is =
+      let old = h v is in
+      record {
+        unseated = λ b at. ap (option_map (begun_seat depth number)) (old.unseated b at);
+        nowhere = old.nowhere;
+      }
+
+  status_begun : (x : Instance) (s t : Status) → IsStatusBeside m flags roots l memory x s t
+      → IsStatusBeside m flags roots (begun_ledger l depth number) memory x s t
+  status_begun x Status.Running t h = h
+  status_begun x (Status.Suspended s env) t h = (
+    h.0,
+    h.1,
+    record {
+      is_call = h.2.is_call;
+      runs_out = h.2.runs_out;
+      envs = h.2.envs;
+      others = others_begun (function_at m x.coroutine) (flags x.coroutine) (roots x.coroutine) env h.0 h.2.others;
+      each = λ alloca b flagged at.
+          let old = h.2.each alloca b flagged at in
+          record {
+            slot = old.slot;
+            told = told_kept l (begun_ledger l depth number) memory memory b (slot_begun_kept l memory depth number b) _ _
+                _ old.told;
+            alive = old.alive;
+            gone = old.gone;
+          };
+    },
+  )
+  status_begun x Status.Finished t h = h
+
+  pub instance_begun : (i : ℕ) (x y : Instance) → IsInstanceBeside m flags roots l memory i x y
+      → IsInstanceBeside m flags roots (begun_ledger l depth number) memory i x y
+  instance_begun i x y h = record {
+    block = h.block;
+    slots = h.slots;
+    status = h.status;
+    is = h.is;
+    home = h.home;
+    unseated = ap (option_map (begun_seat depth number)) h.unseated;
+    start = h.start;
+    listed = slots_begun l depth number _ _ _ _ (flags x.coroutine) (λ slot. seated_still l (flags x.coroutine)
+        x.coroutine depth number slot i) (λ slot none. none) x.slots h.slots h.listed;
+    statuses = status_begun x x.status h.status h.statuses;
+    over = h.over;
+  }
+
+  pub instances_begun : (i : ℕ) (xs ys : List Instance) → AreInstancesBeside m flags roots l memory i xs ys
+      → AreInstancesBeside m flags roots (begun_ledger l depth number) memory i xs ys
+  instances_begun i [] [] h = tt
+  instances_begun i [] (y ∷ ys) h = absurd h
+  instances_begun i (x ∷ xs) [] h = absurd h
+  instances_begun i (x ∷ xs) (y ∷ ys) h = (instance_begun i x y h.0, instances_begun (i + 1) xs ys h.1)
