@@ -1,6 +1,6 @@
 -- Where an activation begins an instance, the slots that it has made become the instance's.
-use Rattle.std.proofs.Common.{◌≡◌, ◌≢◌, ℕ, ◌+◌, Bool, true, false, List, [], ◌∷◌, Option, Some, None, refl, ap}
-use Rattle.std.proofs.Common.{◌∙◌, subst, arith, inl, inr, ⊎_elim, ◌==◌}
+use Rattle.std.proofs.Common.{◌≡◌, ◌≢◌, ◌≤◌, ℕ, ◌+◌, Bool, true, false, List, [], ◌∷◌, length, Option, Some}
+use Rattle.std.proofs.Common.{None, refl, ap, ◌∙◌, subst, arith, inl, inr, ⊎_elim, ◌==◌}
 use Rattle.std.specs.Prelude.{option_map}
 use Rattle.ir_model.specs.Names.{function_at}
 use Rattle.ir_model.specs.declared.module.Function.{Function}
@@ -15,6 +15,7 @@ use Rattle.run_step.specs.declared.world.Slot.{Slot}
 use Rattle.pass_kept_proof.proofs.Same.{eq_itself}
 use Rattle.pass_renewed_proof.proofs.Carried.{AreInstancesOn, IsSlotKept, stand_kept, told_kept}
 use Rattle.pass_renewed_proof.specs.Beside.{AreInstancesBeside, AreOthers, IsInstanceBeside, IsStatusBeside}
+use Rattle.pass_renewed_proof.specs.Beside.{AreBelow, IsActivationBeside, IsOverOf, IsOwn}
 use Rattle.pass_renewed_proof.specs.Beside.{AreSlots, Both, First, IsEarly, IsFirst, IsSeated, IsSlotBeside}
 use Rattle.pass_renewed_proof.specs.Beside.{NoSlots, Second}
 use Rattle.pass_renewed_proof.specs.Ledger.{AreEntered, IsAbout, IsMate, IsOfAlloca, Ledger, Lives, Seat, Seen}
@@ -258,3 +259,63 @@ module _ (m : Module) (flags : Flags) (roots : Roots) (l : Ledger) (memory : Lis
   instances_begun i [] (y ∷ ys) h = absurd h
   instances_begun i (x ∷ xs) [] h = absurd h
   instances_begun i (x ∷ xs) (y ∷ ys) h = (instance_begun i x y h.0, instances_begun (i + 1) xs ys h.1)
+
+-- ---- activations
+
+-- what the new instances say of an activation
+pub record IsAmongNew (xs ys : List Instance) (depth : ℕ) (a : Activation) : Type 0 where
+  pub on : AreInstancesOn xs ys depth a
+  pub over : a.has_left ≡ false → IsOverOf xs a → IsOverOf ys a
+
+abbrev pub AreAmongNew : List Instance → List Instance → List Activation → Type 0
+AreAmongNew xs ys [] = Unit {0}
+AreAmongNew xs ys (a ∷ below) = IsAmongNew xs ys (length below) a × AreAmongNew xs ys below
+
+own_begun : (l : Ledger) (depth number : ℕ) (flags : ℕ → Bool) (other : ℕ) (env env' : Env) (slot : Slot)
+    → IsOwn l flags other env env' slot → IsOwn (begun_ledger l depth number) flags other env env' slot
+own_begun l depth number flags other env env' slot o = record {
+  flagged = o.flagged;
+  owner = o.owner;
+  address = o.address;
+  tenant = o.tenant;
+}
+
+module _ (m : Module) (flags : Flags) (roots : Roots) (l : Ledger) (xs ys : List Instance) (memory target : List
+    MemoryBlock) (depth number : ℕ) where
+  activation_still : (other : ℕ) (a b : Activation) → other ≢ depth → IsAmongNew xs ys other a
+      → IsActivationBeside m flags roots l xs memory target other a b
+      → IsActivationBeside m flags roots (begun_ledger l depth number) ys memory target other a b
+  activation_still other a b ne new h = record {
+    values = h.values;
+    slots = h.slots;
+    is = h.is;
+    envs = h.envs;
+    listed = slots_begun l depth number _ _ _ _ (flags a.func) (λ slot. early_still l (flags a.func) a.func depth number
+        slot other ne) (own_begun l depth number (flags a.func) other a.values h.values) a.slots h.slots h.listed;
+    others = others_begun m flags roots l memory depth number (function_at m a.func) (flags a.func) (roots a.func)
+        a.values h.values h.others;
+    each = λ alloca d c flagged at there. slot_still m l xs ys memory target depth number other a ne h.begins new.on
+        alloca d c (h.each alloca d c flagged at there);
+    made = h.made;
+    modes = h.modes;
+    came = h.came;
+    begun = λ some. ⊎_elim (λ r. inl r) (λ o. inr (o.0, λ stays. new.over stays (o.1 stays))) (h.begun some);
+    begins = h.begins;
+    left = h.left;
+  }
+
+  -- those below the one that begins
+  pub below_still : (name : Option ℕ) (as' bs : List Activation) → length as' ≤ depth → AreAmongNew xs ys as'
+      → AreBelow m flags roots l xs memory target name as' bs
+      → AreBelow m flags roots (begun_ledger l depth number) ys memory target name as' bs
+  below_still name [] [] le new h = tt
+  below_still name [] (b ∷ bs) le new h = absurd h
+  below_still name (a ∷ as') [] le new h = absurd h
+  below_still name (a ∷ as') (b ∷ bs) le new h = (
+    activation_still (length as') a b other new.0 h.0,
+    h.1,
+    below_still a.result as' bs (omega arith) new.1 h.2,
+  )
+    where
+      other : length as' ≢ depth
+      other is = absurd (omega arith)
