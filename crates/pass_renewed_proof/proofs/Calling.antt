@@ -13,7 +13,6 @@ use Rattle.ir_model.specs.declared.module.Function.{Function}
 use Rattle.ir_model.specs.declared.module.Module.{Module}
 use Rattle.ir_model.specs.declared.operand.Arg.{Arg}
 use Rattle.ir_model.specs.declared.operand.Callee.{Callee}
-use Rattle.ir_model.specs.declared.operand.Intrinsic.{Intrinsic}
 use Rattle.ir_paths.specs.Slots.{exposes, is_escaped, is_in_args}
 use Rattle.ir_paths.specs.Windows.{instr_in}
 use Rattle.ir_paths.specs.declared.point.Point.{Point}

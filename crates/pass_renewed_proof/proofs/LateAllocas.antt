@@ -149,7 +149,6 @@ module _ (m : Module) (flags : Flags) (roots : Roots) (keeps : (func : ℕ)
     here = is.here;
     flagged = is.flagged;
     named = is.named;
-    stays = is.stays;
   }) (Begun i (record x { slots = slot ∷ x.slots }) own (set_here s.instances i x _ there) (contains_first _ x.slots))
       seated (owner_is m flags roots keeps s t beside a ty align is small u) (tenant_is m flags roots keeps s t beside a
-      ty align is small u) ready still_fresh (λ h. absurd (not_live h))
+      ty align is small u) ready still_fresh (λ h. absurd (not_live h)) (λ left h. absurd (not_live h))

@@ -14,6 +14,7 @@ pub mod Left
 pub mod History
 pub mod SlotEnvs
 pub mod Entering
+pub mod EntryBlock
 pub mod EnteredValues
 pub mod Way
 pub mod Next
@@ -24,6 +25,7 @@ pub mod Anew
 pub mod Grown
 pub mod NewSlot
 pub mod NewBlock
+pub mod Beginning
 pub mod Chosen
 pub mod Using
 pub mod Reading

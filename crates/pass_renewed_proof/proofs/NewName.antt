@@ -1,5 +1,5 @@
 -- The alloca of a slot that may be made anew gives its addresses, of a block that both have made.
-use Rattle.std.proofs.Common.{◌≡◌, ℕ, zero, suc, ◌+◌, ◌<◌, ◌⊎◌, inl, inr, Bool, List, ◌∷◌}
+use Rattle.std.proofs.Common.{◌≡◌, ℕ, zero, suc, ◌+◌, ◌<◌, ◌⊎◌, inl, inr, Bool, true, List, ◌∷◌}
 use Rattle.std.proofs.Common.{length, Option, Some, None, refl, sym, ap, ◌∙◌, subst, ⊎_elim, arith}
 use Rattle.std.proofs.lemmas.Bool.{cases_eq, false≢true}
 use Rattle.std.specs.List.{Contains}
@@ -36,6 +36,7 @@ use Rattle.pass_renewed_proof.specs.Renewed.{Flags, Roots}
 use Rattle.pass_renewed_proof.specs.SlotEnvs.{AreRoots, AreSlotEnvs, IsAddress}
 use Rattle.pass_renewed_proof.specs.SlotRules.{KeepsSlots}
 use Rattle.pass_renewed_proof.specs.Steps.{given_at}
+use Rattle.pass_renewed_proof.specs.Way.{WasAlive}
 
 -- ---- values with the address of a root, of which no name had an address
 
@@ -136,7 +137,8 @@ module _ (m : Module) (flags : Flags) (roots : Roots) (keeps : (func : ℕ)
     })) (owner : beside.ledger.owners c ≡ Some (length s.below)) (tenant : beside.ledger.tenants c ≡ Some b)
     (ready : (x : MemoryBlock) → slice_get s.world.memory b ≡ Some x → IsReady t.world.memory c x)
     (fresh : IsFresh beside.ledger s.world.memory b) (alive : LivesIn s.world.memory b
-    → IsAliveAt s.top (function_at m s.top.func) a (behind (place_in s.top))) where
+    → IsAliveAt s.top (function_at m s.top.func) a (behind (place_in s.top))) (was_alive : s.top.has_left ≡ true
+    → LivesIn s.world.memory b → WasAlive (function_at m s.top.func) a (behind (place_in s.top))) where
   abbrev l : Ledger
   l = beside.ledger
 
@@ -238,7 +240,7 @@ module _ (m : Module) (flags : Flags) (roots : Roots) (keeps : (func : ℕ)
     told = λ resumed goes. inl fresh;
     alive = λ goes live. alive_there (alive live);
     gone = λ left live seen at. absurd (false≢true (sym fresh.unseen ∙ seen));
-    away = λ first left escaped away live. absurd (false≢true (sym is.stays ∙ left));
+    away = λ first left escaped away live. was_alive left live;
   }
     where
       alive_there : IsAliveAt s.top f a (behind (place_in s.top)) → IsAliveAt there f a (behind (place_in s.top))

@@ -12,7 +12,8 @@ use Rattle.ir_model.specs.Ty.{Ty}
 use Rattle.ir_model.specs.declared.instr.Instr.{Instr}
 use Rattle.ir_model.specs.declared.module.Function.{Function}
 use Rattle.ir_model.specs.declared.module.Module.{Module}
-use Rattle.ir_paths.specs.Paths.{IsPath}
+use Rattle.ir_model.specs.declared.operand.Intrinsic.{Intrinsic}
+use Rattle.ir_paths.specs.Paths.{IsPath, Leads}
 use Rattle.ir_paths.specs.declared.point.Point.{Point}
 use Rattle.frame_classes.specs.Alive.{MayBeAlive, Unmarked, markers_of}
 use Rattle.run_laws.proofs.memory.Written.{same_some}
@@ -30,27 +31,32 @@ use Rattle.run_source.specs.declared.state.State.{State}
 use Rattle.run_step.specs.Step.{alloca_kind, has_markers}
 use Rattle.run_step.specs.Values.{pointer_to, with_value}
 use Rattle.run_step.specs.declared.world.World.{World}
+use Rattle.pass_kept_proof.specs.SuspendRules.{IsCallAt}
 use Rattle.pass_renewed_proof.proofs.Ahead.{leads_more, next_edge}
 use Rattle.pass_renewed_proof.proofs.Anew.{updated_here}
 use Rattle.pass_renewed_proof.proofs.Grown.{home_now}
+use Rattle.pass_renewed_proof.proofs.Left.{call_listed}
 use Rattle.pass_renewed_proof.proofs.Listing.{contains_first, first_listed, first_more, instance_beside}
 use Rattle.pass_renewed_proof.proofs.Listing.{instances_grown, instances_set, one_grown, set_here, worlds_beside}
 use Rattle.pass_renewed_proof.proofs.Made.{get_last}
 use Rattle.pass_renewed_proof.proofs.NewName.{named_beside}
 use Rattle.pass_renewed_proof.proofs.NewSlot.{slot_carried, slot_entered, slot_kept_on, slot_stands}
+use Rattle.pass_renewed_proof.proofs.Onward.{calm, left_next}
 use Rattle.pass_renewed_proof.proofs.Places.{changed_last}
 use Rattle.pass_renewed_proof.proofs.Unmarked.{unmarked}
+use Rattle.pass_renewed_proof.specs.Ahead.{IsBehindSuspendCall}
 use Rattle.pass_renewed_proof.specs.Beside.{AreInstancesBeside, Begun, Early, IsBeside, IsInstanceBeside}
 use Rattle.pass_renewed_proof.specs.Beside.{IsOverOf, place_in}
 use Rattle.pass_renewed_proof.specs.Ledger.{AreEntered, IsFresh, IsOfAlloca, Ledger, LivesIn, Seat, slot_ledger}
-use Rattle.pass_renewed_proof.specs.Left.{behind}
+use Rattle.pass_renewed_proof.specs.Left.{AtEnd, AtSuspend, AtSwitch, Behind, Between, IsLeftAt, IsLeftBy, behind}
 use Rattle.pass_renewed_proof.specs.Making.{IsAllocaOfSlot, slot_block}
 use Rattle.pass_renewed_proof.specs.Muted.{muted}
 use Rattle.pass_renewed_proof.specs.Places.{AreStanding, IsBlank, IsReady, unseen}
 use Rattle.pass_renewed_proof.specs.Renewed.{Flags, Roots}
 use Rattle.pass_renewed_proof.specs.SlotRules.{KeepsSlots}
+use Rattle.pass_renewed_proof.specs.Way.{WasAlive}
 use Rattle.rule_windows.specs.Points.{ends}
-use Rattle.rule_windows.specs.Sets.{RunsOut}
+use Rattle.rule_windows.specs.Sets.{IsAfterEnd, RunsOut}
 use Rattle.run_laws.specs.embedded.Making.{whole_home}
 
 pub set_same : {A : Type 0} (xs : List A) (i : ℕ) (x : A) → slice_get xs i ≡ Some x → slice_set xs i x ≡ xs
@@ -63,6 +69,12 @@ any_path : (f : Function) (avoided : List Point) (p : Point) (between : List Poi
     → IsPath f avoided p between q → IsPath f [] p between q
 any_path f avoided p [] q h = h
 any_path f avoided p (v ∷ between) q h = (h.0, refl, any_path f avoided v between q h.2)
+
+-- a path that another one goes on
+leads_along : (f : Function) (r p : Point) → Leads f [] r p → (between : List Point) (q : Point)
+    → IsPath f [] p between q → Leads f [] r q
+leads_along f r p to [] q path = leads_more f [] r p q to refl path
+leads_along f r p to (v ∷ between) q path = leads_along f r v (leads_more f [] r p v to refl path.0) between q path.2
 
 -- it is dead at first if it has markers
 pub made_memory : (m : Module) (s : State) (ty : Ty) (align : ℕ) (u : Bool) (n : List MemoryBlock)
@@ -217,7 +229,8 @@ module _ (m : Module) (flags : Flags) (roots : Roots) (keeps : (func : ℕ)
 
     -- ---- before begin
 
-    module _ (marks : u ≡ has_markers (function_at m s.top.func) a) (early : s.top.instance ≡ None) where
+    module _ (marks : u ≡ has_markers (function_at m s.top.func) a) (early : s.top.instance ≡ None) (stays :
+        s.top.has_left ≡ false) where
       abbrev listed : IsBeside m flags roots (with_slots (record s {
         world = record s.world { memory = s.world.memory ++ first u ∷ [] };
       }) (record { alloca = a; block = length s.world.memory } ∷ s.top.slots)) (record t {
@@ -251,14 +264,14 @@ module _ (m : Module) (flags : Flags) (roots : Roots) (keeps : (func : ℕ)
             here = is.here;
             flagged = is.flagged;
             named = is.named;
-            stays = is.stays;
           }) (Early early (contains_first _ s.top.slots)) seat_is owner_is tenant_is ready_is fresh_is
-          (λ h. inl (early, lives_unmarked marks h))
+          (λ h. inl (early, lives_unmarked marks h)) (λ left h. absurd (false≢true (sym stays ∙ left)))
 
     -- ---- behind begin
 
     module _ (marks : u ≡ has_markers (function_at m s.top.func) a) (i : ℕ) (x : Instance) (own : s.top.instance ≡
-        Some i) (there : slice_get s.instances i ≡ Some x) (going : is_over x ≡ false) where
+        Some i) (there : slice_get s.instances i ≡ Some x) (going : is_over x ≡ false) (no_after : s.top.has_left ≡ true
+        → IsAfterEnd (function_at m s.top.func) (place_in s.top) → ⊥) where
       abbrev ys : List Instance
       ys = slice_set s.instances i (record x {
         slots = record { alloca = a; block = length s.world.memory } ∷ x.slots;
@@ -303,7 +316,7 @@ module _ (m : Module) (flags : Flags) (roots : Roots) (keeps : (func : ℕ)
         runs : RunsOut (function_at m s.top.func) (place_in s.top)
         runs = ⊎_elim
             (λ r. r)
-            (λ o. absurd (over_not (o.1 is.stays)))
+            (λ o. absurd (after_not s.top.has_left refl o.0 o.1))
             (beside.top.begun (λ none. let z : Some i ≡ None = sym own ∙ none in absurd (cc)))
           where
             same_number : {n j : ℕ} → Some n ≡ Some j → n ≡ j
@@ -315,13 +328,51 @@ module _ (m : Module) (flags : Flags) (roots : Roots) (keeps : (func : ℕ)
                 let z : o.instance ≡ x = same_some o.instance x (sym o.there ∙ ap (slice_get s.instances) n ∙ there) in
                 false≢true (sym going ∙ ap is_over (sym z) ∙ o.over)
 
+            after_not : (z : Bool) → s.top.has_left ≡ z → IsAfterEnd (function_at m s.top.func) (place_in s.top)
+                → (s.top.has_left ≡ false → IsOverOf s.instances s.top) → ⊥
+            after_not true left after over = no_after left after
+            after_not false left after over = over_not (over left)
+
+        -- begin leads there, without regard to the end
+        runs_there : Leads (function_at m s.top.func) [] runs.start (place_in s.top)
+        runs_there = record {
+          between = runs.path.between;
+          is_path = any_path f (ends f) runs.start runs.path.between (place_in s.top) runs.path.is_path;
+        }
+
+        -- where it has left, it is between a save and its suspend, to which a path leads
+        was_alive : s.top.has_left ≡ true → LivesIn (s.world.memory ++ first u ∷ []) (length s.world.memory)
+            → WasAlive (function_at m s.top.func) a (behind (place_in s.top))
+        was_alive left h = on (beside.top.left left)
+          where
+            to_suspend : (z : Point) → IsCallAt Intrinsic.CoroSuspend (function_at m s.top.func) z
+                → IsLeftBy (function_at m s.top.func) z (place_in s.top)
+                → Leads (function_at m s.top.func) [] runs.start z
+            to_suspend z call (Between k c es w) = leads_along f runs.start (place_in s.top) runs_there
+                w.to_suspend.between z (any_path f (k ∷ z ∷ []) (place_in s.top) w.to_suspend.between z
+                w.to_suspend.is_path)
+            to_suspend z call (AtSuspend at)
+                = absurd (is.place.no_suspend (subst (IsCallAt Intrinsic.CoroSuspend f) (sym at) call))
+            to_suspend z call (AtSwitch at) = absurd (is.place.no_switch (subst (λ (q : Point). IsBehindSuspendCall f
+                q.block q.at) (sym at) (record { before = z.at; next = refl; is_suspend = call })))
+            to_suspend z call (AtEnd at first) = absurd (is.place.no_end at first)
+            to_suspend z call (Behind after) = absurd (no_after left after)
+
+            on : IsLeftAt (function_at m s.top.func) (place_in s.top)
+                → WasAlive (function_at m s.top.func) a (behind (place_in s.top))
+            on by = record {
+              suspend = by.suspend;
+              is_suspend = call_listed f Intrinsic.CoroSuspend by.suspend by.is_call;
+              is_alive = Unmarked runs.start (lives_unmarked marks h) runs.is_start (to_suspend by.suspend by.is_call
+                  by.by);
+              by = left_next f by.suspend (place_in s.top) (Instr.Alloca a ty align) is.here (calm f (place_in s.top)
+                  is.place) by.is_call by.by;
+            }
+
         alive_there : LivesIn (s.world.memory ++ first u ∷ []) (length s.world.memory)
             → MayBeAlive (function_at m s.top.func) a (behind (place_in s.top))
         alive_there h = Unmarked runs.start (lives_unmarked marks h) runs.is_start (leads_more f [] runs.start (place_in
-            s.top) (behind (place_in s.top)) (record {
-              between = runs.path.between;
-              is_path = any_path f (ends f) runs.start runs.path.between (place_in s.top) runs.path.is_path;
-            }) refl (next_edge f s.top.block s.top.at (Instr.Alloca a ty align) is.here))
+            s.top) (behind (place_in s.top)) runs_there refl (next_edge f s.top.block s.top.at (Instr.Alloca a ty align) is.here))
 
         pub begun_slot : IsBeside m flags roots (with_instance (settled s (record {
           world = record s.world { memory = s.world.memory ++ first u ∷ [] };
@@ -339,7 +390,6 @@ module _ (m : Module) (flags : Flags) (roots : Roots) (keeps : (func : ℕ)
               here = is.here;
               flagged = is.flagged;
               named = is.named;
-              stays = is.stays;
             }) (Begun i (record x { slots = record { alloca = a; block = length s.world.memory } ∷ x.slots }) own
             (set_here s.instances i x _ there) (contains_first _ x.slots)) seat_is owner_is tenant_is ready_is fresh_is
-            (λ h. inr (alive_there h))
+            (λ h. inr (alive_there h)) was_alive

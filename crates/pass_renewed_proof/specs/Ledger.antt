@@ -1,7 +1,7 @@
 -- What is known of the blocks of two memories, of which the second has blocks made anew: where those of the first
 -- stand, which of them are slots that are made anew, and for whom blocks of the second were made.
 use Rattle.std.specs.Prelude.{ℕ, Bool, true, false, not, nat_le, if◌then◌else◌, ◌==◌, ◌++◌, ◌∷◌, [], List, length}
-use Rattle.std.specs.Prelude.{slice_get, Some, None, Option, ◌≡◌, ◌<◌, ◌^◌}
+use Rattle.std.specs.Prelude.{slice_get, option_map, Some, None, Option, ◌≡◌, ◌<◌, ◌^◌}
 use Rattle.run_memory.specs.Memory.{access_bytes, is_killed, is_live, same_kind}
 use Rattle.run_memory.specs.declared.block.Byte.{Byte}
 use Rattle.run_memory.specs.declared.block.Kind.{Kind}
@@ -153,6 +153,22 @@ block_ledger l first count = record l {
   homes = l.homes ++ whole_home count ∷ [];
   tenants = updated l.tenants count (Some first);
 }
+
+-- ---- an instance that begins
+
+-- where there was none, and it is the activation's, there is the one that it begins
+abbrev pub begun_instance : Option ℕ → (own : Bool) → (number : ℕ) → Option ℕ
+begun_instance (Some i) own number = Some i
+begun_instance None true number = Some number
+begun_instance None false number = None
+
+-- a seat whose ramp has so many activations below it gets the instance that the ramp begins
+abbrev pub begun_seat : (depth number : ℕ) → Seat → Seat
+begun_seat depth number seat =
+    record seat { instance = begun_instance seat.instance (seat.depth == depth) number }
+
+abbrev pub begun_ledger : Ledger → (depth number : ℕ) → Ledger
+begun_ledger l depth number = record l { seats = λ b. option_map (begun_seat depth number) (l.seats b) }
 
 -- ---- slots that are used
 

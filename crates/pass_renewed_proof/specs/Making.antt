@@ -78,13 +78,12 @@ pub record IsMarkingOther (m : Module) (flags : Flags) (roots : Roots) (a : Acti
 -- ---- allocas
 
 -- an alloca of a slot that may be made anew stands at the activation's place, and gives a name that the activation has
--- a value of; the activation hasn't left
+-- a value of
 pub record IsAllocaOfSlot (m : Module) (flags : Flags) (a : Activation) (name : ℕ) (ty : Ty) (align : ℕ) : Type 0 where
   pub place : IsOrdinary (function_at m a.func) (place_in a)
   pub here : fetch (function_at m a.func) a.block a.at ≡ AtInstr (Instr.Alloca name ty align)
   pub flagged : IsTrue (flags a.func name)
   pub named : name < length a.values
-  pub stays : a.has_left ≡ false
 
 -- an alloca of any other slot, which gives a name that the activation has a value of, and no address in such a slot
 pub record IsAllocaOfOther (m : Module) (flags : Flags) (roots : Roots) (a : Activation) (name : ℕ) (ty : Ty) (align :

@@ -121,6 +121,7 @@ ghost use Rattle.pass_renewed_proof.specs.Branching.{AreWindowsOf, IsBranching, 
 ghost use Rattle.pass_renewed_proof.specs.Branching.{MayComeBack, StaysInside, returned_by};
 ghost use Rattle.run_source.specs.Source.{enter, enter_block, go_to};
 ghost use Rattle.run_source.specs.declared.state.Activation.{Activation as TheActivation};
+ghost use Rattle.ir_model.specs.declared.instr.Case.{Case as TheCase};
 ghost use Rattle.ir_model.specs.declared.instr.Terminator.{Terminator as TheTerminator};
 ghost use Rattle.run_step.specs.Runs.{seen_of};
 ghost use Rattle.run_source.specs.State.{is_suspended, own_facts, with_status};
@@ -380,7 +381,8 @@ pub fn starts_of_slots_stay_beside()
 
 /// The alloca of a slot that may be made anew makes a block in both runs, and leads to states beside each other. In the
 /// second run the block lives and is the activation's; in the first it is the activation's before begin, and then the
-/// instance's. The activation hasn't left.
+/// instance's. An activation that has left may come to it in a window. It isn't after the end: no end comes before the
+/// entry block, where the switch of a suspend leads to the end.
 pub fn allocas_of_slots_stay_beside()
     ensures memory { (m : Module) (s : TheState) (ty : Ty) (align : ℕ) (marked : Bool) (n : List Block)
         → (if marked then end (fresh n (size_of m ty) align (alloca_kind (function_at m s.top.func))) (length n)
@@ -390,7 +392,7 @@ pub fn allocas_of_slots_stay_beside()
         → ((func : ℕ) → KeepsSlots m (function_at m func) (flags func) (roots func)) → (s t : TheState)
         → IsBeside m flags roots s t → (a : ℕ) (ty : Ty) (align : ℕ) → IsAllocaOfSlot m flags s.top a ty align
         → size_of m ty < 2 ^ 64 → (marked : Bool) → marked ≡ has_markers (function_at m s.top.func) a
-        → s.top.instance ≡ None
+        → s.top.instance ≡ None → s.top.has_left ≡ false
         → IsBeside m flags roots (with_slots (with_slot_of s (slot_block m s ty align marked) a)
         (record { alloca = a; block = length s.world.memory } ∷ s.top.slots))
         (with_slots (with_slot_of t (slot_block m s ty align false) a)
@@ -400,11 +402,17 @@ pub fn allocas_of_slots_stay_beside()
         → IsBeside m flags roots s t → (a : ℕ) (ty : Ty) (align : ℕ) → IsAllocaOfSlot m flags s.top a ty align
         → size_of m ty < 2 ^ 64 → (marked : Bool) → marked ≡ has_markers (function_at m s.top.func) a
         → (i : ℕ) (x : TheInstance) → s.top.instance ≡ Some i → slice_get s.instances i ≡ Some x
-        → is_over x ≡ false → x.coroutine ≡ s.top.func
+        → is_over x ≡ false
+        → (s.top.has_left ≡ true → IsAfterEnd (function_at m s.top.func) (place_in s.top) → ⊥)
+        → x.coroutine ≡ s.top.func
         → IsBeside m flags roots (with_instance (with_slot_of s (slot_block m s ty align marked) a) i
         (record x { slots = record { alloca = a; block = length s.world.memory } ∷ x.slots }))
         (with_slots (with_slot_of t (slot_block m s ty align false) a)
         (record { alloca = a; block = length t.world.memory } ∷ t.top.slots)) }
+    ensures entry { (m : Module) (f : Function) (flags : ℕ → Bool) (roots : ℕ → Option ℕ) → KeepsSlots m f flags roots
+        → (u : Point) → IsCallAt TheIntrinsic.CoroSuspend f u → (arg : TheArg) (label : ℕ) (cases : List TheCase)
+        → fetch f u.block (u.at + 1) ≡ AtTerm (TheTerminator.Switch arg label cases) → (p : Point) → p.block ≡ 0
+        → IsAfterEnd f p → ⊥ }
 {}
 
 /// The alloca of any other slot does the same in both runs. It becomes the activation's in both, or the instance's.
