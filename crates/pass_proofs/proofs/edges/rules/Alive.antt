@@ -42,13 +42,13 @@ module _ (f : Function) (named : HasNamedLabels f) where
         on true h = let x = map_has (moved f) ps y h in absurd (none x.point x.is)
         on false h = refl
 
-    points_avoided : AreAvoidedToo (moved f) ps (map (moved f) ps)
+    pub points_avoided : AreAvoidedToo (moved f) ps (map (moved f) ps)
     points_avoided = record { moved = there_moved; others = not_there }
 
-  avoided : (test : Instr → Bool) → AreAvoidedToo (moved f) (points_where test f) (points_where test g)
+  pub avoided : (test : Instr → Bool) → AreAvoidedToo (moved f) (points_where test f) (points_where test g)
   avoided test = subst (AreAvoidedToo (moved f) (points_where test f)) (sym (points_moved test f)) (points_avoided (points_where test f))
 
-  nothing : AreAvoidedToo (moved f) [] []
+  pub nothing : AreAvoidedToo (moved f) [] []
   nothing = points_avoided []
 
   -- a point of the result at which an instruction passes a test is moved there
@@ -57,12 +57,12 @@ module _ (f : Function) (named : HasNamedLabels f) where
     pub is : x ≡ moved f point
     pub there : has_point (points_where test f) point ≡ true
 
-  from_where : (test : Instr → Bool) (x : Point) → has_point (points_where test g) x ≡ true → IsMovedTo test x
+  pub from_where : (test : Instr → Bool) (x : Point) → has_point (points_where test g) x ≡ true → IsMovedTo test x
   from_where test x h =
       let y = map_has (moved f) (points_where test f) x (subst (λ (ps : List Point). has_point ps x ≡ true) (points_moved test f) h) in
       record { point = y.point; is = y.is; there = y.there }
 
-  to_where : (test : Instr → Bool) (p : Point) → has_point (points_where test f) p ≡ true → has_point (points_where test g) (moved f p) ≡ true
+  pub to_where : (test : Instr → Bool) (p : Point) → has_point (points_where test f) p ≡ true → has_point (points_where test g) (moved f p) ≡ true
   to_where test p h = (avoided test).moved p ∙ h
 
   -- ---- markers

@@ -43,21 +43,21 @@ module _ (f : Function) (keeps : KeepsEdges f) where
   abbrev g : Function
   g = with_edge_blocks f
 
-  ways : AreThreads f (with_edge_blocks f) (moved f)
+  pub ways : AreThreads f (with_edge_blocks f) (moved f)
   ways = threads f keeps.labels
 
   -- ---- places at which something stands
 
   -- a place of the result is one of the function, moved
-  record IsMovedFrom (p : Point) : Type 0 where
-    place : Point
-    is : p ≡ moved f place
+  pub record IsMovedFrom (p : Point) : Type 0 where
+    pub place : Point
+    pub is : p ≡ moved f place
 
   of_block : (p : Point) (k : ℕ) → p.block ≡ spot f k → IsMovedFrom p
   of_block p k same = record { place = point k p.at; is = λ j. point (same j) p.at }
 
   -- an instruction stands in a block of the function
-  instr_from : (p : Point) (i : Instr) → fetch g p.block p.at ≡ AtInstr i → IsMovedFrom p
+  pub instr_from : (p : Point) (i : Instr) → fetch g p.block p.at ≡ AtInstr i → IsMovedFrom p
   instr_from p i e = on (slice_get g.blocks p.block) refl
     where
       on : (o : Option Block) → slice_get g.blocks p.block ≡ o → IsMovedFrom p
@@ -67,10 +67,10 @@ module _ (f : Function) (keeps : KeepsEdges f) where
           (λ (x : IsEdge f p.block c). absurd (no_instr f keeps.labels x.index x.block x.position x.edge x.got x.there p.block p.at i e x.stands))
           (home f p.block c d)
 
-  instr_at_home : (q : Point) (i : Instr) → fetch g (moved f q).block q.at ≡ AtInstr i → fetch f q.block q.at ≡ AtInstr i
+  pub instr_at_home : (q : Point) (i : Instr) → fetch g (moved f q).block q.at ≡ AtInstr i → fetch f q.block q.at ≡ AtInstr i
   instr_at_home q i e = instr_home f q.block (fetch f q.block q.at) (fetch g (spot f q.block) q.at) (stand_alike f q.block q.at) i e
 
-  call_home : (j : Intrinsic) (q : Point) → IsCallAt j g (moved f q) → IsCallAt j f q
+  pub call_home : (j : Intrinsic) (q : Point) → IsCallAt j g (moved f q) → IsCallAt j f q
   call_home j q c = record { instr = c.instr; stands = instr_at_home q c.instr c.stands; is = c.is }
 
   -- a phi stands in a block of the function
@@ -107,15 +107,15 @@ module _ (f : Function) (keeps : KeepsEdges f) where
   needed_home s v c n = let x = suspend_switch s c in behind_home f keeps.labels keeps.once v s x.block x.got x.switch n
 
   -- the save of a window and its suspend
-  record IsPair (save suspend : Point) : Type 0 where
-    old_save : Point
-    save_is : save ≡ moved f old_save
-    old_suspend : Point
-    suspend_is : suspend ≡ moved f old_suspend
-    call : IsCallAt Intrinsic.CoroSave f old_save
-    pair : suspend_of f old_save ≡ Some old_suspend
+  pub record IsPair (save suspend : Point) : Type 0 where
+    pub old_save : Point
+    pub save_is : save ≡ moved f old_save
+    pub old_suspend : Point
+    pub suspend_is : suspend ≡ moved f old_suspend
+    pub call : IsCallAt Intrinsic.CoroSave f old_save
+    pub pair : suspend_of f old_save ≡ Some old_suspend
 
-  pair_home : (k s : Point) → IsCallAt Intrinsic.CoroSave g k → suspend_of g k ≡ Some s → IsPair k s
+  pub pair_home : (k s : Point) → IsCallAt Intrinsic.CoroSave g k → suspend_of g k ≡ Some s → IsPair k s
   pair_home k s c e = on (instr_from k c.instr c.stands)
     where
       on : IsMovedFrom k → IsPair k s
@@ -137,13 +137,18 @@ module _ (f : Function) (keeps : KeepsEdges f) where
       others = λ y h. neither (moved f k) (moved f s) y (differ (moved f k) y (h k)) (differ (moved f s) y (h s));
     }
 
-    window_home : (p : Point) → IsInWindow g (moved f k) (moved f s) (moved f p) → IsInWindow f k s p
+    pub window_home : (p : Point) → IsInWindow g (moved f k) (moved f s) (moved f p) → IsInWindow f k s p
     window_home p w = record {
       is_not_save = sym (same_now p k) ∙ w.is_not_save;
       is_not_suspend = sym (same_now p s) ∙ w.is_not_suspend;
       from_save = leads_home f g (moved f) ways (k ∷ s ∷ []) (moved f k ∷ moved f s ∷ []) avoided k p w.from_save;
       to_suspend = leads_home f g (moved f) ways (k ∷ s ∷ []) (moved f k ∷ moved f s ∷ []) avoided p s w.to_suspend;
     }
+
+  pub old_window : (k s q : Point) (x : IsPair k s) → IsInWindow g k s (moved f q) → IsInWindow f x.old_save x.old_suspend q
+  old_window k s q x w =
+      window_home x.old_save x.old_suspend q
+      (subst (λ (p : Point). IsInWindow g p (moved f x.old_suspend) (moved f q)) x.save_is (subst (λ (p : Point). IsInWindow g k p (moved f q)) x.suspend_is w))
 
   -- ---- all of it
 
@@ -181,11 +186,6 @@ module _ (f : Function) (keeps : KeepsEdges f) where
         subst (λ (p : Point). Leads g [] p s) (sym x.save_is)
         (subst (λ (q : Point). Leads g [] (moved f x.old_save) q) (sym x.suspend_is)
         (leads_forth f g (moved f) ways [] [] (record { moved = λ p. refl; others = λ y h. refl }) x.old_save x.old_suspend (rules.leads x.old_save x.old_suspend x.call x.pair)))
-
-    old_window : (k s q : Point) (x : IsPair k s) → IsInWindow g k s (moved f q) → IsInWindow f x.old_save x.old_suspend q
-    old_window k s q x w =
-        window_home x.old_save x.old_suspend q
-        (subst (λ (p : Point). IsInWindow g p (moved f x.old_suspend) (moved f q)) x.save_is (subst (λ (p : Point). IsInWindow g k p (moved f q)) x.suspend_is w))
 
     no_end : (k s p : Point) → IsCallAt Intrinsic.CoroSave g k → suspend_of g k ≡ Some s → IsInWindow g k s p → IsCallAt Intrinsic.CoroEnd g p → ⊥
     no_end k s p c e w d =

@@ -36,16 +36,16 @@ module _ (text : List ℕ) (m : Module) (stands : StandsFor text m) (accepted : 
   abbrev m3 : Module
   m3 = edges_split m2
 
-  split_rules : AllKeepFunctionRules m3
+  pub split_rules : AllKeepFunctionRules m3
   split_rules = modules_kept m2 (early_rules text m stands accepted)
 
-  edges_kept : (k : ℕ) (f : Function) → slice_get m2.functions k ≡ Some f → Keeps f
+  pub edges_kept : (k : ℕ) (f : Function) → slice_get m2.functions k ≡ Some f → Keeps f
   edges_kept k f e =
       let same : function_at m2 k ≡ f = ap (λ (o : Option Function). unwrap_or o no_function) e in
       subst Keeps same (accepted_kept text m stands accepted k)
 
   -- what holds of the coroutines whose edges have blocks
-  of_split : (P : ℕ → Function → Type 0) → ((k : ℕ) (f : Function) → slice_get m2.functions k ≡ Some f → f.coroutine ≡ true → P k (with_edge_blocks f)) → (k : ℕ) (h : Function) → slice_get m3.functions k ≡ Some h → h.coroutine ≡ true → P k h
+  pub of_split : (P : ℕ → Function → Type 0) → ((k : ℕ) (f : Function) → slice_get m2.functions k ≡ Some f → f.coroutine ≡ true → P k (with_edge_blocks f)) → (k : ℕ) (h : Function) → slice_get m3.functions k ≡ Some h → h.coroutine ≡ true → P k h
   of_split P holds k h e c =
       let x = map_was edge_function m2.functions k h e in
       subst (P k) (sym x.1.1) (on x.0 x.1.0 x.0.coroutine refl (sym (ap (λ (z : Function). z.coroutine) x.1.1) ∙ c))
