@@ -1,0 +1,11 @@
+pub mod Once
+pub mod Marks
+pub mod Entries
+pub mod Plain
+pub mod Alive
+pub mod Places
+pub mod Types
+pub mod Edges
+pub mod Sources
+pub mod Modules
+pub mod Accepted

@@ -1,0 +1,14 @@
+use Rattle.run_accepted.proofs.Accepted.{edged_alive, edged_places, edged_switches, edged_types}
+use Rattle.run_accepted.proofs.accepted_edges_keep_rules_of_runs.Goals as goal
+
+pub returns-clause-switches : goal.returns-clause-switches
+returns-clause-switches c = edged_switches
+
+pub returns-clause-places : goal.returns-clause-places
+returns-clause-places c = edged_places
+
+pub returns-clause-types : goal.returns-clause-types
+returns-clause-types c = edged_types
+
+pub returns-clause-alive : goal.returns-clause-alive
+returns-clause-alive c = edged_alive
