@@ -1,5 +1,6 @@
 pub mod Elided
 pub mod Entries
+pub mod Facts
 pub mod Fronts
 pub mod Numbered
 pub mod Rows

@@ -7,6 +7,7 @@ use Rattle.run_agreement.specs.Costs.{AgreesBy, Through, cost_at}
 use Rattle.run_agreement.specs.Factor.{size_factor}
 use Rattle.run_agreement.specs.Machines.{IsFine, Machine, at, state_at}
 use Rattle.run_source.specs.declared.state.State.{State}
+use Rattle.compiler.proofs.theorem.Facts.{good_layouts}
 use Rattle.compiler.specs.theorem.Anew.{Anew}
 use Rattle.compiler.specs.theorem.Entries.{IsEntryCall, Run}
 use Rattle.compiler.specs.theorem.Lowered.{IsLowered, Lowered, early, edged, framed_run, kept_run, price_kept, price_renewed, renewed_run, sizes_of, source_run}
@@ -48,7 +49,7 @@ module _ (R V Q W : Lowered → Anew → Run → State → State → Type 0) (a 
   to_framed =
       compose_by (R l a r) (V l a r) (Q l a r) (W l a r) (kept_run l a r) (price_kept l a r p) (renewed_run l a r)
       (price_renewed l a r p) (framed_run l l.framed r) (λ t. 1)
-      (h.renewing h.slots locals r call) (h.framing low.source h.good low.is_framed h.anew h.slots r call)
+      (h.renewing h.slots locals r call) (h.framing low.source (good_layouts l low) low.is_framed h.anew h.slots r call)
 
   -- Source to Framed
   pub framed_within : AgreesWithin (4 * (4 * size_factor l.source)) (at (source_run l r))

@@ -7,6 +7,7 @@ use Rattle.run_agreement.specs.Machines.{at}
 use Rattle.pass_cleanup.specs.Cleanup.{clean_function}
 use Rattle.run_source.specs.declared.state.State.{State}
 use Rattle.compiler.proofs.theorem.Entries.{entry_before}
+use Rattle.compiler.proofs.theorem.Facts.{good_layouts, live_apart}
 use Rattle.compiler.proofs.theorem.Fronts.{allocas_stand_first}
 use Rattle.compiler.proofs.theorem.Rows.{framed_within, somewhere_shown}
 use Rattle.compiler.specs.theorem.Anew.{Anew}
@@ -60,7 +61,7 @@ module _ (R V Q W : Lowered → Anew → Run → State → State → Type 0) (a 
       (compose_within f 4 (at (source_run l r)) (at (framed_run l l.framed r))
       (at (plain_run (split_from l l.framed) r other))
       (framed_within R V Q W a p l low h r call)
-      (h.parting h.good ready fronts r other call split_entry))
+      (h.parting (good_layouts l low) ready fronts r other call split_entry))
       (cleaned_agrees l.text l.source low.source.stands low.source.accepted l.share l.layouts low.laid l.framed
       low.is_framed other
       r.args r.answers))
@@ -83,5 +84,5 @@ module _ (R V Q W : Lowered → Anew → Run → State → State → Type 0) (a 
         within.runs;
     agrees = within;
     shared = somewhere_shown R V Q W a p l low h r call;
-    apart = λ n fine. h.apart r n call fine;
+    apart = λ n fine. live_apart l low.source r n;
   }

@@ -1,5 +1,5 @@
 -- Where the slots and values of suspended coroutines stand in frames.
-use Rattle.std.specs.Prelude.{◌≡◌, ◌≢◌, ℕ, ◌+◌, false, true, List, Some, drop, take, length, slice_get, slice_index_or, IsTrue}
+use Rattle.std.specs.Prelude.{◌≡◌, ℕ, ◌+◌, false, true, List, Some, drop, take, length, slice_get, slice_index_or, IsTrue}
 use Rattle.run_memory.specs.Memory.{digits, encode, is_live}
 use Rattle.run_memory.specs.declared.block.Byte.{Byte}
 use Rattle.run_memory.specs.declared.block.MemoryBlock.{MemoryBlock}
@@ -24,8 +24,6 @@ use Rattle.ir_paths.specs.declared.point.Point.{Point}
 use Rattle.run_laws.specs.memory.Pointers.{AreBytes, Home}
 use Rattle.run_step.specs.Values.{Env, value_in}
 use Rattle.run_step.specs.declared.world.Slot.{Slot}
-use Rattle.frame_conflicts.specs.Conflicts.{Conflict}
-use Rattle.frame_classes.specs.Alive.{MayBeAlive}
 use Rattle.frame_classes.specs.Classes.{IsOf}
 use Rattle.frame_classes.specs.declared.class.SlotClass.{SlotClass}
 use Rattle.std.specs.List.{Contains}
@@ -82,24 +80,3 @@ pub record AreShown (m : Module) (layouts : List Layout) (s t : State) : Type 0 
   pub homes : List Home
   pub each : (i : ℕ) (x : Instance) → slice_get s.instances i ≡ Some x → x.freed ≡ false
       → (y : Frame t i) × IsShown m (layout_of layouts x.coroutine) homes s x y.instance.start y.block
-
--- ---- the facts that sharing goes by
-
--- a slot of an instance is live
-pub record IsLiveSlot (s : State) (x : Instance) (slot : Slot) : Type 0 where
-  pub is_slot : Contains x.slots slot
-  pub block : MemoryBlock
-  pub there : slice_get s.world.memory slot.block ≡ Some block
-  pub is_live : is_live block.life ≡ true
-
--- in a state of the source frame slots of one instance that are live at once conflict, and so do, where it is
--- suspended, a value that crosses the suspend and a live frame slot
-pub record LiveAreApart (m : Module) (s : State) : Type 0 where
-  pub slots : (i : ℕ) (x : Instance) (one other : Slot) → slice_get s.instances i ≡ Some x → IsLiveSlot s x one
-      → IsLiveSlot s x other → one.alloca ≢ other.alloca → IsOf (function_at m x.coroutine) one.alloca SlotClass.Frame
-      → IsOf (function_at m x.coroutine) other.alloca SlotClass.Frame
-      → Conflict (function_at m x.coroutine) one.alloca other.alloca
-  pub values : (i : ℕ) (x : Instance) (suspend : Point) (values : Env) (slot : Slot)
-      → slice_get s.instances i ≡ Some x → x.status ≡ Status.Suspended suspend values → IsLiveSlot s x slot
-      → IsOf (function_at m x.coroutine) slot.alloca SlotClass.Frame
-      → MayBeAlive (function_at m x.coroutine) slot.alloca suspend

@@ -1,6 +1,7 @@
 -- What is lowered of a source agrees with it: one row for each pass. Those that stand are cited in the proof, the
 -- others are premises here.
 use Rattle.std.specs.Prelude.{ℕ, ◌+◌, ◌*◌, ◌≤◌}
+use Rattle.run_hooks.specs.alive.Apart.{LiveAreApart}
 use Rattle.run_agreement.specs.Agreements.{Agrees, AgreesWithin}
 use Rattle.run_agreement.specs.Costs.{AgreesBy, Through, cost_at}
 use Rattle.run_agreement.specs.Factor.{size_factor, step_factor}
@@ -12,7 +13,7 @@ use Rattle.compiler.specs.theorem.Entries.{IsEntry, IsEntryCall, Run}
 use Rattle.compiler.specs.theorem.GoodLayouts.{AreGoodLayouts}
 use Rattle.compiler.specs.theorem.Lowered.{AreAllocasFirst, IsAccepted, Lowered, early, edged, framed_run, kept_run, lowered_from, plain_run, price_kept, price_renewed, printed_from, renewed_run, sizes_of, source_run, split_from}
 use Rattle.pass_renewed_proof.specs.Prices.{Prices}
-use Rattle.compiler.specs.theorem.SharedBytes.{AreShown, LiveAreApart}
+use Rattle.compiler.specs.theorem.SharedBytes.{AreShown}
 use Rattle.ir_laws.specs.facts.sound_states.Named.{AreLocalsNamed}
 use Rattle.text_grammar.specs.Text.{StandsFor}
 use Rattle.pass_proofs.specs.kept.sources.Beside.{IsKeptOf}
@@ -28,8 +29,6 @@ use Rattle.pass_frames.specs.Framed.{IsFramedForm}
 -- | calls of coro.id gone, then names in order | Plain | Plain | 1 | stands |
 pub record Steps (R V Q W : Lowered → Anew → Run → State → State → Type 0) (a : Anew) (p : Prices)
     (l : Lowered) : Type 0 where
-  -- waits for: layouts of the analyses are good
-  pub good : AreGoodLayouts (early l) l.layouts.coroutines
   -- waits for: the analyses' answers as tables
   pub anew : IsAnewOf (early l) a
   -- waits for: local slots stay local where edges have blocks, and the rules that slots ask
@@ -54,9 +53,6 @@ pub record Steps (R V Q W : Lowered → Anew → Run → State → State → Typ
   -- waits for: the relations of these two over those that stand, byte for byte
   pub shown : (r : Run) (s t : State) → Through (IsKeptOf l.source (sizes_of l) r.answers)
       (Through (R l a r) (Q l a r)) s t → AreShown l.source l.layouts.coroutines s t
-  -- waits for: who may be alive, over source states
-  pub apart : (r : Run) (n : ℕ) → IsEntryCall l.source r → IsFine (at (source_run l r) n).outcome
-      → LiveAreApart l.source (state_at (source_run l r) n)
 
 -- a state of the framed run in which the slots and values of a state of the source stand
 pub record IsSomewhereShown (l : Lowered) (r : Run) (n : ℕ) : Type 0 where
