@@ -2,6 +2,7 @@ pub mod Elided
 pub mod Entries
 pub mod Facts
 pub mod Fronts
+pub mod Needed
 pub mod Numbered
 pub mod Rows
 pub mod Stack

@@ -9,3 +9,5 @@ pub mod Edges
 pub mod Sources
 pub mod Modules
 pub mod Accepted
+pub mod RampSlots
+pub mod Needed

@@ -8,6 +8,7 @@ use Rattle.run_agreement.specs.Factor.{size_factor}
 use Rattle.run_agreement.specs.Machines.{IsFine, Machine, at, state_at}
 use Rattle.run_source.specs.declared.state.State.{State}
 use Rattle.compiler.proofs.theorem.Facts.{good_layouts}
+use Rattle.compiler.proofs.theorem.Needed.{split_needed}
 use Rattle.compiler.specs.theorem.Anew.{Anew}
 use Rattle.compiler.specs.theorem.Entries.{IsEntryCall, Run}
 use Rattle.compiler.specs.theorem.Lowered.{IsLowered, Lowered, early, edged, framed_run, kept_run, price_kept, price_renewed, renewed_run, sizes_of, source_run}
@@ -39,9 +40,8 @@ module _ (R V Q W : Lowered → Anew → Run → State → State → Type 0) (a 
 
   -- Source to Kept
   pub to_kept : AgreesBy Handed NearlyHanded (source_run l r) (λ s. 4) (kept_run l a r) (λ t. 1)
-  to_kept = split_corresponds l.text l.source low.source.stands low.source.accepted a.keep h.needed (sizes_of l)
-      r.entry r.args
-      r.answers
+  to_kept = split_corresponds l.text l.source low.source.stands low.source.accepted a.keep
+      (split_needed l low a h.anew) (sizes_of l) r.entry r.args r.answers
 
   -- Kept to Framed
   pub to_framed : AgreesBy (Through (R l a r) (Q l a r)) (Through (V l a r) (W l a r)) (kept_run l a r)

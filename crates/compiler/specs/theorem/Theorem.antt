@@ -17,7 +17,6 @@ use Rattle.compiler.specs.theorem.SharedBytes.{AreShown}
 use Rattle.ir_laws.specs.facts.sound_states.Named.{AreLocalsNamed}
 use Rattle.text_grammar.specs.Text.{StandsFor}
 use Rattle.pass_proofs.specs.kept.sources.Beside.{IsKeptOf}
-use Rattle.pass_kept_proof.specs.SuspendRules.{KeepsNeeded}
 use Rattle.compiler.specs.cleanup.accepted.Ready.{IsReady}
 use Rattle.pass_renewed_proof.specs.SlotRules.{KeepsAllSlots}
 use Rattle.pass_frames.specs.Framed.{IsFramedForm}
@@ -33,8 +32,6 @@ pub record Steps (R V Q W : Lowered → Anew → Run → State → State → Typ
   pub anew : IsAnewOf (early l) a
   -- waits for: local slots stay local where edges have blocks, and the rules that slots ask
   pub slots : KeepsAllSlots (edged l) a.keep a.flags a.roots
-  -- waits for: neither a ramp slot nor a token is needed behind a suspend
-  pub needed : KeepsNeeded (edged l) a.keep
   -- waits for: the simulation of slots made anew
   pub renewing : KeepsAllSlots (edged l) a.keep a.flags a.roots → AreLocalsNamed (edged l) → (r : Run)
       → IsEntryCall l.source r → AgreesBy (R l a r) (V l a r) (kept_run l a r) (price_kept l a r p) (renewed_run l a r) (price_renewed l a r p)
