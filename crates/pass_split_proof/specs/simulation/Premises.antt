@@ -19,7 +19,6 @@ use Rattle.ir_model.specs.declared.operand.Arg.{Arg}
 use Rattle.ir_model.specs.declared.operand.Callee.{Callee}
 use Rattle.ir_model.specs.declared.operand.Intrinsic.{Intrinsic}
 use Rattle.ir_model.specs.declared.operand.Operand.{Operand}
-use Rattle.run_step.specs.Reads.{given_by}
 use Rattle.pass_front.specs.Front.{allocas_of}
 use Rattle.pass_intrinsics.specs.Cuts.{goes_on}
 use Rattle.pass_intrinsics.specs.Shapes.{suspends_of}
@@ -50,6 +49,7 @@ use Rattle.pass_split_proof.specs.steps.Woken.{IsPartThere}
 use Rattle.pass_split_proof.specs.transfers.Passing.{HasSuspendsBeforeEnd}
 use Rattle.run_framed.specs.Framed.{FramedGiven, given_ramp, is_promise_kind, layout_of}
 use Rattle.run_hooks.specs.Reached.{AllHaveSwitches}
+use Rattle.run_laws.specs.changed.Changed.{result_of}
 use Rattle.run_laws.specs.embedded.Related.{HasNoSlot}
 use Rattle.run_memory.specs.declared.pointer.Offset.{Offset}
 use Rattle.run_memory.specs.declared.pointer.Pointer.{Pointer}
@@ -115,7 +115,7 @@ pub record AreAllocasAlone (f : Function) : Type 0 where
   pub first : (block at name align : ℕ) (ty : Ty) → fetch f block at ≡ AtInstr (Instr.Alloca name ty align)
       → block ≡ 0
   pub once : (at name : ℕ) → IsEntryAlloca f at name → (block other : ℕ) (i : Instr)
-      → fetch f block other ≡ AtInstr i → given_by i ≡ Some name → (block ≡ 0) × (other ≡ at)
+      → fetch f block other ≡ AtInstr i → result_of i ≡ Some name → (block ≡ 0) × (other ≡ at)
   pub phis : (at name : ℕ) → IsEntryAlloca f at name → (b : Block) (p : Phi) → IsListed b f.blocks
       → IsListed p b.phis → p.result ≡ name → ⊥
   pub known : (at name : ℕ) → IsEntryAlloca f at name → name < length f.names
