@@ -1,5 +1,5 @@
 -- What rules of the framed module and the code of its parts give at the places of related states.
-use Rattle.std.specs.Prelude.{◌≡◌, ℕ, ◌<◌, ◌^◌, ◌⊎◌, Bool, true, false, List, [], ◌∷◌, length, slice_get, Some, None, Option, find}
+use Rattle.std.specs.Prelude.{◌≡◌, ℕ, ◌<◌, ◌^◌, Bool, true, false, List, [], ◌∷◌, length, slice_get, Some, None, Option, find}
 use Rattle.frame_layout.specs.declared.layout.PlacedField.{PlacedField}
 use Rattle.flow_solver.specs.Paths.{IsListed}
 use Rattle.ir_base.specs.declared.name.Name.{Name}
@@ -13,7 +13,6 @@ use Rattle.ir_model.specs.declared.instr.Phi.{Phi}
 use Rattle.ir_model.specs.declared.instr.Terminator.{Terminator}
 use Rattle.ir_model.specs.declared.module.Block.{Block}
 use Rattle.ir_model.specs.declared.module.Function.{Function}
-use Rattle.ir_model.specs.declared.module.Module.{Module}
 use Rattle.ir_model.specs.declared.operand.Allocator.{Allocator}
 use Rattle.ir_model.specs.declared.operand.Arg.{Arg}
 use Rattle.ir_model.specs.declared.operand.Callee.{Callee}
@@ -60,7 +59,7 @@ use Rattle.run_source.specs.State.{function_of}
 use Rattle.run_source.specs.declared.state.Instance.{Instance}
 use Rattle.run_source.specs.declared.state.Mode.{Mode}
 use Rattle.run_source.specs.declared.state.State.{State}
-use Rattle.run_step.specs.Step.{AtInstr, AtTerm, Fetched, fetch, is_lifetime, label_of}
+use Rattle.run_step.specs.Step.{AtInstr, AtTerm, Fetched, fetch, is_lifetime}
 use Rattle.run_step.specs.Values.{arg_values, nth}
 use Rattle.run_types.specs.Rules.{KeepsAllTypes}
 
@@ -109,8 +108,8 @@ pub record MarksAlloca (f : Function) (block at : ℕ) (args : List Arg) : Type 
   pub alloca : IsEntryAlloca f made name
   pub before : block ≡ 0 → made < at
 
--- Allocas stand in the entry block (F3), and nothing else sets their names (N1). Markers mark allocas (K13), which stand
--- before them (F2).
+-- Allocas stand in the entry block (F3), and nothing else sets their names (N1). Markers mark allocas (K13), which
+-- stand before them (F2).
 pub record AreAllocasAlone (f : Function) : Type 0 where
   pub first : (block at name align : ℕ) (ty : Ty) → fetch f block at ≡ AtInstr (Instr.Alloca name ty align)
       → block ≡ 0
@@ -176,8 +175,8 @@ pub record IsAtPlace (g : FramedGiven) (h : PlainGiven) (s : State) (t : PlainSt
 abbrev pub first_parts : FramedGiven → ℕ → ℕ
 first_parts g func = part_position g func Part.Ramp
 
--- What is asked of the instruction or terminator at the same place of both, by its kind. What the state alone gives comes
--- as an argument: the mode, sizes for allocators, the block of a marker, and the frame of a save.
+-- What is asked of the instruction or terminator at the same place of both, by its kind. What the state alone gives
+-- comes as an argument: the mode, sizes for allocators, the block of a marker, and the frame of a save.
 pub record ArePlacesMet (g : FramedGiven) (h : PlainGiven) (s : State) (t : PlainState) (r : AreRelated g h s t)
     : Type 0 where
   -- the switch of a suspend isn't at the same place of a part, which has no value for it (K3)
