@@ -5,6 +5,7 @@ pub mod calling
 pub mod code
 pub mod ends
 pub mod entering
+pub mod exit_costs
 pub mod first_exits
 pub mod freeing
 pub mod giving

@@ -1,0 +1,5 @@
+pub mod Chosen
+pub mod Direct
+pub mod Exits
+pub mod Paid
+pub mod Whole
