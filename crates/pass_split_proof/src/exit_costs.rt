@@ -2,7 +2,7 @@
 //!
 //! The branch to such a block costs two steps of the parts, and so does the block's jump, where no part goes on at
 //! either block. So both together are within four, with what is proved of parts: splitting is
-//! (`splitting_keeps_calls_within_four`).
+//! (`splitting_keeps_calls_within_four`, `splitting_keeps_meaning`).
 
 ghost use Rattle.std.specs.Prelude.{◌≡◌, ℕ, ℤ, true, List, Some, slice_get};
 ghost use Rattle.frame_layout.specs.declared.layout.Layouts.{Layouts};
@@ -15,6 +15,9 @@ ghost use Rattle.pass_proofs.specs.exits.states.Exits.{AreExitsKept, exits_split
 ghost use Rattle.pass_split.specs.Parts.{split_module};
 ghost use Rattle.pass_split_proof.specs.exit_costs.Paid.{ArePlacesPaid, LeaveNoWindowBehind};
 ghost use Rattle.pass_split_proof.specs.exit_costs.Split.{IsEntryOfSplit};
+ghost use Rattle.pass_split_proof.specs.simulation.Given.{GivesNoFrame};
+ghost use Rattle.pass_split_proof.specs.simulation.Premises.{ArePremisesMet};
+ghost use Rattle.pass_split_proof.specs.simulation.Statement.{IsPartable, parts_given};
 ghost use Rattle.pass_split_proof.specs.states.Related.{part_price};
 ghost use Rattle.pass_split_proof.specs.whole.Whole.{PartsKeepCalls};
 ghost use Rattle.run_agreement.specs.Agreements.{AgreesWithin};
@@ -51,6 +54,25 @@ pub fn splitting_keeps_calls_within_four()
     ensures { (ls : Layouts) (m : Module) → AreLocalsNamed m → AreExitsKept m
         → ((k : ℕ) (f : TheFunction) → slice_get m.functions k ≡ Some f → f.coroutine ≡ true → LeaveNoWindowBehind f)
         → PartsKeepCalls ls (exits_split m) → (entry other : ℕ) (args : List Word) (answers : List ℤ)
+        → IsEntryOfSplit ls m entry other → AreArguments m entry args
+        → AgreesWithin 4 (at (framed_machine m ls entry args answers))
+        (at (plain_machine (split_module ls m) other args answers)) }
+{}
+
+/// These blocks call nothing, so no call gives a frame where none did.
+pub fn exits_give_no_frame()
+    ensures { (m : Module) → GivesNoFrame m → GivesNoFrame (exits_split m) }
+{}
+
+/// The whole step: a framed run in which no call gives a frame and that of the split module agree within 4. What is asked
+/// of the module with exit blocks is what the parts' laws ask.
+pub fn splitting_keeps_meaning()
+    ensures { (ls : Layouts) (m : Module) → AreLocalsNamed m → AreExitsKept m
+        → ((k : ℕ) (f : TheFunction) → slice_get m.functions k ≡ Some f → f.coroutine ≡ true → LeaveNoWindowBehind f)
+        → GivesNoFrame m → IsPartable ls (exits_split m)
+        → ((answers : List ℤ) → ArePremisesMet (framed_given (exits_split m) ls.coroutines answers)
+        (parts_given ls (exits_split m) answers))
+        → (entry other : ℕ) (args : List Word) (answers : List ℤ)
         → IsEntryOfSplit ls m entry other → AreArguments m entry args
         → AgreesWithin 4 (at (framed_machine m ls entry args answers))
         (at (plain_machine (split_module ls m) other args answers)) }

@@ -4,7 +4,7 @@ use Rattle.std.specs.Prelude.{slice_get}
 use Rattle.std.proofs.lemmas.Bool.{false≢true}
 use Rattle.flow_solver.proofs.Lists.{listed_at}
 use Rattle.flow_solver.specs.Paths.{IsListed}
-use Rattle.ir_laws.specs.paths.rows.Returns.{IsOwnBlock}
+use Rattle.ir_laws.specs.paths.rows.Returns.{IsOwnBlock as IsReturnBlock}
 use Rattle.ir_model.specs.Names.{function_at, position_of}
 use Rattle.ir_model.specs.declared.instr.Instr.{Instr}
 use Rattle.ir_model.specs.declared.module.Block.{Block}
@@ -110,7 +110,7 @@ module _ (g : FramedGiven) (h : PlainGiven) (met : AreFunctionsMet g h) (s : Sta
 
     wakes : (part : Part) (label : ℕ) → goes_on part ≡ true → StandsThere g x.coroutine part
         → (part ≡ Part.Resume → point.is_final ≡ false) → going_on part (Some point) ≡ Some label
-        → IsOwnBlock f label → CanWake g h s t p w part label
+        → IsReturnBlock f label → CanWake g h s t p w part label
     wakes part label goes stands final leads block = record {
       waking = record {
         part_there = there.parts part goes stands;
@@ -129,13 +129,13 @@ module _ (g : FramedGiven) (h : PlainGiven) (met : AreFunctionsMet g h) (s : Sta
     pub resumes : is_final f w.suspend ≡ false → CanWake g h s t p w Part.Resume (resume_label f w.suspend)
     resumes final = wakes Part.Resume (resume_label f w.suspend) refl (λ e. absurd (false≢true e))
         (λ e. saved.numbered.final ∙ final) (ap Some saved.numbered.resume)
-        (subst (IsOwnBlock f) saved.numbered.resume (there.returns point listed).0)
+        (subst (IsReturnBlock f) saved.numbered.resume (there.returns point listed).0)
 
     pub destroyed : (part : Part) → is_destroyer part ≡ true → StandsThere g x.coroutine part
         → CanWake g h s t p w part (destroy_label f w.suspend)
     destroyed part is stands = wakes part (destroy_label f w.suspend) (destroys part is) stands
         (λ e. absurd (no_resume part is e)) (destroys_to part point is ∙ ap Some saved.numbered.destroy)
-        (subst (IsOwnBlock f) saved.numbered.destroy (there.returns point listed).1)
+        (subst (IsReturnBlock f) saved.numbered.destroy (there.returns point listed).1)
 
   pub can_be_resumed : CanBeResumed g h s t p
   can_be_resumed w final = resumes w final
