@@ -1,15 +1,18 @@
+pub mod asking
 pub mod begins
 pub mod branching
 pub mod calling
 pub mod code
 pub mod ends
 pub mod entering
+pub mod exit_costs
 pub mod first_exits
 pub mod freeing
 pub mod giving
 pub mod held
 pub mod making
 pub mod marking
+pub mod own_blocks
 pub mod places
 pub mod silent
 pub mod simulation
@@ -17,4 +20,5 @@ pub mod states
 pub mod steps
 pub mod transfers
 pub mod waking
+pub mod whole
 pub mod worked

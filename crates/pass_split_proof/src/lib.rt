@@ -1,12 +1,14 @@
 //! Splitting keeps meaning: the parts of a coroutine, called by its ramp and its resumes, do what the framed form does.
 #![tactic(auto)]
 
+pub mod asking;
 pub mod begins;
 pub mod branching;
 pub mod calling;
 pub mod code;
 pub mod ends;
 pub mod entering;
+pub mod exit_costs;
 pub mod first_exits;
 pub mod freeing;
 pub mod giving;
@@ -14,6 +16,7 @@ pub mod held;
 pub mod making;
 pub mod marking;
 pub mod numbers;
+pub mod own_blocks;
 pub mod places;
 pub mod silent;
 pub mod simulation;
@@ -21,4 +24,5 @@ pub mod states;
 pub mod steps;
 pub mod transfers;
 pub mod waking;
+pub mod whole;
 pub mod worked;
