@@ -1,2 +1,4 @@
 pub mod Followed
+pub mod Given
+pub mod Premises
 pub mod Statement
