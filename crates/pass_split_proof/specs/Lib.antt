@@ -11,6 +11,7 @@ pub mod held
 pub mod making
 pub mod marking
 pub mod places
+pub mod ready
 pub mod silent
 pub mod simulation
 pub mod states

@@ -15,6 +15,7 @@ pub mod making;
 pub mod marking;
 pub mod numbers;
 pub mod places;
+pub mod ready;
 pub mod silent;
 pub mod simulation;
 pub mod states;

@@ -86,7 +86,7 @@ module _ (ls : Layouts) (m : Module) (rules : KeepsItemRules Stage.Source m) (sh
   same_names [] = refl
   same_names (f ∷ fs) = λ i. same_own_name f i ∷ same_names fs i
 
-  named_before : (x : Name) → function_named (exits_split m) x ≡ function_named m x
+  pub named_before : (x : Name) → function_named (exits_split m) x ≡ function_named m x
   named_before x =
       let test : Name → Bool = λ y. same_name y x in
       let named : Function → Bool = λ f. same_name f.name x in
