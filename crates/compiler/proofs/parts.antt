@@ -1,0 +1,2 @@
+pub mod Followable
+pub mod Ordered

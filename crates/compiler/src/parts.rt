@@ -1,0 +1,27 @@
+//! Framed forms as runs of their parts ask for them.
+//!
+//! What is ready for splitting may be followed in its parts, up to facts of the framed form that aren't derived yet
+//! (`AreFramedFacts`, each with what it waits for).
+
+ghost use Rattle.compiler.specs.cleanup.accepted.Ready.{IsReady};
+ghost use Rattle.compiler.specs.parts.Framed.{AreFramedFacts};
+ghost use Rattle.compiler.specs.theorem.GoodLayouts.{AreGoodLayouts};
+ghost use Rattle.frame_layout.specs.declared.layout.Layouts.{Layouts};
+ghost use Rattle.ir_model.specs.declared.module.Module.{Module};
+ghost use Rattle.pass_frames.specs.Framed.{IsFramedForm};
+ghost use Rattle.pass_proofs.specs.exits.states.Exits.{exits_split};
+ghost use Rattle.pass_split_proof.specs.ready.Layouts.{AreLayoutsOf};
+ghost use Rattle.pass_split_proof.specs.ready.Module.{IsFollowable};
+
+/// Good layouts are those of the coroutines of the framed form in order, each with its coroutine's number.
+pub fn framed_layouts_stand_in_order()
+    ensures { (layouts : Layouts) (m n : Module) → IsFramedForm layouts m n → AreGoodLayouts m layouts.coroutines
+        → AreLayoutsOf 0 n.functions layouts.coroutines }
+{}
+
+/// A module that is ready for splitting, with layouts of its coroutines in order, may be followed in its parts where
+/// it has these facts.
+pub fn ready_modules_are_followable()
+    ensures { (ls : Layouts) (m : Module) → IsReady ls m → AreLayoutsOf 0 m.functions ls.coroutines
+        → AreFramedFacts ls (exits_split m) → IsFollowable ls (exits_split m) }
+{}
