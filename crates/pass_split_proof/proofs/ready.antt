@@ -8,6 +8,7 @@ pub mod Coroutine
 pub mod Distances
 pub mod Entering
 pub mod Functions
+pub mod Gives
 pub mod Given
 pub mod Globals
 pub mod Intrinsics

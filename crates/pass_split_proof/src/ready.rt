@@ -18,9 +18,11 @@ ghost use Rattle.pass_split_proof.specs.first_exits.Parted.{parted_module};
 ghost use Rattle.pass_split_proof.specs.ready.Layouts.{AreLayoutsOf};
 ghost use Rattle.pass_split_proof.specs.ready.Module.{IsFollowable};
 ghost use Rattle.pass_split_proof.specs.ready.Names.{HasMovedNames};
+ghost use Rattle.pass_split_proof.specs.simulation.Given.{GivesNoFrame};
 ghost use Rattle.pass_split_proof.specs.simulation.Premises.{AreFunctionsMet, ArePlacesMet, ArePremisesMet};
 ghost use Rattle.pass_split_proof.specs.simulation.Statement.{parts_given};
 ghost use Rattle.pass_split_proof.specs.states.Related.{AreRelated};
+ghost use Rattle.rule_laws.specs.rules.function_rules.Kept.{KeepsFunctionRules};
 ghost use Rattle.rule_laws.specs.rules.plain_rules.Items.{KeepsItemRules};
 ghost use Rattle.rule_names.specs.declared.stage.Stage.{Stage};
 ghost use Rattle.run_framed.specs.Framed.{framed_given, layout_of, no_layout};
@@ -42,6 +44,13 @@ pub fn names_are_moved()
 pub fn globals_keep_their_contents()
     ensures { (ls : Layouts) (m : Module) → KeepsItemRules Stage.Source m → HaveShortNames m
         → first_world (parted_module ls (exits_split m)) ≡ first_world (exits_split m) }
+{}
+
+/// No call gives an instance its frame: nothing that is known has the name of a ramp that is given one (N2, N3).
+pub fn sources_give_no_frame()
+    ensures { (ls : Layouts) (m : Module) → KeepsItemRules Stage.Source m → HaveShortNames m
+        → ((k : ℕ) (f : Function) → slice_get (exits_split m).functions k ≡ Some f
+        → KeepsFunctionRules (exits_split m) k f) → GivesNoFrame (exits_split m) }
 {}
 
 /// Where the layouts are those of the coroutines in order, each is found by its coroutine's number. Another function
