@@ -1,3 +1,4 @@
+pub mod asking
 pub mod begins
 pub mod branching
 pub mod calling
@@ -10,6 +11,7 @@ pub mod giving
 pub mod held
 pub mod making
 pub mod marking
+pub mod own_blocks
 pub mod places
 pub mod ready
 pub mod silent
@@ -18,4 +20,5 @@ pub mod states
 pub mod steps
 pub mod transfers
 pub mod waking
+pub mod whole
 pub mod worked

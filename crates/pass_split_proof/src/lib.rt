@@ -1,6 +1,7 @@
 //! Splitting keeps meaning: the parts of a coroutine, called by its ramp and its resumes, do what the framed form does.
 #![tactic(auto)]
 
+pub mod asking;
 pub mod begins;
 pub mod branching;
 pub mod calling;
@@ -14,6 +15,7 @@ pub mod held;
 pub mod making;
 pub mod marking;
 pub mod numbers;
+pub mod own_blocks;
 pub mod places;
 pub mod ready;
 pub mod silent;
@@ -22,4 +24,5 @@ pub mod states;
 pub mod steps;
 pub mod transfers;
 pub mod waking;
+pub mod whole;
 pub mod worked;

@@ -108,8 +108,8 @@ pub record MarksAlloca (f : Function) (block at : ℕ) (args : List Arg) : Type 
   pub alloca : IsEntryAlloca f made name
   pub before : block ≡ 0 → made < at
 
--- Allocas stand in the entry block (F3), and nothing else sets their names (N1). Markers mark allocas (K13), which stand
--- before them (F2).
+-- Allocas stand in the entry block (F3), and nothing else sets their names (N1). Markers mark allocas (K13), which
+-- stand before them (F2).
 pub record AreAllocasAlone (f : Function) : Type 0 where
   pub first : (block at name align : ℕ) (ty : Ty) → fetch f block at ≡ AtInstr (Instr.Alloca name ty align)
       → block ≡ 0
@@ -175,8 +175,8 @@ pub record IsAtPlace (g : FramedGiven) (h : PlainGiven) (s : State) (t : PlainSt
 abbrev pub first_parts : FramedGiven → ℕ → ℕ
 first_parts g func = part_position g func Part.Ramp
 
--- What is asked of the instruction or terminator at the same place of both, by its kind. What the state alone gives comes
--- as an argument: the mode, sizes for allocators, the block of a marker, and the frame of a save.
+-- What is asked of the instruction or terminator at the same place of both, by its kind. What the state alone gives
+-- comes as an argument: the mode, sizes for allocators, the block of a marker, and the frame of a save.
 pub record ArePlacesMet (g : FramedGiven) (h : PlainGiven) (s : State) (t : PlainState) (r : AreRelated g h s t)
     : Type 0 where
   -- the switch of a suspend isn't at the same place of a part, which has no value for it (K3)

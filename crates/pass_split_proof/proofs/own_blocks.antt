@@ -1,0 +1,7 @@
+pub mod Begun
+pub mod Coros
+pub mod Heaps
+pub mod Made
+pub mod Runs
+pub mod States
+pub mod Steps

@@ -1,0 +1,160 @@
+-- A coroutine begins in a block of an allocator.
+use Rattle.std.proofs.Common.{◌≡◌, ℕ, ◌<◌, ◌≤◌, Bool, true, false, List, [], ◌∷◌, ◌++◌, length, Option, Some, None, Result, Ok, Err, refl, sym, ap, ◌∙◌, subst, arith, ◌&&◌, ◌==◌}
+use Rattle.std.specs.Prelude.{is_none, slice_get}
+use Rattle.std.proofs.lemmas.Bool.{and_parts, false≢true}
+use Rattle.std.proofs.lemmas.Option.{slice_get_within}
+use Rattle.ir_base.specs.declared.cause.Cause.{Cause}
+use Rattle.ir_model.specs.Names.{function_at}
+use Rattle.ir_model.specs.declared.instr.Instr.{Instr}
+use Rattle.ir_model.specs.declared.module.Module.{Module}
+use Rattle.pass_split_proof.proofs.held.Moves.{ok_is, ok_same}
+use Rattle.pass_split_proof.proofs.own_blocks.Heaps.{SameHeaps, changed_heaps}
+use Rattle.pass_split_proof.proofs.own_blocks.States.{StaysOwn, gives_own, memory_own, then_own}
+use Rattle.pass_split_proof.specs.held.Kept.{is_heap_in}
+use Rattle.pass_split_proof.specs.own_blocks.Own.{FitsMode, HasOwnBlocks, IsOwnInstance, IsOwnState, SetsNoAlloca}
+use Rattle.run_framed.specs.Framed.{FramedGiven, framed_begin}
+use Rattle.run_memory.specs.Memory.{check, may_be_owned, own, owned_to, with_block}
+use Rattle.run_memory.specs.declared.block.Kind.{Kind}
+use Rattle.run_memory.specs.declared.block.MemoryBlock.{MemoryBlock}
+use Rattle.run_memory.specs.declared.pointer.Offset.{Offset}
+use Rattle.run_memory.specs.declared.pointer.Pointer.{Pointer}
+use Rattle.run_memory.specs.declared.pointer.Value.{Value}
+use Rattle.run_source.specs.Source.{begin, begin_at, begun, new_instance}
+use Rattle.run_source.specs.State.{function_of, gives, own_frame, with_memory}
+use Rattle.run_source.specs.declared.state.Mode.{Mode}
+use Rattle.run_source.specs.declared.state.State.{State}
+use Rattle.run_states.proofs.sound_states.Kept.{each_more, each_set}
+use Rattle.run_step.specs.Effects.{is_alloca}
+use Rattle.run_step.specs.Results.{and_then, found, ok_if}
+use Rattle.run_step.specs.Step.{AtInstr, block_of, fetch}
+
+-- what is owned is a block of an allocator
+record IsOwnedHeap (m : List MemoryBlock) (mem : Value) (n : ℕ) (k : List MemoryBlock) : Type 0 where
+  at : ℕ
+  offset : Offset
+  is : mem ≡ Value.Ptr (Pointer.At at offset)
+  known : at < length m
+  heap : is_heap_in (slice_get m at) ≡ true
+  memory : k ≡ with_block m at (owned_to n)
+
+owned_heap : (m : List MemoryBlock) (mem : Value) (n : ℕ) (k : List MemoryBlock) → own m mem n Kind.Allocator ≡ Ok k
+    → IsOwnedHeap m mem n k
+owned_heap m (Value.Ptr (Pointer.At b o)) n k h =
+    on ((o.bits == 0) && may_be_owned Kind.Allocator n (slice_get m b)) refl h
+  where
+    heap_by : (q : Option MemoryBlock) → slice_get m b ≡ q → may_be_owned Kind.Allocator n q ≡ true
+        → (b < length m) × (is_heap_in (slice_get m b) ≡ true)
+    heap_by None e h = absurd (false≢true h)
+    heap_by (Some u) e h =
+        let p = and_parts _ _ h in let q = and_parts _ _ p.0 in let r = and_parts _ _ q.0 in
+        (slice_get_within m b u e, ap is_heap_in e ∙ r.1)
+
+    on : (t : Bool) → ((o.bits == 0) && may_be_owned Kind.Allocator n (slice_get m b)) ≡ t
+        → check t Cause.Begin (Ok (with_block m b (owned_to n))) ≡ Ok k
+        → IsOwnedHeap m (Value.Ptr (Pointer.At b o)) n k
+    on false e h = absurd (cc)
+    on true e h =
+        let y = heap_by (slice_get m b) refl (and_parts (o.bits == 0) (may_be_owned Kind.Allocator n (slice_get m b))
+        e).1 in record {
+          at = b;
+          offset = o;
+          is = refl;
+          known = y.0;
+          heap = y.1;
+          memory = sym (ok_same (Ok (with_block m b (owned_to n))) (with_block m b (owned_to n)) k refl h);
+        }
+owned_heap m (Value.Ptr Pointer.Null) n k h = absurd (cc)
+owned_heap m (Value.Ptr (Pointer.Func f)) n k h = absurd (cc)
+owned_heap m Value.Poison n k h = absurd (cc)
+owned_heap m (Value.Int x) n k h = absurd (cc)
+
+-- an activation that has an instance fits its mode still
+fits_some : (coroutine : Bool) (old : Option ℕ) (i : ℕ) (mode : Mode) → FitsMode coroutine old mode
+    → FitsMode coroutine (Some i) mode
+fits_some coroutine old i Mode.Plain h = h
+fits_some coroutine old i Mode.Ramp h = h
+fits_some coroutine old i Mode.Resumed h = (h.0, refl)
+fits_some coroutine old i (Mode.GivenRamp frame) h = h
+fits_some coroutine old i (Mode.Entering from label) h = (h.0, refl)
+
+module _ (g : FramedGiven) (asks : HasOwnBlocks g.given.code) where
+  abbrev c : Module
+  c = g.given.code
+
+  begun_own : (s : State) (block : ℕ) → IsOwnState c s → block < length s.world.memory
+      → is_heap_in (slice_get s.world.memory block) ≡ true → (function_of g.given s).coroutine ≡ true
+      → IsOwnState c (begun g.given s block 0)
+  begun_own s block o known heap coroutine = record {
+    instances = each_set (IsOwnInstance c s.world.memory) (s.instances ++ new_instance s.top.func block 0 ∷ [])
+        (length s.instances) _ (record { start = refl; known = known; heap = heap; coroutine = coroutine })
+        (each_more (IsOwnInstance c s.world.memory) s.instances (new_instance s.top.func block 0)
+        (record { start = refl; known = known; heap = heap; coroutine = coroutine }) o.instances);
+    top = record {
+      mode = fits_some (function_at c s.top.func).coroutine s.top.instance (length s.instances) s.top.mode o.top.mode;
+      whole = o.top.whole;
+      made = o.top.made;
+    };
+    below = o.below;
+  }
+
+  module _ (s : State) (o : IsOwnState c s) (i : Instr)
+      (there : fetch (function_of g.given s) s.top.block s.top.at ≡ AtInstr i) (plain : is_alloca i ≡ false)
+      (coroutine : (function_of g.given s).coroutine ≡ true) (result : Option ℕ)
+      (none : SetsNoAlloca (function_of g.given s) result) where
+    owned_own : (mem : Value) (k : List MemoryBlock) → own s.world.memory mem (own_frame g.given s).size Kind.Allocator
+        ≡ Ok k → (b : ℕ) → block_of mem ≡ Some b → IsOwnState c (begun g.given (with_memory s k) b 0)
+    owned_own mem k e b f = begun_own (with_memory s k) b (memory_own c s k heaps o) known heap coroutine
+      where
+        y : IsOwnedHeap s.world.memory mem (own_frame g.given s).size k
+        y = owned_heap s.world.memory mem (own_frame g.given s).size k e
+
+        at_is : y.at ≡ b
+        at_is = same_at (ap block_of (sym y.is) ∙ f)
+          where
+            same_at : Some y.at ≡ Some b → y.at ≡ b
+            same_at e = cc
+
+        heaps : SameHeaps s.world.memory k
+        heaps = subst (SameHeaps s.world.memory) (sym y.memory)
+            (changed_heaps s.world.memory y.at (owned_to (own_frame g.given s).size) (λ u. refl))
+
+        known : b < length k
+        known = more b (length s.world.memory) (length k) (subst (λ (a : ℕ). a < length s.world.memory) at_is y.known)
+            heaps.longer
+          where
+            more : (a b c : ℕ) → a < b → b ≤ c → a < c
+            more a b c lt le = omega arith
+
+        heap : is_heap_in (slice_get k b) ≡ true
+        heap = subst (λ (a : ℕ). is_heap_in (slice_get k a) ≡ true) at_is (heaps.each y.at y.known ∙ y.heap)
+
+    begin_own : (mem : Value) → StaysOwn c (begin g.given s result mem)
+    begin_own mem = then_own c (ok_if (is_none s.top.instance) Cause.Begin s)
+        (λ (u : State). and_then (begin_at g.given u mem Kind.Allocator) (λ (v : State). Ok (gives v result mem)))
+        (λ u e. subst (λ (w : State). StaysOwn c (and_then (begin_at g.given w mem Kind.Allocator)
+        (λ (v : State). Ok (gives v result mem)))) (ok_is (is_none s.top.instance) Cause.Begin s u e).1
+        (by_memory (own s.world.memory mem (own_frame g.given s).size Kind.Allocator) refl))
+      where
+        by_block : (k : List MemoryBlock) → own s.world.memory mem (own_frame g.given s).size Kind.Allocator ≡ Ok k
+            → (q : Option ℕ) → block_of mem ≡ q
+            → StaysOwn c (and_then (and_then (found Cause.Begin q) (λ (b : ℕ).
+            Ok (begun g.given (with_memory s k) b 0))) (λ (v : State). Ok (gives v result mem)))
+        by_block k e None f = tt
+        by_block k e (Some b) f = gives_own g asks (begun g.given (with_memory s k) b 0) (owned_own mem k e b f) result
+            mem i there plain none
+
+        by_memory : (r : Result (List MemoryBlock) Cause)
+            → own s.world.memory mem (own_frame g.given s).size Kind.Allocator ≡ r
+            → StaysOwn c (and_then (and_then r (λ (memory : List MemoryBlock).
+            and_then (found Cause.Begin (block_of mem)) (λ (b : ℕ). Ok (begun g.given (with_memory s memory) b 0))))
+            (λ (v : State). Ok (gives v result mem)))
+        by_memory (Err cause) e = tt
+        by_memory (Ok k) e = by_block k e (block_of mem) refl
+
+    pub begins_own : (mem : Value) (mode : Mode) → FitsMode (function_of g.given s).coroutine s.top.instance mode
+        → StaysOwn c (framed_begin g s result mem mode)
+    begins_own mem (Mode.GivenRamp frame) h = absurd h
+    begins_own mem Mode.Plain h = begin_own mem
+    begins_own mem Mode.Ramp h = begin_own mem
+    begins_own mem Mode.Resumed h = begin_own mem
+    begins_own mem (Mode.Entering from label) h = begin_own mem

@@ -1,0 +1,81 @@
+-- Wherever the part is for the place of the framed run, the step is followed.
+use Rattle.std.proofs.Common.{◌≡◌, ℕ, ◌+◌, ◌<◌, ◌≤◌, ⊎_elim, true, length, None, refl, sym, ap, ◌∙◌, subst, arith}
+use Rattle.std.proofs.lemmas.Bool.{cases_lt}
+use Rattle.ir_base.specs.declared.outcome.Outcome.{Outcome}
+use Rattle.ir_model.specs.Names.{function_at}
+use Rattle.ir_model.specs.declared.instr.Terminator.{Terminator}
+use Rattle.ir_model.specs.declared.module.Function.{Function}
+use Rattle.pass_front.specs.Front.{allocas_of}
+use Rattle.pass_intrinsics.specs.declared.shape.Shape.{Shape}
+use Rattle.pass_split_proof.proofs.branching.Stopped.{stop_followed}
+use Rattle.pass_split_proof.proofs.entering.Again.{again_followed}
+use Rattle.pass_split_proof.proofs.entering.Last.{last_followed}
+use Rattle.pass_split_proof.proofs.transfers.Passing.{passing_followed}
+use Rattle.pass_split_proof.proofs.whole.Here.{AreUngiven, IsHeldState, here_followed, shape_is}
+use Rattle.pass_split_proof.specs.own_blocks.Own.{FitsMode}
+use Rattle.pass_split_proof.specs.simulation.Followed.{IsFollowed}
+use Rattle.pass_split_proof.specs.simulation.Premises.{ArePremisesMet}
+use Rattle.pass_split_proof.specs.states.Activations.{Inside, IsLeaving, IsPlaced, Making, Passed, Stopping, is_entering}
+use Rattle.pass_split_proof.specs.states.Related.{AreRelated}
+use Rattle.pass_split_proof.specs.transfers.Passing.{HasSuspendsBeforeEnd}
+use Rattle.run_agreement.specs.Machines.{IsFine}
+use Rattle.run_framed.specs.Framed.{FramedGiven, framed_step}
+use Rattle.run_plain.specs.Plain.{PlainGiven}
+use Rattle.run_plain.specs.declared.state.PlainState.{PlainState}
+use Rattle.run_source.specs.State.{function_of}
+use Rattle.run_source.specs.declared.state.Mode.{Mode}
+use Rattle.run_source.specs.declared.state.State.{State}
+use Rattle.run_step.specs.Step.{AtTerm, fetch}
+
+module _ (g : FramedGiven) (h : PlainGiven) (met : ArePremisesMet g h) (ungiven : AreUngiven g) (s : State)
+    (t : PlainState) (r : AreRelated g h s t) (k : IsHeldState g s) (runs : s.outcome ≡ Outcome.Running)
+    (fine : IsFine (framed_step g s).outcome) where
+  abbrev f : Function
+  f = function_of g.given s
+
+  abbrev q : Function
+  q = function_at h.code t.top.func
+
+  -- an activation that makes its allocas again
+  makes : (from label : ℕ) → s.top.mode ≡ Mode.Entering from label → s.top.block ≡ 0 → t.top.block ≡ 0
+      → t.top.at ≡ s.top.at → s.top.at < length (allocas_of f.blocks) → IsFollowed g h s t
+  makes from label e block piece at among = ⊎_elim
+      (λ lt. again_followed g h s t r runs fine from label ((met.places s t r).making from label e block piece at among)
+      lt)
+      (λ le. last_followed g h s t r runs fine from label ((met.places s t r).making from label e block piece at among)
+      ((met.places s t r).behind from label e) (last s.top.at (length (allocas_of f.blocks)) among le))
+      (cases_lt (s.top.at + 1) (length (allocas_of f.blocks)))
+    where
+      last : (a n : ℕ) → a < n → n ≤ a + 1 → a + 1 ≡ n
+      last a n lt le = omega arith
+
+  -- one that comes from behind a transfer to the end
+  passes : s.top.mode ≡ Mode.Resumed → fetch q t.top.block t.top.at ≡ AtTerm (Terminator.Ret None)
+      → IsLeaving f r.top.shape.end s.top → IsFollowed g h s t
+  passes e returns leaving = passing_followed g h s t r (record {
+    running = runs;
+    mode = e;
+    returns = returns;
+    leaving = leaving;
+    suspends = subst (λ (z : Shape). HasSuspendsBeforeEnd f z.end)
+        (sym (shape_is g h met.functions ungiven s t r k.own coroutine))
+        (met.functions.coroutines s.top.func coroutine).suspends;
+  }) fine
+    where
+      coroutine : (function_of g.given s).coroutine ≡ true
+      coroutine = (subst (FitsMode (function_of g.given s).coroutine s.top.instance) e k.own.top.mode).0
+
+  by_place : (mode : Mode) → s.top.mode ≡ mode → IsPlaced r.top.shape r.top.part f q s.top t.top mode
+      → IsFollowed g h s t
+  by_place _ e (Inside mode settled place) = here_followed g h met ungiven s t r k fine (record {
+    running = runs;
+    settled = ap is_entering e ∙ settled;
+    place = place;
+  })
+  by_place _ e (Stopping mode m arg cases settled behind there both value jump enters) =
+      stop_followed g h s t r m arg cases there both value runs fine (ap is_entering e ∙ settled) jump enters
+  by_place _ e (Making from label block piece at among) = makes from label e block piece at among
+  by_place _ e (Passed returns leaving) = passes e returns leaving
+
+  pub step_followed : IsFollowed g h s t
+  step_followed = by_place s.top.mode refl r.top.place

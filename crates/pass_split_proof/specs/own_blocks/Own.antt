@@ -1,0 +1,93 @@
+-- States of a framed run in which no call gives a frame: frames begin blocks of allocators, and allocas that are behind
+-- an activation have given it blocks of their own.
+use Rattle.std.specs.Prelude.{◌≡◌, ℕ, ◌<◌, Bool, true, false, List, [], ◌∷◌, length, slice_get, Some, None, Option, is_none}
+use Rattle.ir_base.specs.declared.name.Name.{Name}
+use Rattle.ir_model.specs.Names.{function_at}
+use Rattle.ir_model.specs.Ty.{Ty}
+use Rattle.ir_model.specs.declared.instr.Instr.{Instr}
+use Rattle.ir_model.specs.declared.module.Function.{Function}
+use Rattle.ir_model.specs.declared.module.Module.{Module}
+use Rattle.ir_model.specs.declared.operand.Arg.{Arg}
+use Rattle.ir_model.specs.declared.operand.Callee.{Callee}
+use Rattle.ir_model.specs.declared.operand.Intrinsic.{Intrinsic}
+use Rattle.pass_split_proof.specs.held.Kept.{IsNoHeap, is_heap_in}
+use Rattle.pass_split_proof.specs.simulation.Premises.{AreAllocasAlone, IsEntryAlloca, is_of_coroutines}
+use Rattle.run_framed.specs.Framed.{given_ramp}
+use Rattle.run_memory.specs.declared.block.MemoryBlock.{MemoryBlock}
+use Rattle.run_memory.specs.declared.pointer.Offset.{Offset}
+use Rattle.run_memory.specs.declared.pointer.Pointer.{Pointer}
+use Rattle.run_memory.specs.declared.pointer.Value.{Value}
+use Rattle.run_source.specs.declared.state.Activation.{Activation}
+use Rattle.run_source.specs.declared.state.Instance.{Instance}
+use Rattle.run_source.specs.declared.state.Mode.{Mode}
+use Rattle.run_source.specs.declared.state.State.{State}
+use Rattle.run_step.specs.Step.{AtInstr, fetch}
+use Rattle.run_step.specs.Values.{Env, value_in}
+
+-- ---- what is asked of the module
+
+pub record HasOwnBlocks (m : Module) : Type 0 where
+  -- F2, F3, N1 and K13
+  pub allocas : (func : ℕ) → AreAllocasAlone (function_at m func)
+  -- K1
+  pub intrinsics : (func block at : ℕ) (result : Option ℕ) (must_tail : Bool) (ty : Option Ty) (x : Intrinsic)
+      (args : List Arg) → fetch (function_at m func) block at ≡ AtInstr (Instr.Call result must_tail ty
+      (Callee.Intrinsic x) args) → is_of_coroutines x ≡ true → (function_at m func).coroutine ≡ true
+  -- no call gives a frame
+  pub ungiven : (func block at : ℕ) (result : Option ℕ) (must_tail : Bool) (ty : Option Ty) (name : Name)
+      (args : List Arg) → fetch (function_at m func) block at ≡ AtInstr (Instr.Call result must_tail ty
+      (Callee.Named name) args) → given_ramp m name ≡ None
+
+-- ---- activations
+
+-- a name has the address of a block that is no allocator's
+pub record IsMade (m : List MemoryBlock) (env : Env) (name : ℕ) : Type 0 where
+  pub block : ℕ
+  pub offset : Offset
+  pub is : value_in env name ≡ Value.Ptr (Pointer.At block offset)
+  pub none : IsNoHeap m block
+
+-- so has the name of each alloca of the entry block that is behind a place
+abbrev pub AreMade : Function → List MemoryBlock → Env → (block at : ℕ) → Type 0
+AreMade f m env block at = (k name : ℕ) → IsEntryAlloca f k name → (block ≡ 0 → k < at) → IsMade m env name
+
+-- A function that is no coroutine runs Plain, and a coroutine doesn't. No ramp is given its frame, and what goes on has
+-- an instance.
+abbrev pub FitsMode : Bool → Option ℕ → Mode → Type 0
+FitsMode coroutine instance Mode.Plain = coroutine ≡ false
+FitsMode coroutine instance Mode.Ramp = coroutine ≡ true
+FitsMode coroutine instance Mode.Resumed = (coroutine ≡ true) × (is_none instance ≡ false)
+FitsMode coroutine instance (Mode.GivenRamp frame) = ⊥
+FitsMode coroutine instance (Mode.Entering from label) = (coroutine ≡ true) × (is_none instance ≡ false)
+
+pub record IsOwnActivation (c : Module) (m : List MemoryBlock) (a : Activation) : Type 0 where
+  pub mode : FitsMode (function_at c a.func).coroutine a.instance a.mode
+  pub whole : length a.values ≡ length (function_at c a.func).names
+  pub made : AreMade (function_at c a.func) m a.values a.block a.at
+
+-- the name that a call sets is no alloca's
+abbrev pub SetsNoAlloca : Function → Option ℕ → Type 0
+SetsNoAlloca f result = (k name : ℕ) → IsEntryAlloca f k name → result ≡ Some name → ⊥
+
+-- the activations below one that gives its result to the first
+abbrev pub AreOwnBelow : Module → List MemoryBlock → Option ℕ → List Activation → Type 0
+AreOwnBelow c m result [] = Unit {0}
+AreOwnBelow c m result (a ∷ below) =
+    IsOwnActivation c m a × SetsNoAlloca (function_at c a.func) result × AreOwnBelow c m a.result below
+
+-- ---- states
+
+-- the frame of an instance of a coroutine begins an allocator's block
+pub record IsOwnInstance (c : Module) (m : List MemoryBlock) (x : Instance) : Type 0 where
+  pub start : x.start ≡ 0
+  pub known : x.block < length m
+  pub heap : is_heap_in (slice_get m x.block) ≡ true
+  pub coroutine : (function_at c x.coroutine).coroutine ≡ true
+
+abbrev pub AreOwn : Module → List MemoryBlock → List Instance → Type 0
+AreOwn c m xs = (i : ℕ) (x : Instance) → slice_get xs i ≡ Some x → IsOwnInstance c m x
+
+pub record IsOwnState (c : Module) (s : State) : Type 0 where
+  pub instances : AreOwn c s.world.memory s.instances
+  pub top : IsOwnActivation c s.world.memory s.top
+  pub below : AreOwnBelow c s.world.memory s.top.result s.below

@@ -1,0 +1,25 @@
+-- What splitting keeps of runs whose arguments are words of the widths of the entry's parameters.
+use Rattle.std.specs.Prelude.{ℕ, ℤ, List}
+use Rattle.frame_layout.specs.declared.layout.Layouts.{Layouts}
+use Rattle.ir_base.specs.declared.outcome.Word.{Word}
+use Rattle.ir_model.specs.declared.module.Module.{Module}
+use Rattle.pass_cleanup.specs.Cleaned.{plain_machine}
+use Rattle.pass_split_proof.specs.first_exits.Parted.{parted_module}
+use Rattle.pass_split_proof.specs.simulation.Statement.{IsEntryOfParts, parts_given}
+use Rattle.pass_split_proof.specs.states.Related.{AreRelated, Follows, part_price}
+use Rattle.run_agreement.specs.Costs.{AgreesBy, IsNear}
+use Rattle.run_framed.specs.Framed.{framed_given}
+use Rattle.run_states.specs.moved_states.Beside.{framed_machine}
+use Rattle.run_types.specs.States.{AreArguments}
+
+-- It is `PartsKeepStates` of such runs. There a size that is handed to an allocator is below 2^64 (`sizes_are_small`),
+-- which the relation asks of blocks.
+abbrev pub PartsKeepCalls : Layouts → Module → Type 0
+PartsKeepCalls ls m =
+    (entry other : ℕ) (args : List Word) (answers : List ℤ) → IsEntryOfParts ls m entry other
+    → AreArguments m entry args
+    → AgreesBy (Follows (framed_given m ls.coroutines answers) (parts_given ls m answers))
+    (IsNear (plain_machine (parted_module ls m) other args answers) 9
+    (AreRelated (framed_given m ls.coroutines answers) (parts_given ls m answers)))
+    (framed_machine m ls entry args answers) (part_price (framed_given m ls.coroutines answers))
+    (plain_machine (parted_module ls m) other args answers) (λ t. 1)

@@ -1,0 +1,24 @@
+//! Where no call gives a frame, each frame of a framed run begins a block of an allocator. What an activation's allocas
+//! have given are blocks of others.
+//!
+//! So a marker, whose operand is an alloca (K13), marks no block of an allocator (`MarksNoHeaps`). No ramp is given its
+//! frame, and an activation that was resumed has an instance.
+
+ghost use Rattle.std.specs.Prelude.{◌≡◌, ℕ, false, List};
+ghost use Rattle.ir_base.specs.declared.outcome.Word.{Word};
+ghost use Rattle.ir_model.specs.Names.{function_at};
+ghost use Rattle.pass_split_proof.specs.held.Kept.{MarksNoHeaps};
+ghost use Rattle.pass_split_proof.specs.own_blocks.Own.{HasOwnBlocks, IsOwnState};
+ghost use Rattle.run_framed.specs.Framed.{FramedGiven, framed_state_at, framed_step};
+ghost use Rattle.run_source.specs.declared.state.State.{State as TheState};
+
+/// Each step of a framed run keeps that, and so does a run.
+pub fn frames_begin_allocated_blocks()
+    ensures step { (g : FramedGiven) → HasOwnBlocks g.given.code → (s : TheState) → IsOwnState g.given.code s
+        → IsOwnState g.given.code (framed_step g s) }
+    ensures runs { (g : FramedGiven) → HasOwnBlocks g.given.code → (entry : ℕ) (args : List Word)
+        → (function_at g.given.code entry).coroutine ≡ false → (n : ℕ)
+        → IsOwnState g.given.code (framed_state_at g entry args n) }
+    ensures marks { (g : FramedGiven) → HasOwnBlocks g.given.code → (entry : ℕ) (args : List Word)
+        → (function_at g.given.code entry).coroutine ≡ false → MarksNoHeaps g entry args }
+{}
