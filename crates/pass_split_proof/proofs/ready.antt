@@ -7,9 +7,10 @@ pub mod Calls
 pub mod Coroutine
 pub mod Distances
 pub mod Entering
+pub mod Entries
 pub mod Functions
-pub mod Gives
 pub mod Given
+pub mod Gives
 pub mod Globals
 pub mod Intrinsics
 pub mod Known

@@ -20,8 +20,9 @@ ghost use Rattle.pass_split_proof.specs.ready.Module.{IsFollowable};
 ghost use Rattle.pass_split_proof.specs.ready.Names.{HasMovedNames};
 ghost use Rattle.pass_split_proof.specs.simulation.Given.{GivesNoFrame};
 ghost use Rattle.pass_split_proof.specs.simulation.Premises.{AreFunctionsMet, ArePlacesMet, ArePremisesMet};
-ghost use Rattle.pass_split_proof.specs.simulation.Statement.{parts_given};
+ghost use Rattle.pass_split_proof.specs.simulation.Statement.{IsEntryOfParts, parts_given};
 ghost use Rattle.pass_split_proof.specs.states.Related.{AreRelated};
+ghost use Rattle.pass_split_proof.specs.whole.Whole.{PartsKeepCalls};
 ghost use Rattle.rule_laws.specs.rules.function_rules.Kept.{KeepsFunctionRules};
 ghost use Rattle.rule_laws.specs.rules.plain_rules.Items.{KeepsItemRules};
 ghost use Rattle.rule_names.specs.declared.stage.Stage.{Stage};
@@ -53,6 +54,14 @@ pub fn sources_give_no_frame()
         → KeepsFunctionRules (exits_split m) k f) → GivesNoFrame (exits_split m) }
 {}
 
+/// What has the name of a function that is no coroutine is what becomes of it.
+pub fn entries_move()
+    ensures { (ls : Layouts) (m : Module) → KeepsItemRules Stage.Source m → HaveShortNames m → (entry other : ℕ)
+        (f g : Function) → slice_get (exits_split m).functions entry ≡ Some f → f.coroutine ≡ false
+        → slice_get (parted_module ls (exits_split m)).functions other ≡ Some g → g.name ≡ f.name
+        → IsEntryOfParts ls (exits_split m) entry other }
+{}
+
 /// Where the layouts are those of the coroutines in order, each is found by its coroutine's number. Another function
 /// has none.
 pub fn layouts_stand_by_their_coroutines()
@@ -82,4 +91,9 @@ pub fn places_are_ready()
 pub fn premises_are_met()
     ensures { (ls : Layouts) (m : Module) → IsFollowable ls m → (answers : List ℤ)
         → ArePremisesMet (framed_given m ls.coroutines answers) (parts_given ls m answers) }
+{}
+
+/// So where no call gives a frame, the module and its parts keep states beside each other.
+pub fn followable_modules_keep_calls()
+    ensures { (ls : Layouts) (m : Module) → IsFollowable ls m → GivesNoFrame m → PartsKeepCalls ls m }
 {}

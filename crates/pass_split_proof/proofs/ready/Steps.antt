@@ -11,10 +11,13 @@ use Rattle.pass_split_proof.proofs.ready.Functions.{functions_met}
 use Rattle.pass_split_proof.proofs.ready.Intrinsics.{asking_ready, intrinsic_ready, sized_ready}
 use Rattle.pass_split_proof.proofs.ready.Ordinary.{ordinary_ready}
 use Rattle.pass_split_proof.proofs.ready.Terms.{terms_ready}
+use Rattle.pass_split_proof.proofs.whole.Runs.{calls_kept}
 use Rattle.pass_split_proof.specs.ready.Module.{IsFollowable}
+use Rattle.pass_split_proof.specs.simulation.Given.{GivesNoFrame}
 use Rattle.pass_split_proof.specs.simulation.Premises.{ArePlacesMet, ArePremisesMet}
 use Rattle.pass_split_proof.specs.simulation.Statement.{parts_given}
 use Rattle.pass_split_proof.specs.states.Related.{AreRelated}
+use Rattle.pass_split_proof.specs.whole.Whole.{PartsKeepCalls}
 use Rattle.run_framed.specs.Framed.{framed_given}
 use Rattle.run_plain.specs.declared.state.PlainState.{PlainState}
 use Rattle.run_source.specs.declared.state.State.{State}
@@ -45,3 +48,6 @@ module _ (ls : Layouts) (m : Module) (w : IsFollowable ls m) (answers : List ℤ
 
   pub premises_met : ArePremisesMet (framed_given m ls.coroutines answers) (parts_given ls m answers)
   premises_met = record { functions = functions_met ls m w answers; places = places_met }
+
+pub calls_followable : (ls : Layouts) (m : Module) → IsFollowable ls m → GivesNoFrame m → PartsKeepCalls ls m
+calls_followable ls m w gives = calls_kept ls m w.partable gives (λ answers. premises_met ls m w answers)
