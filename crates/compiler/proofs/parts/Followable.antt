@@ -88,14 +88,10 @@ first_given ls (f ∷ fs) (suc k) = wider (layouts_after f ls) (first_given (lay
     wider rest {l} (inl h) more = inl (more l h)
     wider rest {l} (inr e) more = inr e
 
-module _ (ls : Layouts) (m : Module) (ready : IsReady ls m) (laid : AreLayoutsOf 0 m.functions ls.coroutines)
-    (facts : AreFramedFacts ls (exits_split m)) where
-  layouts : AreLayoutsOf 0 (exits_split m).functions ls.coroutines
-  layouts = exited_layouts 0 m.functions ls.coroutines laid
-
-  rules : (k : ℕ) (f : Function) → slice_get (exits_split m).functions k ≡ Some f
+module _ (ls : Layouts) (m : Module) (ready : IsReady ls m) where
+  pub kept_there : (k : ℕ) (f : Function) → slice_get (exits_split m).functions k ≡ Some f
       → KeepsFunctionRules (exits_split m) k f
-  rules k f there = on (comes m k f there)
+  kept_there k f there = on (comes m k f there)
     where
       by : (g : Function) (c : Bool) → g.coroutine ≡ c → slice_get m.functions k ≡ Some g
           → KeepsFunctionRules (exits_split m) k (if c then with_exit_blocks g else g)
@@ -105,6 +101,15 @@ module _ (ls : Layouts) (m : Module) (ready : IsReady ls m) (laid : AreLayoutsOf
 
       on : ComesExited m k f → KeepsFunctionRules (exits_split m) k f
       on x = subst (KeepsFunctionRules (exits_split m) k) x.is (by x.source x.source.coroutine refl x.stands)
+
+module _ (ls : Layouts) (m : Module) (ready : IsReady ls m) (laid : AreLayoutsOf 0 m.functions ls.coroutines)
+    (facts : AreFramedFacts ls (exits_split m)) where
+  rules : (k : ℕ) (f : Function) → slice_get (exits_split m).functions k ≡ Some f
+      → KeepsFunctionRules (exits_split m) k f
+  rules = kept_there ls m ready
+
+  layouts : AreLayoutsOf 0 (exits_split m).functions ls.coroutines
+  layouts = exited_layouts 0 m.functions ls.coroutines laid
 
   locals_kept : AreLocalsNamed (exits_split m)
   locals_kept k = on (slice_get (exits_split m).functions k) refl
