@@ -19,6 +19,7 @@ pub mod cleanup;
 pub mod fit;
 mod lowered;
 pub mod order;
+pub mod parts;
 mod passes;
 pub mod theorem;
 pub mod whole;

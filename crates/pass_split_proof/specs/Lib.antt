@@ -14,6 +14,7 @@ pub mod making
 pub mod marking
 pub mod own_blocks
 pub mod places
+pub mod ready
 pub mod silent
 pub mod simulation
 pub mod states

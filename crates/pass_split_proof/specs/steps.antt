@@ -10,6 +10,7 @@ pub mod Operands
 pub mod Ordinary
 pub mod Ready
 pub mod Resuming
+pub mod Returns
 pub mod Saves
 pub mod Slots
 pub mod Small

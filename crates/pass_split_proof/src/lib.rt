@@ -18,6 +18,7 @@ pub mod marking;
 pub mod numbers;
 pub mod own_blocks;
 pub mod places;
+pub mod ready;
 pub mod silent;
 pub mod simulation;
 pub mod states;

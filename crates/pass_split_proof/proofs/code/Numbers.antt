@@ -43,23 +43,23 @@ use Rattle.run_step.specs.Step.{AtInstr, fetch, label_of}
 
 -- ---- suspends in the text
 
-abbrev suspend_call : Option ℕ → Bool → Option Ty → List Arg → Instr
+abbrev pub suspend_call : Option ℕ → Bool → Option Ty → List Arg → Instr
 suspend_call r must_tail ty args = Instr.Call r must_tail ty (Callee.Intrinsic Intrinsic.CoroSuspend) args
 
-record IsCall (i : Instr) : Type 0 where
-  result : Option ℕ
-  must_tail : Bool
-  ty : Option Ty
-  args : List Arg
-  is : i ≡ suspend_call result must_tail ty args
+pub record IsCall (i : Instr) : Type 0 where
+  pub result : Option ℕ
+  pub must_tail : Bool
+  pub ty : Option Ty
+  pub args : List Arg
+  pub is : i ≡ suspend_call result must_tail ty args
 
-is_call : (i : Instr) → is_suspend i ≡ true → IsCall i
+pub is_call : (i : Instr) → is_suspend i ≡ true → IsCall i
 is_call (Instr.Call r must_tail ty (Callee.Intrinsic Intrinsic.CoroSuspend) args) e
     = record { result = r; must_tail = must_tail; ty = ty; args = args; is = refl }
 is_call _ e = absurd (cc)
 
 -- what is said of a suspend of a block
-abbrev point_of : Block → List Arg → SuspendPoint
+abbrev pub point_of : Block → List Arg → SuspendPoint
 point_of b args = record {
   save = save_of args;
   is_final = is_final_of args;
@@ -95,7 +95,7 @@ module _ (b : Block) (i : Instr) (c : IsCall i) where
       (kept_in (point_of b c.args) (with_suspend all b i) b is (one_there all))
   there_in all (x ∷ is) (inr l) = there_in (with_suspend all b x) is l
 
-  there_by : (all : List SuspendPoint) (bs : List Block) → IsListed b bs → IsListed i b.instrs
+  pub there_by : (all : List SuspendPoint) (bs : List Block) → IsListed b bs → IsListed i b.instrs
       → IsListed (point_of b c.args) (with_suspends_by all bs)
   there_by all [] l m = absurd l
   there_by all (d ∷ bs) (inl e) m =

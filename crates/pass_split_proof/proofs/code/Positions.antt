@@ -54,12 +54,12 @@ part_numbered l given f g part c is have = ap (λ (b : Bool). slice_get (if b th
     on _ _ IsGivenRamp h = behind 4 _ refl (h refl)
 
 -- the first of what a function becomes has its name
-record HasFirst (l : Layout) (given : Bool) (f : Function) : Type 0 where
-  one : Function
-  stands : slice_get (parted_function l given f) 0 ≡ Some one
-  has_name : one.name ≡ f.name
+pub record HasFirst (l : Layout) (given : Bool) (f : Function) : Type 0 where
+  pub one : Function
+  pub stands : slice_get (parted_function l given f) 0 ≡ Some one
+  pub has_name : one.name ≡ f.name
 
-first_there : (l : Layout) (given : Bool) (f : Function) → HasFirst l given f
+pub first_there : (l : Layout) (given : Bool) (f : Function) → HasFirst l given f
 first_there l given f = on f.coroutine refl
   where
     on : (b : Bool) → f.coroutine ≡ b → HasFirst l given f
@@ -86,7 +86,7 @@ module _ (ls : Layouts) (m : Module) (rules : KeepsItemRules Stage.Source m) (sh
   same_names [] = refl
   same_names (f ∷ fs) = λ i. same_own_name f i ∷ same_names fs i
 
-  named_before : (x : Name) → function_named (exits_split m) x ≡ function_named m x
+  pub named_before : (x : Name) → function_named (exits_split m) x ≡ function_named m x
   named_before x =
       let test : Name → Bool = λ y. same_name y x in
       let named : Function → Bool = λ f. same_name f.name x in

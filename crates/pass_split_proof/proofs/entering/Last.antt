@@ -1,13 +1,10 @@
 -- Behind the last alloca that is made again the part comes in four steps to the block behind the suspend.
-use Rattle.std.proofs.Common.{◌≡◌, ℕ, zero, suc, ◌+◌, ◌<◌, ◌≤◌, ◌^◌, inl, inr, Bool, true, List, [], ◌∷◌, length, Option, Some, refl, sym, ap, ◌∙◌, subst, arith}
-use Rattle.std.specs.Prelude.{slice_get, ◌==◌}
+use Rattle.std.proofs.Common.{◌≡◌, ℕ, zero, suc, ◌+◌, ◌<◌, ◌≤◌, ◌^◌, inl, inr, Bool, true, List, [], ◌∷◌, length, Some, refl, sym, ap, ◌∙◌, subst, arith}
+use Rattle.std.specs.Prelude.{slice_get}
 use Rattle.ir_base.specs.declared.outcome.Outcome.{Outcome}
 use Rattle.ir_model.specs.Layout.{size_of}
 use Rattle.ir_model.specs.Names.{function_at, position_of}
-use Rattle.ir_model.specs.declared.instr.Instr.{Instr}
 use Rattle.ir_model.specs.declared.instr.Phi.{Phi}
-use Rattle.ir_model.specs.declared.instr.Terminator.{Terminator}
-use Rattle.ir_model.specs.declared.module.Block.{Block}
 use Rattle.ir_model.specs.declared.module.Function.{Function}
 use Rattle.pass_front.specs.Front.{allocas_of}
 use Rattle.pass_intrinsics.specs.Shapes.{back_label, index_name, slot_name, suspends_of}
@@ -49,7 +46,7 @@ use Rattle.run_source.specs.State.{frame_address_of, function_of, settled, with_
 use Rattle.run_source.specs.declared.state.Instance.{Instance}
 use Rattle.run_source.specs.declared.state.Mode.{Mode}
 use Rattle.run_source.specs.declared.state.State.{State}
-use Rattle.run_step.specs.Step.{AtInstr, AtTerm, Fetched, Work, alloca_kind, fetch, fetch_in, fetch_or, has_markers, label_of, phi_values, phis_of, with_all}
+use Rattle.run_step.specs.Step.{Fetched, Work, alloca_kind, fetch, has_markers, label_of, phi_values, phis_of, with_all}
 use Rattle.run_step.specs.Values.{pointer_to, value_in, with_value}
 use Rattle.run_step.specs.declared.world.Slot.{Slot}
 use Rattle.run_step.specs.declared.world.World.{World}
@@ -114,11 +111,6 @@ module _ (g : FramedGiven) (h : PlainGiven) (s : State) (t : PlainState) (r : Ar
 
   no_phis : phis_of (slice_get f.blocks (position_of f label)) ≡ []
   no_phis = ap phis_of b.own.got ∙ b.own.no_phis
-
-  jumps : fetch f (position_of f label) 0 ≡ AtTerm (Terminator.Jump b.own.next)
-  jumps = ap (λ (o : Option Block). fetch_in o 0) b.own.got
-      ∙ ap (λ (xs : List Instr). fetch_or (slice_get xs 0) (0 == length xs) b.own.block.term) b.own.no_instrs
-      ∙ ap AtTerm b.own.jump
 
   abbrev going : State
   going = record z {
@@ -209,10 +201,7 @@ module _ (g : FramedGiven) (h : PlainGiven) (s : State) (t : PlainState) (r : Ar
   leads = subst (Leads shape r.top.part f q (position_of f point.block) back) is_label goes_back.leads
 
   not_end : label ≡ shape.end → ⊥
-  not_end e = other (sym jumps ∙ ap (λ (l : ℕ). fetch f (position_of f l) 0) e ∙ b.ends.here)
-    where
-      other : AtTerm (Terminator.Jump b.own.next) ≡ AtInstr b.ends.first → ⊥
-      other d = cc
+  not_end e = b.own.no_end b.ends.first (ap (λ (l : ℕ). fetch f (position_of f l) 0) e ∙ b.ends.here) b.ends.ends
 
   abbrev after : Work
   after = indexed_work shape (plain_work w) x.block x.start number
@@ -339,12 +328,12 @@ module _ (g : FramedGiven) (h : PlainGiven) (s : State) (t : PlainState) (r : Ar
         ∙ returns_there (suspends_of f) number point label is_suspend
         (is_edge r.top.part point label (old g h s t r runs fine from label k).leads)
 
-    light : (t : Bool) (term : Terminator) → t ≡ true → 1 + weight (AtTerm term) ≤ price_of t (AtTerm term)
-    light t term e = subst (λ (y : Bool). 1 + weight (AtTerm term) ≤ price_of y (AtTerm term)) (sym e) (omega arith)
+    light : (t : Bool) (z : Fetched) → t ≡ true → weight z ≡ 1 → 1 + weight z ≤ price_of t z
+    light t z e one = subst (λ (y : Bool). 1 + weight z ≤ price_of y z) (sym e)
+        (subst (λ (n : ℕ). 1 + n ≤ 4) (sym one) (omega arith))
 
     has_room : 1 + weight (fetched_at g going) ≤ part_price g going
-    has_room = subst (λ (y : Fetched). 1 + weight y ≤ price_of (is_behind_suspend g going) y) (sym jumps)
-        (light (is_behind_suspend g going) (Terminator.Jump b.own.next) behind_suspend)
+    has_room = light (is_behind_suspend g going) (fetched_at g going) behind_suspend b.own.light
 
     straight_followed : IsFollowed g h s t
     straight_followed = record {

@@ -21,7 +21,8 @@ instr_low (Instr.Call result must_tail ty (Callee.Intrinsic i) args) = intrinsic
 instr_low (Instr.Call result must_tail ty (Callee.Named n) args) = four_low
 instr_low (Instr.Call result must_tail ty (Callee.Local n) args) = four_low
 instr_low (Instr.Call result must_tail ty (Callee.Allocator a) args) = four_low
-instr_low i = four_low
+instr_low (Instr.Alloca name ty align) = four_low
+instr_low i = one_low
 
 weight_low : (x : Fetched) → weight x ≤ 4
 weight_low Nowhere = one_low
@@ -50,7 +51,8 @@ instr_some (Instr.Call result must_tail ty (Callee.Intrinsic i) args) = intrinsi
 instr_some (Instr.Call result must_tail ty (Callee.Named n) args) = four_some
 instr_some (Instr.Call result must_tail ty (Callee.Local n) args) = four_some
 instr_some (Instr.Call result must_tail ty (Callee.Allocator a) args) = four_some
-instr_some i = four_some
+instr_some (Instr.Alloca name ty align) = four_some
+instr_some i = one_some
 
 pub weight_some : (x : Fetched) → 1 ≤ weight x
 weight_some Nowhere = one_some

@@ -5,10 +5,7 @@ use Rattle.std.proofs.lemmas.List.{length-replicate}
 use Rattle.std.proofs.lemmas.Bool.{cases_lt, eq-eqb, or_left, or_right}
 use Rattle.ir_base.specs.declared.outcome.Outcome.{Outcome}
 use Rattle.ir_model.specs.Names.{function_at, position_of}
-use Rattle.ir_model.specs.declared.instr.Instr.{Instr}
 use Rattle.ir_model.specs.declared.instr.Phi.{Phi}
-use Rattle.ir_model.specs.declared.instr.Terminator.{Terminator}
-use Rattle.ir_model.specs.declared.module.Block.{Block}
 use Rattle.ir_model.specs.declared.module.Function.{Function}
 use Rattle.pass_front.specs.Front.{allocas_of}
 use Rattle.pass_intrinsics.specs.Shapes.{back_label, index_name, slot_name, suspends_of}
@@ -51,7 +48,7 @@ use Rattle.run_source.specs.declared.state.Instance.{Instance}
 use Rattle.run_source.specs.declared.state.Mode.{Mode}
 use Rattle.run_source.specs.declared.state.State.{State}
 use Rattle.run_source.specs.declared.state.Status.{Status}
-use Rattle.run_step.specs.Step.{AtInstr, AtTerm, Fetched, Work, entry_values, fetch, fetch_in, fetch_or, label_of, phi_values, phis_of, with_all}
+use Rattle.run_step.specs.Step.{Fetched, Work, entry_values, fetch, label_of, phi_values, phis_of, with_all}
 use Rattle.run_step.specs.Values.{Env, value_in, with_value}
 use Rattle.run_step.specs.declared.world.World.{World}
 
@@ -234,19 +231,8 @@ module _ (g : FramedGiven) (h : PlainGiven) (s : State) (t : PlainState) (r : Ar
     no_phis : phis_of (slice_get f.blocks (position_of f label)) ≡ []
     no_phis = ap phis_of k.own.got ∙ k.own.no_phis
 
-    jumps : fetch f (position_of f label) 0 ≡ AtTerm (Terminator.Jump k.own.next)
-    jumps = ap (λ (o : Option Block). fetch_in o 0) k.own.got
-        ∙ ap (λ (xs : List Instr). fetch_or (slice_get xs 0) (0 == length xs) k.own.block.term) k.own.no_instrs
-        ∙ ap AtTerm k.own.jump
-
     not_end : label ≡ shape.end → ⊥
-    not_end e = other begins_here
-      where
-        begins_here : AtTerm (Terminator.Jump k.own.next) ≡ AtInstr ends.first
-        begins_here = sym jumps ∙ ap (λ (l : ℕ). fetch f (position_of f l) 0) e ∙ ends.here
-
-        other : AtTerm (Terminator.Jump k.own.next) ≡ AtInstr ends.first → ⊥
-        other h = cc
+    not_end e = k.own.no_end ends.first (ap (λ (l : ℕ). fetch f (position_of f l) 0) e ∙ ends.here) ends.ends
 
     -- the framed run stands in it
     abbrev going : State
@@ -376,9 +362,9 @@ module _ (g : FramedGiven) (h : PlainGiven) (s : State) (t : PlainState) (r : Ar
               (on_quiet (quiet_on h entered f (layout_of g.layouts func) part number point x.block x.start at_index
               (i - calls) (less i calls le lt)))
 
-      light : (b : Bool) (term : Terminator) → b ≡ true → calls + weight (AtTerm term) ≤ price_of b (AtTerm term)
-      light b term e = subst (λ (y : Bool). calls + weight (AtTerm term) ≤ price_of y (AtTerm term)) (sym e)
-          (four calls few)
+      light : (b : Bool) (z : Fetched) → b ≡ true → weight z ≡ 1 → calls + weight z ≤ price_of b z
+      light b z e one = subst (λ (y : Bool). calls + weight z ≤ price_of y z) (sym e)
+          (subst (λ (n : ℕ). calls + n ≤ 4) (sym one) (four calls few))
         where
           four : (n : ℕ) → n ≤ 3 → n + 1 ≤ 4
           four n le = omega arith
@@ -388,8 +374,7 @@ module _ (g : FramedGiven) (h : PlainGiven) (s : State) (t : PlainState) (r : Ar
           ∙ returns_there (suspends_of f) number point label k.saved.numbered.stands (is_edge part point label k.leads)
 
       has_room : calls + weight (fetched_at g going) ≤ part_price g going
-      has_room = subst (λ (y : Fetched). calls + weight y ≤ price_of (is_behind_suspend g going) y) (sym jumps)
-          (light (is_behind_suspend g going) (Terminator.Jump k.own.next) behind_suspend)
+      has_room = light (is_behind_suspend g going) (fetched_at g going) behind_suspend k.own.light
 
       pub straight_going : IsFollowed g h s t
       straight_going = record {

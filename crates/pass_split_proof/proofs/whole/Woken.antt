@@ -4,7 +4,7 @@ use Rattle.std.specs.Prelude.{slice_get}
 use Rattle.std.proofs.lemmas.Bool.{false≢true}
 use Rattle.flow_solver.proofs.Lists.{listed_at}
 use Rattle.flow_solver.specs.Paths.{IsListed}
-use Rattle.ir_laws.specs.paths.rows.Returns.{IsOwnBlock as IsReturnBlock}
+use Rattle.pass_split_proof.specs.steps.Returns.{IsReturnBlock}
 use Rattle.ir_model.specs.Names.{function_at, position_of}
 use Rattle.ir_model.specs.declared.instr.Instr.{Instr}
 use Rattle.ir_model.specs.declared.module.Block.{Block}

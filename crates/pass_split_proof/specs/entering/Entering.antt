@@ -1,6 +1,5 @@
 -- An activation that goes on behind a suspend, at one of the allocas that it makes again first.
 use Rattle.std.specs.Prelude.{◌≡◌, ℕ, ◌<◌, length}
-use Rattle.ir_laws.specs.paths.rows.Returns.{IsOwnBlock}
 use Rattle.ir_model.specs.Names.{function_at}
 use Rattle.pass_front.specs.Front.{allocas_of}
 use Rattle.pass_split_proof.specs.code.Entry.{HasFrontAllocas}
@@ -9,6 +8,7 @@ use Rattle.pass_split_proof.specs.places.Places.{StartsWithEnd}
 use Rattle.pass_split_proof.specs.states.Instances.{IsLaidOut, shape_at}
 use Rattle.pass_split_proof.specs.states.Related.{AreRelated}
 use Rattle.pass_split_proof.specs.steps.Woken.{IsPartThere}
+use Rattle.pass_split_proof.specs.steps.Returns.{IsReturnBlock}
 use Rattle.run_framed.specs.Framed.{FramedGiven}
 use Rattle.run_plain.specs.Plain.{PlainGiven}
 use Rattle.run_plain.specs.declared.state.PlainState.{PlainState}
@@ -35,5 +35,5 @@ pub record GoesBehind (g : FramedGiven) (h : PlainGiven) (s : State) (t : PlainS
     (label : ℕ) : Type 0 where
   pub part_there : IsPartThere g h.code s.top.func r.top.part
   pub laid : IsLaidOut g s.top.func
-  pub own : IsOwnBlock (function_of g.given s) label
+  pub own : IsReturnBlock (function_of g.given s) label
   pub ends : StartsWithEnd (function_of g.given s) (shape_at g s.top.func).end

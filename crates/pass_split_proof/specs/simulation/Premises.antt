@@ -5,7 +5,6 @@ use Rattle.flow_solver.specs.Paths.{IsListed}
 use Rattle.ir_base.specs.declared.name.Name.{Name}
 use Rattle.ir_base.specs.declared.outcome.Outcome.{Outcome}
 use Rattle.ir_base.specs.declared.outcome.Word.{Word}
-use Rattle.ir_laws.specs.paths.rows.Returns.{IsOwnBlock}
 use Rattle.ir_model.specs.Names.{function_at, function_named, position_of}
 use Rattle.ir_model.specs.Ty.{Ty}
 use Rattle.ir_model.specs.declared.instr.Instr.{Instr}
@@ -46,6 +45,7 @@ use Rattle.pass_split_proof.specs.steps.Ordinary.{IsAtOrdinary, is_ordinary}
 use Rattle.pass_split_proof.specs.steps.Resuming.{IsAtWaking}
 use Rattle.pass_split_proof.specs.steps.Woken.{IsPartThere}
 use Rattle.pass_split_proof.specs.transfers.Passing.{HasSuspendsBeforeEnd}
+use Rattle.pass_split_proof.specs.steps.Returns.{IsReturnBlock}
 use Rattle.run_framed.specs.Framed.{FramedGiven, given_ramp, is_promise_kind, layout_of}
 use Rattle.run_hooks.specs.Reached.{AllHaveSwitches}
 use Rattle.run_laws.specs.changed.Changed.{result_of}
@@ -82,7 +82,7 @@ pub record IsCoroutineThere (g : FramedGiven) (h : PlainGiven) (func : ℕ) : Ty
   -- K8, and the saves that the first pass writes
   pub suspends : HasSuspendsBeforeEnd (function_at g.given.code func) (shape_at g func).end
   pub returns : (p : SuspendPoint) → IsListed p (suspends_of (function_at g.given.code func))
-      → IsOwnBlock (function_at g.given.code func) p.resume × IsOwnBlock (function_at g.given.code func) p.destroy
+      → IsReturnBlock (function_at g.given.code func) p.resume × IsReturnBlock (function_at g.given.code func) p.destroy
   -- N1: each block is the first with its label
   pub blocks : (k : ℕ) (b : Block) → slice_get (function_at g.given.code func).blocks k ≡ Some b
       → position_of (function_at g.given.code func) b.label ≡ k

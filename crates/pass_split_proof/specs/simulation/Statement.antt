@@ -4,7 +4,6 @@ use Rattle.frame_layout.specs.declared.layout.Layouts.{Layouts}
 use Rattle.ir_base.specs.declared.outcome.Word.{Word}
 use Rattle.flow_solver.specs.Paths.{IsListed}
 use Rattle.ir_laws.specs.facts.sound_states.Named.{AreLocalsNamed}
-use Rattle.rule_laws.specs.frames.rows.Returns.{HaveOwnReturns}
 use Rattle.rule_laws.specs.rules.function_rules.Kept.{KeepsFunctionRules}
 use Rattle.ir_model.specs.declared.module.Block.{Block}
 use Rattle.ir_model.specs.declared.module.Function.{Function}
@@ -18,6 +17,7 @@ use Rattle.pass_proofs.specs.split.rules.Splittable.{IsSplittable}
 use Rattle.pass_split_proof.specs.states.Instances.{IsLaidOut}
 use Rattle.pass_split_proof.specs.states.Memories.{AreContents}
 use Rattle.pass_split_proof.specs.states.Related.{AreRelated, Follows, part_price}
+use Rattle.pass_split_proof.specs.steps.Returns.{IsReturnBlock}
 use Rattle.run_agreement.specs.Costs.{AgreesBy, IsNear}
 use Rattle.run_framed.specs.Framed.{framed_given, layout_of}
 use Rattle.run_plain.specs.Plain.{PlainGiven}
@@ -31,8 +31,9 @@ pub record IsCoroutinePartable (ls : Layouts) (m : Module) (k : ℕ) (f : Functi
   -- the form of frames (`framed_forms_are_kept`), and `exits_keep_splittable`
   pub begin : ℕ
   pub splittable : IsSplittable m k f begin
-  -- blocks on edges behind suspends (`returns_have_blocks_of_their_own`), which weavings and exit blocks leave
-  pub returns : HaveOwnReturns f
+  -- blocks on edges behind suspends (`returns_have_blocks_of_their_own`), in front of which what crosses is loaded
+  pub returns : (p : SuspendPoint) → IsListed p (suspends_of f)
+      → IsReturnBlock f p.resume × IsReturnBlock f p.destroy
   -- the first pass writes saves out, and later passes leave suspends as they are
   pub saved : (p : SuspendPoint) → IsListed p (suspends_of f) → is_some p.save ≡ true
   -- layouts of accepted sources are good (`layouts_of_accepted_sources_are_good`)

@@ -61,14 +61,16 @@ is_behind_suspend g s =
 abbrev pub part_price : FramedGiven → State → ℕ
 part_price g s = price_of (is_behind_suspend g s) (fetched_at g s)
 
--- A step may cost its price, but for the end and a terminator, before which the parts may be behind.
+-- A step may cost its price, but for the end, for a terminator, and for an instruction that is one step of a part.
+-- Before these the parts may be behind.
 abbrev pub weight_of_intrinsic : Intrinsic → ℕ
 weight_of_intrinsic Intrinsic.CoroEnd = 1
 weight_of_intrinsic i = 4
 
 abbrev pub weight : Fetched → ℕ
 weight (AtInstr (Instr.Call result must_tail ty (Callee.Intrinsic i) args)) = weight_of_intrinsic i
-weight (AtInstr i) = 4
+weight (AtInstr (Instr.Call result must_tail ty callee args)) = 4
+weight (AtInstr (Instr.Alloca name ty align)) = 4
 weight x = 1
 
 -- a ramp that hasn't begun has a step left of its call

@@ -1,6 +1,5 @@
 -- The instance that a resume or a destroy goes on with, and the part that it calls.
 use Rattle.std.specs.Prelude.{◌≡◌, ℕ, ◌≤◌, ◌<◌, List, true, Some, length, slice_get}
-use Rattle.ir_laws.specs.paths.rows.Returns.{IsOwnBlock}
 use Rattle.ir_model.specs.Names.{function_at, position_of}
 use Rattle.ir_paths.specs.declared.point.Point.{Point}
 use Rattle.pass_intrinsics.specs.Cuts.{goes_on}
@@ -12,6 +11,7 @@ use Rattle.pass_split_proof.specs.states.Instances.{IsLaidOut, IsSavedAt, is_hel
 use Rattle.pass_split.specs.Parts.{is_entered}
 use Rattle.pass_split.specs.Pieces.{going_on}
 use Rattle.pass_split.specs.Reached.{reached}
+use Rattle.pass_split_proof.specs.steps.Returns.{IsReturnBlock}
 use Rattle.rule_laws.specs.frames.replaced.Parted.{IsSmall}
 use Rattle.run_framed.specs.Framed.{FramedGiven, begin_name}
 use Rattle.ir_model.specs.declared.module.Module.{Module}
@@ -58,4 +58,4 @@ pub record IsWaking (g : FramedGiven) (h : Module) (s : State) (n : List MemoryB
       ≡ position_of (function_at g.given.code w.instance.coroutine) saved.numbered.suspend.block
   pub entered : is_entered (reached (function_at g.given.code w.instance.coroutine)) part saved.numbered.suspend ≡ true
   pub leads : going_on part (Some saved.numbered.suspend) ≡ Some label
-  pub own : IsOwnBlock (function_at g.given.code w.instance.coroutine) label
+  pub own : IsReturnBlock (function_at g.given.code w.instance.coroutine) label

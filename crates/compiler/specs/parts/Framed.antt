@@ -1,0 +1,63 @@
+-- What is asked of a framed form, with blocks on edges that leave windows, besides the rules that splitting asks.
+use Rattle.std.specs.Prelude.{◌≡◌, ℕ, Bool, true, [], List, None, Some, find, is_some, slice_get}
+use Rattle.flow_solver.specs.Paths.{IsListed}
+use Rattle.frame_layout.specs.declared.layout.Layouts.{Layouts}
+use Rattle.frame_layout.specs.declared.layout.PlacedField.{PlacedField}
+use Rattle.ir_model.specs.Names.{position_of}
+use Rattle.ir_model.specs.Ty.{Ty}
+use Rattle.ir_model.specs.declared.instr.Instr.{Instr}
+use Rattle.ir_model.specs.declared.module.Block.{Block}
+use Rattle.ir_model.specs.declared.module.Function.{Function}
+use Rattle.ir_model.specs.declared.module.Module.{Module}
+use Rattle.ir_model.specs.declared.operand.Arg.{Arg}
+use Rattle.ir_model.specs.declared.operand.Intrinsic.{Intrinsic}
+use Rattle.ir_model.specs.declared.operand.Operand.{Operand}
+use Rattle.ir_paths.specs.Paths.{Leads}
+use Rattle.ir_paths.specs.Windows.{call_result, is_call_of, suspend_of}
+use Rattle.ir_paths.specs.declared.point.Point.{Point}
+use Rattle.pass_intrinsics.specs.Shapes.{shape_of, suspends_of}
+use Rattle.pass_intrinsics.specs.declared.shape.SuspendPoint.{SuspendPoint}
+use Rattle.pass_kept_proof.specs.SuspendRules.{IsCallAt}
+use Rattle.pass_split_proof.specs.ready.Fields.{AreInnerIndices}
+use Rattle.pass_split_proof.specs.states.Instances.{IsLaidOut}
+use Rattle.pass_split_proof.specs.states.Memories.{AreContents}
+use Rattle.pass_split_proof.specs.steps.Returns.{IsReturnBlock}
+use Rattle.rule_laws.specs.rules.counted.Widths.{first_other_width}
+use Rattle.rule_shape.specs.Suspends.{is_suspend}
+use Rattle.run_framed.specs.Framed.{framed_given, is_promise_kind, layout_of}
+use Rattle.run_step.specs.Step.{AtInstr, fetch}
+
+-- of a coroutine
+pub record IsFramedFact (ls : Layouts) (m : Module) (k : ℕ) (f : Function) : Type 0 where
+  -- waits for: what is woven in front of a block on a resume or destroy edge are loads, stores and additions
+  pub returns : (p : SuspendPoint) → IsListed p (suspends_of f)
+      → IsReturnBlock f p.resume × IsReturnBlock f p.destroy
+  -- waits for: the first pass writes saves out, and later ones leave suspends as they are
+  pub saved : (p : SuspendPoint) → IsListed p (suspends_of f) → is_some p.save ≡ true
+  -- waits for: fields of good layouts as runs look them up
+  pub laid : IsLaidOut (framed_given m ls.coroutines []) k
+  pub promise : (x : PlacedField) → find (λ y. is_promise_kind y.kind) (layout_of ls.coroutines k).fields ≡ Some x
+      → x.offset ≡ 16
+  -- waits for: K5 and K6 of the framed form
+  pub apart : (at : ℕ) (i : Instr)
+      → fetch f (position_of f (shape_of f (layout_of ls.coroutines k)).end) at ≡ AtInstr i → is_suspend i ≡ true → ⊥
+  pub named : (block at : ℕ) (i : Instr) → fetch f block at ≡ AtInstr i → is_call_of Intrinsic.CoroSave i ≡ true
+      → is_some (call_result i) ≡ true
+  pub leads : (p s : Point) → IsCallAt Intrinsic.CoroSave f p → suspend_of f p ≡ Some s → Leads f [] p s
+
+-- of the module
+pub record AreFramedFacts (ls : Layouts) (m : Module) : Type 0 where
+  pub coroutines : (k : ℕ) (f : Function) → slice_get m.functions k ≡ Some f → f.coroutine ≡ true
+      → IsFramedFact ls m k f
+  -- waits for: what is woven in has the widths of the grammar
+  pub widths : (k : ℕ) (f : Function) → slice_get m.functions k ≡ Some f → first_other_width k f ≡ None
+  -- waits for: a text has fewer than 2^31 fields
+  pub fields : (k : ℕ) (f : Function) → slice_get m.functions k ≡ Some f
+      → (block at name : ℕ) (inbounds : Bool) (ty : Ty)
+      (base : Operand) (indices : List Arg)
+      → fetch f block at ≡ AtInstr (Instr.Gep name inbounds ty base indices) → AreInnerIndices m ty indices
+  -- waits for: no function of a text is without a block
+  pub blocks : (k : ℕ) (f : Function) → slice_get m.functions k ≡ Some f
+      → (b : Block) × (slice_get f.blocks 0 ≡ Some b)
+  -- waits for: Y1 and Y4 of globals
+  pub contents : AreContents m

@@ -1,0 +1,41 @@
+//! Framed forms as runs of their parts ask for them.
+//!
+//! What is ready for splitting may be followed in its parts, up to facts of the framed form that aren't derived yet
+//! (`AreFramedFacts`, each with what it waits for).
+
+ghost use Rattle.std.specs.Prelude.{ℕ, ◌*◌};
+ghost use Rattle.compiler.specs.cleanup.accepted.Ready.{IsReady};
+ghost use Rattle.compiler.specs.parts.Framed.{AreFramedFacts};
+ghost use Rattle.compiler.specs.theorem.Entries.{IsEntry, IsEntryCall, Run};
+ghost use Rattle.compiler.specs.theorem.Lowered.{IsLowered, Lowered, early, framed_run, plain_run, split_from};
+ghost use Rattle.compiler.specs.theorem.GoodLayouts.{AreGoodLayouts};
+ghost use Rattle.frame_layout.specs.declared.layout.Layouts.{Layouts};
+ghost use Rattle.ir_model.specs.declared.module.Module.{Module};
+ghost use Rattle.pass_frames.specs.Framed.{IsFramedForm};
+ghost use Rattle.pass_proofs.specs.exits.states.Exits.{exits_split};
+ghost use Rattle.pass_split_proof.specs.ready.Layouts.{AreLayoutsOf};
+ghost use Rattle.pass_split_proof.specs.ready.Module.{IsFollowable};
+ghost use Rattle.run_agreement.specs.Agreements.{AgreesWithin};
+ghost use Rattle.run_agreement.specs.Machines.{at};
+
+/// Good layouts are those of the coroutines of the framed form in order, each with its coroutine's number.
+pub fn framed_layouts_stand_in_order()
+    ensures { (layouts : Layouts) (m n : Module) → IsFramedForm layouts m n → AreGoodLayouts m layouts.coroutines
+        → AreLayoutsOf 0 n.functions layouts.coroutines }
+{}
+
+/// A module that is ready for splitting, with layouts of its coroutines in order, may be followed in its parts where
+/// it has these facts.
+pub fn ready_modules_are_followable()
+    ensures { (ls : Layouts) (m : Module) → IsReady ls m → AreLayoutsOf 0 m.functions ls.coroutines
+        → AreFramedFacts ls (exits_split m) → IsFollowable ls (exits_split m) }
+{}
+
+/// So the run of a framed form with these facts agrees with the run of its parts: within 2 with blocks on edges that leave
+/// windows, and that within 4.
+pub fn framed_forms_agree_with_their_parts()
+    ensures { (l : Lowered) → IsLowered l → AreGoodLayouts (early l) l.layouts.coroutines → IsReady l.layouts l.framed
+        → AreFramedFacts l.layouts (exits_split l.framed) → (r : Run) (other : ℕ) → IsEntryCall l.source r
+        → IsEntry l.source (split_from l l.framed) r.entry other
+        → AgreesWithin (2 * 4) (at (framed_run l l.framed r)) (at (plain_run (split_from l l.framed) r other)) }
+{}

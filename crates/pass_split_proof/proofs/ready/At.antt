@@ -1,0 +1,42 @@
+-- What rules give at an instruction that related states are at.
+use Rattle.std.proofs.Common.{◌≡◌, false, List, Some, refl}
+use Rattle.std.specs.Prelude.{ℤ, slice_get}
+use Rattle.frame_layout.specs.declared.layout.Layouts.{Layouts}
+use Rattle.ir_model.specs.Names.{function_at}
+use Rattle.ir_model.specs.declared.instr.Instr.{Instr}
+use Rattle.ir_model.specs.declared.module.Module.{Module}
+use Rattle.ir_model.specs.declared.operand.Intrinsic.{Intrinsic}
+use Rattle.ir_paths.specs.Windows.{is_call_of}
+use Rattle.pass_split_proof.proofs.ready.Begins.{BeginsBy, other_name}
+use Rattle.pass_split_proof.proofs.ready.Given.{begins_by, ruled_at}
+use Rattle.pass_split_proof.proofs.ready.Readable.{instr_readable}
+use Rattle.pass_split_proof.proofs.ready.Rules.{function_of_instr}
+use Rattle.pass_split_proof.specs.first_exits.Parted.{parted_module}
+use Rattle.pass_split_proof.specs.ready.Module.{IsFollowable, IsRuled}
+use Rattle.pass_split_proof.specs.simulation.Statement.{parts_given}
+use Rattle.pass_split_proof.specs.states.Related.{AreRelated}
+use Rattle.pass_split_proof.specs.steps.Operands.{IsReadable}
+use Rattle.run_framed.specs.Framed.{framed_given}
+use Rattle.run_laws.specs.changed.Changed.{Each, operands_of, result_of}
+use Rattle.run_plain.specs.declared.state.PlainState.{PlainState}
+use Rattle.run_source.specs.declared.state.State.{State}
+use Rattle.run_step.specs.Step.{AtInstr, fetch}
+
+module _ (ls : Layouts) (m : Module) (w : IsFollowable ls m) (answers : List ℤ) (s : State) (t : PlainState)
+    (r : AreRelated (framed_given m ls.coroutines answers) (parts_given ls m answers) s t) (i : Instr)
+    (here : fetch (function_at m s.top.func) s.top.block s.top.at ≡ AtInstr i) where
+  pub there : slice_get m.functions s.top.func ≡ Some (function_at m s.top.func)
+  there = function_of_instr m s.top.func s.top.block s.top.at i here
+
+  pub ruled : IsRuled m s.top.func (function_at m s.top.func)
+  ruled = ruled_at ls m w s.top.func (function_at m s.top.func) there
+
+  pub begins : BeginsBy (function_at m s.top.func) r.top.shape.begin
+  begins = begins_by ls m w answers s.top.func (function_at m s.top.func) r.top.shape refl there r.top.shaped
+
+  pub read : Each (IsReadable m (parted_module ls m) (function_at m s.top.func)) (operands_of i)
+  read = instr_readable ls m w.names s.top.func (function_at m s.top.func) ruled s.top.block s.top.at i here
+
+  pub others : is_call_of Intrinsic.CoroBegin i ≡ false → result_of i ≡ Some r.top.shape.begin → ⊥
+  others none e = other_name m s.top.func (function_at m s.top.func) ruled.rules r.top.shape.begin begins s.top.block
+      s.top.at i here none e

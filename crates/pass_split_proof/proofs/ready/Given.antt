@@ -1,0 +1,48 @@
+-- What each function of a module has whose runs may be followed in its parts.
+use Rattle.std.proofs.Common.{◌≡◌, inl, inr, ℕ, Bool, true, false, Some, refl, sym, ap, ◌∙◌}
+use Rattle.std.proofs.lemmas.Bool.{false≢true}
+use Rattle.std.specs.Prelude.{ℤ, List, Option, slice_get, unwrap_or}
+use Rattle.frame_layout.specs.declared.layout.Layouts.{Layouts}
+use Rattle.ir_model.specs.Calls.{first_result}
+use Rattle.ir_model.specs.Names.{function_at, no_function}
+use Rattle.ir_model.specs.declared.module.Function.{Function}
+use Rattle.ir_model.specs.declared.module.Module.{Module}
+use Rattle.ir_model.specs.declared.operand.Intrinsic.{Intrinsic}
+use Rattle.pass_intrinsics.specs.declared.shape.Shape.{Shape}
+use Rattle.pass_split_proof.proofs.ready.Begins.{BeginsBy, Named, New}
+use Rattle.pass_split_proof.specs.ready.Module.{IsFollowable, IsRuled}
+use Rattle.pass_split_proof.specs.states.Activations.{IsShapeOf}
+use Rattle.run_framed.specs.Framed.{framed_given}
+
+pub there_is : (m : Module) (k : ℕ) (f : Function) → slice_get m.functions k ≡ Some f → function_at m k ≡ f
+there_is m k f e = ap (λ (o : Option Function). unwrap_or o no_function) e
+
+module _ (ls : Layouts) (m : Module) (w : IsFollowable ls m) where
+  pub ruled_at : (k : ℕ) (f : Function) → slice_get m.functions k ≡ Some f → IsRuled m k f
+  ruled_at k f there = on f.coroutine refl
+    where
+      on : (c : Bool) → f.coroutine ≡ c → IsRuled m k f
+      on true e = let x = w.partable.coroutines k f there e in record {
+        rules = x.splittable.rules;
+        widths = w.widths k f there;
+        calls = λ c. x.splittable.calls;
+        switches = λ c. x.splittable.switches;
+      }
+      on false e = record {
+        rules = w.partable.plain k f there e;
+        widths = w.widths k f there;
+        calls = λ c. absurd (false≢true (sym e ∙ c));
+        switches = λ c. absurd (false≢true (sym e ∙ c));
+      }
+
+  -- the name of the shape is begin's, or new
+  pub begins_by : (answers : List ℤ) (k : ℕ) (f : Function) (s : Shape) → function_at m k ≡ f
+      → slice_get m.functions k ≡ Some f → IsShapeOf (framed_given m ls.coroutines answers) k f s → BeginsBy f s.begin
+  begins_by answers k f s is there (inl h) =
+      let x = w.partable.coroutines k f there h.0 in
+      let named = x.splittable.named in
+      let own : s.begin ≡ x.begin = ap (λ (y : Shape). y.begin) h.1
+      ∙ ap (λ (g : Function). unwrap_or (first_result Intrinsic.CoroBegin g) 0) is
+      ∙ ap (λ (o : Option ℕ). unwrap_or o 0) named in
+      Named h.0 (named ∙ ap Some (sym own))
+  begins_by answers k f s is there (inr h) = New h.0 (ap (λ (y : Shape). y.begin) h.1)

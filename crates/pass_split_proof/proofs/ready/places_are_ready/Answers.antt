@@ -1,0 +1,5 @@
+use Rattle.pass_split_proof.proofs.ready.Steps.{places_met}
+use Rattle.pass_split_proof.proofs.ready.places_are_ready.Goals as goal
+
+pub returns : goal.returns
+returns c = places_met
