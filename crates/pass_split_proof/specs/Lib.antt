@@ -13,6 +13,7 @@ pub mod making
 pub mod marking
 pub mod own_blocks
 pub mod places
+pub mod priced
 pub mod ready
 pub mod silent
 pub mod simulation

@@ -17,6 +17,7 @@ pub mod marking;
 pub mod numbers;
 pub mod own_blocks;
 pub mod places;
+pub mod priced;
 pub mod ready;
 pub mod silent;
 pub mod simulation;
