@@ -3,9 +3,9 @@
 //! What is ready for splitting may be followed in its parts, up to facts of the framed form that aren't derived yet
 //! (`AreFramedFacts`, each with what it waits for).
 
-ghost use Rattle.std.specs.Prelude.{ℕ, ◌*◌};
+ghost use Rattle.std.specs.Prelude.{ℕ};
 ghost use Rattle.compiler.specs.cleanup.accepted.Ready.{IsReady};
-ghost use Rattle.compiler.specs.parts.Framed.{AreFramedFacts};
+ghost use Rattle.compiler.specs.parts.Framed.{AreFramedFacts, ArePartsFacts};
 ghost use Rattle.compiler.specs.theorem.Entries.{IsEntry, IsEntryCall, Run};
 ghost use Rattle.compiler.specs.theorem.Lowered.{IsLowered, Lowered, early, framed_run, plain_run, split_from};
 ghost use Rattle.compiler.specs.theorem.GoodLayouts.{AreGoodLayouts};
@@ -31,11 +31,11 @@ pub fn ready_modules_are_followable()
         → AreFramedFacts ls (exits_split m) → IsFollowable ls (exits_split m) }
 {}
 
-/// So the run of a framed form with these facts agrees with the run of its parts: within 2 with blocks on edges that leave
-/// windows, and that within 4.
+/// So the run of a framed form with such facts agrees within 4 with the run of its parts: the row of the theorem on
+/// functions that are split.
 pub fn framed_forms_agree_with_their_parts()
     ensures { (l : Lowered) → IsLowered l → AreGoodLayouts (early l) l.layouts.coroutines → IsReady l.layouts l.framed
-        → AreFramedFacts l.layouts (exits_split l.framed) → (r : Run) (other : ℕ) → IsEntryCall l.source r
+        → ArePartsFacts l.layouts l.framed → (r : Run) (other : ℕ) → IsEntryCall l.source r
         → IsEntry l.source (split_from l l.framed) r.entry other
-        → AgreesWithin (2 * 4) (at (framed_run l l.framed r)) (at (plain_run (split_from l l.framed) r other)) }
+        → AgreesWithin 4 (at (framed_run l l.framed r)) (at (plain_run (split_from l l.framed) r other)) }
 {}

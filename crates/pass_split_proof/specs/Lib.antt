@@ -5,7 +5,6 @@ pub mod calling
 pub mod code
 pub mod ends
 pub mod entering
-pub mod exit_costs
 pub mod first_exits
 pub mod freeing
 pub mod giving
@@ -14,6 +13,7 @@ pub mod making
 pub mod marking
 pub mod own_blocks
 pub mod places
+pub mod priced
 pub mod ready
 pub mod silent
 pub mod simulation

@@ -1,11 +1,11 @@
--- The run of a framed form agrees with the run of its parts, within the product of both passes.
-use Rattle.std.proofs.Common.{◌≡◌, ℕ, zero, suc, ◌*◌, Bool, true, false, List, [], ◌∷◌, refl, sym, ap, ◌∙◌, subst}
+-- The run of a framed form agrees with the run of its parts.
+use Rattle.std.proofs.Common.{◌≡◌, ℕ, zero, suc, Bool, true, false, List, [], ◌∷◌, refl, sym, ap, ◌∙◌, subst}
 use Rattle.std.specs.Prelude.{Some, map, slice_get, unwrap_or, if◌then◌else◌}
 use Rattle.compiler.proofs.parts.Followable.{followable, kept_there}
 use Rattle.compiler.proofs.parts.Ordered.{framed_in_order}
 use Rattle.compiler.proofs.whole.exit_sources.Accepted.{exits_kept, locals_kept}
 use Rattle.compiler.specs.cleanup.accepted.Ready.{IsReady}
-use Rattle.compiler.specs.parts.Framed.{AreFramedFacts}
+use Rattle.compiler.specs.parts.Framed.{ArePartsFacts}
 use Rattle.compiler.specs.theorem.Entries.{IsEntry, IsEntryCall, Run}
 use Rattle.compiler.specs.theorem.GoodLayouts.{AreGoodLayouts}
 use Rattle.compiler.specs.theorem.Lowered.{IsLowered, Lowered, early, framed_run, plain_run, split_from}
@@ -21,21 +21,19 @@ use Rattle.pass_cleanup.specs.Cleaned.{plain_machine}
 use Rattle.pass_exits.specs.ExitBlocks.{with_exit_blocks}
 use Rattle.pass_proofs.proofs.early.widths.Headings.{early_names, early_signatures}
 use Rattle.pass_proofs.proofs.exits.exited.Exited.{signatures_same}
-use Rattle.pass_proofs.proofs.exits.states.Agreement.{exits_agree}
 use Rattle.pass_proofs.proofs.frames.headings.Headings.{framed_names, framed_signatures}
 use Rattle.pass_proofs.specs.exits.states.Exits.{exit_function, exits_split}
 use Rattle.pass_split_proof.proofs.first_exits.Parted.{split_parted}
 use Rattle.pass_split_proof.proofs.ready.Entries.{entry_moves}
 use Rattle.pass_split_proof.proofs.ready.Gives.{gives_none}
 use Rattle.pass_split_proof.proofs.ready.Steps.{calls_followable}
-use Rattle.pass_split_proof.proofs.whole.Runs.{calls_agree}
+use Rattle.pass_split_proof.proofs.priced.Whole.{splits_agree}
 use Rattle.pass_split_proof.specs.first_exits.Parted.{parted_module}
 use Rattle.pass_split_proof.specs.simulation.Statement.{IsEntryOfParts}
-use Rattle.run_agreement.proofs.Compose.{compose_within}
+use Rattle.pass_split_proof.specs.whole.Whole.{PartsKeepCalls}
 use Rattle.run_agreement.specs.Agreements.{AgreesWithin}
 use Rattle.run_agreement.specs.Machines.{at}
 use Rattle.run_memory.specs.declared.pointer.Value.{Value}
-use Rattle.run_states.specs.moved_states.Beside.{framed_machine}
 use Rattle.run_types.specs.Fitting.{FitParams, FitsType}
 use Rattle.run_types.specs.States.{AreArguments}
 
@@ -88,7 +86,7 @@ named_alike (f ∷ fs) = λ i. on f.coroutine f i ∷ named_alike fs i
 -- ---- the two passes
 
 module _ (l : Lowered) (low : IsLowered l) (good : AreGoodLayouts (early l) l.layouts.coroutines)
-    (ready : IsReady l.layouts l.framed) (facts : AreFramedFacts l.layouts (exits_split l.framed)) (r : Run) (other : ℕ)
+    (ready : IsReady l.layouts l.framed) (facts : ArePartsFacts l.layouts l.framed) (r : Run) (other : ℕ)
     (call : IsEntryCall l.source r) (entry : IsEntry l.source (split_from l l.framed) r.entry other) where
   abbrev x : Module
   x = exits_split l.framed
@@ -119,26 +117,20 @@ module _ (l : Lowered) (low : IsLowered l) (good : AreGoodLayouts (early l) l.la
       (ap (λ (h : Heading). h.params) (headed l.source.functions (exits_split l.framed).functions headings r.entry))
       call.fits
 
-  parts_agree : AgreesWithin 4 (at (framed_machine (exits_split l.framed) l.layouts r.entry r.args r.answers))
-      (at (plain_run (split_from l l.framed) r other))
-  parts_agree = subst (λ (n : Module). AgreesWithin 4 (at (framed_machine (exits_split l.framed) l.layouts r.entry
-      r.args r.answers)) (at (plain_machine n other r.args r.answers))) (sym (split_parted l.layouts l.framed))
-      (calls_agree l.layouts (exits_split l.framed)
-      (calls_followable l.layouts (exits_split l.framed)
+  calls_kept : PartsKeepCalls l.layouts (exits_split l.framed)
+  calls_kept =
+      calls_followable l.layouts (exits_split l.framed)
       (followable l.layouts l.framed ready
-      (framed_in_order l.layouts (early l) l.framed low.is_framed good) facts)
-      (gives_none l.layouts l.framed ready.items ready.short (kept_there l.layouts l.framed ready)))
-      r.entry other r.args r.answers entry_is arguments)
+      (framed_in_order l.layouts (early l) l.framed low.is_framed good) facts.exits)
+      (gives_none l.layouts l.framed ready.items ready.short (kept_there l.layouts l.framed ready))
 
-  pub framed_agrees : AgreesWithin (2 * 4) (at (framed_run l l.framed r)) (at (plain_run (split_from l l.framed) r other))
+  pub framed_agrees : AgreesWithin 4 (at (framed_run l l.framed r)) (at (plain_run (split_from l l.framed) r other))
   framed_agrees =
-      compose_within 2 4 (at (framed_run l l.framed r))
-      (at (framed_machine (exits_split l.framed) l.layouts r.entry r.args r.answers))
-      (at (plain_run (split_from l l.framed) r other))
-      (exits_agree l.framed
+      subst (λ (n : Module). AgreesWithin 4 (at (framed_run l l.framed r)) (at (plain_machine n other r.args r.answers)))
+      (sym (split_parted l.layouts l.framed))
+      (splits_agree l.layouts l.framed
       (locals_kept l.text l.source low.source.stands low.source.accepted l.share l.layouts low.laid l.framed
       low.is_framed)
       (exits_kept l.text l.source low.source.stands low.source.accepted l.share l.layouts low.laid l.framed
       low.is_framed)
-      l.layouts r.entry r.args r.answers)
-      parts_agree
+      facts.behind calls_kept r.entry other r.args r.answers entry_is arguments)

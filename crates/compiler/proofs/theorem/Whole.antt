@@ -6,13 +6,13 @@ use Rattle.run_agreement.specs.Factor.{size_factor, step_factor}
 use Rattle.run_agreement.specs.Machines.{at}
 use Rattle.pass_cleanup.specs.Cleanup.{clean_function}
 use Rattle.run_source.specs.declared.state.State.{State}
+use Rattle.compiler.proofs.parts.Agree.{framed_agrees}
 use Rattle.compiler.proofs.theorem.Entries.{entry_before}
 use Rattle.compiler.proofs.theorem.Facts.{good_layouts, live_apart}
-use Rattle.compiler.proofs.theorem.Fronts.{allocas_stand_first}
 use Rattle.compiler.proofs.theorem.Rows.{framed_within, somewhere_shown}
 use Rattle.compiler.specs.theorem.Anew.{Anew}
 use Rattle.compiler.specs.theorem.Entries.{IsEntry, IsEntryCall, Run}
-use Rattle.compiler.specs.theorem.Lowered.{AreAllocasFirst, IsLowered, Lowered, early, framed_run, lowered_from, plain_run, printed_from, source_run, split_from}
+use Rattle.compiler.specs.theorem.Lowered.{IsLowered, Lowered, framed_run, lowered_from, plain_run, printed_from, source_run, split_from}
 use Rattle.pass_renewed_proof.specs.Prices.{Prices}
 use Rattle.compiler.specs.theorem.Theorem.{KeepsMeaning, Steps}
 use Rattle.ir_model.specs.declared.module.Module.{Module}
@@ -46,9 +46,6 @@ module _ (R V Q W : Lowered → Anew → Run → State → State → Type 0) (a 
   ready = is_ready l.text l.source low.source.stands low.source.accepted l.share l.layouts low.laid l.framed
       low.is_framed
 
-  fronts : AreAllocasFirst l.framed
-  fronts = allocas_stand_first l.layouts (early l) l.framed low.is_framed
-
   abbrev f : ℕ
   f = 4 * (4 * size_factor l.source)
 
@@ -61,7 +58,7 @@ module _ (R V Q W : Lowered → Anew → Run → State → State → Type 0) (a 
       (compose_within f 4 (at (source_run l r)) (at (framed_run l l.framed r))
       (at (plain_run (split_from l l.framed) r other))
       (framed_within R V Q W a p l low h r call)
-      (h.parting (good_layouts l low) ready fronts r other call split_entry))
+      (framed_agrees l low (good_layouts l low) ready h.parts r other call split_entry))
       (cleaned_agrees l.text l.source low.source.stands low.source.accepted l.share l.layouts low.laid l.framed
       low.is_framed other
       r.args r.answers))

@@ -18,6 +18,8 @@ use Rattle.ir_paths.specs.declared.point.Point.{Point}
 use Rattle.pass_intrinsics.specs.Shapes.{shape_of, suspends_of}
 use Rattle.pass_intrinsics.specs.declared.shape.SuspendPoint.{SuspendPoint}
 use Rattle.pass_kept_proof.specs.SuspendRules.{IsCallAt}
+use Rattle.pass_proofs.specs.exits.states.Exits.{exits_split}
+use Rattle.pass_split_proof.specs.priced.Returns.{AllJumpBehind}
 use Rattle.pass_split_proof.specs.ready.Fields.{AreInnerIndices}
 use Rattle.pass_split_proof.specs.states.Instances.{IsLaidOut}
 use Rattle.pass_split_proof.specs.states.Memories.{AreContents}
@@ -61,3 +63,9 @@ pub record AreFramedFacts (ls : Layouts) (m : Module) : Type 0 where
       → (b : Block) × (slice_get f.blocks 0 ≡ Some b)
   -- waits for: Y1 and Y4 of globals
   pub contents : AreContents m
+
+-- of the framed form, and with blocks on the edges that leave windows
+pub record ArePartsFacts (ls : Layouts) (m : Module) : Type 0 where
+  pub exits : AreFramedFacts ls (exits_split m)
+  -- waits for: blocks on resume and destroy edges end in jumps, and labels are names of the function
+  pub behind : AllJumpBehind m

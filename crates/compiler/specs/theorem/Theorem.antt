@@ -9,22 +9,24 @@ use Rattle.run_agreement.specs.Machines.{IsFine, at, state_at}
 use Rattle.text_canonical.specs.canonical.Items.{module_text}
 use Rattle.run_source.specs.declared.state.State.{State}
 use Rattle.compiler.specs.theorem.Anew.{Anew, IsAnewOf}
-use Rattle.compiler.specs.theorem.Entries.{IsEntry, IsEntryCall, Run}
+use Rattle.compiler.specs.theorem.Entries.{IsEntryCall, Run}
 use Rattle.compiler.specs.theorem.GoodLayouts.{AreGoodLayouts}
-use Rattle.compiler.specs.theorem.Lowered.{AreAllocasFirst, IsAccepted, Lowered, early, edged, framed_run, kept_run, lowered_from, plain_run, price_kept, price_renewed, printed_from, renewed_run, sizes_of, source_run, split_from}
+use Rattle.compiler.specs.parts.Framed.{ArePartsFacts}
+use Rattle.compiler.specs.theorem.Lowered.{IsAccepted, Lowered, early, edged, framed_run, kept_run, lowered_from}
+use Rattle.compiler.specs.theorem.Lowered.{plain_run, price_kept, price_renewed, printed_from, renewed_run, sizes_of}
+use Rattle.compiler.specs.theorem.Lowered.{source_run}
 use Rattle.pass_renewed_proof.specs.Prices.{Prices}
 use Rattle.compiler.specs.theorem.SharedBytes.{AreShown}
 use Rattle.ir_laws.specs.facts.sound_states.Named.{AreLocalsNamed}
 use Rattle.text_grammar.specs.Text.{StandsFor}
 use Rattle.pass_proofs.specs.kept.sources.Beside.{IsKeptOf}
-use Rattle.compiler.specs.cleanup.accepted.Ready.{IsReady}
 use Rattle.pass_renewed_proof.specs.SlotRules.{KeepsAllSlots}
 use Rattle.pass_frames.specs.Framed.{IsFramedForm}
 
 -- | Pass | from | to | costs | |
 -- | saves written out, edges with blocks, what is needed handed on | Source | Kept | 4 | stands |
 -- | slots made anew, then frames built, by prices that fit | Kept | Framed | 4 * (1 + p + q), on average | premise |
--- | functions split | Framed | Plain | 4 | premise |
+-- | functions split | Framed | Plain | 4 | stands by facts of framed forms |
 -- | calls of coro.id gone, then names in order | Plain | Plain | 1 | stands |
 pub record Steps (R V Q W : Lowered → Anew → Run → State → State → Type 0) (a : Anew) (p : Prices)
     (l : Lowered) : Type 0 where
@@ -43,10 +45,8 @@ pub record Steps (R V Q W : Lowered → Anew → Run → State → State → Typ
   -- waits for: prices counted by names and operands, a resume with the jump behind it
   pub paid : (r : Run) (n : ℕ) → IsEntryCall l.source r → IsFine (at (kept_run l a r) n).outcome
       → cost_at (kept_run l a r) (price_kept l a r p) n ≤ (4 * size_factor l.source) * n
-  -- waits for: the simulation of parts
-  pub parting : AreGoodLayouts (early l) l.layouts.coroutines → IsReady l.layouts l.framed → AreAllocasFirst l.framed
-      → (r : Run) (other : ℕ) → IsEntryCall l.source r
-      → IsEntry l.source (split_from l l.framed) r.entry other → AgreesWithin 4 (at (framed_run l l.framed r)) (at (plain_run (split_from l l.framed) r other))
+  -- waits for: facts of framed forms, each said there; the simulation of parts stands by these
+  pub parts : ArePartsFacts l.layouts l.framed
   -- waits for: the relations of these two over those that stand, byte for byte
   pub shown : (r : Run) (s t : State) → Through (IsKeptOf l.source (sizes_of l) r.answers)
       (Through (R l a r) (Q l a r)) s t → AreShown l.source l.layouts.coroutines s t

@@ -1,6 +1,0 @@
-pub mod Chosen
-pub mod Direct
-pub mod Exits
-pub mod Names
-pub mod Paid
-pub mod Whole

@@ -1,0 +1,19 @@
+-- Blocks behind suspends that end in jumps, so that no edge of theirs leaves a window.
+use Rattle.std.specs.Prelude.{◌≡◌, ◌≤◌, ℕ, true, false, Some, length, slice_get}
+use Rattle.ir_model.specs.declared.instr.Terminator.{Terminator}
+use Rattle.ir_model.specs.declared.module.Block.{Block}
+use Rattle.ir_model.specs.declared.module.Function.{Function}
+use Rattle.ir_model.specs.declared.module.Module.{Module}
+use Rattle.pass_intrinsics.specs.Shapes.{suspends_of}
+use Rattle.pass_split_proof.specs.states.Related.{is_return_label}
+
+pub record JumpsBehind (f : Function) : Type 0 where
+  -- those blocks are made on edges (`returns_have_blocks_of_their_own`)
+  pub jumps : (k : ℕ) (b : Block) → slice_get f.blocks k ≡ Some b → is_return_label (suspends_of f) b.label ≡ true
+      → (u : ℕ) × (b.term ≡ Terminator.Jump u)
+  -- labels are names of the function
+  pub named : (l : ℕ) → length f.names ≤ l → is_return_label (suspends_of f) l ≡ false
+
+-- so it is in each coroutine
+abbrev pub AllJumpBehind : Module → Type 0
+AllJumpBehind m = (k : ℕ) (f : Function) → slice_get m.functions k ≡ Some f → f.coroutine ≡ true → JumpsBehind f
