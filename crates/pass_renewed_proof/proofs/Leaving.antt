@@ -233,6 +233,7 @@ module _ (m : Module) (flags : Flags) (roots : Roots) (s t : State) (beside : Is
       came = h.came;
       begun = λ some. ⊎_elim (λ r. inl r) (λ o. absurd (early o.0)) (h.begun some);
       begins = h.begins;
+      departs = λ left. absurd (false≢true left);
       left = λ left. absurd (false≢true left);
     };
     below = beside.below;
