@@ -1,0 +1,15 @@
+pub mod Alike
+pub mod Assembly
+pub mod Owned
+pub mod BegunSlots
+pub mod BegunStates
+pub mod Begins
+pub mod NewSlots
+pub mod EntrySlots
+pub mod Renaming
+pub mod Resumed
+pub mod Between
+pub mod Resuming
+pub mod Tables
+pub mod Points
+pub mod OneStep
