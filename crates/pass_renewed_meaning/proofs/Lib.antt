@@ -13,3 +13,7 @@ pub mod Resuming
 pub mod Tables
 pub mod Points
 pub mod OneStep
+pub mod Addresses
+pub mod RunStates
+pub mod Outdone
+pub mod Here

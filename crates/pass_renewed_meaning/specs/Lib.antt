@@ -1,3 +1,5 @@
 pub mod Begins
 pub mod Followed
 pub mod Resumes
+pub mod Rules
+pub mod Runs
