@@ -17,3 +17,4 @@ pub mod Addresses
 pub mod RunStates
 pub mod Outdone
 pub mod Here
+pub mod OrdinaryCases
