@@ -17,7 +17,7 @@ use Rattle.run_step.specs.Step.{Action, Context, Fetched, action_of, fetch}
 use Rattle.run_step.specs.Values.{Env, value_in}
 use Rattle.run_step.specs.declared.world.Slot.{Slot}
 use Rattle.pass_renewed_meaning.proofs.OneStep.{IsOneStep}
-use Rattle.pass_renewed_meaning.proofs.Outdone.{asleep, has_instance, outdone, same_coroutine}
+use Rattle.pass_renewed_meaning.proofs.Outdone.{HaveBegun, asleep, has_instance, have_begun, outdone, same_coroutine}
 use Rattle.pass_renewed_meaning.specs.Rules.{KeepsAll, Setting}
 use Rattle.pass_renewed_meaning.specs.Runs.{IsOfRun, first_given, second_given}
 use Rattle.pass_renewed_proof.specs.Beside.{AreOutdone, HasLeftSuspended, IsBeside}
@@ -50,9 +50,12 @@ module _ (c : Setting) (x : Here c) where
 
   -- ---- the others
 
+  pub begun_below : HaveBegun x.s.below
+  begun_below = have_begun c.code c.flags c.roots x.beside.ledger x.s.instances x.s.world.memory x.t.world.memory
+      x.s.top.result x.s.below x.t.below x.beside.below
+
   pub none_below : AreOutdone x.s.instances x.s.top x.s.below
-  none_below = outdone c.code c.flags c.roots x.beside.ledger x.s.instances x.s.world.memory x.t.world.memory x.s.top
-      x.beside.top.begins x.run.last.0 x.s.top.result x.s.below x.t.below x.run.last.1 x.beside.below
+  none_below = outdone x.s.instances x.s.top x.beside.top.begins x.run.last.0 x.s.below x.run.last.1 begun_below
 
   pub left_asleep : HasLeftSuspended x.s.instances x.s.top
   left_asleep = asleep x.s.instances x.s.top x.run.last.0

@@ -18,3 +18,4 @@ pub mod RunStates
 pub mod Outdone
 pub mod Here
 pub mod OrdinaryCases
+pub mod Terminators

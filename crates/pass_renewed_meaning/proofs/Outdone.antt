@@ -21,15 +21,29 @@ use Rattle.pass_renewed_proof.specs.Renewed.{Flags, Roots}
 same_number : {i j : ℕ} → Some i ≡ Some j → i ≡ j
 same_number e = cc
 
-module _ (m : Module) (flags : Flags) (roots : Roots) (l : Ledger) (xs : List Instance) (memory target : List MemoryBlock)
-    (a : Activation) (begins : a.mode ≡ Mode.Resumed → a.instance ≡ None → ⊥) (awake : IsAwake xs a) where
-  pub outdone : (name : Option ℕ) (below bs : List Activation) → ((i : ℕ) → a.instance ≡ Some i → HaveLeft i below)
-      → AreBelow m flags roots l xs memory target name below bs → AreOutdone xs a below
-  outdone name [] bs left h = tt
-  outdone name (z ∷ below) [] left h = absurd h
-  outdone name (z ∷ below) (b ∷ bs) left h = (
+-- resumed activations have an instance
+abbrev pub HaveBegun : List Activation → Type 0
+HaveBegun [] = Unit {0}
+HaveBegun (z ∷ below) = (z.mode ≡ Mode.Resumed → z.instance ≡ None → ⊥) × HaveBegun below
+
+pub have_begun : (m : Module) (flags : Flags) (roots : Roots) (l : Ledger) (xs : List Instance) (memory target : List
+    MemoryBlock) (name : Option ℕ) (below bs : List Activation)
+    → AreBelow m flags roots l xs memory target name below bs → HaveBegun below
+have_begun m flags roots l xs memory target name [] bs h = tt
+have_begun m flags roots l xs memory target name (z ∷ below) [] h = absurd h
+have_begun m flags roots l xs memory target name (z ∷ below) (b ∷ bs) h = (
+  h.0.begins,
+  have_begun m flags roots l xs memory target z.result below bs h.2,
+)
+
+module _ (xs : List Instance) (a : Activation) (begins : a.mode ≡ Mode.Resumed → a.instance ≡ None → ⊥) (awake : IsAwake
+    xs a) where
+  pub outdone : (below : List Activation) → ((i : ℕ) → a.instance ≡ Some i → HaveLeft i below) → HaveBegun below
+      → AreOutdone xs a below
+  outdone [] left h = tt
+  outdone (z ∷ below) left h = (
     λ same goes stays. on same goes stays a.instance refl,
-    outdone z.result below bs (λ i e. (left i e).1) h.2,
+    outdone below (λ i e. (left i e).1) h.1,
   )
     where
       gone : (i : ℕ) → a.instance ≡ Some i → z.instance ≡ Some i → a.has_left ≡ false → GoesOn xs (length below) z → ⊥
@@ -46,7 +60,7 @@ module _ (m : Module) (flags : Flags) (roots : Roots) (l : Ledger) (xs : List In
       on same goes stays None e = record {
         none = e;
         first = λ resumed. begins resumed e;
-        second = λ resumed. h.0.begins resumed (same ∙ e);
+        second = λ resumed. h.0 resumed (same ∙ e);
       }
 
 -- where its instance is Suspended it has left
