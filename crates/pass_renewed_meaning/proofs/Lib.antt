@@ -19,3 +19,5 @@ pub mod Outdone
 pub mod Here
 pub mod OrdinaryCases
 pub mod Terminators
+pub mod Handles
+pub mod Coroutines

@@ -78,7 +78,7 @@ module _ (m : Module) (flags : Flags) (roots : Roots) (l : Ledger) (memory : Lis
   as_many xs target name (a ∷ as') [] h = absurd h
   as_many xs target name (a ∷ as') (b ∷ bs) h = ap suc (as_many xs target a.result as' bs h.2)
 
-own_is : (s : State) (p : ℕ × Instance) → own_instance s ≡ Some p
+pub own_is : (s : State) (p : ℕ × Instance) → own_instance s ≡ Some p
     → (s.top.instance ≡ Some p.0) × (slice_get s.instances p.0 ≡ Some p.1)
 own_is s p e = on s.top.instance refl e
   where
