@@ -21,3 +21,4 @@ pub mod OrdinaryCases
 pub mod Terminators
 pub mod Handles
 pub mod Coroutines
+pub mod Dispatch
