@@ -21,6 +21,7 @@ use Rattle.pass_renewed_meaning.proofs.Coroutines.{align32_case, align64_case, a
 use Rattle.pass_renewed_meaning.proofs.Coroutines.{done_case, frame_case, free_case, freed_case, id_case, promise_case}
 use Rattle.pass_renewed_meaning.proofs.Coroutines.{size32_case, size64_case, sized_case}
 use Rattle.pass_renewed_meaning.proofs.Here.{Here, IsCase, other}
+use Rattle.pass_renewed_meaning.proofs.MarkerCases.{end_case, start_case}
 use Rattle.pass_renewed_meaning.proofs.OneStep.{IsNoResumer, IsStep, one_step, step_is}
 use Rattle.pass_renewed_meaning.proofs.OrdinaryCases.{binary_case, cast_case, compare_case, copy_case, function_case}
 use Rattle.pass_renewed_meaning.proofs.OrdinaryCases.{gep_case, load_case, malloc_case, new_case, select_case, store_case}
@@ -79,10 +80,8 @@ module _ (c : Setting) (p : Prices) (all : KeepsAll c) (small : AreOffsetsSmall 
         must_tail ty args) e
     intrinsic result must_tail ty Intrinsic.MemcpyI32 args e = case _ tt (copy_case c x Intrinsic.MemcpyI32 (inr refl) result
         must_tail ty args) e
-    intrinsic result must_tail ty Intrinsic.LifetimeStart args e = rest.starts n t beside runs fine (subst (IsCallOf
-        Intrinsic.LifetimeStart) (sym e) refl)
-    intrinsic result must_tail ty Intrinsic.LifetimeEnd args e = rest.ends n t beside runs fine (subst (IsCallOf
-        Intrinsic.LifetimeEnd) (sym e) refl)
+    intrinsic result must_tail ty Intrinsic.LifetimeStart args e = case _ tt (start_case c x result must_tail ty args) e
+    intrinsic result must_tail ty Intrinsic.LifetimeEnd args e = case _ tt (end_case c x result must_tail ty args) e
     intrinsic result must_tail ty Intrinsic.CoroId args e = case _ tt (id_case c x result must_tail ty args) e
     intrinsic result must_tail ty Intrinsic.CoroSizeI32 args e = case _ tt (size32_case c x result must_tail ty args) e
     intrinsic result must_tail ty Intrinsic.CoroSizeI64 args e = case _ tt (size64_case c x result must_tail ty args) e

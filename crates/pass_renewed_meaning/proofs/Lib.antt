@@ -22,3 +22,4 @@ pub mod Terminators
 pub mod Handles
 pub mod Coroutines
 pub mod Dispatch
+pub mod MarkerCases

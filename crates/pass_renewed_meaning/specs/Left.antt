@@ -42,8 +42,6 @@ AreFollowedAt c p K =
 
 pub record AreStepsBeside (c : Setting) (p : Prices) : Type 0 where
   pub allocas : AreFollowedAt c p IsAlloca
-  pub starts : AreFollowedAt c p (IsCallOf Intrinsic.LifetimeStart)
-  pub ends : AreFollowedAt c p (IsCallOf Intrinsic.LifetimeEnd)
   pub saves : AreFollowedAt c p (IsCallOf Intrinsic.CoroSave)
   pub suspends : AreFollowedAt c p (IsCallOf Intrinsic.CoroSuspend)
   pub closes : AreFollowedAt c p (IsCallOf Intrinsic.CoroEnd)
