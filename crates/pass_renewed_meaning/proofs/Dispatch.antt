@@ -26,6 +26,7 @@ use Rattle.pass_renewed_meaning.proofs.OneStep.{IsNoResumer, IsStep, one_step, s
 use Rattle.pass_renewed_meaning.proofs.OrdinaryCases.{binary_case, cast_case, compare_case, copy_case, function_case}
 use Rattle.pass_renewed_meaning.proofs.OrdinaryCases.{gep_case, load_case, malloc_case, new_case, select_case, store_case}
 use Rattle.pass_renewed_meaning.proofs.RunStates.{of_run}
+use Rattle.pass_renewed_meaning.proofs.SaveCases.{save_case, suspend_case}
 use Rattle.pass_renewed_meaning.proofs.Terminators.{branch_case, jump_case, nowhere_case, ret_case, switch_case}
 use Rattle.pass_renewed_meaning.proofs.Terminators.{unreachable_case}
 use Rattle.pass_renewed_meaning.specs.Followed.{AreStepsFollowed, IsFollowed, KeepsMeaning}
@@ -91,10 +92,8 @@ module _ (c : Setting) (p : Prices) (all : KeepsAll c) (small : AreOffsetsSmall 
     intrinsic result must_tail ty Intrinsic.CoroBegin args e = case _ tt (begin_case c x result must_tail ty args) e
     intrinsic result must_tail ty Intrinsic.CoroFree args e = case _ tt (free_case c x result must_tail ty args) e
     intrinsic result must_tail ty Intrinsic.CoroFrame args e = case _ tt (frame_case c x result must_tail ty args) e
-    intrinsic result must_tail ty Intrinsic.CoroSave args e = rest.saves n t beside runs fine (subst (IsCallOf
-        Intrinsic.CoroSave) (sym e) refl)
-    intrinsic result must_tail ty Intrinsic.CoroSuspend args e = rest.suspends n t beside runs fine (subst (IsCallOf
-        Intrinsic.CoroSuspend) (sym e) refl)
+    intrinsic result must_tail ty Intrinsic.CoroSave args e = case _ tt (save_case c x result must_tail ty args) e
+    intrinsic result must_tail ty Intrinsic.CoroSuspend args e = case _ tt (suspend_case c x result must_tail ty args) e
     intrinsic result must_tail ty Intrinsic.CoroEnd args e = rest.closes n t beside runs fine (subst (IsCallOf
         Intrinsic.CoroEnd) (sym e) refl)
     intrinsic result must_tail ty Intrinsic.CoroResume args e = rest.resumes n t beside runs fine (subst (IsCallOf

@@ -23,3 +23,4 @@ pub mod Handles
 pub mod Coroutines
 pub mod Dispatch
 pub mod MarkerCases
+pub mod SaveCases

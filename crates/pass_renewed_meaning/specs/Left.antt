@@ -42,8 +42,6 @@ AreFollowedAt c p K =
 
 pub record AreStepsBeside (c : Setting) (p : Prices) : Type 0 where
   pub allocas : AreFollowedAt c p IsAlloca
-  pub saves : AreFollowedAt c p (IsCallOf Intrinsic.CoroSave)
-  pub suspends : AreFollowedAt c p (IsCallOf Intrinsic.CoroSuspend)
   pub closes : AreFollowedAt c p (IsCallOf Intrinsic.CoroEnd)
   pub resumes : AreFollowedAt c p (IsCallOf Intrinsic.CoroResume)
   pub destroys : AreFollowedAt c p (IsCallOf Intrinsic.CoroDestroy)

@@ -71,7 +71,7 @@ module _ (m : Module) (flags : Flags) (roots : Roots) (l : Ledger) (memory : Lis
   sleeps_alike x (Status.Suspended u env) q h = ap is_suspended h.1
   sleeps_alike x Status.Finished q h = ap is_suspended h
 
-  as_many : (xs : List Instance) (target : List MemoryBlock) (name : Option ℕ) (as' bs : List Activation)
+  pub as_many : (xs : List Instance) (target : List MemoryBlock) (name : Option ℕ) (as' bs : List Activation)
       → AreBelow m flags roots l xs memory target name as' bs → length bs ≡ length as'
   as_many xs target name [] [] h = refl
   as_many xs target name [] (b ∷ bs) h = absurd h
