@@ -20,11 +20,12 @@ use Rattle.pass_renewed_meaning.proofs.Assembly.{assembled}
 use Rattle.pass_renewed_meaning.proofs.Coroutines.{align32_case, align64_case, alloc_case, begin_case, deleted_case}
 use Rattle.pass_renewed_meaning.proofs.Coroutines.{done_case, frame_case, free_case, freed_case, id_case, promise_case}
 use Rattle.pass_renewed_meaning.proofs.Coroutines.{size32_case, size64_case, sized_case}
-use Rattle.pass_renewed_meaning.proofs.Here.{Here, IsCase, other}
+use Rattle.pass_renewed_meaning.proofs.Here.{Here, IsCase, first_act, first_action, other}
 use Rattle.pass_renewed_meaning.proofs.MarkerCases.{end_case, start_case}
 use Rattle.pass_renewed_meaning.proofs.OneStep.{IsNoResumer, IsStep, one_step, step_is}
 use Rattle.pass_renewed_meaning.proofs.OrdinaryCases.{binary_case, cast_case, compare_case, copy_case, function_case}
 use Rattle.pass_renewed_meaning.proofs.OrdinaryCases.{gep_case, load_case, malloc_case, new_case, select_case, store_case}
+use Rattle.pass_renewed_meaning.proofs.ResumeCases.{destroy_case, resume_case}
 use Rattle.pass_renewed_meaning.proofs.RunStates.{of_run}
 use Rattle.pass_renewed_meaning.proofs.SaveCases.{save_case, suspend_case}
 use Rattle.pass_renewed_meaning.proofs.Terminators.{branch_case, jump_case, nowhere_case, ret_case, switch_case}
@@ -75,6 +76,13 @@ module _ (c : Setting) (p : Prices) (all : KeepsAll c) (small : AreOffsetsSmall 
         subst (IsFollowed (first_given c) (second_given c) p s) (sym same) (one_step (first_given c) (second_given c) p s t' z
         e e calm (refl, refl, refl) beside.top.modes (beside.outcome ∙ runs) r.after r.is one)
 
+    wakes : (z : Fetched) → here ≡ z → (here ≡ z → (after : State) → first_act c x (first_action c x z) ≡ Ok after
+        → first_step c s ≡ after → IsFollowed (first_given c) (second_given c) p s t') → Follows
+    wakes z e does =
+        let r = step_is (first_given c) (continue_keeping (first_given c) c.keep) s runs fine in
+        subst (IsFollowed (first_given c) (second_given c) p s) (sym same) (does e r.after (ap (λ y. first_act c x
+        (first_action c x y)) (sym e) ∙ r.acts) r.is)
+
     intrinsic : (result : Option ℕ) (must_tail : Bool) (ty : Option Ty) (i : Intrinsic) (args : List Arg)
         → here ≡ AtInstr (Instr.Call result must_tail ty (Callee.Intrinsic i) args) → Follows
     intrinsic result must_tail ty Intrinsic.MemcpyI64 args e = case _ tt (copy_case c x Intrinsic.MemcpyI64 (inl refl) result
@@ -96,10 +104,8 @@ module _ (c : Setting) (p : Prices) (all : KeepsAll c) (small : AreOffsetsSmall 
     intrinsic result must_tail ty Intrinsic.CoroSuspend args e = case _ tt (suspend_case c x result must_tail ty args) e
     intrinsic result must_tail ty Intrinsic.CoroEnd args e = rest.closes n t beside runs fine (subst (IsCallOf
         Intrinsic.CoroEnd) (sym e) refl)
-    intrinsic result must_tail ty Intrinsic.CoroResume args e = rest.resumes n t beside runs fine (subst (IsCallOf
-        Intrinsic.CoroResume) (sym e) refl)
-    intrinsic result must_tail ty Intrinsic.CoroDestroy args e = rest.destroys n t beside runs fine (subst (IsCallOf
-        Intrinsic.CoroDestroy) (sym e) refl)
+    intrinsic result must_tail ty Intrinsic.CoroResume args e = wakes _ e (resume_case c x p result must_tail ty args)
+    intrinsic result must_tail ty Intrinsic.CoroDestroy args e = wakes _ e (destroy_case c x p result must_tail ty args)
     intrinsic result must_tail ty Intrinsic.CoroDone args e = case _ tt (done_case c x result must_tail ty args) e
     intrinsic result must_tail ty Intrinsic.CoroPromise args e = case _ tt (promise_case c x result must_tail ty args) e
 

@@ -24,3 +24,4 @@ pub mod Coroutines
 pub mod Dispatch
 pub mod MarkerCases
 pub mod SaveCases
+pub mod ResumeCases

@@ -11,6 +11,7 @@ use Rattle.ir_model.specs.declared.module.Module.{Module}
 use Rattle.ir_paths.specs.declared.point.Point.{Point}
 use Rattle.pass_kept_proof.specs.Kept.{continue_keeping, kept}
 use Rattle.run_agreement.specs.Machines.{iterate}
+use Rattle.run_agreement.specs.Costs.{cost_from}
 use Rattle.run_framed.specs.Framed.{at_point, enter_after, with_mode}
 use Rattle.run_laws.proofs.memory.Written.{same_some}
 use Rattle.run_memory.specs.declared.block.MemoryBlock.{MemoryBlock}
@@ -36,13 +37,15 @@ use Rattle.pass_renewed_proof.proofs.Carried.{instances_kept, kept_slot_on, same
 use Rattle.pass_renewed_proof.proofs.Entering.{entering_run}
 use Rattle.pass_renewed_proof.proofs.Leaving.{running_beside}
 use Rattle.pass_renewed_proof.proofs.Listing.{set_here}
+use Rattle.pass_renewed_proof.proofs.Next.{entering_costs}
 use Rattle.pass_renewed_proof.proofs.Passing.{edge_on, passed_beside, unended, unstarted}
 use Rattle.pass_renewed_proof.specs.Beside.{AreSlots, IsActivationBeside, IsBeside, IsInstanceBeside, IsSeated, place_in}
-use Rattle.pass_renewed_proof.specs.Entering.{Anew, AreNext, anew_in, made_all, made_anew}
+use Rattle.pass_renewed_proof.specs.Entering.{Anew, AreNext, anew_in, made_all, made_anew, price_of_all}
 use Rattle.pass_renewed_proof.specs.Found.{IsSleeperBeside}
 use Rattle.pass_renewed_proof.specs.Ledger.{Ledger}
 use Rattle.pass_renewed_proof.specs.Muted.{muted}
 use Rattle.pass_renewed_proof.specs.Places.{AreStanding}
+use Rattle.pass_renewed_proof.specs.Prices.{Prices, renewed_price}
 use Rattle.pass_renewed_proof.specs.Renewed.{Flags, RenewedGiven, Roots, continue_renewed, framed_of, renew_after}
 use Rattle.pass_renewed_proof.specs.Renewed.{renewed_from, renewed_step, renewed_values, with_renewed}
 use Rattle.pass_renewed_proof.specs.SlotRules.{KeepsAllSlots}
@@ -371,3 +374,11 @@ module _ (g : RenewedGiven) (rules : KeepsAllSlots g.given.code g.keep g.flags g
       like : IsLike (started t.top.values) (iterate (renewed_step g) j (renew_after g (started t.top.values) y.suspend.block
           label (renewed_from (g.flags y.instance.coroutine) f 0)))
       like = like_on g y.suspend.block label anew_slots 0 j (started t.top.values) runs next_slots lt
+
+  -- ---- what they cost
+
+  pub resumes_cost : (p : Prices) → t.outcome ≡ Outcome.Running → cost_from (renewed_step g) (renewed_price p g.given)
+      (length anew_slots) (continue_renewed g t z.number z.instance z.suspend z.values label) ≡ price_of_all (p.slot
+      y.instance.coroutine) anew_slots
+  resumes_cost p runs = ap (cost_from (renewed_step g) (renewed_price p g.given) (length anew_slots)) starts_anew
+      ∙ entering_costs p g y.suspend.block label anew_slots 0 (started t.top.values) runs next_slots

@@ -43,8 +43,6 @@ AreFollowedAt c p K =
 pub record AreStepsBeside (c : Setting) (p : Prices) : Type 0 where
   pub allocas : AreFollowedAt c p IsAlloca
   pub closes : AreFollowedAt c p (IsCallOf Intrinsic.CoroEnd)
-  pub resumes : AreFollowedAt c p (IsCallOf Intrinsic.CoroResume)
-  pub destroys : AreFollowedAt c p (IsCallOf Intrinsic.CoroDestroy)
 
 -- offsets are of 64 bits in each state of the first run
 abbrev pub AreOffsetsSmall : Setting → Type 0
