@@ -25,3 +25,4 @@ pub mod Dispatch
 pub mod MarkerCases
 pub mod SaveCases
 pub mod ResumeCases
+pub mod AllocaCases

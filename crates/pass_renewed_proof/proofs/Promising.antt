@@ -119,7 +119,7 @@ module _ (m : Module) (flags : Flags) (roots : Roots) (keeps : (func : ℕ)
       on o e = subst (λ (z : Option ℕ × Option ℕ). BothHave l z.0 z.1) (λ j. (sym first j, sym second j)) (both
           (promise_of (function_at m x.coroutine)) refl)
 
-  over_same : (n : ℕ) (x y : Instance) → IsInstanceBeside m flags roots beside.ledger s.world.memory n x y → is_over y ≡
+  pub over_same : (n : ℕ) (x y : Instance) → IsInstanceBeside m flags roots beside.ledger s.world.memory n x y → is_over y ≡
       is_over x
   over_same n x y b = ap is_over b.is ∙ ap (λ u. u || x.freed) (same x.status b.status b.statuses)
     where
