@@ -51,6 +51,7 @@ use Rattle.pass_renewed_proof.proofs.Listing.{instance_beside, set_here, worlds_
 use Rattle.pass_renewed_proof.proofs.OtherAllocas.{instance_slot, own_slot}
 use Rattle.pass_renewed_proof.proofs.Owning.{own_beside}
 use Rattle.pass_renewed_proof.proofs.Places.{made_live}
+use Rattle.pass_renewed_proof.proofs.Promising.{over_same}
 use Rattle.pass_renewed_proof.proofs.RampSlots.{no_ramp_slot, renewed_ramp_slot, same_ramp_slot}
 use Rattle.pass_renewed_proof.proofs.SlotAllocas.{begun_slot, early_slot, made_memory, set_same}
 use Rattle.pass_renewed_proof.specs.Beside.{AreSlots, Both, First, IsBeside, NoSlots, Second, place_in}
@@ -286,3 +287,152 @@ module _ (c : Setting) (x : Here c) (name : ℕ) (ty : Ty) (align : ℕ) (here :
             c).given live mate (none_other e)) (early_slot c.code c.flags c.roots (keeps c x) x.s (other c x) x.beside name ty
             align is_slot small marked refl (no_own e) (not_left (no_own e)))
         on (Some r) e = some r.0 r.1 e (some_other r.0 r.1 e) (is_over r.1) refl
+
+  -- ---- any other slot
+
+  module _ (off : c.flags x.s.top.func name ≡ false) where
+    is_other : IsAllocaOfOther c.code c.flags c.roots x.s.top name ty align
+    is_other = record {
+      place = calm c.code f (c.flags x.s.top.func) (c.roots x.s.top.func) rules (place_in x.s.top) (Instr.Alloca name ty
+          align) here refl;
+      here = here;
+      no_part = λ v root at same. no_part v root at same (rules.given v root x.s.top.block x.s.top.at at (ap given_at here ∙ ap
+          Some same));
+      named = named;
+      off = off;
+    }
+      where
+        no_part : (v root : ℕ) → c.roots x.s.top.func v ≡ Some root → name ≡ v → IsAddressOf (function_at c.code
+            x.s.top.func) (c.roots x.s.top.func) root v x.s.top.block x.s.top.at → ⊥
+        no_part v root at same (Itself is) = false≢true (sym off ∙ ap (c.flags x.s.top.func) (same ∙ is) ∙ (rules.rooted v root
+            at).0)
+        no_part v root at same (Part inbounds ty' u indices stands k) =
+            let z : AtInstr (Instr.Gep v inbounds ty' (Operand.Local u) indices) ≡ AtInstr (Instr.Alloca name ty align) = sym
+            stands ∙ here in
+            absurd (cc)
+
+    abbrev second : State
+    second = with_slot_of (other c x) (slot_block c.code x.s ty align marked) name
+
+    stays : with_life (second_given c) (settled (other c x) (work (other c x))) mate ≡ second
+    stays = ap (λ u. if u then with_memory (settled (other c x) (work (other c x))) (start (if marked then end (fresh
+        x.t.world.memory (size_of c.code ty) align kind) (length x.t.world.memory) else fresh x.t.world.memory (size_of c.code
+        ty) align kind) (length x.t.world.memory)) else settled (other c x) (work (other c x))) off ∙ ap (λ k. settled (other c
+        x) (set_memory (set_value (work_of (other c x)) name (pointer_to (length x.t.world.memory))) k)) (made_memory c.code
+        x.s ty align marked x.t.world.memory)
+
+    same_among : is_among (own_facts (second_given c).given (other c x)).ramp_slots mate ≡ is_among (own_facts (first_given c)
+        x.s).ramp_slots slot
+    same_among = ap (λ (z : Facts). is_among z.ramp_slots mate) (renewed_are c.code c.flags x.s.top.func there) ∙ same_ramp_slot
+        f (c.flags x.s.top.func) facts mate off
+
+    own_there : IsBeside c.code c.flags c.roots (with_slots first (slot ∷ x.s.top.slots)) (with_slots second (mate ∷ x.slots))
+    own_there = own_slot c.code c.flags c.roots (keeps c x) x.s (other c x) x.beside name ty align is_other small marked
+
+    module _ (i : ℕ) (y z : Instance) (own : x.s.top.instance ≡ Some i) (at : slice_get x.s.instances i ≡ Some y) (at' :
+        slice_get x.t.instances i ≡ Some z) where
+      off_there : c.flags y.coroutine name ≡ false
+      off_there = ap (λ k. c.flags k name) (own_coroutine c x i y own at) ∙ off
+
+      abbrev s1 : State
+      s1 = with_instance first i (record y { slots = slot ∷ y.slots })
+
+      abbrev t1 : State
+      t1 = with_instance second i (record z { slots = mate ∷ z.slots })
+
+      both_there : IsBeside c.code c.flags c.roots (with_instance first i (record y { slots = slot ∷ y.slots })) (with_instance
+          second i (record z { slots = mate ∷ z.slots }))
+      both_there = instance_slot c.code c.flags c.roots (keeps c x) x.s (other c x) x.beside name ty align is_other small marked
+          i y z at at' off_there
+
+      -- where the instance is over both are dead
+      homes : (home_of both_there.ledger.homes (length x.s.world.memory) ≡ whole_home (length x.t.world.memory))
+          × (both_there.ledger.seats (length x.s.world.memory) ≡ None)
+      homes =
+          let r = instance_beside c.code c.flags c.roots both_there.ledger s1.world.memory 0 s1.instances t1.instances i (record y
+          { slots = slot ∷ y.slots }) both_there.instances (set_here x.s.instances i y (record y { slots = slot ∷ y.slots })
+          at) in
+          let is : r.0 ≡ record z { slots = mate ∷ z.slots } = same_some (sym r.1 ∙ set_here x.t.instances i z (record z {
+            slots = mate ∷ z.slots;
+          }) at') in
+          both_first both_there.ledger _ _ (c.flags y.coroutine) (λ k h. h.flagged) (λ k h. h) (slot ∷ y.slots) r.2.slots
+          r.2.listed name (length x.s.world.memory) (length x.t.world.memory) y.slots z.slots off_there refl (ap (λ (k :
+          Instance). k.slots) (sym r.2.is ∙ is))
+        where
+          same_some : {a b : Instance} → Some a ≡ Some b → a ≡ b
+          same_some e = cc
+
+      dead_there : IsBeside c.code c.flags c.roots (with_memory (with_instance first i (record y { slots = slot ∷ y.slots }))
+          (killed (x.s.world.memory ++ slot_block c.code x.s ty align marked ∷ []) (length x.s.world.memory))) (with_memory
+          (with_instance second i (record z { slots = mate ∷ z.slots })) (killed (x.t.world.memory ++ slot_block c.code x.s ty
+          align marked ∷ []) (length x.t.world.memory)))
+      dead_there =
+          let b = both_there in
+          let d = both_die c.code b.ledger s1.world.memory t1.world.memory (length x.s.world.memory) (length x.t.world.memory)
+          homes.0 homes.1 (record {
+            memory = b.world.memory;
+            nulls = b.world.nulls;
+            bounds = b.world.bounds;
+          }) b.entered in
+          worlds_beside c.code c.flags c.roots s1 t1 b b.ledger (record s1.world {
+            memory = killed s1.world.memory (length x.s.world.memory);
+          }) (record t1.world { memory = killed t1.world.memory (length x.t.world.memory) }) d.carried d.kept (record {
+            memory = d.standing.memory;
+            nulls = d.standing.nulls;
+            bounds = d.standing.bounds;
+            events = b.world.events;
+            answers = b.world.answers;
+            allocs = b.world.allocs;
+          }) d.entered
+
+    other_case : (after : State) → is_alignment align ≡ true → new_slot (first_given c) (settled x.s (work x.s)) slot ≡
+        after → OneStep after
+    other_case after aligned acts = on (own_instance x.s) refl
+      where
+        some : (i : ℕ) (y : Instance) → own_instance x.s ≡ Some (i, y) → (h : Found i y) → (u w : Bool) → is_over y ≡ u
+            → is_among (own_facts (first_given c) x.s).ramp_slots slot ≡ w → OneStep after
+        some i y e h u true over ramp =
+            let own = own_is x.s (i, y) e in
+            let theirs = own_is (other c x) (i, h.0) h.1 in
+            made after _ _ second aligned acts (slot_some (first_given c) first slot i y e u true over ramp ∙ comes_own u first i
+            y slot own.1) stays (slot_some (second_given c).given second mate i h.0 h.1 u true (over_same c.code c.flags
+            c.roots (keeps c x) x.s (other c x) x.beside (first_given c) (second_given c).given refl refl i y h.0 h.2 ∙ over)
+            (same_among ∙ ramp) ∙ comes_own u second i h.0 mate theirs.1) own_there
+        some i y e h false false over ramp =
+            let own = own_is x.s (i, y) e in
+            let theirs = own_is (other c x) (i, h.0) h.1 in
+            made after _ _ second aligned acts (slot_some (first_given c) first slot i y e false false over ramp) stays
+            (slot_some (second_given c).given second mate i h.0 h.1 false false (over_same c.code c.flags c.roots (keeps c x)
+            x.s (other c x) x.beside (first_given c) (second_given c).given refl refl i y h.0 h.2 ∙ over) (same_among ∙
+            ramp)) (both_there i y h.0 own.0 own.1 theirs.1)
+        some i y e h true false over ramp =
+            let own = own_is x.s (i, y) e in
+            let theirs = own_is (other c x) (i, h.0) h.1 in
+            made after _ _ second aligned acts (slot_some (first_given c) first slot i y e true false over ramp) stays
+            (slot_some (second_given c).given second mate i h.0 h.1 true false (over_same c.code c.flags c.roots (keeps c x)
+            x.s (other c x) x.beside (first_given c) (second_given c).given refl refl i y h.0 h.2 ∙ over) (same_among ∙
+            ramp)) (dead_there i y h.0 own.0 own.1 theirs.1)
+
+        on : (o : Option (ℕ × Instance)) → own_instance x.s ≡ o → OneStep after
+        on None e = made after _ _ second aligned acts (slot_none (first_given c) first slot e) stays (slot_none (second_given
+            c).given second mate (none_other e)) own_there
+        on (Some r) e = some r.0 r.1 e (some_other r.0 r.1 e) (is_over r.1) (is_among facts.ramp_slots slot) refl refl
+
+  -- ---- both
+
+  by_flag : (after : State) → is_alignment align ≡ true → new_slot (first_given c) (settled x.s (work x.s)) slot ≡ after → (u :
+      Bool) → c.flags x.s.top.func name ≡ u → OneStep after
+  by_flag after aligned acts true e = flagged_case e after aligned acts
+  by_flag after aligned acts false e = other_case e after aligned acts
+
+  pub alloca_goes : (after : State) → first_act c x (if_alignment align (NewSlot (work x.s) slot)) ≡ Ok after → OneStep after
+  alloca_goes after acts = on (is_alignment align) refl acts
+    where
+      on : (u : Bool) → is_alignment align ≡ u → first_act c x (if u then NewSlot (work x.s) slot else Stuck Cause.Align) ≡ Ok
+          after → OneStep after
+      on true e k = by_flag after e (same_ok k) (c.flags x.s.top.func name) refl
+      on false e k = let z : ◌≡◌ {A = Result State Cause} (Err Cause.Align) (Ok after) = k in absurd (cc)
+
+pub alloca_case : (c : Setting) (x : Here c) (name : ℕ) (ty : Ty) (align : ℕ) → IsCase c x (AtInstr (Instr.Alloca name ty
+    align))
+alloca_case c x name ty align here after acts = alloca_goes c x name ty align here after acts

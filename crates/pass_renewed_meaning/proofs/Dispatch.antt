@@ -16,6 +16,7 @@ use Rattle.run_source.specs.Source.{act, context_of}
 use Rattle.run_source.specs.State.{work_of}
 use Rattle.run_source.specs.declared.state.State.{State}
 use Rattle.run_step.specs.Step.{AtInstr, AtTerm, Fetched, Nowhere, action_of, fetch}
+use Rattle.pass_renewed_meaning.proofs.AllocaCases.{alloca_case}
 use Rattle.pass_renewed_meaning.proofs.Assembly.{assembled}
 use Rattle.pass_renewed_meaning.proofs.Coroutines.{align32_case, align64_case, alloc_case, begin_case, deleted_case}
 use Rattle.pass_renewed_meaning.proofs.Coroutines.{done_case, frame_case, free_case, freed_case, id_case, promise_case}
@@ -136,7 +137,7 @@ module _ (c : Setting) (p : Prices) (all : KeepsAll c) (small : AreOffsetsSmall 
     by (AtInstr (Instr.Icmp name pred ty a b)) e = case _ tt (compare_case c x (small n) name pred ty a b) e
     by (AtInstr (Instr.Select name z a b)) e = case _ tt (select_case c x name z a b) e
     by (AtInstr (Instr.Cast name op nneg arg to)) e = case _ tt (cast_case c x name op nneg arg to) e
-    by (AtInstr (Instr.Alloca name ty align)) e = rest.allocas n t beside runs fine (subst IsAlloca (sym e) tt)
+    by (AtInstr (Instr.Alloca name ty align)) e = case _ tt (alloca_case c x name ty align) e
     by (AtInstr (Instr.Load name ty q align)) e = case _ tt (load_case c x name ty q align) e
     by (AtInstr (Instr.Store arg q align)) e = case _ tt (store_case c x arg q align) e
     by (AtInstr (Instr.Gep name inbounds ty base indices)) e = case _ tt (gep_case c x name inbounds ty base indices) e

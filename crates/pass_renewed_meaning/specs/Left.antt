@@ -41,7 +41,6 @@ AreFollowedAt c p K =
     → IsFollowed (first_given c) (second_given c) p (first_at c n) t
 
 pub record AreStepsBeside (c : Setting) (p : Prices) : Type 0 where
-  pub allocas : AreFollowedAt c p IsAlloca
   pub closes : AreFollowedAt c p (IsCallOf Intrinsic.CoroEnd)
 
 -- offsets are of 64 bits in each state of the first run
