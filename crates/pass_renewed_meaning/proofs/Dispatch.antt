@@ -18,6 +18,7 @@ use Rattle.run_source.specs.declared.state.State.{State}
 use Rattle.run_step.specs.Step.{AtInstr, AtTerm, Fetched, Nowhere, action_of, fetch}
 use Rattle.pass_renewed_meaning.proofs.AllocaCases.{alloca_case}
 use Rattle.pass_renewed_meaning.proofs.Assembly.{assembled}
+use Rattle.pass_renewed_meaning.proofs.CloseCases.{close_case}
 use Rattle.pass_renewed_meaning.proofs.Coroutines.{align32_case, align64_case, alloc_case, begin_case, deleted_case}
 use Rattle.pass_renewed_meaning.proofs.Coroutines.{done_case, frame_case, free_case, freed_case, id_case, promise_case}
 use Rattle.pass_renewed_meaning.proofs.Coroutines.{size32_case, size64_case, sized_case}
@@ -32,14 +33,14 @@ use Rattle.pass_renewed_meaning.proofs.SaveCases.{save_case, suspend_case}
 use Rattle.pass_renewed_meaning.proofs.Terminators.{branch_case, jump_case, nowhere_case, ret_case, switch_case}
 use Rattle.pass_renewed_meaning.proofs.Terminators.{unreachable_case}
 use Rattle.pass_renewed_meaning.specs.Followed.{AreStepsFollowed, IsFollowed, KeepsMeaning}
-use Rattle.pass_renewed_meaning.specs.Left.{AreOffsetsSmall, AreStepsBeside, IsAlloca, IsCallOf, first_at}
+use Rattle.pass_renewed_meaning.specs.Offsets.{AreOffsetsSmall, first_at}
 use Rattle.pass_renewed_meaning.specs.Rules.{KeepsAll, Setting}
 use Rattle.pass_renewed_meaning.specs.Runs.{first_given, first_step, second_given}
 use Rattle.pass_renewed_proof.proofs.Start.{first_beside}
 use Rattle.pass_renewed_proof.specs.Beside.{IsBeside}
 use Rattle.pass_renewed_proof.specs.Prices.{Prices}
 
-module _ (c : Setting) (p : Prices) (all : KeepsAll c) (small : AreOffsetsSmall c) (rest : AreStepsBeside c p) where
+module _ (c : Setting) (p : Prices) (all : KeepsAll c) (small : AreOffsetsSmall c) where
   module _ (n : ℕ) (t : State) (beside : IsBeside c.code c.flags c.roots (first_at c n) t) (runs : (first_at c n).outcome ≡
       Outcome.Running) (fine : IsFine (first_step c (first_at c n)).outcome) where
     abbrev s : State
@@ -103,8 +104,7 @@ module _ (c : Setting) (p : Prices) (all : KeepsAll c) (small : AreOffsetsSmall 
     intrinsic result must_tail ty Intrinsic.CoroFrame args e = case _ tt (frame_case c x result must_tail ty args) e
     intrinsic result must_tail ty Intrinsic.CoroSave args e = case _ tt (save_case c x result must_tail ty args) e
     intrinsic result must_tail ty Intrinsic.CoroSuspend args e = case _ tt (suspend_case c x result must_tail ty args) e
-    intrinsic result must_tail ty Intrinsic.CoroEnd args e = rest.closes n t beside runs fine (subst (IsCallOf
-        Intrinsic.CoroEnd) (sym e) refl)
+    intrinsic result must_tail ty Intrinsic.CoroEnd args e = case _ tt (close_case c x result must_tail ty args) e
     intrinsic result must_tail ty Intrinsic.CoroResume args e = wakes _ e (resume_case c x p result must_tail ty args)
     intrinsic result must_tail ty Intrinsic.CoroDestroy args e = wakes _ e (destroy_case c x p result must_tail ty args)
     intrinsic result must_tail ty Intrinsic.CoroDone args e = case _ tt (done_case c x result must_tail ty args) e

@@ -26,3 +26,4 @@ pub mod MarkerCases
 pub mod SaveCases
 pub mod ResumeCases
 pub mod AllocaCases
+pub mod CloseCases

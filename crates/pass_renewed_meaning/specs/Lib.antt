@@ -3,4 +3,4 @@ pub mod Followed
 pub mod Resumes
 pub mod Rules
 pub mod Runs
-pub mod Left
+pub mod Offsets

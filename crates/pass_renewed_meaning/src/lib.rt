@@ -8,7 +8,7 @@
 //! ended and show the same (`AreInStep`). Between them instances and activations are one to one (`AreAlike`).
 //!
 //! What is asked of a run (`KeepsAll`) gives what is asked of each kind of step, so that both runs agree
-//! (`slots_may_be_made_anew`) once the steps that `AreStepsBeside` names are followed too.
+//! (`slots_may_be_made_anew`). Offsets of 64 bits are still asked of each state (`AreOffsetsSmall`).
 //!
 //! Two more steps keep the relation: the begin of an instance (`begins_stay_beside`), and a resume or destroy
 //! (`resumes_stay_beside`).
@@ -25,7 +25,7 @@ ghost use Rattle.ir_paths.specs.Facts.{AreFactsOf};
 ghost use Rattle.pass_kept_proof.specs.Kept.{Keep, continue_keeping};
 ghost use Rattle.pass_renewed_meaning.specs.Begins.{IsBeginOf};
 ghost use Rattle.pass_renewed_meaning.specs.Followed.{AreStepsFollowed, IsOnItsWay, KeepsMeaning};
-ghost use Rattle.pass_renewed_meaning.specs.Left.{AreOffsetsSmall, AreStepsBeside};
+ghost use Rattle.pass_renewed_meaning.specs.Offsets.{AreOffsetsSmall};
 ghost use Rattle.pass_renewed_meaning.specs.Resumes.{IsResuming};
 ghost use Rattle.pass_renewed_meaning.specs.Rules.{KeepsAll, Setting};
 ghost use Rattle.pass_renewed_proof.specs.Beside.{IsBeside};
@@ -43,10 +43,9 @@ ghost use Rattle.run_source.specs.declared.state.State.{State as TheState};
 ghost use Rattle.run_source_tables.specs.Given.{Given};
 
 /// A run in which a resume hands on some values agrees with that in which slots are made anew, by what their steps
-/// cost. That offsets are of 64 bits is still asked of each state, and that steps of the kinds of `AreStepsBeside` are
-/// followed.
+/// cost. That offsets are of 64 bits is still asked of each state.
 pub fn slots_may_be_made_anew()
-    ensures { (c : Setting) (p : Prices) → KeepsAll c → AreOffsetsSmall c → AreStepsBeside c p
+    ensures { (c : Setting) (p : Prices) → KeepsAll c → AreOffsetsSmall c
         → KeepsMeaning c.code c.keep c.flags c.roots c.sizes c.entry c.args c.answers p }
 {}
 
