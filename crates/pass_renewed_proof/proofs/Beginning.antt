@@ -301,6 +301,7 @@ module _ (m : Module) (flags : Flags) (roots : Roots) (l : Ledger) (xs ys : List
     came = h.came;
     begun = λ some. ⊎_elim (λ r. inl r) (λ o. inr (o.0, λ stays. new.over stays (o.1 stays))) (h.begun some);
     begins = h.begins;
+    departs = h.departs;
     left = h.left;
   }
 

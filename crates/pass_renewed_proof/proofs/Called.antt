@@ -103,6 +103,7 @@ module _ (m : Module) (flags : Flags) (roots : Roots) (keeps : (func : ℕ)
     came = λ e. absurd (not_resumed is e);
     begun = λ some. absurd (some refl);
     begins = λ e. absurd (not_resumed is e);
+    departs = λ e. absurd (false≢true e);
     left = λ e. absurd (false≢true e);
   }
     where

@@ -1,5 +1,5 @@
 -- What a step doesn't touch stays beside what it was beside.
-use Rattle.std.proofs.Common.{◌≡◌, ℕ, suc, ◌+◌, inl, inr, Bool, true, false, List, [], ◌∷◌, length, Option, Some, None}
+use Rattle.std.proofs.Common.{◌≡◌, ◌≢◌, ℕ, suc, ◌+◌, inl, inr, Bool, true, false, List, [], ◌∷◌, length, Option, Some, None}
 use Rattle.std.proofs.Common.{refl, sym, ap, ◌∙◌, subst, ⊎_elim, arith}
 use Rattle.std.specs.Prelude.{slice_get, IsTrue}
 use Rattle.std.specs.List.{Contains}
@@ -21,7 +21,7 @@ use Rattle.run_memory.specs.declared.pointer.Value.{Value}
 use Rattle.run_step.specs.Step.{AtInstr, block_of, fetch}
 use Rattle.run_step.specs.Values.{Env, value_in}
 use Rattle.run_step.specs.declared.world.Slot.{Slot}
-use Rattle.pass_renewed_proof.specs.Beside.{AreBelow, AreInstancesBeside, AreOthers, AreSlots, Both, First, GoesOn}
+use Rattle.pass_renewed_proof.specs.Beside.{AreBelow, AreInstancesBeside, AreOthers, AreSlots, AreUnbegun, Both, First, GoesOn}
 use Rattle.pass_renewed_proof.specs.Beside.{IsActivationBeside, IsEarly, IsInstanceBeside, IsKeptSlot, IsOther}
 use Rattle.pass_renewed_proof.specs.Beside.{IsOverOf, IsOwn}
 use Rattle.pass_renewed_proof.specs.Beside.{IsSeated, IsSlotBeside, IsSlotOf, IsStatusBeside, IsTold, MayStand}
@@ -44,6 +44,16 @@ same_alloca at = cc
 
 pub same_instance : {p q : Seat} → Some p ≡ Some q → p.instance ≡ q.instance
 same_instance at = cc
+
+-- two activations that have begun no instance don't have one slot
+pub two_ramps : (m : Module) (l : Ledger) (xs : List Instance) (memory target : List MemoryBlock) (depth other : ℕ) (a
+    z : Activation) (al au b c d : ℕ) → other ≢ depth → IsSlotBeside m l xs memory target depth a al b c
+    → IsSlotBeside m l xs memory target other z au b d → AreUnbegun a.instance a.mode z.mode → ⊥
+two_ramps m l xs memory target depth other a z al au b c d ne o u un = ne (sym (u.depth_is un.second) ∙ same_ramp (sym
+    u.seat ∙ o.seat) ∙ o.depth_is un.first)
+  where
+    same_ramp : {p q : Seat} → Some p ≡ Some q → p.depth ≡ q.depth
+    same_ramp e = cc
 
 -- ---- values where more homes are known
 
@@ -234,6 +244,7 @@ module _ (m : Module) (flags : Flags) (roots : Roots) (l k : Ledger) (xs ys : Li
     came = h.came;
     begun = λ some. ⊎_elim (λ r. inl r) (λ o. inr (o.0, λ stays. on.over stays (o.1 stays))) (h.begun some);
     begins = h.begins;
+    departs = h.departs;
     left = h.left;
   }
 

@@ -236,6 +236,7 @@ module _ (m : Module) (flags : Flags) (roots : Roots) (xs ys : List Instance) (n
     came = s.came;
     begun = s.begun;
     begins = s.begins;
+    departs = s.departs;
     left = s.left;
   }
 

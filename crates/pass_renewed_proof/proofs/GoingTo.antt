@@ -71,14 +71,14 @@ module _ (m : Module) (flags : Flags) (roots : Roots) (l : Ledger) (memory : Lis
   sleeps_alike x (Status.Suspended u env) q h = ap is_suspended h.1
   sleeps_alike x Status.Finished q h = ap is_suspended h
 
-  as_many : (xs : List Instance) (target : List MemoryBlock) (name : Option ℕ) (as' bs : List Activation)
+  pub as_many : (xs : List Instance) (target : List MemoryBlock) (name : Option ℕ) (as' bs : List Activation)
       → AreBelow m flags roots l xs memory target name as' bs → length bs ≡ length as'
   as_many xs target name [] [] h = refl
   as_many xs target name [] (b ∷ bs) h = absurd h
   as_many xs target name (a ∷ as') [] h = absurd h
   as_many xs target name (a ∷ as') (b ∷ bs) h = ap suc (as_many xs target a.result as' bs h.2)
 
-own_is : (s : State) (p : ℕ × Instance) → own_instance s ≡ Some p
+pub own_is : (s : State) (p : ℕ × Instance) → own_instance s ≡ Some p
     → (s.top.instance ≡ Some p.0) × (slice_get s.instances p.0 ≡ Some p.1)
 own_is s p e = on s.top.instance refl e
   where

@@ -74,7 +74,7 @@ module _ (m : Module) (flags : Flags) (roots : Roots) (s t : State) (beside : Is
   same_over : is_over (record x { status = Status.Running }) ≡ is_over x
   same_over = ap (λ t. t || x.freed) (sym (not_finished x.status suspended))
 
-  goes_before : (depth : ℕ) (z : Activation)
+  pub goes_before : (depth : ℕ) (z : Activation)
       → GoesOn (slice_set s.instances n (record x { status = Status.Running })) depth z → GoesOn s.instances depth z
   goes_before depth z (NotLeft e) = NotLeft e
   goes_before depth z (Leaves g) = ⊎_elim
@@ -93,7 +93,7 @@ module _ (m : Module) (flags : Flags) (roots : Roots) (s t : State) (beside : Is
       }))
       (cases_eq g.number n)
 
-  slots_still : (z : Activation) (slot : Slot) → IsSlotOf s.instances z slot
+  pub slots_still : (z : Activation) (slot : Slot) → IsSlotOf s.instances z slot
       → IsSlotOf (slice_set s.instances n (record x { status = Status.Running })) z slot
   slots_still z slot (Early none c) = Early none c
   slots_still z slot (Begun j w own at c) = ⊎_elim
@@ -102,7 +102,7 @@ module _ (m : Module) (flags : Flags) (roots : Roots) (s t : State) (beside : Is
       (λ ne. Begun j w own (set_other s.instances n j x' ne ∙ at) c)
       (cases_eq j n)
 
-  over_still : (z : Activation) → IsOverOf s.instances z
+  pub over_still : (z : Activation) → IsOverOf s.instances z
       → IsOverOf (slice_set s.instances n (record x { status = Status.Running })) z
   over_still z o = ⊎_elim
       (λ same. record {
@@ -122,14 +122,14 @@ module _ (m : Module) (flags : Flags) (roots : Roots) (s t : State) (beside : Is
       })
       (cases_eq o.number n)
 
-  old_instance : IsInstanceBeside m flags roots beside.ledger s.world.memory (0 + n) x y
+  pub old_instance : IsInstanceBeside m flags roots beside.ledger s.world.memory (0 + n) x y
   old_instance =
       let r = instance_beside m flags roots beside.ledger s.world.memory 0 s.instances t.instances n x beside.instances
       there in
       subst (IsInstanceBeside m flags roots beside.ledger s.world.memory (0 + n) x) (same_some r.0 y (sym r.1 ∙
       there')) r.2
 
-  running : IsInstanceBeside m flags roots beside.ledger s.world.memory (0 + n) x y
+  pub running : IsInstanceBeside m flags roots beside.ledger s.world.memory (0 + n) x y
       → IsInstanceBeside m flags roots beside.ledger s.world.memory (0 + n) (record x { status = Status.Running })
       (record y { status = Status.Running })
   running b = record {
@@ -145,7 +145,7 @@ module _ (m : Module) (flags : Flags) (roots : Roots) (s t : State) (beside : Is
     over = λ e. b.over (sym same_over ∙ e);
   }
 
-  pub running_beside : IsBeside m flags roots (with_instance s n (record x { status = Status.Running }))
+  abbrev pub running_beside : IsBeside m flags roots (with_instance s n (record x { status = Status.Running }))
       (with_instance t n
       (record y { status = Status.Running }))
   running_beside = instances_on m flags roots s t beside xs' (slice_set t.instances n (record y {
@@ -233,6 +233,7 @@ module _ (m : Module) (flags : Flags) (roots : Roots) (s t : State) (beside : Is
       came = h.came;
       begun = λ some. ⊎_elim (λ r. inl r) (λ o. absurd (early o.0)) (h.begun some);
       begins = h.begins;
+      departs = λ left. absurd (false≢true left);
       left = λ left. absurd (false≢true left);
     };
     below = beside.below;

@@ -175,6 +175,7 @@ module _ (m : Module) (flags : Flags) (roots : Roots) (s t : State) (beside : Is
         },
       )) (h.begun some);
       begins = h.begins;
+      departs = h.departs;
       left = h.left;
     };
     below = beside.below;
@@ -224,6 +225,7 @@ module _ (m : Module) (flags : Flags) (roots : Roots) (s t : State) (beside : Is
         },
       )) (h.begun some);
       begins = h.begins;
+      departs = h.departs;
       left = h.left;
     };
     below = beside.below;

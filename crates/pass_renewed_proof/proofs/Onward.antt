@@ -274,6 +274,7 @@ module _ (m : Module) (l k : Ledger) (xs : List Instance) (memory memory' target
         },
       )) (begun some);
       begins = h.begins;
+      departs = h.departs;
       left = λ left. let at = h.left left in record {
         suspend = at.suspend;
         is_call = at.is_call;

@@ -106,7 +106,7 @@ module _ (m : Module) (flags : Flags) (roots : Roots) (l : Ledger) (memory targe
         ∙ ap (λ n. (x.block == b) && (n == 0)) (ap (λ (z : Instance). z.start) h.is)
 
 -- what is found passes the test
-passes : (test : Instance → Bool) (k : ℕ) (xs : List Instance) (j : ℕ) → last_from test k xs ≡ Some j
+pub passes : (test : Instance → Bool) (k : ℕ) (xs : List Instance) (j : ℕ) → last_from test k xs ≡ Some j
     → (n : ℕ) × (x : Instance) × (slice_get xs n ≡ Some x) × (test x ≡ true)
 passes test k [] j e = absurd (cc)
 passes test k (x ∷ xs) j e = on (λ i h. passes test (suc k) xs i h) (last_from test (suc k) xs) refl e

@@ -115,7 +115,7 @@ module _ (m : Module) (flags : Flags) (roots : Roots) (s t : State) (beside : Is
       (others : AreOthers k (function_at m s.top.func) (flags s.top.func) (roots s.top.func) vs ws)
       (same : (slot : ℕ) → IsTrue (flags s.top.func slot)
       → (value_in vs slot ≡ value_in s.top.values slot) × (value_in ws slot ≡ value_in beside.top.values slot)) where
-    top_passed : IsActivationBeside m flags roots k s.instances w.memory v.memory (length s.below) (record s.top {
+    pub top_passed : IsActivationBeside m flags roots k s.instances w.memory v.memory (length s.below) (record s.top {
       at = s.top.at + 1;
       values = vs;
     }) (record t.top { at = t.top.at + 1; values = ws })
@@ -142,7 +142,7 @@ module _ (m : Module) (flags : Flags) (roots : Roots) (s t : State) (beside : Is
         }) beside.top.is
             ∙ sym (ap (λ (z : Activation). record z { at = z.at + 1; values = ws }) beside.top.is)
 
-    pub passed_beside : AreOver k.homes k.hides w v → AreEntered m k w.memory v.memory
+    abbrev pub passed_beside : AreOver k.homes k.hides w v → AreEntered m k w.memory v.memory
         → IsBeside m flags roots (settled s (record { world = w; values = vs })) (settled t (record {
           world = v;
           values = ws;

@@ -86,7 +86,7 @@ module _ (m : Module) (flags : Flags) (roots : Roots) (keeps : (func : ℕ)
   l = beside.ledger
 
   -- a promise isn't made anew
-  promise_off : (func a : ℕ) → promise_of (function_at m func) ≡ Some a → flags func a ≡ false
+  pub promise_off : (func a : ℕ) → promise_of (function_at m func) ≡ Some a → flags func a ≡ false
   promise_off func a e = on (flags func a) refl
     where
       named : has_name (option_to_list (promise_of (function_at m func))) a ≡ true
@@ -96,7 +96,7 @@ module _ (m : Module) (flags : Flags) (roots : Roots) (keeps : (func : ℕ)
       on true f = absurd (((keeps func).is_local a f).1 (Promise named))
       on false f = f
 
-  instance_promise : (n : ℕ) (x y : Instance) → IsInstanceBeside m flags roots beside.ledger s.world.memory n x y
+  pub instance_promise : (n : ℕ) (x y : Instance) → IsInstanceBeside m flags roots beside.ledger s.world.memory n x y
       → BothHave beside.ledger (promise_block g x) (promise_block h y)
   instance_promise n x y b = on (promise_of (function_at m x.coroutine)) refl
     where
@@ -119,7 +119,7 @@ module _ (m : Module) (flags : Flags) (roots : Roots) (keeps : (func : ℕ)
       on o e = subst (λ (z : Option ℕ × Option ℕ). BothHave l z.0 z.1) (λ j. (sym first j, sym second j)) (both
           (promise_of (function_at m x.coroutine)) refl)
 
-  over_same : (n : ℕ) (x y : Instance) → IsInstanceBeside m flags roots beside.ledger s.world.memory n x y → is_over y ≡
+  pub over_same : (n : ℕ) (x y : Instance) → IsInstanceBeside m flags roots beside.ledger s.world.memory n x y → is_over y ≡
       is_over x
   over_same n x y b = ap is_over b.is ∙ ap (λ u. u || x.freed) (same x.status b.status b.statuses)
     where

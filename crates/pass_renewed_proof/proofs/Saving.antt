@@ -41,7 +41,7 @@ use Rattle.pass_renewed_proof.proofs.Ordinary.{own_address}
 use Rattle.pass_renewed_proof.proofs.Stands.{end_at_first}
 use Rattle.pass_renewed_proof.proofs.Starting.{first_or_resumed}
 use Rattle.pass_renewed_proof.proofs.Way.{alive_more, barred_more, resumed_more}
-use Rattle.pass_renewed_proof.specs.Beside.{AreInstancesBeside, AreKeptBeside, AreOthers, AreOutdone, Begun, Early}
+use Rattle.pass_renewed_proof.specs.Beside.{AreInstancesBeside, AreKeptBeside, AreOthers, AreOutdone, AreUnbegun, Begun, Early}
 use Rattle.pass_renewed_proof.specs.Beside.{GoesOn}
 use Rattle.pass_renewed_proof.specs.Beside.{IsActivationBeside, IsBeside, IsInstanceBeside}
 use Rattle.pass_renewed_proof.specs.Beside.{IsKeptSlot, IsOverOf, IsOwn, IsSlotBeside, IsSlotOf, IsTold, Leaves}
@@ -252,9 +252,10 @@ module _ (m : Module) (flags : Flags) (roots : Roots) (keeps : (func : ℕ)
       saved_is e = cc
 
   over_still : (depth : ℕ) (z : Activation) → (z.instance ≡ s.top.instance → GoesOn s.instances depth z
-      → s.top.has_left ≡ false → ⊥) → z.has_left ≡ false → IsOverOf s.instances z → IsOverOf xs' z
+      → s.top.has_left ≡ false → AreUnbegun s.top.instance s.top.mode z.mode) → z.has_left ≡ false → IsOverOf s.instances z → IsOverOf xs' z
   over_still depth z alone stays o = ⊎_elim
-      (λ same. absurd (alone (o.own ∙ ap Some same ∙ sym own) (NotLeft stays) is.stays))
+      (λ same. let un = alone (o.own ∙ ap Some same ∙ sym own) (NotLeft stays) is.stays in let q : None ≡ Some n = sym
+      un.none ∙ own in absurd (cc))
       (λ ne. record {
         number = o.number;
         own = o.own;
@@ -374,6 +375,7 @@ module _ (m : Module) (flags : Flags) (roots : Roots) (keeps : (func : ℕ)
     begun = λ some. ⊎_elim (λ r. inl r) (λ o. inr (o, λ stays. absurd (false≢true (sym stays)))) (is.onward
         runs_here);
     begins = h.begins;
+    departs = λ left none. let q : None ≡ Some n = sym none ∙ own in absurd (cc);
     left = λ left. record { suspend = u; is_call = suspend_call; by = is.left_by };
   }
 

@@ -41,7 +41,7 @@ use Rattle.pass_renewed_proof.proofs.Ahead.{next_edge, used_at}
 use Rattle.pass_renewed_proof.proofs.Anew.{home_past}
 use Rattle.pass_renewed_proof.proofs.Carried.{same_alloca, same_func, same_instance}
 use Rattle.pass_renewed_proof.proofs.Carried.{AreBelowCarried, IsCarried, IsInstanceCarried, IsSlotKept, below_kept}
-use Rattle.pass_renewed_proof.proofs.Carried.{instances_kept, kept_slot_on, made_no_slot, others_on, slot_kept}
+use Rattle.pass_renewed_proof.proofs.Carried.{instances_kept, kept_slot_on, made_no_slot, others_on, slot_kept, two_ramps}
 use Rattle.pass_renewed_proof.proofs.Chosen.{are_places}
 use Rattle.pass_renewed_proof.proofs.Exposing.{each_operand, spread_escapes}
 use Rattle.pass_renewed_proof.proofs.Onward.{IsEdgeOf, activation_there, calm, left_next, no_end_here}
@@ -57,7 +57,7 @@ use Rattle.pass_renewed_proof.proofs.Used.{gone_before, unused_kept, used_block,
 use Rattle.pass_renewed_proof.proofs.Using.{IsGoodPlace, all_places, all_settled, all_theirs, apart, distances}
 use Rattle.pass_renewed_proof.proofs.Using.{globals_stand, good_places, reads}
 use Rattle.pass_renewed_proof.specs.Ahead.{IsNoStart}
-use Rattle.pass_renewed_proof.specs.Beside.{AreOutdone, AreSlots, Both, First, GoesOn, HasLeftSuspended}
+use Rattle.pass_renewed_proof.specs.Beside.{AreOutdone, AreSlots, AreUnbegun, Both, First, GoesOn, HasLeftSuspended}
 use Rattle.pass_renewed_proof.specs.Beside.{IsActivationBeside, IsBeside, IsInstanceBeside, IsKeptSlot, IsSlotBeside}
 use Rattle.pass_renewed_proof.specs.Beside.{IsOther, NoSlots, Second, place_in}
 use Rattle.pass_renewed_proof.specs.Chosen.{IsPlaceOf, places_at}
@@ -508,7 +508,7 @@ module _ (m : Module) (flags : Flags) (roots : Roots) (keeps : (func : ℕ)
         less = omega arith
 
         slot_of : (z : Activation) (depth : ℕ) → depth < length s.below → (z.instance ≡ s.top.instance
-            → GoesOn s.instances depth z → s.top.has_left ≡ false → ⊥) → (al b d : ℕ) → IsTrue (flags z.func al)
+            → GoesOn s.instances depth z → s.top.has_left ≡ false → AreUnbegun s.top.instance s.top.mode z.mode) → (al b d : ℕ) → IsTrue (flags z.func al)
             → IsSlotBeside m l s.instances s.world.memory t.world.memory depth z al b d
             → IsSlotBeside m k s.instances v.world.memory g.other.world.memory depth z al b d
         slot_of z depth lt alone al b d flagged old = ⊎_elim
@@ -534,7 +534,9 @@ module _ (m : Module) (flags : Flags) (roots : Roots) (keeps : (func : ℕ)
                 p.target (local_of p known) (use_of p known) ours carried
                 (used_block m l s.world.memory v.world.memory t.world.memory g.other.world.memory ps e places settle
                 aparts theirs p listed) (lives p.block) (loud_after p.block)
-                depth z al d (λ is. less_not depth (length s.below) lt is) (alone (same_instance seats)) (same_func
+                depth z al d (λ is. less_not depth (length s.below) lt is) (λ goes stays. two_ramps m l s.instances
+                s.world.memory t.world.memory (length s.below) depth s.top z known.alloca al p.block p.target d (λ is.
+                less_not depth (length s.below) lt is) ours old (alone (same_instance seats) goes stays)) (same_func
                 seats) (same_alloca seats) old
               where
                 less_not : (a b : ℕ) → a < b → a ≢ b

@@ -404,6 +404,7 @@ module _ (m : Module) (keep : Keep) (flags : Flags) (roots : Roots) (keeps : Kee
     came = λ e. absurd (cc);
     begun = λ ne. absurd (ne refl);
     begins = λ e. absurd (cc);
+    departs = λ e. absurd (false≢true e);
     left = λ e. absurd (false≢true e);
   }
 

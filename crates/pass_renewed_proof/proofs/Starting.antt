@@ -36,7 +36,7 @@ use Rattle.run_step.specs.Values.{Env, pointer_to, value_in}
 use Rattle.pass_renewed_proof.proofs.Ahead.{used_on}
 use Rattle.pass_renewed_proof.proofs.Carried.{same_alloca, same_func, same_instance}
 use Rattle.pass_renewed_proof.proofs.Carried.{AreBelowCarried, IsInstanceCarried, below_kept, instances_kept}
-use Rattle.pass_renewed_proof.proofs.Carried.{kept_slot_on, others_on, same_carried, same_kept, slot_kept}
+use Rattle.pass_renewed_proof.proofs.Carried.{kept_slot_on, others_on, same_carried, same_kept, slot_kept, two_ramps}
 use Rattle.pass_renewed_proof.proofs.History.{no_start}
 use Rattle.pass_renewed_proof.proofs.Left.{instr_there, left_closed}
 use Rattle.pass_renewed_proof.proofs.Markers.{marked_value, marks_alone}
@@ -48,7 +48,7 @@ use Rattle.pass_renewed_proof.proofs.Stands.{end_at_first}
 use Rattle.pass_renewed_proof.proofs.Started.{AreStarted, Freshly, HasStarted, Seenly, are_started}
 use Rattle.pass_renewed_proof.proofs.Way.{away_unstarted, barred_unstarted}
 use Rattle.pass_renewed_proof.specs.Ahead.{HasAwayUse, IsNoStart, IsUsedBefore}
-use Rattle.pass_renewed_proof.specs.Beside.{AreOutdone, GoesOn, HasLeftSuspended, IsActivationBeside, IsBeside, IsFirst}
+use Rattle.pass_renewed_proof.specs.Beside.{AreOutdone, AreUnbegun, GoesOn, HasLeftSuspended, IsActivationBeside, IsBeside, IsFirst}
 use Rattle.pass_renewed_proof.specs.Beside.{IsInstanceBeside, IsKeptSlot, IsSlotBeside, IsTold, MayStand, NotLeft}
 use Rattle.pass_renewed_proof.specs.Beside.{place_in}
 use Rattle.pass_renewed_proof.specs.Ledger.{IsFresh, Ledger, Seat}
@@ -319,7 +319,7 @@ module _ (m : Module) (flags : Flags) (roots : Roots) (keeps : (func : ℕ)
     -- ---- others
 
     other_started : (depth : ℕ) (z : Activation) (al d : ℕ) → depth ≢ length s.below
-        → (z.instance ≡ s.top.instance → GoesOn s.instances depth z → s.top.has_left ≡ false → ⊥)
+        → (z.instance ≡ s.top.instance → GoesOn s.instances depth z → s.top.has_left ≡ false → AreUnbegun s.top.instance s.top.mode z.mode)
         → IsSlotBeside m beside.ledger s.instances s.world.memory t.world.memory depth z al b d
         → IsSlotBeside m (record beside.ledger { hides = begun.hides }) s.instances (start s.world.memory b)
         t.world.memory depth z al b d
@@ -335,10 +335,18 @@ module _ (m : Module) (flags : Flags) (roots : Roots) (keeps : (func : ℕ)
           tenant = o.tenant;
           ready = begun.carried.ready b d depth _ o.seat o.owner o.ready;
           first = λ first goes. may_other begun.has (o.first first goes);
-          resumed = λ resumed goes. absurd (alone (same_instance seats) goes stays);
-          told_first = λ first goes. absurd (alone (same_instance seats) goes stays);
-          told = λ resumed goes. absurd (alone (same_instance seats) goes stays);
-          alive = λ goes live. absurd (alone (same_instance seats) goes stays);
+          resumed = λ resumed goes. absurd (two_ramps m beside.ledger s.instances
+              s.world.memory t.world.memory (length s.below) depth s.top z slot al b c d ne old o (alone (same_instance
+              seats) goes stays));
+          told_first = λ first goes. absurd (two_ramps m beside.ledger s.instances
+              s.world.memory t.world.memory (length s.below) depth s.top z slot al b c d ne old o (alone (same_instance
+              seats) goes stays));
+          told = λ resumed goes. absurd (two_ramps m beside.ledger s.instances
+              s.world.memory t.world.memory (length s.below) depth s.top z slot al b c d ne old o (alone (same_instance
+              seats) goes stays));
+          alive = λ goes live. absurd (two_ramps m beside.ledger s.instances
+              s.world.memory t.world.memory (length s.below) depth s.top z slot al b c d ne old o (alone (same_instance
+              seats) goes stays));
           gone = λ left live seen. gone_other begun.has seen;
           away = λ first left escaped away live. absurd (never first (subst (λ g. IsTrue (is_escaped (function_at m g)
               slot)) (same_func seats) (subst (λ n. IsTrue (is_escaped (function_at m z.func) n)) (same_alloca seats)

@@ -34,7 +34,7 @@ use Rattle.run_source.specs.declared.state.State.{State}
 use Rattle.run_step.specs.Step.{Context, Fetched, Work}
 use Rattle.run_step.specs.Values.{arg_values, literal, operand_value, pointer_to, value_in}
 use Rattle.pass_renewed_proof.proofs.Carried.{AreBelowCarried, IsCarried, IsInstanceCarried, IsSlotKept}
-use Rattle.pass_renewed_proof.proofs.Carried.{kept_slot_on, same_alloca, same_func, same_instance, slot_kept}
+use Rattle.pass_renewed_proof.proofs.Carried.{kept_slot_on, same_alloca, same_func, same_instance, slot_kept, two_ramps}
 use Rattle.pass_renewed_proof.proofs.Chosen.{are_places, placed}
 use Rattle.pass_renewed_proof.proofs.Ordinary.{one_slot, own_address, roots_of}
 use Rattle.pass_renewed_proof.proofs.Others.{kept_used, loud_escaped, other_used, used_gone}
@@ -45,7 +45,7 @@ use Rattle.pass_renewed_proof.proofs.Used.{each_listed, faded_loud, is_among, un
 use Rattle.pass_renewed_proof.proofs.Used.{used_extends, used_home}
 use Rattle.pass_renewed_proof.proofs.Using.{IsGoodPlace, all_places, all_settled, all_theirs, apart, globals_stand}
 use Rattle.pass_renewed_proof.proofs.Using.{good_places}
-use Rattle.pass_renewed_proof.specs.Beside.{AreOutdone, GoesOn, HasLeftSuspended, IsActivationBeside, IsBeside}
+use Rattle.pass_renewed_proof.specs.Beside.{AreOutdone, AreUnbegun, GoesOn, HasLeftSuspended, IsActivationBeside, IsBeside}
 use Rattle.pass_renewed_proof.specs.Beside.{IsInstanceBeside, IsKeptSlot, IsSlotBeside}
 use Rattle.pass_renewed_proof.specs.Chosen.{IsPlaceOf, places_at}
 use Rattle.pass_renewed_proof.specs.Ledger.{AreEntered, AreTheirs, IsHomeOf, Ledger, LivesIn, is_quiet}
@@ -291,7 +291,7 @@ module _ (m : Module) (flags : Flags) (roots : Roots) (keeps : (func : ℕ)
       aparts theirs p listed
 
   other_touched : (z : Activation) (depth : ℕ) → depth ≢ length s.below → (z.instance ≡ s.top.instance
-      → GoesOn s.instances depth z → s.top.has_left ≡ false → ⊥) → (al b d : ℕ) → IsTrue (flags z.func al)
+      → GoesOn s.instances depth z → s.top.has_left ≡ false → AreUnbegun s.top.instance s.top.mode z.mode) → (al b d : ℕ) → IsTrue (flags z.func al)
       → IsSlotBeside m l s.instances s.world.memory t.world.memory depth z al b d
       → IsSlotBeside m touched s.instances s.world.memory t.world.memory depth z al b d
   other_touched z depth ne alone al b d flagged old = ⊎_elim
@@ -314,7 +314,9 @@ module _ (m : Module) (flags : Flags) (roots : Roots) (keeps : (func : ℕ)
           other_used m flags roots l touched s.instances s.world.memory s.world.memory t.world.memory t.world.memory
           (length s.below) s.top t.top h spot (touching.is_spot i.alloca (use_of p i)) i.alloca p.block p.target
           (local_of p i) (use_of p i) ours touched_carried (block_there p listed) (λ live. live) (loud_after p.block)
-          depth z al d ne (alone (same_instance seats)) (same_func seats) (same_alloca seats) old
+          depth z al d ne (λ goes stays. two_ramps m l s.instances s.world.memory t.world.memory (length s.below) depth
+          s.top z i.alloca al p.block p.target d ne ours old (alone (same_instance seats) goes stays)) (same_func seats)
+          (same_alloca seats) old
 
   pub below_touched : (below : List Activation) → length below ≤ length s.below
       → AreOutdone s.instances s.top below

@@ -116,6 +116,7 @@ module _ (m : Module) (flags : Flags) (roots : Roots) (keeps : (func : ℕ)
       },
     )) (h.begun some);
     begins = h.begins;
+    departs = h.departs;
     left = h.left;
   }
     where

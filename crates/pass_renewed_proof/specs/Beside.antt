@@ -210,6 +210,7 @@ pub record IsActivationBeside (m : Module) (flags : Flags) (roots : Roots) (l : 
   pub begun : a.instance ≢ None → RunsOut (function_at m a.func) (place_in a) ⊎ (IsAfterEnd (function_at m a.func)
       (place_in a) × (a.has_left ≡ false → IsOverOf xs a))
   pub begins : a.mode ≡ Mode.Resumed → a.instance ≢ None
+  pub departs : a.has_left ≡ true → a.instance ≢ None
   pub left : a.has_left ≡ true → IsLeftAt (function_at m a.func) (place_in a)
 
 -- the name to which a value is given back is no address in such a slot, nor that of an alloca
@@ -292,11 +293,18 @@ pub record IsBeside (m : Module) (flags : Flags) (roots : Roots) (s t : State) :
 
 -- ---- what the topmost activation knows of others
 
--- no activation below may go on in its instance where it hasn't left
+-- neither has begun an instance, and both were called
+pub record AreUnbegun (instance : Option ℕ) (mode other : Mode) : Type 0 where
+  pub none : instance ≡ None
+  pub first : mode ≡ Mode.Resumed → ⊥
+  pub second : other ≡ Mode.Resumed → ⊥
+
+-- where it hasn't left an activation below may go on in its instance only if neither has begun one
 abbrev pub AreOutdone : List Instance → Activation → List Activation → Type 0
 AreOutdone xs a [] = Unit {0}
 AreOutdone xs a (z ∷ below) =
-    (z.instance ≡ a.instance → GoesOn xs (length below) z → a.has_left ≡ false → ⊥) × AreOutdone xs a below
+    (z.instance ≡ a.instance → GoesOn xs (length below) z → a.has_left ≡ false → AreUnbegun a.instance a.mode z.mode)
+    × AreOutdone xs a below
 
 -- where its instance is Suspended it has left
 abbrev pub HasLeftSuspended : List Instance → Activation → Type 0

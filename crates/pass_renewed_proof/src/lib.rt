@@ -284,7 +284,8 @@ pub fn states_begin_beside()
 {}
 
 /// An ordinary instruction that is done in the first run is done in the second, and leads from states beside each
-/// other to such states. No activation below may go on in the topmost one's instance where that one hasn't left.
+/// other to such states. Where the topmost activation hasn't left, none below may go on in its instance, but where
+/// neither has begun one.
 pub fn ordinary_steps_stay_beside()
     ensures { (m : Module) (flags : Flags) (roots : Roots)
         → ((func : ℕ) → KeepsSlots m (function_at m func) (flags func) (roots func)) → (answers : List ℤ)
@@ -364,8 +365,8 @@ pub fn ends_of_slots_stay_beside()
         → IsBeside m flags roots (settled s v) (next t) }
 {}
 
-/// Where such a slot is started, too. No activation below may go on in the topmost one's instance where that one hasn't
-/// left.
+/// Where such a slot is started, too. Where the topmost activation hasn't left, none below may go on in its instance,
+/// but where neither has begun one.
 pub fn starts_of_slots_stay_beside()
     ensures { (m : Module) (flags : Flags) (roots : Roots)
         → ((func : ℕ) → KeepsSlots m (function_at m func) (flags func) (roots func)) → (answers : List ℤ)
@@ -609,8 +610,8 @@ pub fn renewed_slots_are_ramp_slots()
 // ---- control flow
 
 /// A branch goes to one label in both runs. Where it leaves no window it leads to states beside each other, with the
-/// values of the phis that it comes to. The switch of a suspend goes on to the end. No activation below may go on in
-/// the topmost one's instance where that one hasn't left.
+/// values of the phis that it comes to. The switch of a suspend goes on to the end. Where the topmost activation hasn't
+/// left, none below may go on in its instance, but where neither has begun one.
 pub fn branches_stay_beside()
     ensures label { (m : Module) (flags : Flags) (roots : Roots) (s t : TheState) → IsBeside m flags roots s t
         → (answers : List ℤ) (label : ℕ) (term : TheTerminator)
@@ -642,8 +643,8 @@ pub fn leaving_branches_stay_beside()
         (enter_block h (with_left (with_status t n y TheStatus.Running) false) label) }
 {}
 
-/// So a step that goes to a label does so in both runs. No activation below may go on in the topmost one's instance
-/// where that one hasn't left, before the step and behind it.
+/// So a step that goes to a label does so in both runs. Before the step and behind it: where the topmost activation
+/// hasn't left, none below may go on in its instance, but where neither has begun one.
 pub fn labels_are_reached_beside()
     ensures { (flags : Flags) (roots : Roots) (g h : Given) → h.code ≡ g.code
         → ((func : ℕ) → KeepsSlots g.code (function_at g.code func) (flags func) (roots func)) → (s t : TheState)

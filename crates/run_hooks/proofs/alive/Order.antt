@@ -74,7 +74,7 @@ reached_in g xs (a ∷ below) h = (own_function g xs a h.0, reached_in g xs belo
 -- ---- tokens
 
 -- a suspend of a save has a token
-token_there : (f : Function) (k s : Point) → suspend_of f k ≡ Some s → (i : Instr)
+pub token_there : (f : Function) (k s : Point) → suspend_of f k ≡ Some s → (i : Instr)
     → fetch f s.block s.at ≡ AtInstr i → call_operand i 0 ≡ Operand.None → ⊥
 token_there f k s e i stands none = on (option_and_then call_result (instr_at f k)) e
   where

@@ -1,0 +1,16 @@
+-- What is still asked of the states of the first run: offsets of 64 bits.
+use Rattle.std.specs.Prelude.{ℕ}
+use Rattle.pass_kept_proof.specs.Machines.{kept_machine}
+use Rattle.run_agreement.specs.Machines.{state_at}
+use Rattle.run_source.specs.declared.state.State.{State}
+use Rattle.run_step.specs.Values.{value_in}
+use Rattle.pass_renewed_meaning.specs.Rules.{Setting}
+use Rattle.pass_renewed_proof.specs.Small.{HasSmallOffset}
+
+-- a state of the first run
+abbrev pub first_at : Setting → ℕ → State
+first_at c n = state_at (kept_machine c.code c.keep c.sizes c.entry c.args c.answers) n
+
+-- the values of the topmost activation have such offsets
+abbrev pub AreOffsetsSmall : Setting → Type 0
+AreOffsetsSmall c = (n v : ℕ) → HasSmallOffset (value_in (first_at c n).top.values v)

@@ -1,0 +1,33 @@
+-- What is known of each state of the first run: the invariants that steps ask for.
+use Rattle.std.specs.Prelude.{ℕ}
+use Rattle.pass_kept_proof.specs.Kept.{continue_keeping}
+use Rattle.run_hooks.specs.Away.{IsPlacedState}
+use Rattle.run_hooks.specs.Left.{IsLastState}
+use Rattle.run_hooks.specs.Meanings.{kept_hooks}
+use Rattle.run_hooks.specs.Reached.{IsReachedState}
+use Rattle.run_source.specs.Source.{given, step_by}
+use Rattle.run_source.specs.declared.state.State.{State}
+use Rattle.run_source_tables.specs.Given.{Given}
+use Rattle.run_states.specs.sound_states.Sound.{IsSound}
+use Rattle.run_types.specs.States.{IsFittingState}
+use Rattle.pass_renewed_meaning.specs.Rules.{Setting}
+use Rattle.pass_renewed_proof.specs.Renewed.{RenewedGiven, renewed_given}
+
+-- what both runs are given
+abbrev pub first_given : Setting → Given
+first_given c = given c.code c.sizes c.answers
+
+abbrev pub second_given : Setting → RenewedGiven
+second_given c = renewed_given c.code c.keep c.flags c.roots c.sizes c.answers
+
+abbrev pub first_step : Setting → State → State
+first_step c s = step_by (first_given c) (continue_keeping (first_given c) c.keep) s
+
+pub record IsOfRun (c : Setting) (s : State) : Type 0 where
+  pub reached : IsReachedState (first_given c) s
+  pub last : IsLastState s
+  pub placed : IsPlacedState (kept_hooks (first_given c) c.keep) s
+  pub fitting : IsFittingState c.code s
+  pub sound : IsSound c.code s
+  -- and behind the next step
+  pub last_later : IsLastState (first_step c s)
