@@ -27,3 +27,7 @@ pub mod SaveCases
 pub mod ResumeCases
 pub mod AllocaCases
 pub mod CloseCases
+pub mod OffsetBytes
+pub mod OffsetValues
+pub mod OffsetSteps
+pub mod OffsetRuns
