@@ -11,6 +11,7 @@ pub mod Resumed
 pub mod Between
 pub mod Resuming
 pub mod Tables
+pub mod Places
 pub mod Points
 pub mod OneStep
 pub mod Addresses
