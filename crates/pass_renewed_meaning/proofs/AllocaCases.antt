@@ -256,7 +256,7 @@ module _ (c : Setting) (x : Here c) (name : ℕ) (ty : Ty) (align : ℕ) (here :
         let away = x.beside.top.left left in
         let made = rules.made name flagged in
         let entry : x.s.top.block ≡ 0 = (made.alone x.s.top.block x.s.top.at (ap given_at here)).0 in
-        let stop : HasStop c.code f away.suspend = (x.all.places.each x.s.top.func).stops away.suspend away.is_call in
+        let stop : HasStop c.code f away.suspend = (x.all.places x.s.top.func).stops away.suspend away.is_call in
         entry_before_end c.code f (c.flags x.s.top.func) (c.roots x.s.top.func) rules away.suspend away.is_call stop.arg
         stop.default stop.cases stop.stands (place_in x.s.top) entry after
 

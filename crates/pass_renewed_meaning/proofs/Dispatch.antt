@@ -24,6 +24,7 @@ use Rattle.pass_renewed_meaning.proofs.Coroutines.{done_case, frame_case, free_c
 use Rattle.pass_renewed_meaning.proofs.Coroutines.{size32_case, size64_case, sized_case}
 use Rattle.pass_renewed_meaning.proofs.Here.{Here, IsCase, first_act, first_action, other}
 use Rattle.pass_renewed_meaning.proofs.MarkerCases.{end_case, start_case}
+use Rattle.pass_renewed_meaning.proofs.OffsetRuns.{offsets_small}
 use Rattle.pass_renewed_meaning.proofs.OneStep.{IsNoResumer, IsStep, one_step, step_is}
 use Rattle.pass_renewed_meaning.proofs.OrdinaryCases.{binary_case, cast_case, compare_case, copy_case, function_case}
 use Rattle.pass_renewed_meaning.proofs.OrdinaryCases.{gep_case, load_case, malloc_case, new_case, select_case, store_case}
@@ -33,14 +34,14 @@ use Rattle.pass_renewed_meaning.proofs.SaveCases.{save_case, suspend_case}
 use Rattle.pass_renewed_meaning.proofs.Terminators.{branch_case, jump_case, nowhere_case, ret_case, switch_case}
 use Rattle.pass_renewed_meaning.proofs.Terminators.{unreachable_case}
 use Rattle.pass_renewed_meaning.specs.Followed.{AreStepsFollowed, IsFollowed, KeepsMeaning}
-use Rattle.pass_renewed_meaning.specs.Offsets.{AreOffsetsSmall, first_at}
+use Rattle.pass_renewed_meaning.specs.Offsets.{first_at}
 use Rattle.pass_renewed_meaning.specs.Rules.{KeepsAll, Setting}
 use Rattle.pass_renewed_meaning.specs.Runs.{first_given, first_step, second_given}
 use Rattle.pass_renewed_proof.proofs.Start.{first_beside}
 use Rattle.pass_renewed_proof.specs.Beside.{IsBeside}
 use Rattle.pass_renewed_proof.specs.Prices.{Prices}
 
-module _ (c : Setting) (p : Prices) (all : KeepsAll c) (small : AreOffsetsSmall c) where
+module _ (c : Setting) (p : Prices) (all : KeepsAll c) where
   module _ (n : ℕ) (t : State) (beside : IsBeside c.code c.flags c.roots (first_at c n) t) (runs : (first_at c n).outcome ≡
       Outcome.Running) (fine : IsFine (first_step c (first_at c n)).outcome) where
     abbrev s : State
@@ -134,7 +135,7 @@ module _ (c : Setting) (p : Prices) (all : KeepsAll c) (small : AreOffsetsSmall 
     by (AtTerm (Terminator.Ret arg)) e = case _ tt (ret_case c x arg) e
     by (AtTerm Terminator.Unreachable) e = case _ tt (unreachable_case c x) e
     by (AtInstr (Instr.Binary name op how ty a b)) e = case _ tt (binary_case c x name op how ty a b) e
-    by (AtInstr (Instr.Icmp name pred ty a b)) e = case _ tt (compare_case c x (small n) name pred ty a b) e
+    by (AtInstr (Instr.Icmp name pred ty a b)) e = case _ tt (compare_case c x (offsets_small c n) name pred ty a b) e
     by (AtInstr (Instr.Select name z a b)) e = case _ tt (select_case c x name z a b) e
     by (AtInstr (Instr.Cast name op nneg arg to)) e = case _ tt (cast_case c x name op nneg arg to) e
     by (AtInstr (Instr.Alloca name ty align)) e = case _ tt (alloca_case c x name ty align) e

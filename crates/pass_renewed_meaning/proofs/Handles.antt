@@ -37,7 +37,7 @@ use Rattle.pass_renewed_proof.specs.SlotEnvs.{IsAddress}
 
 -- ---- lists
 
-find_there : {A : Type 0} (t : A → Bool) (xs : List A) (x : A) → find t xs ≡ Some x
+pub find_there : {A : Type 0} (t : A → Bool) (xs : List A) (x : A) → find t xs ≡ Some x
     → (n : ℕ) × (slice_get xs n ≡ Some x) × (t x ≡ true)
 find_there t [] x e = absurd (cc)
 find_there t (y ∷ xs) x e = on (t y) refl e (λ k. find_there t xs x k)

@@ -11,6 +11,7 @@ pub mod Resumed
 pub mod Between
 pub mod Resuming
 pub mod Tables
+pub mod Places
 pub mod Points
 pub mod OneStep
 pub mod Addresses
@@ -27,3 +28,7 @@ pub mod SaveCases
 pub mod ResumeCases
 pub mod AllocaCases
 pub mod CloseCases
+pub mod OffsetBytes
+pub mod OffsetValues
+pub mod OffsetSteps
+pub mod OffsetRuns

@@ -134,7 +134,7 @@ small_address m None (Some g) d = zero_small
 small_address m None None (Some d) = tt
 small_address m None None None = tt
 
-small_operand : (m : Module) (env : Env) → ((v : ℕ) → HasSmallOffset (value_in env v)) → (ty : Ty) (o : Operand)
+pub small_operand : (m : Module) (env : Env) → ((v : ℕ) → HasSmallOffset (value_in env v)) → (ty : Ty) (o : Operand)
     → HasSmallOffset (operand_value m env ty o)
 small_operand m env small ty (Operand.Local v) = small v
 small_operand m env small ty (Operand.Global n) = small_address m (function_named m n) (global_named m n)

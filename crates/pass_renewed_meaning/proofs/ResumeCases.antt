@@ -118,7 +118,7 @@ module _ (c : Setting) (x : Here c) (p : Prices) (i : Instr) (giving : IsGiving 
         y.instance.coroutine) label)) ≡ []
 
   stop : HasStop c.code (function_at c.code y.instance.coroutine) y.suspend
-  stop = (x.all.places.each y.instance.coroutine).stops y.suspend both.kept.is_call
+  stop = (x.all.places y.instance.coroutine).stops y.suspend both.kept.is_call
 
   itself : (q : Point) → same_point q q ≡ true
   itself q = by q.block q.at

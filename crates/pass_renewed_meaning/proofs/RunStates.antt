@@ -35,6 +35,7 @@ use Rattle.run_types.proofs.Meanings.{kept_keeps_fitting}
 use Rattle.run_types.proofs.Runs.{states_fit}
 use Rattle.run_types.specs.States.{IsFittingState}
 use Rattle.std.specs.Prelude.{slice_get}
+use Rattle.pass_renewed_meaning.proofs.Places.{has_switches, place_rules}
 use Rattle.pass_renewed_meaning.specs.Rules.{KeepsAll, Setting}
 use Rattle.pass_renewed_meaning.specs.Runs.{IsOfRun, first_given, first_step}
 use Rattle.pass_renewed_proof.proofs.EnteredValues.{set_length}
@@ -91,12 +92,12 @@ module _ (c : Setting) (all : KeepsAll c) where
 
   pub of_run : (n : ℕ) → IsOfRun c (state_at (kept_machine c.code c.keep c.sizes c.entry c.args c.answers) n)
   of_run n = record {
-    reached = subst (IsReachedState g) (sym (same n)) (states_reached (kept_hooks g c.keep) all.switches (kept_keeps g
+    reached = subst (IsReachedState g) (sym (same n)) (states_reached (kept_hooks g c.keep) (has_switches c all) (kept_keeps g
         c.keep) c.entry c.args n);
     last = last_at n;
-    placed = subst (IsPlacedState (kept_hooks g c.keep)) (sym (same n)) (states_placed (kept_hooks g c.keep) all.switches
-        (kept_keeps g c.keep) all.places (kept_keeps_placed g c.keep) c.entry c.args n);
-    fitting = subst (IsFittingState c.code) (sym (same n)) (states_fit (kept_hooks g c.keep) all.switches (kept_keeps g
+    placed = subst (IsPlacedState (kept_hooks g c.keep)) (sym (same n)) (states_placed (kept_hooks g c.keep) (has_switches c all)
+        (kept_keeps g c.keep) (place_rules c all) (kept_keeps_placed g c.keep) c.entry c.args n);
+    fitting = subst (IsFittingState c.code) (sym (same n)) (states_fit (kept_hooks g c.keep) (has_switches c all) (kept_keeps g
         c.keep) all.types (kept_keeps_fitting g c.keep all.types) c.entry c.args n all.arguments);
     sound = sound_at n (first_state c.code c.entry c.args) (first_sound c.code c.entry c.args);
     last_later = subst (λ (s : State). IsLastState s) (iterate-add (step_by g (continue_keeping g c.keep)) n 1

@@ -145,7 +145,7 @@ module _ (c : Setting) (x : Here c) where
             (keeps c x x.s.top.func) (point_in x.s.top) (instr Intrinsic.CoroSave) here Intrinsic.CoroSuspend refl (subst
             (IsCallAt Intrinsic.CoroSuspend (function_at c.code x.s.top.func)) (sym e) (suspend_is_suspend (function_at c.code
             x.s.top.func) w.save w.suspend w.pair.takes))
-        waits w (inr k) = (x.all.places.each x.s.top.func).no_save w.save w.suspend (point_in x.s.top) w.pair k (call_here
+        waits w (inr k) = (x.all.places x.s.top.func).no_save w.save w.suspend (point_in x.s.top) w.pair k (call_here
             Intrinsic.CoroSave here refl)
 
     pub save_case : IsCase c x (AtInstr (instr Intrinsic.CoroSave))
@@ -203,7 +203,7 @@ module _ (c : Setting) (x : Here c) where
             IsInWindow (function_at c.code x.s.top.func) w.save w.suspend (point_in x.s.top) → ⊥
         waits w (inl e) = token_there (function_at c.code x.s.top.func) w.save (point_in x.s.top) (w.pair.takes ∙ ap Some (sym
             e)) (instr Intrinsic.CoroSuspend) here none
-        waits w (inr k) = (x.all.places.each x.s.top.func).no_suspend_in w.save w.suspend (point_in x.s.top) w.pair k
+        waits w (inr k) = (x.all.places x.s.top.func).no_suspend_in w.save w.suspend (point_in x.s.top) w.pair k
             (call_here Intrinsic.CoroSuspend here refl)
 
     abbrev stop : Value

@@ -15,7 +15,7 @@ use Rattle.pass_renewed_proof.specs.Renewed.{Flags, facts_from, renewed_facts}
 
 -- ---- lists
 
-abbrev none : Facts
+abbrev pub none : Facts
 none = record { windows = []; ramp_slots = [] }
 
 plain_found : (fs : List Function) (func : ℕ) (f : Function) → slice_get fs func ≡ Some f
@@ -24,7 +24,7 @@ plain_found [] func f e = absurd (cc)
 plain_found (x ∷ fs) zero f e = let is : x ≡ f = cc in ap (λ z. Some (facts_of z)) is
 plain_found (x ∷ fs) (suc func) f e = plain_found fs func f e
 
-plain_missing : (fs : List Function) (func : ℕ) → slice_get fs func ≡ None → slice_get (map facts_of fs) func ≡ None
+pub plain_missing : (fs : List Function) (func : ℕ) → slice_get fs func ≡ None → slice_get (map facts_of fs) func ≡ None
 plain_missing [] func e = refl
 plain_missing (x ∷ fs) zero e = absurd (cc)
 plain_missing (x ∷ fs) (suc func) e = plain_missing fs func e

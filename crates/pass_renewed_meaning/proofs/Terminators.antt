@@ -43,6 +43,7 @@ use Rattle.pass_renewed_meaning.proofs.Here.{Here, IsCase, begun_below, first_ac
 use Rattle.pass_renewed_meaning.proofs.Here.{none_below, other, second_action}
 use Rattle.pass_renewed_meaning.proofs.OneStep.{IsOneStep}
 use Rattle.pass_renewed_meaning.proofs.Outdone.{outdone}
+use Rattle.pass_renewed_meaning.proofs.Places.{place_rules}
 use Rattle.pass_renewed_meaning.proofs.Tables.{same_windows}
 use Rattle.pass_renewed_meaning.specs.Followed.{AreAlike, Ended, Goes}
 use Rattle.pass_renewed_meaning.specs.Rules.{Setting}
@@ -127,7 +128,7 @@ module _ (c : Setting) (x : Here c) where
         stops b =
             let f = function_at c.code x.s.top.func in
             let p : Point = record { block = x.s.top.block; at = b.before } in
-            let stop : HasStop c.code f p = (x.all.places.each x.s.top.func).stops p b.is_suspend in
+            let stop : HasStop c.code f p = (x.all.places x.s.top.func).stops p b.is_suspend in
             let stands : fetch f x.s.top.block x.s.top.at ≡ AtTerm (Terminator.Switch stop.arg stop.default stop.cases) = ap
             (fetch f x.s.top.block) b.next ∙ stop.stands in
             let is : term ≡ Terminator.Switch stop.arg stop.default stop.cases = same_term (sym here ∙ stands) in
@@ -147,13 +148,13 @@ module _ (c : Setting) (x : Here c) where
         windows : AreWindowsOf (function_at c.code x.s.top.func) (own_facts (first_given c) x.s).windows
         windows = record {
           each = λ k w is.
-              let pair = window_pair (first_given c) x.all.places x.s.top.func k w is in (
+              let pair = window_pair (first_given c) (place_rules c x.all) x.s.top.func k w is in (
                 pair.is_save,
                 pair.takes,
                 each_is (IsWindow (function_at c.code x.s.top.func)) (own_facts (first_given c) x.s).windows
-                    (x.all.places.windows x.s.top.func) k w is,
+                    ((place_rules c x.all).windows x.s.top.func) k w is,
               );
-          all = λ k u call takes. pair_window (first_given c) x.all.places x.s.top.func k u (record {
+          all = λ k u call takes. pair_window (first_given c) (place_rules c x.all) x.s.top.func k u (record {
             is_save = call;
             takes = takes;
           });

@@ -1,4 +1,4 @@
--- What is still asked of the states of the first run: offsets of 64 bits.
+-- Offsets of 64 bits in the states of the first run.
 use Rattle.std.specs.Prelude.{ℕ}
 use Rattle.pass_kept_proof.specs.Machines.{kept_machine}
 use Rattle.run_agreement.specs.Machines.{state_at}

@@ -14,15 +14,13 @@ use Rattle.ir_model.specs.declared.operand.Arg.{Arg}
 use Rattle.ir_model.specs.declared.operand.Callee.{Callee}
 use Rattle.ir_model.specs.declared.operand.Intrinsic.{Intrinsic}
 use Rattle.ir_model.specs.declared.operand.Operand.{Operand}
-use Rattle.ir_paths.specs.Windows.{IsInWindow, destroy_label, operand_at, resume_label, suspend_of}
+use Rattle.ir_paths.specs.Windows.{destroy_label, operand_at, resume_label}
 use Rattle.ir_paths.specs.declared.point.Point.{Point}
 use Rattle.ir_laws.specs.facts.sound_states.Named.{AreLocalsNamed}
 use Rattle.pass_kept_proof.specs.Kept.{Keep}
 use Rattle.pass_kept_proof.specs.SuspendRules.{IsCallAt}
-use Rattle.run_hooks.specs.Away.{KeepsAllPlaceRules}
-use Rattle.run_hooks.specs.Reached.{AllHaveSwitches}
+use Rattle.run_hooks.specs.Away.{KeepsPlaceRules}
 use Rattle.run_laws.specs.embedded.Related.{HasBytes}
-use Rattle.run_source.specs.Source.{given}
 use Rattle.run_step.specs.Step.{AtInstr, fetch, phis_of}
 use Rattle.run_types.specs.Rules.{KeepsAllTypes}
 use Rattle.run_types.specs.States.{AreArguments}
@@ -46,9 +44,6 @@ pub record KeepsStepRules (m : Module) (f : Function) : Type 0 where
       → size_of m ty < 2 ^ 64
   -- Y1: what is loaded or stored has a type of the first class
   pub bytes : (block at : ℕ) (i : Instr) → fetch f block at ≡ AtInstr i → HasBytes (AtInstr i)
-  -- K6
-  pub no_begin : (k s p : Point) → IsCallAt Intrinsic.CoroSave f k → suspend_of f k ≡ Some s
-      → IsInWindow f k s p → IsCallAt Intrinsic.CoroBegin f p → ⊥
   -- blocks on edges: those of resume and destroy edges have no phis
   pub no_phis : (s : Point) → IsCallAt Intrinsic.CoroSuspend f s
       → (phis_of (slice_get f.blocks (position_of f (resume_label f s))) ≡ [])
@@ -70,7 +65,6 @@ pub record KeepsAll (c : Setting) : Type 0 where
   pub steps : (func : ℕ) → KeepsStepRules c.code (function_at c.code func)
   pub locals : AreLocalsNamed c.code
   pub globals : AreSmallGlobals c.code
-  pub switches : AllHaveSwitches c.code
-  pub places : KeepsAllPlaceRules (given c.code c.sizes c.answers)
+  pub places : (func : ℕ) → KeepsPlaceRules c.code (function_at c.code func)
   pub types : KeepsAllTypes c.code
   pub arguments : AreArguments c.code c.entry c.args

@@ -8,7 +8,7 @@
 //! ended and show the same (`AreInStep`). Between them instances and activations are one to one (`AreAlike`).
 //!
 //! What is asked of a run (`KeepsAll`) gives what is asked of each kind of step, so that both runs agree
-//! (`slots_may_be_made_anew`). Offsets of 64 bits are still asked of each state (`AreOffsetsSmall`).
+//! (`slots_may_be_made_anew`). Pointers that are compared have offsets of 64 bits (`offsets_are_small`).
 //!
 //! Two more steps keep the relation: the begin of an instance (`begins_stay_beside`), and a resume or destroy
 //! (`resumes_stay_beside`).
@@ -43,10 +43,15 @@ ghost use Rattle.run_source.specs.declared.state.State.{State as TheState};
 ghost use Rattle.run_source_tables.specs.Given.{Given};
 
 /// A run in which a resume hands on some values agrees with that in which slots are made anew, by what their steps
-/// cost. That offsets are of 64 bits is still asked of each state.
+/// cost.
 pub fn slots_may_be_made_anew()
-    ensures { (c : Setting) (p : Prices) → KeepsAll c → AreOffsetsSmall c
+    ensures { (c : Setting) (p : Prices) → KeepsAll c
         → KeepsMeaning c.code c.keep c.flags c.roots c.sizes c.entry c.args c.answers p }
+{}
+
+/// In each state of the first run the values of the topmost activation have offsets of 64 bits.
+pub fn offsets_are_small()
+    ensures { (c : Setting) → AreOffsetsSmall c }
 {}
 
 /// Where each step of the first run is followed in the second, both agree by what their steps cost.
