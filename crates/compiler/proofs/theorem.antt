@@ -3,6 +3,7 @@ pub mod Entries
 pub mod Facts
 pub mod Fronts
 pub mod Needed
+pub mod Renewing
 pub mod Numbered
 pub mod Rows
 pub mod Stack

@@ -14,13 +14,9 @@ ghost use Rattle.pass_renewed_proof.specs.Prices.{Prices};
 ghost use Rattle.compiler.specs.theorem.Theorem.{KeepsMeaning, Steps};
 ghost use Rattle.compiler.specs.theorem.Elision.{ElidedSteps, ElidesCalls};
 
-/// Relations between states: of the run that makes slots anew with that which keeps them, and of the framed run with
-/// that; at corresponding steps, and in between.
+/// Relations between states of the framed run and of that which makes slots anew: at corresponding steps, and in
+/// between.
 pub trait Relates {
-    ghost renewed: { Lowered → Anew → Run → State → State → Type 0 };
-
-    ghost renewing: { Lowered → Anew → Run → State → State → Type 0 };
-
     ghost framed: { Lowered → Anew → Run → State → State → Type 0 };
 
     ghost framing: { Lowered → Anew → Run → State → State → Type 0 };
@@ -42,7 +38,7 @@ pub fn allocas_stand_first_in_framed_forms()
 /// bytes and with plain ones, where no call is elided.
 pub fn lowering_keeps_meaning<P: Relates>()
     ensures { (a : Anew) (p : Prices) (l : Lowered) → IsLowered l
-        → Steps P.renewed P.renewing P.framed P.framing a p l → (r : Run) (other : ℕ)
+        → Steps P.framed P.framing a p l → (r : Run) (other : ℕ)
         → IsEntry l.source (printed_from l l.framed) r.entry other → AreArguments l.source r.entry r.args
         → KeepsMeaning l r other }
 {}
@@ -51,7 +47,7 @@ pub fn lowering_keeps_meaning<P: Relates>()
 /// allocator calls less.
 pub fn elision_keeps_meaning<P: Relates, Q: RelatesElided>()
     ensures { (a : Anew) (p : Prices) (l : Lowered) → IsLowered l
-        → Steps P.renewed P.renewing P.framed P.framing a p l → (n : Module) (sites : ℕ)
+        → Steps P.framed P.framing a p l → (n : Module) (sites : ℕ)
         → ElidedSteps Q.elided Q.eliding l n sites → (r : Run) (other : ℕ)
         → IsEntry l.source (printed_from l n) r.entry other → AreArguments l.source r.entry r.args
         → ElidesCalls l n sites r other }

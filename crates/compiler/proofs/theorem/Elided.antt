@@ -52,9 +52,9 @@ composed j k a b c g h =
     let none : k * 0 + 0 ≤ 0 = omega arith in
     weaken (j * k) (k * 0 + 0) (j * k) 0 a c (omega arith) none (compose j 0 k 0 a b c g h)
 
-module _ (R V Q W : Lowered → Anew → Run → State → State → Type 0)
+module _ (Q W : Lowered → Anew → Run → State → State → Type 0)
     (X Y : Lowered → Module → Run → State → State → Type 0) (a : Anew) (p : Prices) (l : Lowered) (low : IsLowered l)
-    (h : Steps R V Q W a p l) (n : Module) (sites : ℕ) (g : ElidedSteps X Y l n sites) (r : Run) (other : ℕ)
+    (h : Steps Q W a p l) (n : Module) (sites : ℕ) (g : ElidedSteps X Y l n sites) (r : Run) (other : ℕ)
     (entry : IsEntry l.source (printed_from l n) r.entry other) (fits : AreArguments l.source r.entry r.args) where
   call : IsEntryCall l.source r
   call = record { callable = entry.callable; fits = fits }
@@ -78,7 +78,7 @@ module _ (R V Q W : Lowered → Anew → Run → State → State → Type 0)
   f = 4 * (4 * size_factor l.source)
 
   first : AgreesWithin f source framed
-  first = framed_within R V Q W a p l low h r call
+  first = framed_within Q W a p l low h r call
 
   second : Agrees (1 + sites) 0 framed elided
   second =

@@ -9,14 +9,14 @@ use Rattle.run_agreement.specs.Machines.{IsFine, Machine, at, state_at}
 use Rattle.run_source.specs.declared.state.State.{State}
 use Rattle.compiler.proofs.theorem.Facts.{good_layouts}
 use Rattle.compiler.proofs.theorem.Needed.{split_needed}
+use Rattle.compiler.proofs.theorem.Renewing.{all_kept}
 use Rattle.compiler.specs.theorem.Anew.{Anew}
 use Rattle.compiler.specs.theorem.Entries.{IsEntryCall, Run}
-use Rattle.compiler.specs.theorem.Lowered.{IsLowered, Lowered, early, edged, framed_run, kept_run, price_kept, price_renewed, renewed_run, sizes_of, source_run}
+use Rattle.compiler.specs.theorem.Lowered.{IsLowered, Lowered, framed_run, kept_run, price_kept, price_renewed, renewed_run, sizes_of, source_run}
 use Rattle.pass_renewed_proof.specs.Prices.{Prices}
-use Rattle.compiler.specs.theorem.Theorem.{IsSomewhereShown, Steps}
-use Rattle.ir_laws.specs.facts.sound_states.Named.{AreLocalsNamed}
-use Rattle.pass_proofs.proofs.edges.simulation.Names.{locals_named}
-use Rattle.pass_proofs.proofs.edges.sources.Accepted.{locals_now}
+use Rattle.compiler.specs.theorem.Theorem.{AreMadeAnew, IsSomewhereShown, Steps, setting}
+use Rattle.pass_renewed_meaning.proofs.Dispatch.{made_anew}
+use Rattle.pass_renewed_meaning.specs.Followed.{AreAlike}
 use Rattle.pass_proofs.proofs.kept.sources.States.{split_corresponds}
 use Rattle.pass_proofs.specs.kept.sources.Beside.{IsKeptOf, IsNearlyKeptOf}
 
@@ -27,16 +27,13 @@ at_least b n = least n (cost_at b (λ t. 1) n) (cost_above b.step (λ t. 1) 1 (�
     least : (n x : ℕ) → 1 * n ≤ x → n ≤ x
     least n x h = omega arith
 
-module _ (R V Q W : Lowered → Anew → Run → State → State → Type 0) (a : Anew) (p : Prices) (l : Lowered)
-    (low : IsLowered l) (h : Steps R V Q W a p l) (r : Run) (call : IsEntryCall l.source r) where
+module _ (Q W : Lowered → Anew → Run → State → State → Type 0) (a : Anew) (p : Prices) (l : Lowered)
+    (low : IsLowered l) (h : Steps Q W a p l) (r : Run) (call : IsEntryCall l.source r) where
   abbrev Handed : State → State → Type 0
   Handed = IsKeptOf l.source (sizes_of l) r.answers
 
   abbrev NearlyHanded : State → State → Type 0
   NearlyHanded = IsNearlyKeptOf l.source (sizes_of l) r.entry r.args r.answers
-
-  locals : AreLocalsNamed (edged l)
-  locals = locals_named (early l) (locals_now l.text l.source low.source.stands low.source.accepted)
 
   -- Source to Kept
   pub to_kept : AgreesBy Handed NearlyHanded (source_run l r) (λ s. 4) (kept_run l a r) (λ t. 1)
@@ -44,12 +41,12 @@ module _ (R V Q W : Lowered → Anew → Run → State → State → Type 0) (a 
       (split_needed l low a h.anew) (sizes_of l) r.entry r.args r.answers
 
   -- Kept to Framed
-  pub to_framed : AgreesBy (Through (R l a r) (Q l a r)) (Through (V l a r) (W l a r)) (kept_run l a r)
+  pub to_framed : AgreesBy (Through (AreMadeAnew l a) (Q l a r)) (Through AreAlike (W l a r)) (kept_run l a r)
       (price_kept l a r p) (framed_run l l.framed r) (λ t. 1)
   to_framed =
-      compose_by (R l a r) (V l a r) (Q l a r) (W l a r) (kept_run l a r) (price_kept l a r p) (renewed_run l a r)
+      compose_by (AreMadeAnew l a) AreAlike (Q l a r) (W l a r) (kept_run l a r) (price_kept l a r p) (renewed_run l a r)
       (price_renewed l a r p) (framed_run l l.framed r) (λ t. 1)
-      (h.renewing h.slots locals r call) (h.framing low.source (good_layouts l low) low.is_framed h.anew h.slots r call)
+      (made_anew (setting l a r) p (all_kept Q W a p l low h r call)) (h.framing low.source (good_layouts l low) low.is_framed h.anew h.slots r call)
 
   -- Source to Framed
   pub framed_within : AgreesWithin (4 * (4 * size_factor l.source)) (at (source_run l r))
@@ -59,7 +56,7 @@ module _ (R V Q W : Lowered → Anew → Run → State → State → Type 0) (a 
       (at (framed_run l l.framed r))
       (agrees_within_by_steps Handed NearlyHanded (source_run l r) (λ s. 4) (kept_run l a r) (λ t. 1) 4
       (λ s. omega arith) (λ t. omega arith) to_kept)
-      (agrees_within (Through (R l a r) (Q l a r)) (Through (V l a r) (W l a r)) (kept_run l a r) (price_kept l a r p)
+      (agrees_within (Through (AreMadeAnew l a) (Q l a r)) (Through AreAlike (W l a r)) (kept_run l a r) (price_kept l a r p)
       (framed_run l l.framed r) (λ t. 1) (4 * size_factor l.source)
       (λ n fine. h.paid r n call fine) (at_least (framed_run l l.framed r)) to_framed)
 

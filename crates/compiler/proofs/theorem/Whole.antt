@@ -33,8 +33,8 @@ entry_split l n entry other e =
 whole_factor : (s : ℕ) → (((4 * (4 * s)) * 4) * 1) * 1 ≡ 64 * s * (1 + 0)
 whole_factor s = grind arith
 
-module _ (R V Q W : Lowered → Anew → Run → State → State → Type 0) (a : Anew) (p : Prices) (l : Lowered)
-    (low : IsLowered l) (h : Steps R V Q W a p l) (r : Run) (other : ℕ)
+module _ (Q W : Lowered → Anew → Run → State → State → Type 0) (a : Anew) (p : Prices) (l : Lowered)
+    (low : IsLowered l) (h : Steps Q W a p l) (r : Run) (other : ℕ)
     (entry : IsEntry l.source (printed_from l l.framed) r.entry other) (fits : AreArguments l.source r.entry r.args) where
   call : IsEntryCall l.source r
   call = record { callable = entry.callable; fits = fits }
@@ -57,7 +57,7 @@ module _ (R V Q W : Lowered → Anew → Run → State → State → Type 0) (a 
       (at (plain_run (lowered_from l l.framed) r other))
       (compose_within f 4 (at (source_run l r)) (at (framed_run l l.framed r))
       (at (plain_run (split_from l l.framed) r other))
-      (framed_within R V Q W a p l low h r call)
+      (framed_within Q W a p l low h r call)
       (framed_agrees l low (good_layouts l low) ready h.parts r other call split_entry))
       (cleaned_agrees l.text l.source low.source.stands low.source.accepted l.share l.layouts low.laid l.framed
       low.is_framed other
@@ -80,6 +80,6 @@ module _ (R V Q W : Lowered → Anew → Run → State → State → Type 0) (a 
         (at (source_run l r)) (at (plain_run (printed_from l l.framed) r other)) (omega arith) (omega arith)
         within.runs;
     agrees = within;
-    shared = somewhere_shown R V Q W a p l low h r call;
+    shared = somewhere_shown Q W a p l low h r call;
     apart = λ n fine. live_apart l low.source r n;
   }

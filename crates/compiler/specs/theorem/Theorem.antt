@@ -17,26 +17,47 @@ use Rattle.compiler.specs.theorem.Lowered.{plain_run, price_kept, price_renewed,
 use Rattle.compiler.specs.theorem.Lowered.{source_run}
 use Rattle.pass_renewed_proof.specs.Prices.{Prices}
 use Rattle.compiler.specs.theorem.SharedBytes.{AreShown}
-use Rattle.ir_laws.specs.facts.sound_states.Named.{AreLocalsNamed}
+use Rattle.ir_model.specs.Names.{function_at}
 use Rattle.text_grammar.specs.Text.{StandsFor}
 use Rattle.pass_proofs.specs.kept.sources.Beside.{IsKeptOf}
+use Rattle.pass_renewed_meaning.specs.Followed.{AreInStep}
+use Rattle.pass_renewed_meaning.specs.Rules.{KeepsStepRules, Setting}
+use Rattle.pass_renewed_proof.specs.Ledger.{AreSmallGlobals}
 use Rattle.pass_renewed_proof.specs.SlotRules.{KeepsAllSlots}
 use Rattle.pass_frames.specs.Framed.{IsFramedForm}
 
 -- | Pass | from | to | costs | |
 -- | saves written out, edges with blocks, what is needed handed on | Source | Kept | 4 | stands |
--- | slots made anew, then frames built, by prices that fit | Kept | Framed | 4 * (1 + p + q), on average | premise |
+-- | slots made anew, then frames built, by prices that fit | Kept | Framed | 4 * (1 + p + q), on average | the first stands by facts, the second is a premise |
 -- | functions split | Framed | Plain | 4 | stands by facts of framed forms |
 -- | calls of coro.id gone, then names in order | Plain | Plain | 1 | stands |
-pub record Steps (R V Q W : Lowered → Anew → Run → State → State → Type 0) (a : Anew) (p : Prices)
+-- what is asked of a run in which slots are made anew
+abbrev pub setting : Lowered → Anew → Run → Setting
+setting l a r = record {
+  code = edged l;
+  keep = a.keep;
+  flags = a.flags;
+  roots = a.roots;
+  sizes = sizes_of l;
+  entry = r.entry;
+  args = r.args;
+  answers = r.answers;
+}
+
+-- states of the run that hands values on and of that which makes slots anew, at corresponding steps
+abbrev pub AreMadeAnew : Lowered → Anew → State → State → Type 0
+AreMadeAnew l a = AreInStep (edged l) a.flags a.roots
+
+pub record Steps (Q W : Lowered → Anew → Run → State → State → Type 0) (a : Anew) (p : Prices)
     (l : Lowered) : Type 0 where
   -- waits for: the analyses' answers as tables
   pub anew : IsAnewOf (early l) a
   -- waits for: local slots stay local where edges have blocks, and the rules that slots ask
   pub slots : KeepsAllSlots (edged l) a.keep a.flags a.roots
-  -- waits for: the simulation of slots made anew
-  pub renewing : KeepsAllSlots (edged l) a.keep a.flags a.roots → AreLocalsNamed (edged l) → (r : Run)
-      → IsEntryCall l.source r → AgreesBy (R l a r) (V l a r) (kept_run l a r) (price_kept l a r p) (renewed_run l a r) (price_renewed l a r p)
+  -- waits for: rules of functions, and blocks on edges; the simulation of slots made anew stands by these two
+  pub stepping : (func : ℕ) → KeepsStepRules (edged l) (function_at (edged l) func)
+  -- waits for: Y1 of globals
+  pub globals : AreSmallGlobals (edged l)
   -- waits for: the simulation of frames
   pub framing : IsAccepted l → AreGoodLayouts (early l) l.layouts.coroutines
       → IsFramedForm l.layouts (early l) l.framed → IsAnewOf (early l) a
@@ -49,7 +70,7 @@ pub record Steps (R V Q W : Lowered → Anew → Run → State → State → Typ
   pub parts : ArePartsFacts l.layouts l.framed
   -- waits for: the relations of these two over those that stand, byte for byte
   pub shown : (r : Run) (s t : State) → Through (IsKeptOf l.source (sizes_of l) r.answers)
-      (Through (R l a r) (Q l a r)) s t → AreShown l.source l.layouts.coroutines s t
+      (Through (AreMadeAnew l a) (Q l a r)) s t → AreShown l.source l.layouts.coroutines s t
 
 -- a state of the framed run in which the slots and values of a state of the source stand
 pub record IsSomewhereShown (l : Lowered) (r : Run) (n : ℕ) : Type 0 where
