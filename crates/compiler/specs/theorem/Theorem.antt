@@ -26,11 +26,6 @@ use Rattle.pass_renewed_proof.specs.Ledger.{AreSmallGlobals}
 use Rattle.pass_renewed_proof.specs.SlotRules.{KeepsAllSlots}
 use Rattle.pass_frames.specs.Framed.{IsFramedForm}
 
--- | Pass | from | to | costs | |
--- | saves written out, edges with blocks, what is needed handed on | Source | Kept | 4 | stands |
--- | slots made anew, then frames built, by prices that fit | Kept | Framed | 4 * (1 + p + q), on average | the first stands by facts, the second is a premise |
--- | functions split | Framed | Plain | 4 | stands by facts of framed forms |
--- | calls of coro.id gone, then names in order | Plain | Plain | 1 | stands |
 -- what is asked of a run in which slots are made anew
 abbrev pub setting : Lowered → Anew → Run → Setting
 setting l a r = record {
@@ -48,6 +43,11 @@ setting l a r = record {
 abbrev pub AreMadeAnew : Lowered → Anew → State → State → Type 0
 AreMadeAnew l a = AreInStep (edged l) a.flags a.roots
 
+-- | Pass | from | to | costs | |
+-- | saves written out, edges with blocks, what is needed handed on | Source | Kept | 4 | stands |
+-- | slots made anew, then frames built, by prices that fit | Kept | Framed | 4 * (1 + p + q), on average | the first stands by facts, the second is a premise |
+-- | functions split | Framed | Plain | 4 | stands by facts of framed forms |
+-- | calls of coro.id gone, then names in order | Plain | Plain | 1 | stands |
 pub record Steps (Q W : Lowered → Anew → Run → State → State → Type 0) (a : Anew) (p : Prices)
     (l : Lowered) : Type 0 where
   -- waits for: the analyses' answers as tables
