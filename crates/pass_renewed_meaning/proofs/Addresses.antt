@@ -1,5 +1,5 @@
 -- A getelementptr of an address in a slot gives one.
-use Rattle.std.proofs.Common.{◌≡◌, ℕ, zero, suc, ◌⊎◌, inl, inr, Bool, true, false, List, [], ◌∷◌, ◌++◌, Option, Some, None}
+use Rattle.std.proofs.Common.{◌≡◌, ℕ, zero, suc, inl, inr, Bool, List, [], ◌∷◌, ◌++◌, Some, None}
 use Rattle.std.proofs.Common.{refl, sym, ap, ◌∙◌, subst}
 use Rattle.std.specs.Prelude.{IsTrue, flat_map, slice_get}
 use Rattle.flow_facts.proofs.Chained.{IsAddress, address-complete, address-sound}
@@ -12,7 +12,7 @@ use Rattle.ir_model.specs.declared.module.Function.{Function}
 use Rattle.ir_model.specs.declared.operand.Arg.{Arg}
 use Rattle.ir_model.specs.declared.operand.Operand.{Operand}
 use Rattle.ir_paths.specs.Slots.{addresses_of, has_name}
-use Rattle.ir_paths.specs.Windows.{instr_at, instr_in}
+use Rattle.ir_paths.specs.Windows.{instr_in}
 use Rattle.ir_paths.specs.declared.point.Point.{Point}
 use Rattle.run_step.specs.Step.{AtInstr, fetch}
 use Rattle.pass_renewed_proof.proofs.Left.{instr_there}

@@ -1,5 +1,5 @@
 -- What is beside each other is one to one, and shows the same.
-use Rattle.std.proofs.Common.{◌≡◌, ℕ, ◌+◌, List, [], ◌∷◌, length, map, Option, refl, sym, ap, ◌∙◌}
+use Rattle.std.proofs.Common.{◌≡◌, ℕ, ◌+◌, List, [], ◌∷◌, length, map, Option, refl, ap, ◌∙◌}
 use Rattle.ir_base.specs.declared.outcome.Event.{Event}
 use Rattle.ir_model.specs.declared.module.Module.{Module}
 use Rattle.run_laws.specs.embedded.Related.{moved_event}

@@ -3,36 +3,31 @@
 use Rattle.std.proofs.Common.{◌≡◌, ℕ, ◌+◌, ◌<◌, ◌^◌, ◌⊎◌, inl, inr, Bool, true, false, not, List, [], ◌∷◌, ◌++◌, length, Option}
 use Rattle.std.proofs.Common.{Some, None, Result, Ok, Err, refl, sym, ap, ◌∙◌, subst, if◌then◌else◌, ◌&&◌, ⊎_elim}
 use Rattle.std.proofs.lemmas.Bool.{false≢true}
-use Rattle.std.specs.Prelude.{IsTrue, option_and_then, option_map, slice_get, slice_set}
+use Rattle.std.specs.Prelude.{IsTrue, option_and_then, option_map, slice_get}
 use Rattle.ir_base.specs.declared.cause.Cause.{Cause}
 use Rattle.ir_model.specs.Layout.{size_of}
 use Rattle.ir_model.specs.Names.{function_at}
 use Rattle.ir_model.specs.Ty.{Ty}
 use Rattle.ir_model.specs.declared.instr.Instr.{Instr}
 use Rattle.ir_model.specs.declared.module.Function.{Function}
-use Rattle.ir_model.specs.declared.operand.Arg.{Arg}
-use Rattle.ir_model.specs.declared.operand.Intrinsic.{Intrinsic}
 use Rattle.ir_model.specs.declared.operand.Operand.{Operand}
-use Rattle.ir_paths.specs.Facts.{AreFactsOf}
-use Rattle.ir_paths.specs.Windows.{is_call_of}
 use Rattle.ir_paths.specs.declared.point.Facts.{Facts}
 use Rattle.ir_laws.specs.facts.expanded.Tokens.{IsNamedResult}
 use Rattle.rule_windows.specs.Sets.{IsAfterEnd}
 use Rattle.run_hooks.specs.Away.{HasStop}
 use Rattle.run_laws.specs.changed.Changed.{result_at}
 use Rattle.run_laws.specs.embedded.Making.{whole_home}
-use Rattle.run_laws.specs.memory.Pointers.{Home, home_of}
+use Rattle.run_laws.specs.memory.Pointers.{home_of}
 use Rattle.run_memory.specs.Memory.{end, fresh, killed, start}
 use Rattle.run_memory.specs.declared.block.Kind.{Kind}
-use Rattle.run_memory.specs.declared.block.MemoryBlock.{MemoryBlock}
-use Rattle.run_source.specs.Source.{context_of, is_among, is_over, kill_late, new_slot, with_new_slots}
+use Rattle.run_source.specs.Source.{is_among, is_over, kill_late, new_slot, with_new_slots}
 use Rattle.run_source.specs.State.{numbered, own_facts, own_instance, settled, with_instance, with_memory, with_slots, work_of}
 use Rattle.run_source.specs.declared.state.Instance.{Instance}
 use Rattle.run_source.specs.declared.state.Mode.{Mode}
 use Rattle.run_source.specs.declared.state.State.{State}
-use Rattle.run_source_tables.specs.Given.{Given, facts_at}
+use Rattle.run_source_tables.specs.Given.{Given}
 use Rattle.run_states.proofs.sound_states.Fits.{result_named}
-use Rattle.run_step.specs.Step.{Action, AtInstr, NewSlot, Stuck, Work, alloca, alloca_kind, fetch, has_markers, if_alignment}
+use Rattle.run_step.specs.Step.{AtInstr, NewSlot, Stuck, Work, alloca, alloca_kind, fetch, has_markers, if_alignment}
 use Rattle.run_step.specs.Step.{is_alignment, set_memory, set_value}
 use Rattle.run_step.specs.Values.{pointer_to}
 use Rattle.run_step.specs.declared.world.Slot.{Slot}
@@ -58,7 +53,7 @@ use Rattle.pass_renewed_proof.specs.Beside.{AreSlots, Both, First, IsBeside, NoS
 use Rattle.pass_renewed_proof.specs.Found.{AreFound}
 use Rattle.pass_renewed_proof.specs.Ledger.{Ledger}
 use Rattle.pass_renewed_proof.specs.Making.{IsAllocaOfOther, IsAllocaOfSlot, slot_block, with_slot_of}
-use Rattle.pass_renewed_proof.specs.Renewed.{facts_from, renewed_act, renewed_facts, renewed_slot, with_life}
+use Rattle.pass_renewed_proof.specs.Renewed.{renewed_act, renewed_slot, with_life}
 use Rattle.pass_renewed_proof.specs.SlotRules.{IsAddressOf, Itself, KeepsSlots, Part}
 use Rattle.pass_renewed_proof.specs.Steps.{given_at}
 

@@ -1,5 +1,5 @@
 -- Where each step is followed both runs agree by costs.
-use Rattle.std.proofs.Common.{◌≡◌, ℕ, ◌+◌, ◌<◌, ◌≤◌, ◌⊎◌, inl, inr, List, map, refl, sym, ap, ◌∙◌, subst, arith}
+use Rattle.std.proofs.Common.{◌≡◌, ℕ, ◌+◌, ◌≤◌, inl, inr, List, map, refl, sym, ap, ◌∙◌, subst, arith}
 use Rattle.std.specs.Prelude.{ℤ}
 use Rattle.ir_base.specs.declared.outcome.Outcome.{Outcome}
 use Rattle.ir_base.specs.declared.outcome.Word.{Word}
@@ -8,7 +8,7 @@ use Rattle.ir_model.specs.declared.module.Module.{Module}
 use Rattle.pass_kept_proof.specs.Kept.{Keep, continue_keeping}
 use Rattle.pass_kept_proof.specs.Machines.{kept_machine}
 use Rattle.pass_renewed_meaning.proofs.Alike.{beside_alike, same_events}
-use Rattle.pass_renewed_meaning.specs.Followed.{AreAlike, AreInStep, AreStepsFollowed, Ended, Goes, HaveEnded}
+use Rattle.pass_renewed_meaning.specs.Followed.{AreAlike, AreInStep, AreStepsFollowed, Ended, Goes}
 use Rattle.pass_renewed_meaning.specs.Followed.{IsFollowed, IsOnItsWay, KeepsMeaning}
 use Rattle.pass_renewed_proof.specs.Beside.{IsBeside}
 use Rattle.pass_renewed_proof.specs.Prices.{Prices, kept_price, renewed_machine, renewed_price}
@@ -17,7 +17,7 @@ use Rattle.run_agreement.proofs.Costs.{weaken_by}
 use Rattle.run_agreement.proofs.PricedLockstep.{AdvanceBy, IsPassed, SimulatesBy, lockstep_by}
 use Rattle.run_agreement.proofs.Runs.{iterate-add}
 use Rattle.run_agreement.proofs.Shows.{ShowsSame}
-use Rattle.run_agreement.specs.Machines.{IsFine, IsRunning, Machine, Seen, iterate, state_at}
+use Rattle.run_agreement.specs.Machines.{IsFine, IsRunning, Machine, Seen, state_at}
 use Rattle.run_source.specs.Source.{Continues, advance_by, first_state, given, step_by}
 use Rattle.run_source.specs.declared.state.State.{State}
 use Rattle.run_source_tables.specs.Given.{Given}

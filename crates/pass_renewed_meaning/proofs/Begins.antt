@@ -14,7 +14,6 @@ use Rattle.ir_paths.specs.Windows.{is_call_of}
 use Rattle.ir_paths.specs.declared.point.Facts.{Facts}
 use Rattle.frame_slots.proofs.Points.{where_complete}
 use Rattle.rule_windows.specs.Sets.{RunsOut}
-use Rattle.run_laws.specs.embedded.Making.{whole_home}
 use Rattle.run_laws.specs.memory.Pointers.{Home, IsValue, home_of}
 use Rattle.run_memory.specs.Memory.{check, is_live, may_be_owned, own, owned_to, same_kind, with_block}
 use Rattle.run_memory.specs.Pointers.{moved}
@@ -31,13 +30,12 @@ use Rattle.run_source.specs.declared.state.State.{State}
 use Rattle.run_source_tables.specs.Given.{Given, frame_of}
 use Rattle.run_step.specs.Results.{and_then, found, ok_if}
 use Rattle.run_step.specs.Step.{block_of}
-use Rattle.run_step.specs.Values.{Env, with_result}
+use Rattle.run_step.specs.Values.{with_result}
 use Rattle.run_step.specs.declared.world.Slot.{Slot}
 use Rattle.pass_renewed_meaning.proofs.BegunStates.{begun_states}
 use Rattle.pass_renewed_meaning.proofs.Owned.{both_owned}
 use Rattle.pass_renewed_meaning.specs.Begins.{IsBeginOf}
 use Rattle.pass_renewed_proof.proofs.Ahead.{next_edge}
-use Rattle.pass_renewed_proof.proofs.Anew.{present_block}
 use Rattle.pass_renewed_proof.proofs.Dying.{AreCarriedOver}
 use Rattle.pass_renewed_proof.proofs.Giving.{IsGivenName, envs, of_giving, others, unset}
 use Rattle.pass_renewed_proof.proofs.Left.{instr_there}

@@ -1,8 +1,7 @@
 -- An activation begins an instance in both runs: the slots that it has made become the instance's.
-use Rattle.std.proofs.Common.{◌≡◌, ◌≢◌, ℕ, suc, ◌+◌, ◌<◌, ◌≤◌, inl, inr, Bool, true, false, not, List, [], ◌∷◌, ◌++◌, length}
+use Rattle.std.proofs.Common.{◌≡◌, ◌≢◌, ℕ, suc, ◌+◌, inl, inr, Bool, true, false, not, List, [], ◌∷◌, ◌++◌, length}
 use Rattle.std.proofs.Common.{Some, None, refl, sym, ap, ◌∙◌, subst, ⊎_elim, arith, ◌==◌}
 use Rattle.std.proofs.lemmas.Bool.{cases_eq, false≢true}
-use Rattle.std.specs.List.{Contains}
 use Rattle.std.specs.Prelude.{IsTrue, filter, option_map, slice_get}
 use Rattle.ir_model.specs.Names.{function_at}
 use Rattle.ir_model.specs.declared.module.Function.{Function}
@@ -15,7 +14,7 @@ use Rattle.run_laws.proofs.memory.Written.{same_some}
 use Rattle.run_laws.specs.embedded.Making.{whole_home}
 use Rattle.run_laws.specs.memory.Pointers.{home_of}
 use Rattle.run_memory.specs.declared.block.MemoryBlock.{MemoryBlock}
-use Rattle.run_source.specs.Source.{is_among, is_over, new_instance}
+use Rattle.run_source.specs.Source.{is_among, new_instance}
 use Rattle.run_source.specs.State.{is_suspended}
 use Rattle.run_source.specs.declared.state.Activation.{Activation}
 use Rattle.run_source.specs.declared.state.Instance.{Instance}
@@ -28,10 +27,10 @@ use Rattle.pass_renewed_meaning.proofs.BegunSlots.{contains_kept, instance_slots
 use Rattle.pass_renewed_proof.proofs.Beginning.{AreAmongNew, begun_entered, below_still, instances_begun, others_begun}
 use Rattle.pass_renewed_proof.proofs.Beginning.{seated_begun, slot_begun_kept, slots_begun}
 use Rattle.pass_renewed_proof.proofs.Anew.{below_other}
-use Rattle.pass_renewed_proof.proofs.Carried.{AreInstancesOn, stand_kept}
+use Rattle.pass_renewed_proof.proofs.Carried.{stand_kept}
 use Rattle.pass_renewed_proof.proofs.Made.{get_last, get_other, get_within}
 use Rattle.pass_renewed_proof.proofs.Way.{drop_avoided}
-use Rattle.pass_renewed_proof.specs.Beside.{AreInstancesBeside, AreSlots, Begun, Early, GoesOn, IsActivationBeside}
+use Rattle.pass_renewed_proof.specs.Beside.{AreInstancesBeside, Begun, Early, GoesOn, IsActivationBeside}
 use Rattle.pass_renewed_proof.specs.Beside.{IsAliveAt, IsBeside, IsEarly, IsInstanceBeside, IsOverOf, IsOwn, IsSeated}
 use Rattle.pass_renewed_proof.specs.Beside.{IsSlotBeside, IsSlotOf, Leaves, NotLeft, place_in}
 use Rattle.pass_renewed_proof.specs.Ledger.{Ledger, begun_instance, begun_ledger, begun_seat}

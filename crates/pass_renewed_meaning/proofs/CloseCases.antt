@@ -1,8 +1,8 @@
 -- The end of a coroutine: a ramp goes on behind it, and a resumed activation returns, in both runs.
-use Rattle.std.proofs.Common.{◌≡◌, ℕ, ◌⊎◌, inl, inr, Bool, true, false, List, [], ◌∷◌, length, map, Option, Some, None, Result}
+use Rattle.std.proofs.Common.{◌≡◌, ℕ, ◌⊎◌, inl, inr, Bool, true, false, List, [], ◌∷◌, map, Option, Some, None, Result}
 use Rattle.std.proofs.Common.{Ok, Err, refl, sym, ap, ◌∙◌, subst, if◌then◌else◌, ⊎_elim}
 use Rattle.std.proofs.lemmas.Bool.{false≢true}
-use Rattle.std.specs.Prelude.{option_and_then, option_map, slice_get, slice_set}
+use Rattle.std.specs.Prelude.{option_and_then, option_map}
 use Rattle.ir_base.specs.declared.cause.Cause.{Cause}
 use Rattle.ir_base.specs.declared.outcome.Outcome.{Outcome}
 use Rattle.ir_model.specs.Names.{function_at}
@@ -11,7 +11,6 @@ use Rattle.ir_model.specs.declared.instr.Instr.{Instr}
 use Rattle.ir_model.specs.declared.operand.Arg.{Arg}
 use Rattle.ir_model.specs.declared.operand.Callee.{Callee}
 use Rattle.ir_model.specs.declared.operand.Intrinsic.{Intrinsic}
-use Rattle.run_agreement.specs.Machines.{IsRunning}
 use Rattle.run_hooks.proofs.Left.{alike_last}
 use Rattle.run_hooks.proofs.LeftKeeping.{kept_keeps_last}
 use Rattle.run_hooks.specs.Left.{IsLastState}
@@ -23,7 +22,7 @@ use Rattle.run_source.specs.declared.state.Instance.{Instance}
 use Rattle.run_source.specs.declared.state.Mode.{Mode}
 use Rattle.run_source.specs.declared.state.State.{State}
 use Rattle.run_source.specs.declared.state.Status.{Status}
-use Rattle.run_step.specs.Runs.{seen_event, seen_of}
+use Rattle.run_step.specs.Runs.{seen_event}
 use Rattle.run_step.specs.Step.{AtInstr, fetch, without_slots}
 use Rattle.pass_renewed_meaning.proofs.Alike.{below_alike, instances_alike, same_events}
 use Rattle.pass_renewed_meaning.proofs.Here.{Here, IsCase, begun_below, keeps, other, owns}

@@ -1,5 +1,5 @@
 -- Coro intrinsics and deallocators: the second run does what the first does.
-use Rattle.std.proofs.Common.{◌≡◌, ℕ, ◌⊎◌, inl, inr, Bool, true, false, not, List, ◌∷◌, length, Option, Some, None, Result, Ok}
+use Rattle.std.proofs.Common.{◌≡◌, ℕ, ◌⊎◌, inl, inr, Bool, true, false, not, List, Option, Some, None, Result, Ok}
 use Rattle.std.proofs.Common.{Err, refl, sym, ap, ◌∙◌, subst, if◌then◌else◌, ◌&&◌, ◌==◌, arith, ⊎_elim}
 use Rattle.std.proofs.lemmas.Bool.{false≢true}
 use Rattle.std.specs.Prelude.{find, is_none, is_some, nat_le, pos, slice_get}
@@ -11,23 +11,21 @@ use Rattle.ir_model.specs.declared.operand.Allocator.{Allocator}
 use Rattle.ir_model.specs.declared.operand.Arg.{Arg}
 use Rattle.ir_model.specs.declared.operand.Callee.{Callee}
 use Rattle.ir_model.specs.declared.operand.Intrinsic.{Intrinsic}
-use Rattle.ir_model.specs.declared.operand.Operand.{Operand}
 use Rattle.ir_paths.specs.Windows.{is_call_of, operand_at}
 use Rattle.run_laws.specs.memory.Pointers.{IsValue}
 use Rattle.run_memory.specs.Memory.{check, is_live, may_be_owned, own, owned_to, same_kind, with_block}
 use Rattle.run_memory.specs.declared.block.Kind.{Kind}
 use Rattle.run_memory.specs.declared.block.MemoryBlock.{MemoryBlock}
 use Rattle.run_memory.specs.declared.pointer.Offset.{Offset}
-use Rattle.run_memory.specs.declared.pointer.Pointer.{Pointer}
 use Rattle.run_memory.specs.declared.pointer.Value.{Value}
-use Rattle.run_source.specs.Source.{Sleeper, begin, begin_at, begun, done_at, frame_address, frame_of_promise, promise}
+use Rattle.run_source.specs.Source.{Sleeper, begin, begin_at, begun, frame_address, frame_of_promise, promise}
 use Rattle.run_source.specs.Source.{promise_of_frame, release, sleeper_at, sleeper_of, is_live_at, has_promise_at, deallocate, promise_block, is_over}
-use Rattle.run_source.specs.State.{frame_address_of, gives, instance_at, next, own_frame, own_instance, with_memory}
+use Rattle.run_source.specs.State.{frame_address_of, gives, next, own_frame, own_instance, with_memory}
 use Rattle.run_source.specs.declared.state.Instance.{Instance}
 use Rattle.run_source.specs.declared.state.State.{State}
 use Rattle.run_source_tables.specs.Given.{has_final, is_final, is_true}
 use Rattle.run_step.specs.Results.{and_then, found, ok_if}
-use Rattle.run_step.specs.Step.{Action, AtInstr, block_of, fetch}
+use Rattle.run_step.specs.Step.{AtInstr, block_of, fetch}
 use Rattle.run_step.specs.Values.{address, arg_values, integer, nth, pointer_to, truth_value}
 use Rattle.pass_renewed_meaning.proofs.Begins.{begins_beside}
 use Rattle.pass_renewed_meaning.proofs.Handles.{IsInSlot, arg_there, no_instance, no_promise, stays_allocated}

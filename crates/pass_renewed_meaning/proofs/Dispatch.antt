@@ -1,6 +1,5 @@
 -- Each step of the first run is followed: case by case over what stands at the place.
-use Rattle.std.proofs.Common.{◌≡◌, ℕ, ◌⊎◌, inl, inr, Bool, List, Option, Result, Ok, refl, sym, ap, ◌∙◌, subst}
-use Rattle.ir_base.specs.declared.cause.Cause.{Cause}
+use Rattle.std.proofs.Common.{◌≡◌, ℕ, inl, inr, Bool, List, Option, Ok, refl, sym, ap, ◌∙◌, subst}
 use Rattle.ir_base.specs.declared.outcome.Outcome.{Outcome}
 use Rattle.ir_model.specs.Names.{function_at}
 use Rattle.ir_model.specs.Ty.{Ty}
@@ -18,16 +17,17 @@ use Rattle.run_source.specs.declared.state.State.{State}
 use Rattle.run_step.specs.Step.{AtInstr, AtTerm, Fetched, Nowhere, action_of, fetch}
 use Rattle.pass_renewed_meaning.proofs.AllocaCases.{alloca_case}
 use Rattle.pass_renewed_meaning.proofs.Assembly.{assembled}
+use Rattle.pass_renewed_meaning.proofs.CallCases.{function_case, malloc_case, new_case}
 use Rattle.pass_renewed_meaning.proofs.CloseCases.{close_case}
 use Rattle.pass_renewed_meaning.proofs.Coroutines.{align32_case, align64_case, alloc_case, begin_case, deleted_case}
 use Rattle.pass_renewed_meaning.proofs.Coroutines.{done_case, frame_case, free_case, freed_case, id_case, promise_case}
 use Rattle.pass_renewed_meaning.proofs.Coroutines.{size32_case, size64_case, sized_case}
-use Rattle.pass_renewed_meaning.proofs.Here.{Here, IsCase, first_act, first_action, other}
+use Rattle.pass_renewed_meaning.proofs.Here.{Here, IsCase, first_act, first_action}
 use Rattle.pass_renewed_meaning.proofs.MarkerCases.{end_case, start_case}
 use Rattle.pass_renewed_meaning.proofs.OffsetRuns.{offsets_small}
-use Rattle.pass_renewed_meaning.proofs.OneStep.{IsNoResumer, IsStep, one_step, step_is}
-use Rattle.pass_renewed_meaning.proofs.OrdinaryCases.{binary_case, cast_case, compare_case, copy_case, function_case}
-use Rattle.pass_renewed_meaning.proofs.OrdinaryCases.{gep_case, load_case, malloc_case, new_case, select_case, store_case}
+use Rattle.pass_renewed_meaning.proofs.OneStep.{IsNoResumer, one_step, step_is}
+use Rattle.pass_renewed_meaning.proofs.OrdinaryCases.{binary_case, cast_case, compare_case, copy_case}
+use Rattle.pass_renewed_meaning.proofs.OrdinaryCases.{gep_case, load_case, select_case, store_case}
 use Rattle.pass_renewed_meaning.proofs.ResumeCases.{destroy_case, resume_case}
 use Rattle.pass_renewed_meaning.proofs.RunStates.{of_run}
 use Rattle.pass_renewed_meaning.proofs.SaveCases.{save_case, suspend_case}

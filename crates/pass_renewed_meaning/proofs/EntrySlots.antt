@@ -1,5 +1,5 @@
 -- The flagged allocas of an entry block: each flagged name is that of one of them, and of no other.
-use Rattle.std.proofs.Common.{◌≡◌, ◌≢◌, ℕ, zero, suc, ◌+◌, ◌≤◌, ◌<◌, Bool, true, false, List, [], ◌∷◌, Option, Some, None}
+use Rattle.std.proofs.Common.{◌≡◌, ◌≢◌, ℕ, zero, suc, ◌+◌, ◌≤◌, Bool, true, false, List, [], ◌∷◌, Option, Some, None}
 use Rattle.std.proofs.Common.{refl, sym, ap, ◌∙◌, subst, ⊎_elim, arith, if◌then◌else◌, ◌==◌}
 use Rattle.std.proofs.lemmas.Bool.{false≢true}
 use Rattle.std.specs.List.{Contains}
@@ -12,12 +12,12 @@ use Rattle.ir_model.specs.declared.module.Function.{Function}
 use Rattle.ir_model.specs.declared.module.Module.{Module}
 use Rattle.ir_paths.specs.declared.point.Point.{Point}
 use Rattle.pass_kept_proof.proofs.Same.{either, eq_from, eq_itself, or_left, or_right}
-use Rattle.run_step.specs.Step.{AtInstr, Fetched, fetch, fetch_in, fetch_or}
+use Rattle.run_step.specs.Step.{AtInstr, fetch, fetch_in, fetch_or}
 use Rattle.pass_renewed_meaning.proofs.NewSlots.{AreDistinct}
 use Rattle.pass_renewed_proof.proofs.Listing.{contains_first, contains_more}
 use Rattle.pass_renewed_proof.specs.Entering.{Anew, AreNext, anew_in, if_renewed, is_named}
 use Rattle.pass_renewed_proof.specs.Renewed.{is_renewed, renewed_from, renewed_in}
-use Rattle.pass_renewed_proof.specs.SlotRules.{IsMadeOnce, KeepsSlots}
+use Rattle.pass_renewed_proof.specs.SlotRules.{KeepsSlots}
 use Rattle.pass_renewed_proof.specs.Steps.{given_at}
 
 -- ---- what follows stands later

@@ -1,5 +1,5 @@
 -- A state of the first run and one beside it, with all that is known there.
-use Rattle.std.proofs.Common.{◌≡◌, ℕ, inl, inr, Bool, true, false, List, ◌∷◌, length, Option, Some, None, Result, Ok, Err, refl}
+use Rattle.std.proofs.Common.{◌≡◌, ℕ, List, Some, Result, Ok}
 use Rattle.std.proofs.Common.{sym, ap, ◌∙◌, subst, ⊎_elim}
 use Rattle.std.specs.Prelude.{slice_get}
 use Rattle.ir_base.specs.declared.cause.Cause.{Cause}
@@ -8,13 +8,11 @@ use Rattle.ir_model.specs.Names.{function_at}
 use Rattle.ir_model.specs.declared.module.Function.{Function}
 use Rattle.pass_kept_proof.specs.Kept.{continue_keeping}
 use Rattle.run_source.specs.Source.{act, context_of}
-use Rattle.run_source.specs.State.{function_of, work_of}
-use Rattle.run_source.specs.declared.state.Activation.{Activation}
+use Rattle.run_source.specs.State.{work_of}
 use Rattle.run_source.specs.declared.state.Instance.{Instance}
-use Rattle.run_source.specs.declared.state.Mode.{Mode}
 use Rattle.run_source.specs.declared.state.State.{State}
-use Rattle.run_step.specs.Step.{Action, Context, Fetched, action_of, fetch}
-use Rattle.run_step.specs.Values.{Env, value_in}
+use Rattle.run_step.specs.Step.{Action, Fetched, action_of, fetch}
+use Rattle.run_step.specs.Values.{Env}
 use Rattle.run_step.specs.declared.world.Slot.{Slot}
 use Rattle.pass_renewed_meaning.proofs.OneStep.{IsOneStep}
 use Rattle.pass_renewed_meaning.proofs.Outdone.{HaveBegun, asleep, has_instance, have_begun, outdone, same_coroutine}

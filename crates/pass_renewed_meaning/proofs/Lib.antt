@@ -19,6 +19,7 @@ pub mod RunStates
 pub mod Outdone
 pub mod Here
 pub mod OrdinaryCases
+pub mod CallCases
 pub mod Terminators
 pub mod Handles
 pub mod Coroutines

@@ -9,10 +9,8 @@ use Rattle.ir_model.specs.declared.instr.Instr.{Instr}
 use Rattle.ir_model.specs.declared.operand.Arg.{Arg}
 use Rattle.ir_model.specs.declared.operand.Callee.{Callee}
 use Rattle.ir_model.specs.declared.operand.Intrinsic.{Intrinsic}
-use Rattle.run_source.specs.Source.{context_of}
 use Rattle.run_source.specs.State.{next, settled, work_of}
-use Rattle.run_source.specs.declared.state.State.{State}
-use Rattle.run_step.specs.Step.{Action, AtInstr, Work, block_of, fetch, on_block, set_memory}
+use Rattle.run_step.specs.Step.{AtInstr, Work, block_of, fetch, on_block, set_memory}
 use Rattle.run_step.specs.Values.{arg_values, nth}
 use Rattle.run_memory.specs.Memory.{end, start}
 use Rattle.pass_renewed_meaning.proofs.Here.{Here, IsCase, keeps, left_asleep, none_below, other, second_action}

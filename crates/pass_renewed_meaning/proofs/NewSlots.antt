@@ -1,7 +1,7 @@
 -- The slots that a resumed activation has made anew: each is its own, of its alloca's size, and has a block of its own.
-use Rattle.std.proofs.Common.{◌≡◌, ◌≢◌, ℕ, zero, suc, ◌+◌, ◌<◌, ◌⊎◌, inl, inr, Bool, true, false, List, [], ◌∷◌, ◌++◌, length}
+use Rattle.std.proofs.Common.{◌≡◌, ◌≢◌, ℕ, zero, suc, ◌<◌, ◌⊎◌, inl, inr, Bool, true, false, List, [], ◌∷◌, length}
 use Rattle.std.proofs.Common.{Option, Some, None, refl, sym, ap, ◌∙◌, subst, ⊎_elim, arith, ◌==◌, ◌||◌}
-use Rattle.std.proofs.lemmas.Bool.{cases_eq, false≢true}
+use Rattle.std.proofs.lemmas.Bool.{false≢true}
 use Rattle.std.proofs.lemmas.List.{length-replicate}
 use Rattle.std.specs.List.{Contains}
 use Rattle.std.specs.Prelude.{slice_get}
@@ -19,7 +19,7 @@ use Rattle.run_source.specs.declared.state.State.{State}
 use Rattle.run_step.specs.Step.{alloca_kind}
 use Rattle.run_step.specs.Values.{pointer_to, value_in}
 use Rattle.run_step.specs.declared.world.Slot.{Slot}
-use Rattle.pass_kept_proof.proofs.Same.{either, neither}
+use Rattle.pass_kept_proof.proofs.Same.{either}
 use Rattle.pass_renewed_proof.proofs.Anew.{about_there, anew_carried, anew_entered, anew_kept, below_other, updated_here}
 use Rattle.pass_renewed_proof.proofs.AnewAll.{AreAnew}
 use Rattle.pass_renewed_proof.proofs.Carried.{IsCarried, IsSlotKept, same_carried, same_kept}

@@ -1,9 +1,8 @@
 -- Pointers of values and bytes at offsets of 64 bits, and what operations on memory leave of them.
-use Rattle.std.proofs.Common.{◌≡◌, ◌<◌, ℕ, zero, suc, ◌+◌, ◌/◌, ◌%◌, ◌^◌, Bool, true, false, not, List, [], ◌∷◌, ◌++◌, length}
+use Rattle.std.proofs.Common.{◌≡◌, ◌<◌, ℕ, zero, suc, ◌+◌, ◌/◌, ◌^◌, Bool, true, false, not, List, [], ◌∷◌, ◌++◌, length}
 use Rattle.std.proofs.Common.{map, Option, Some, None, Result, Ok, Err, refl, sym, ap, ◌∙◌, subst, arith, replicate, ◌&&◌, ◌==◌}
-use Rattle.std.proofs.Math.Nat.{mod-lt}
 use Rattle.std.specs.List.{AllByRecursion}
-use Rattle.std.specs.Prelude.{drop, if◌then◌else◌, nat_lt, slice_get, slice_set, take}
+use Rattle.std.specs.Prelude.{drop, if◌then◌else◌, nat_lt, slice_get, take}
 use Rattle.ir_base.specs.declared.cause.Cause.{Cause}
 use Rattle.run_hooks.proofs.alive.Parts.{all_append, all_where}
 use Rattle.run_memory.specs.Memory.{Rights, access_bytes, are_parts, both, bytes_at, bytes_in, check, copied, copy, decode}
@@ -11,7 +10,6 @@ use Rattle.run_memory.specs.Memory.{digits, disowned, encode, ended, fresh, inte
 use Rattle.run_memory.specs.Memory.{is_unkilled, kill, killed, killed_block, load, may_be_owned, number_of, on_ok, overlaps}
 use Rattle.run_memory.specs.Memory.{own, owned_to, parts, pointer_from, range, started, store, unless_constant, with_block}
 use Rattle.run_memory.specs.Memory.{with_bytes, write, written}
-use Rattle.run_memory.specs.Pointers.{moved}
 use Rattle.run_memory.specs.declared.block.Byte.{Byte}
 use Rattle.run_memory.specs.declared.block.Kind.{Kind}
 use Rattle.run_memory.specs.declared.block.Life.{Life}

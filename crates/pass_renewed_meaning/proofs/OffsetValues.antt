@@ -1,9 +1,9 @@
 -- An instruction keeps offsets of 64 bits.
-use Rattle.std.proofs.Common.{◌≡◌, ◌<◌, ℕ, zero, suc, ◌+◌, ◌%◌, ◌^◌, Bool, true, false, not, List, [], ◌∷◌, length, map, Option}
+use Rattle.std.proofs.Common.{◌≡◌, ◌<◌, ℕ, zero, suc, ◌+◌, ◌%◌, ◌^◌, Bool, true, false, not, List, [], ◌∷◌, length, Option}
 use Rattle.std.proofs.Common.{Some, None, Result, Ok, Err, refl, sym, ap, ◌∙◌, subst, arith, replicate, if◌then◌else◌, ◌&&◌}
 use Rattle.std.proofs.Common.{◌==◌}
 use Rattle.std.proofs.Math.Nat.{mod-lt}
-use Rattle.std.specs.Prelude.{ℤ, slice_get, slice_set, unwrap_or}
+use Rattle.std.specs.Prelude.{ℤ, slice_get, unwrap_or}
 use Rattle.ir_base.specs.declared.cause.Cause.{Cause}
 use Rattle.ir_base.specs.declared.ops.CastOp.{CastOp}
 use Rattle.ir_base.specs.declared.ops.Pred.{Pred}
@@ -24,17 +24,16 @@ use Rattle.ir_model.specs.declared.operand.Arg.{Arg}
 use Rattle.ir_model.specs.declared.operand.Callee.{Callee}
 use Rattle.ir_model.specs.declared.operand.Intrinsic.{Intrinsic}
 use Rattle.pass_kept_proof.specs.Kept.{kept}
-use Rattle.run_ints.specs.Numbers.{binary, cast, icmp}
+use Rattle.run_ints.specs.Numbers.{cast}
 use Rattle.run_ints.specs.declared.num.Num.{Num}
-use Rattle.run_memory.specs.Memory.{compare, copy, end, fresh, load, start, store}
+use Rattle.run_memory.specs.Memory.{copy, end, fresh, load, start, store}
 use Rattle.run_memory.specs.Pointers.{moved}
 use Rattle.run_memory.specs.declared.block.Kind.{Kind}
 use Rattle.run_memory.specs.declared.block.MemoryBlock.{MemoryBlock}
 use Rattle.run_memory.specs.declared.pointer.Access.{Access}
-use Rattle.run_memory.specs.declared.pointer.Offset.{Offset}
 use Rattle.run_memory.specs.declared.pointer.Pointer.{Pointer}
 use Rattle.run_memory.specs.declared.pointer.Value.{Value}
-use Rattle.run_step.specs.Step.{Action, AtInstr, AtTerm, Context, Coro, Deallocate, Done, Enter, Fetched, GoTo, NewSlot}
+use Rattle.run_step.specs.Step.{Action, AtInstr, AtTerm, Context, Done, Enter, Fetched, NewSlot}
 use Rattle.run_step.specs.Step.{Nowhere, Return, Stuck, Work, action_of, alloca, alloca_kind, allocated, allocator_call}
 use Rattle.run_step.specs.Step.{answer, block_of, branch, by_pred, cast_to, chosen, compared, copied_bytes, done, entry_values}
 use Rattle.run_step.specs.Step.{fits_function, has_markers, if_alignment, incoming_from, indirect_call, instr_action}

@@ -1,55 +1,44 @@
--- Ordinary instructions, calls of functions and allocators: the second run does what the first does.
+-- Ordinary instructions: the second run does what the first does.
 use Rattle.std.proofs.Common.{◌≡◌, ℕ, ◌<◌, ◌^◌, ◌⊎◌, inl, inr, Bool, true, false, List, Option, Some, None, Result, Ok, Err}
 use Rattle.std.proofs.Common.{refl, sym, ap, ◌∙◌, subst, if◌then◌else◌, arith}
-use Rattle.std.specs.Prelude.{IsTrue, slice_get, ℤ}
-use Rattle.std.proofs.lemmas.Bool.{false≢true}
+use Rattle.std.specs.Prelude.{ℤ}
 use Rattle.ir_base.specs.declared.cause.Cause.{Cause}
 use Rattle.ir_base.specs.declared.ops.BinOp.{BinOp}
 use Rattle.ir_base.specs.declared.ops.CastOp.{CastOp}
 use Rattle.ir_base.specs.declared.ops.Flags.{Flags}
 use Rattle.ir_base.specs.declared.ops.Pred.{Pred}
-use Rattle.ir_base.specs.declared.outcome.Word.{Word}
 use Rattle.ir_model.specs.Names.{declaration_named, function_at, function_named, global_named, is_local}
 use Rattle.ir_model.specs.Ty.{Ty, array, int, named, ptr, structure, token}
 use Rattle.ir_model.specs.declared.instr.Instr.{Instr}
 use Rattle.ir_model.specs.declared.module.Function.{Function}
 use Rattle.ir_model.specs.declared.module.Module.{Module}
-use Rattle.ir_model.specs.declared.operand.Allocator.{Allocator}
 use Rattle.ir_model.specs.declared.operand.Arg.{Arg}
 use Rattle.ir_model.specs.declared.operand.Callee.{Callee}
 use Rattle.ir_model.specs.declared.operand.Intrinsic.{Intrinsic}
 use Rattle.ir_model.specs.declared.operand.Operand.{Operand}
 use Rattle.ir_paths.specs.Windows.{is_call_of}
 use Rattle.run_laws.specs.embedded.Related.{HasNoSlot}
-use Rattle.run_laws.specs.embedded.Making.{IsSmall}
 use Rattle.run_memory.specs.Memory.{copy}
-use Rattle.run_memory.specs.declared.pointer.Pointer.{Pointer}
 use Rattle.run_memory.specs.declared.pointer.Value.{Value}
-use Rattle.run_source.specs.Source.{context_of, enter}
+use Rattle.run_source.specs.Source.{context_of}
 use Rattle.run_source.specs.State.{next, settled, work_of}
 use Rattle.run_source.specs.declared.state.State.{State}
-use Rattle.run_step.specs.Step.{Action, AtInstr, Context, Coro, Deallocate, Done, Enter, Fetched, GoTo, NewSlot, Return}
+use Rattle.run_step.specs.Step.{Action, AtInstr, Context, Coro, Deallocate, Done, Enter, GoTo, NewSlot, Return}
 use Rattle.run_step.specs.Step.{Stuck, Work, allocated, copied_bytes, done, fetch, fits_function, if_alignment, indirect_call}
 use Rattle.run_step.specs.Step.{is_alignment, named_call, observed, set_memory, with_length, words_of}
 use Rattle.run_step.specs.Values.{Env, address, address_from, arg_values, literal, nth, operand_value, value_in}
-use Rattle.run_types.proofs.Runs.{sizes_small}
-use Rattle.run_types.specs.States.{IsMalloc, IsNew, TakesSize}
 use Rattle.pass_renewed_meaning.proofs.Addresses.{address_on}
 use Rattle.pass_renewed_meaning.proofs.Here.{Here, IsCase, first_act, first_action, keeps, left_asleep, none_below, other}
 use Rattle.pass_renewed_meaning.proofs.Here.{second_action}
 use Rattle.pass_renewed_meaning.proofs.OneStep.{IsOneStep}
-use Rattle.pass_renewed_meaning.proofs.Points.{IsPlain, gives_address, giving_call, no_part, ordinary, plain_call}
+use Rattle.pass_renewed_meaning.proofs.Points.{IsPlain, gives_address, no_part, ordinary}
 use Rattle.pass_renewed_meaning.specs.Followed.{Goes}
 use Rattle.pass_renewed_meaning.specs.Rules.{Setting}
 use Rattle.pass_renewed_meaning.specs.Runs.{first_given, second_given}
-use Rattle.pass_renewed_proof.proofs.Allocating.{allocation_beside}
-use Rattle.pass_renewed_proof.proofs.Calling.{calls_beside}
 use Rattle.pass_renewed_proof.proofs.History.{local_is}
 use Rattle.pass_renewed_proof.proofs.Parts.{part_beside}
 use Rattle.pass_renewed_proof.proofs.Settled.{settled_beside}
 use Rattle.pass_renewed_proof.specs.Beside.{IsBeside, place_in}
-use Rattle.pass_renewed_proof.specs.Branching.{IsCallee, IsCalling}
-use Rattle.pass_renewed_proof.specs.Making.{IsAllocating, IsGiving, allocates}
 use Rattle.pass_renewed_proof.specs.Ordinary.{IsBase, IsOrdinaryInstr, IsPart, with_part}
 use Rattle.pass_renewed_proof.specs.Renewed.{is_idle, renewed_act}
 use Rattle.pass_renewed_proof.specs.SlotRules.{IsAddressOf, Itself, KeepsSlots, Part}
@@ -73,7 +62,7 @@ quiet_if align a h = on (is_alignment align)
     on true = h
     on false = tt
 
-quiet_length : (v : Value) (go : ℕ → Action) → ((n : ℕ) → IsQuiet (go n)) → IsQuiet (with_length v go)
+pub quiet_length : (v : Value) (go : ℕ → Action) → ((n : ℕ) → IsQuiet (go n)) → IsQuiet (with_length v go)
 quiet_length (Value.Int n) go h = h n.bits
 quiet_length Value.Poison go h = tt
 quiet_length (Value.Ptr p) go h = tt
@@ -82,38 +71,6 @@ quiet_copy : (c : Context) (w : Work) (vs : List Value) → IsQuiet (copied_byte
 quiet_copy c w vs = quiet_length (nth vs 2) (λ n. done (set_memory w) (copy c.rights w.world.memory (address (nth vs 0))
     (address (nth vs 1)) n)) (λ n. quiet_done (set_memory w) (copy c.rights w.world.memory (address (nth vs 0)) (address
     (nth vs 1)) n))
-
--- a call enters a function, or is done, or the run is stuck
-abbrev pub IsCallAction : Action → Type 0
-IsCallAction (Done w) = Unit {0}
-IsCallAction (Stuck cause) = Unit {0}
-IsCallAction (Enter func vs result must_tail) = Unit {0}
-IsCallAction _ = ⊥
-
-observed_kind : (c : Context) (w : Work) (d : ℕ) (ty : Option Ty) (result : Option ℕ) (ws : Option (List Word))
-    → IsCallAction (observed c w d ty result ws)
-observed_kind c w d ty result None = tt
-observed_kind c w d None result (Some ws) = tt
-observed_kind c w d (Some ty) result (Some ws) = tt
-
-named_kind : (c : Context) (w : Work) (f d : Option ℕ) (ty : Option Ty) (result : Option ℕ) (must_tail : Bool) (vs : List
-    Value) → IsCallAction (named_call c w f d ty result must_tail vs)
-named_kind c w (Some f) d ty result must_tail vs = tt
-named_kind c w None (Some d) ty result must_tail vs = observed_kind c w d ty result (words_of vs)
-named_kind c w None None ty result must_tail vs = tt
-
-indirect_kind : (c : Context) (v : Value) (ty : Option Ty) (result : Option ℕ) (must_tail : Bool) (args : List Arg) (vs :
-    List Value) → IsCallAction (indirect_call c v ty result must_tail args vs)
-indirect_kind c (Value.Ptr (Pointer.Func f)) ty result must_tail args vs = on (fits_function ty args (slice_get
-    c.code.functions f))
-  where
-    on : (t : Bool) → IsCallAction (if t then Enter f vs result must_tail else Stuck Cause.Call)
-    on true = tt
-    on false = tt
-indirect_kind c (Value.Ptr Pointer.Null) ty result must_tail args vs = tt
-indirect_kind c (Value.Ptr (Pointer.At b o)) ty result must_tail args vs = tt
-indirect_kind c (Value.Int n) ty result must_tail args vs = tt
-indirect_kind c Value.Poison ty result must_tail args vs = tt
 
 -- ---- offsets
 
@@ -152,7 +109,7 @@ same_ok e = cc
 module _ (c : Setting) (x : Here c) where
   -- ---- what is done
 
-  done_case : (i : Instr) → IsOrdinaryInstr c.code c.roots x.s.top i → is_idle (c.flags x.s.top.func) (AtInstr i) ≡ false
+  pub done_case : (i : Instr) → IsOrdinaryInstr c.code c.roots x.s.top i → is_idle (c.flags x.s.top.func) (AtInstr i) ≡ false
       → (v : Work) → first_action c x (AtInstr i) ≡ Done v → (after : State) → settled x.s v ≡ after
       → IsOneStep (second_given c) (other c x) (AtInstr i) (first_given c) after
   done_case i is idle v done after same =
@@ -184,7 +141,7 @@ module _ (c : Setting) (x : Here c) where
 
   -- ---- ordinary instructions
 
-  plain_instr : (i : Instr) → fetch (function_at c.code x.s.top.func) x.s.top.block x.s.top.at ≡ AtInstr i → IsPlain i
+  pub plain_instr : (i : Instr) → fetch (function_at c.code x.s.top.func) x.s.top.block x.s.top.at ≡ AtInstr i → IsPlain i
       → HasNoSlot (AtInstr i) → is_call_of Intrinsic.CoroEnd i ≡ false → is_call_of Intrinsic.CoroSuspend i ≡ false
       → ((v slot : ℕ) → c.roots x.s.top.func v ≡ Some slot → IsBase v i → ⊥)
       → ComparesSmall c.code x.s.top.values (AtInstr i) → IsOrdinaryInstr c.code c.roots x.s.top i
@@ -323,142 +280,6 @@ module _ (c : Setting) (x : Here c) where
   gep_case name inbounds ty Operand.Null indices = gep_other name inbounds ty _ indices (λ u e. absurd (cc))
   gep_case name inbounds ty Operand.None indices = gep_other name inbounds ty _ indices (λ u e. absurd (cc))
   gep_case name inbounds ty Operand.Poison indices = gep_other name inbounds ty _ indices (λ u e. absurd (cc))
-
-  -- ---- calls of functions
-
-  module _ (result : Option ℕ) (must_tail : Bool) (ty : Option Ty) (callee : Callee) (args : List Arg)
-      (is : IsCallee callee) where
-    abbrev i : Instr
-    i = Instr.Call result must_tail ty callee args
-
-    no_coro : (z : Callee) → IsCallee z → (j : Intrinsic) → is_call_of j (Instr.Call result must_tail ty z args) ≡ false
-    no_coro (Callee.Named n) k j = refl
-    no_coro (Callee.Local v) k j = refl
-    no_coro (Callee.Allocator a) k j = absurd k
-    no_coro (Callee.Intrinsic i) k j = absurd k
-
-    no_slot : (z : Callee) → IsCallee z → HasNoSlot (AtInstr (Instr.Call result must_tail ty z args))
-    no_slot (Callee.Named n) k = tt
-    no_slot (Callee.Local v) k = tt
-    no_slot (Callee.Allocator a) k = absurd k
-    no_slot (Callee.Intrinsic i) k = absurd k
-
-    not_idle : (z : Callee) → IsCallee z → is_idle (c.flags x.s.top.func) (AtInstr (Instr.Call result must_tail ty z args)) ≡
-        false
-    not_idle (Callee.Named n) k = refl
-    not_idle (Callee.Local v) k = refl
-    not_idle (Callee.Allocator a) k = absurd k
-    not_idle (Callee.Intrinsic i) k = absurd k
-
-    gives_result : (z : Callee) → IsCallee z → given_at (AtInstr (Instr.Call result must_tail ty z args)) ≡ result
-    gives_result (Callee.Named n) k = refl
-    gives_result (Callee.Local v) k = refl
-    gives_result (Callee.Allocator a) k = absurd k
-    gives_result (Callee.Intrinsic i) k = absurd k
-
-    call_kind : (z : Callee) → IsCallee z → IsCallAction (first_action c x (AtInstr (Instr.Call result must_tail ty z
-        args)))
-    call_kind (Callee.Named n) k = named_kind (context_of (first_given c) x.s) (work_of x.s) (function_named c.code n)
-        (declaration_named c.code n) ty result must_tail (arg_values c.code x.s.top.values args)
-    call_kind (Callee.Local v) k = indirect_kind (context_of (first_given c) x.s) (value_in x.s.top.values v) ty result
-        must_tail args (arg_values c.code x.s.top.values args)
-    call_kind (Callee.Allocator a) k = absurd k
-    call_kind (Callee.Intrinsic i) k = absurd k
-
-    pub function_case : IsCase c x (AtInstr i)
-    function_case here after acts = on (first_action c x (AtInstr i)) refl acts
-      where
-        done_instr : IsOrdinaryInstr c.code c.roots x.s.top i
-        done_instr = plain_instr i here (plain_call result must_tail ty callee args) (no_slot callee is) (no_coro callee is
-            Intrinsic.CoroEnd) (no_coro callee is Intrinsic.CoroSuspend) (λ v slot root h. h) tt
-
-        kind : IsCallAction (first_action c x (AtInstr i))
-        kind = call_kind callee is
-
-        calling : IsCalling c.code c.roots x.s.top result must_tail ty callee args
-        calling = record {
-          place = done_instr.place;
-          here = here;
-          is = is;
-          no_part = λ v slot root given. done_instr.no_part v slot root (gives_result callee is ∙ given);
-        }
-
-        acts_on : Action → Result State Cause
-        acts_on a = renewed_act (second_given c) (other c x) a
-
-        on : (a : Action) → first_action c x (AtInstr i) ≡ a → first_act c x a ≡ Ok after
-            → IsOneStep (second_given c) (other c x) (AtInstr i) (first_given c) after
-        on (Done v) e h = done_case i done_instr (not_idle callee is) v e after (same_ok h)
-        on (Enter func vs name tail) e h =
-            let r = calls_beside c.code c.flags c.roots (keeps c x) x.s (other c x) x.beside result must_tail ty callee args
-            calling c.answers func vs name tail (none_below c x) (left_asleep c x) e in
-            record {
-              other = enter (second_given c).given (other c x) func r.0 name;
-              goes = ap (λ b. if b then Ok (next (other c x)) else acts_on (second_action c x (AtInstr i))) (not_idle callee
-                  is) ∙ ap acts_on r.1;
-              related = Goes (subst (λ z. IsBeside c.code c.flags c.roots z (enter (second_given c).given (other c x) func r.0
-                  name)) (same_ok h) r.2);
-            }
-        on (Stuck cause) e h = let z : Err cause ≡ Ok after = h in absurd (cc)
-        on (NewSlot w slot) e h = absurd (subst IsCallAction e kind)
-        on (Coro j args' name) e h = absurd (subst IsCallAction e kind)
-        on (Deallocate p) e h = absurd (subst IsCallAction e kind)
-        on (GoTo label) e h = absurd (subst IsCallAction e kind)
-        on (Return v) e h = absurd (subst IsCallAction e kind)
-
-  -- ---- allocators
-
-  module _ (result : Option ℕ) (must_tail : Bool) (ty : Option Ty) (args : List Arg) where
-    allocator_case : (a : Allocator) → IsTrue (allocates a) → TakesSize a → IsQuiet (first_action c x (AtInstr (Instr.Call
-        result must_tail ty (Callee.Allocator a) args))) → given_at (AtInstr (Instr.Call result must_tail ty
-        (Callee.Allocator a) args)) ≡ result → IsCase c x (AtInstr (Instr.Call result must_tail ty (Callee.Allocator a)
-        args))
-    allocator_case a allocating takes quiet gives here after acts = on (first_action c x (AtInstr i)) refl quiet acts
-      where
-        i : Instr
-        i = Instr.Call result must_tail ty (Callee.Allocator a) args
-
-        is : IsAllocating c.code c.roots x.s.top a result must_tail ty args
-        is = record {
-          giving = subst (IsGiving c.code c.roots x.s.top (Instr.Call result must_tail ty (Callee.Allocator a) args)) gives
-              (giving_call c.code c.flags c.roots x.s.top (keeps c x x.s.top.func) result must_tail ty (Callee.Allocator a)
-              args here refl refl refl);
-          is = allocating;
-        }
-
-        small : IsSmall (nth (arg_values c.code x.s.top.values args) 0)
-        small = sizes_small c.code (function_at c.code x.s.top.func) x.s.top.values (x.all.types x.s.top.func)
-            x.run.fitting.top x.s.top.block x.s.top.at result must_tail ty a args here takes
-
-        acts_on : Action → Result State Cause
-        acts_on z = renewed_act (second_given c) (other c x) z
-
-        on : (z : Action) → first_action c x (AtInstr (Instr.Call result must_tail ty (Callee.Allocator a) args)) ≡ z
-            → IsQuiet z → first_act c x z ≡ Ok after → IsOneStep (second_given c) (other c x) (AtInstr (Instr.Call result
-            must_tail ty (Callee.Allocator a) args)) (first_given c) after
-        on (Done v) e h k =
-            let r = allocation_beside c.code c.flags c.roots (keeps c x) x.s (other c x) x.beside a result must_tail ty args
-            is c.answers small v e in
-            record {
-              other = settled (other c x) r.0;
-              goes = ap acts_on r.1;
-              related = Goes (subst (λ z. IsBeside c.code c.flags c.roots z (settled (other c x) r.0)) (same_ok k) r.2);
-            }
-        on (Stuck cause) e h k = let z : Err cause ≡ Ok after = k in absurd (cc)
-        on (NewSlot w slot) e h k = absurd h
-        on (Enter func vs name tail) e h k = absurd h
-        on (Coro j args' name) e h k = absurd h
-        on (Deallocate p) e h k = absurd h
-        on (GoTo label) e h k = absurd h
-        on (Return v) e h k = absurd h
-
-    pub malloc_case : IsCase c x (AtInstr (Instr.Call result must_tail ty (Callee.Allocator Allocator.Malloc) args))
-    malloc_case = allocator_case Allocator.Malloc refl IsMalloc (quiet_length (nth (arg_values c.code x.s.top.values args) 0)
-        (λ n. Done (allocated (work_of x.s) result n)) (λ n. tt)) refl
-
-    pub new_case : IsCase c x (AtInstr (Instr.Call result must_tail ty (Callee.Allocator Allocator.Znwm) args))
-    new_case = allocator_case Allocator.Znwm refl IsNew (quiet_length (nth (arg_values c.code x.s.top.values args) 0) (λ n.
-        Done (allocated (work_of x.s) result n)) (λ n. tt)) refl
 
   -- ---- all of them
 

@@ -1,14 +1,13 @@
 -- What the topmost activation knows of the others, by the invariants of runs.
-use Rattle.std.proofs.Common.{◌≡◌, ℕ, zero, suc, Bool, true, false, List, [], ◌∷◌, length, map, Option, Some, None, refl, sym}
+use Rattle.std.proofs.Common.{◌≡◌, ℕ, zero, suc, Bool, true, false, List, [], ◌∷◌, length, Option, Some, None, refl, sym}
 use Rattle.std.proofs.Common.{ap, ◌∙◌, subst}
 use Rattle.std.proofs.lemmas.Bool.{false≢true}
 use Rattle.std.specs.Prelude.{slice_get}
 use Rattle.ir_model.specs.declared.module.Module.{Module}
 use Rattle.pass_kept_proof.specs.Related.{coroutines}
 use Rattle.run_hooks.proofs.Left.{sleeps_at}
-use Rattle.run_hooks.specs.Left.{AreLast, HaveLeft, IsAwake, sleeps}
+use Rattle.run_hooks.specs.Left.{HaveLeft, IsAwake, sleeps}
 use Rattle.run_memory.specs.declared.block.MemoryBlock.{MemoryBlock}
-use Rattle.run_source.specs.State.{is_suspended}
 use Rattle.run_source.specs.declared.state.Activation.{Activation}
 use Rattle.run_source.specs.declared.state.Instance.{Instance}
 use Rattle.run_source.specs.declared.state.Mode.{Mode}

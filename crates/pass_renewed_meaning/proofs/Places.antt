@@ -1,5 +1,5 @@
 -- The rules of places, with the windows that the first run looks up.
-use Rattle.std.proofs.Common.{◌≡◌, ℕ, List, map, Option, Some, None, refl, sym, ap, ◌∙◌, subst}
+use Rattle.std.proofs.Common.{◌≡◌, ℕ, map, Option, Some, None, refl, sym, ap, ◌∙◌, subst}
 use Rattle.std.specs.Prelude.{All, slice_get, unwrap_or}
 use Rattle.ir_model.specs.Names.{function_at, no_function}
 use Rattle.ir_model.specs.declared.module.Function.{Function}

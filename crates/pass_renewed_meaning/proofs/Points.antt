@@ -1,5 +1,5 @@
 -- What stands at a place, and the names that it gives, by the rules.
-use Rattle.std.proofs.Common.{◌≡◌, ℕ, ◌+◌, Bool, true, false, List, Option, Some, None, refl, sym, ap, ◌∙◌, subst, ⊎_elim}
+use Rattle.std.proofs.Common.{◌≡◌, ℕ, Bool, true, false, List, Option, Some, sym, ap, ◌∙◌, subst}
 use Rattle.std.proofs.lemmas.Bool.{false≢true}
 use Rattle.ir_model.specs.Names.{function_at}
 use Rattle.ir_model.specs.Ty.{Ty}
@@ -10,7 +10,7 @@ use Rattle.ir_model.specs.declared.operand.Arg.{Arg}
 use Rattle.ir_model.specs.declared.operand.Callee.{Callee}
 use Rattle.ir_model.specs.declared.operand.Intrinsic.{Intrinsic}
 use Rattle.ir_model.specs.declared.operand.Operand.{Operand}
-use Rattle.ir_paths.specs.Windows.{end_block, is_call_of}
+use Rattle.ir_paths.specs.Windows.{is_call_of}
 use Rattle.ir_paths.specs.declared.point.Point.{Point}
 use Rattle.pass_kept_proof.specs.SuspendRules.{IsCallAt}
 use Rattle.run_source.specs.declared.state.Activation.{Activation}

@@ -18,7 +18,6 @@ use Rattle.ir_paths.specs.declared.point.Point.{Point}
 use Rattle.ir_laws.specs.facts.expanded.Tokens.{IsNamedResult}
 use Rattle.pass_kept_proof.specs.Kept.{continue_keeping}
 use Rattle.pass_kept_proof.specs.Needed.{BranchesTo}
-use Rattle.pass_kept_proof.specs.SuspendRules.{IsCallAt}
 use Rattle.rule_windows.specs.Windows.{own_edges}
 use Rattle.run_agreement.specs.Costs.{cost_from}
 use Rattle.run_agreement.specs.Machines.{iterate}
@@ -36,14 +35,14 @@ use Rattle.run_source_tables.specs.Given.{is_final}
 use Rattle.run_states.proofs.sound_states.Fits.{result_named}
 use Rattle.run_states.specs.sound_states.Sound.{IsSoundStatus}
 use Rattle.run_step.specs.Results.{and_then, found, ok_if}
-use Rattle.run_step.specs.Step.{AtInstr, Fetched, action_of, fetch, fetch_in, phis_of}
+use Rattle.run_step.specs.Step.{AtInstr, action_of, fetch, fetch_in, phis_of}
 use Rattle.run_step.specs.Values.{arg_values, nth}
 use Rattle.run_laws.specs.changed.Changed.{result_at}
 use Rattle.pass_renewed_meaning.proofs.Handles.{IsInSlot, arg_there, no_instance}
 use Rattle.pass_renewed_meaning.proofs.Here.{Here, first_act, first_action, keeps, other}
 use Rattle.pass_renewed_meaning.proofs.Points.{giving_call}
 use Rattle.pass_renewed_meaning.proofs.Resuming.{on_way, resumes_beside, resumes_cost}
-use Rattle.pass_renewed_meaning.specs.Followed.{Goes, AreInStep, IsFollowed, IsOnItsWay}
+use Rattle.pass_renewed_meaning.specs.Followed.{Goes, IsFollowed, IsOnItsWay}
 use Rattle.pass_renewed_meaning.specs.Resumes.{IsResuming}
 use Rattle.pass_renewed_meaning.specs.Rules.{Setting}
 use Rattle.pass_renewed_meaning.specs.Runs.{first_given, first_step, second_given}

@@ -1,6 +1,6 @@
 -- The activation that a resume or destroy puts on top: behind all slots that it makes anew it stands beside the first
 -- run's.
-use Rattle.std.proofs.Common.{◌≡◌, ◌≢◌, ℕ, zero, suc, ◌+◌, ◌<◌, ◌≤◌, ◌⊎◌, ◌^◌, inl, inr, Bool, true, false, List, [], ◌∷◌, length}
+use Rattle.std.proofs.Common.{◌≡◌, ◌≢◌, ℕ, suc, ◌+◌, ◌<◌, ◌≤◌, ◌⊎◌, ◌^◌, inl, inr, Bool, true, false, List, [], ◌∷◌, length}
 use Rattle.std.proofs.Common.{Option, Some, None, refl, sym, ap, ◌∙◌, subst, ⊎_elim, arith, if◌then◌else◌}
 use Rattle.std.proofs.lemmas.Bool.{false≢true}
 use Rattle.std.proofs.lemmas.List.{length-replicate}
@@ -16,13 +16,12 @@ use Rattle.ir_model.specs.declared.module.Function.{Function}
 use Rattle.ir_model.specs.declared.module.Module.{Module}
 use Rattle.ir_model.specs.declared.operand.Callee.{Callee}
 use Rattle.ir_model.specs.declared.operand.Intrinsic.{Intrinsic}
-use Rattle.ir_paths.specs.Paths.{Leads, entry_point, has_point, nexts}
+use Rattle.ir_paths.specs.Paths.{entry_point, has_point, nexts}
 use Rattle.ir_paths.specs.Windows.{is_call_of}
 use Rattle.ir_paths.specs.declared.point.Point.{Point}
 use Rattle.frame_classes.specs.Alive.{MayBeAlive}
 use Rattle.frame_classes.specs.Classes.{suspends}
 use Rattle.frame_slots.proofs.Points.{where_sound}
-use Rattle.frame_slots.specs.Uses.{ends_of}
 use Rattle.pass_kept_proof.proofs.Same.{kept_at, kept_wide}
 use Rattle.pass_kept_proof.specs.Kept.{kept}
 use Rattle.pass_kept_proof.specs.Needed.{BranchesTo}
@@ -30,8 +29,7 @@ use Rattle.pass_kept_proof.specs.SuspendRules.{IsCallAt}
 use Rattle.rule_windows.specs.Points.{ends}
 use Rattle.rule_windows.specs.Sets.{RunsOut}
 use Rattle.rule_windows.specs.Windows.{own_edges}
-use Rattle.run_laws.proofs.memory.Written.{same_some}
-use Rattle.run_laws.specs.memory.Pointers.{Home, home_of}
+use Rattle.run_laws.specs.memory.Pointers.{Home}
 use Rattle.run_laws.specs.memory.Standing.{blank_block}
 use Rattle.run_memory.specs.Memory.{same_kind}
 use Rattle.run_memory.specs.declared.block.Byte.{Byte}
@@ -41,7 +39,6 @@ use Rattle.run_memory.specs.declared.pointer.Value.{Value}
 use Rattle.run_source.specs.Source.{resumed}
 use Rattle.run_source.specs.declared.state.Activation.{Activation}
 use Rattle.run_source.specs.declared.state.Instance.{Instance}
-use Rattle.run_source.specs.declared.state.Mode.{Mode}
 use Rattle.run_source.specs.declared.state.State.{State}
 use Rattle.run_source.specs.declared.state.Status.{Status}
 use Rattle.run_step.specs.Step.{AtInstr, AtTerm, alloca_kind, block_of, fetch}
@@ -62,12 +59,11 @@ use Rattle.pass_renewed_proof.proofs.Settled.{seated_in}
 use Rattle.pass_renewed_proof.proofs.SlotEnvs.{kept_stand, renewed_stand}
 use Rattle.pass_renewed_proof.proofs.Steps.{cut_at}
 use Rattle.pass_renewed_proof.proofs.Way.{alive_more, barred_first, barred_used, resumed_first}
-use Rattle.pass_renewed_proof.specs.Ahead.{HasAwayUse, WasUsed}
 use Rattle.pass_renewed_proof.specs.Beside.{AreKeptBeside, AreOthers, AreSlots, Begun, IsActivationBeside, IsEarly}
 use Rattle.pass_renewed_proof.specs.Beside.{IsKeptSlot, IsOther, IsOtherValue, IsOwn, IsPassed, IsSeated, IsSlotBeside}
 use Rattle.pass_renewed_proof.specs.Beside.{IsTold, MayStand, NoSlots, Second}
 use Rattle.pass_renewed_proof.specs.Entering.{Anew, AreNext, anew_in, is_named, made_all}
-use Rattle.pass_renewed_proof.specs.Ledger.{AreEntered, IsFresh, IsOfAlloca, Ledger, LivesIn, Seat}
+use Rattle.pass_renewed_proof.specs.Ledger.{AreEntered, IsFresh, IsOfAlloca, Ledger, Seat}
 use Rattle.pass_renewed_proof.specs.Left.{behind}
 use Rattle.pass_renewed_proof.specs.Muted.{muted}
 use Rattle.pass_renewed_proof.specs.Places.{AreStanding, IsReady}
@@ -75,7 +71,6 @@ use Rattle.pass_renewed_proof.specs.Renewed.{RenewedGiven, renewed_values}
 use Rattle.pass_renewed_proof.specs.SlotEnvs.{AreMadeAnew, AreRoots, AreSlotEnvs}
 use Rattle.pass_renewed_proof.specs.SlotRules.{KeepsAllSlots, KeepsSlots}
 use Rattle.pass_renewed_proof.specs.Steps.{given_at}
-use Rattle.pass_renewed_proof.specs.Way.{IsBarred}
 
 -- ---- lists, and points
 

@@ -1,22 +1,20 @@
 -- Where an instance is resumed or destroyed the second run makes the slots of its new activation anew, and then both
 -- states are beside each other.
-use Rattle.std.proofs.Common.{◌≡◌, ℕ, suc, ◌+◌, ◌<◌, Bool, true, false, List, [], ◌∷◌, length, Option, Some, None, refl, sym, ap}
+use Rattle.std.proofs.Common.{◌≡◌, ℕ, suc, ◌+◌, ◌<◌, true, false, List, [], ◌∷◌, length, Option, Some, None, refl, sym, ap}
 use Rattle.std.proofs.Common.{◌∙◌, subst, arith}
-use Rattle.std.specs.Prelude.{IsTrue, slice_get, slice_set}
+use Rattle.std.specs.Prelude.{slice_get, slice_set}
 use Rattle.ir_base.specs.declared.outcome.Outcome.{Outcome}
 use Rattle.ir_model.specs.Names.{function_at, position_of}
 use Rattle.ir_model.specs.declared.instr.Instr.{Instr}
 use Rattle.ir_model.specs.declared.module.Function.{Function}
 use Rattle.ir_model.specs.declared.module.Module.{Module}
-use Rattle.ir_paths.specs.declared.point.Point.{Point}
 use Rattle.pass_kept_proof.specs.Kept.{continue_keeping, kept}
 use Rattle.run_agreement.specs.Machines.{iterate}
 use Rattle.run_agreement.specs.Costs.{cost_from}
-use Rattle.run_framed.specs.Framed.{at_point, enter_after, with_mode}
-use Rattle.run_laws.proofs.memory.Written.{same_some}
+use Rattle.run_framed.specs.Framed.{at_point, with_mode}
 use Rattle.run_memory.specs.declared.block.MemoryBlock.{MemoryBlock}
-use Rattle.run_source.specs.Source.{Sleeper, enter_block, push, resumed}
-use Rattle.run_source.specs.State.{function_of, is_suspended, settled, with_instance, with_status}
+use Rattle.run_source.specs.Source.{Sleeper, resumed}
+use Rattle.run_source.specs.State.{is_suspended, with_instance}
 use Rattle.run_source.specs.declared.state.Activation.{Activation}
 use Rattle.run_source.specs.declared.state.Instance.{Instance}
 use Rattle.run_source.specs.declared.state.Mode.{Mode}
@@ -25,11 +23,10 @@ use Rattle.run_source.specs.declared.state.Status.{Status}
 use Rattle.run_source_tables.specs.Given.{Given}
 use Rattle.run_step.specs.Step.{block_of, label_of, phi_values, phis_of, values_in, with_all}
 use Rattle.run_step.specs.Values.{Env, value_in}
-use Rattle.run_step.specs.declared.world.Slot.{Slot}
 use Rattle.pass_renewed_meaning.proofs.Alike.{beside_alike, same_events}
 use Rattle.pass_renewed_meaning.proofs.Between.{IsLike, alike_of, like_on}
 use Rattle.pass_renewed_meaning.proofs.NewSlots.{AreNewSlots}
-use Rattle.pass_renewed_meaning.proofs.Resumed.{made, new, next, resumed_beside, s0, vs, ws, xs}
+use Rattle.pass_renewed_meaning.proofs.Resumed.{made, new, next, resumed_beside, vs, xs}
 use Rattle.pass_renewed_meaning.specs.Followed.{AreAlike, IsOnItsWay}
 use Rattle.pass_renewed_meaning.specs.Resumes.{IsResuming}
 use Rattle.pass_renewed_proof.proofs.Carried.{AreBelowCarried, IsActivationCarried, activation_kept, below_kept}
@@ -39,14 +36,14 @@ use Rattle.pass_renewed_proof.proofs.Leaving.{running_beside}
 use Rattle.pass_renewed_proof.proofs.Listing.{set_here}
 use Rattle.pass_renewed_proof.proofs.Next.{entering_costs}
 use Rattle.pass_renewed_proof.proofs.Passing.{edge_on, passed_beside, unended, unstarted}
-use Rattle.pass_renewed_proof.specs.Beside.{AreSlots, IsActivationBeside, IsBeside, IsInstanceBeside, IsSeated, place_in}
+use Rattle.pass_renewed_proof.specs.Beside.{AreSlots, IsBeside, IsSeated, place_in}
 use Rattle.pass_renewed_proof.specs.Entering.{Anew, AreNext, anew_in, made_all, made_anew, price_of_all}
 use Rattle.pass_renewed_proof.specs.Found.{IsSleeperBeside}
 use Rattle.pass_renewed_proof.specs.Ledger.{Ledger}
 use Rattle.pass_renewed_proof.specs.Muted.{muted}
 use Rattle.pass_renewed_proof.specs.Places.{AreStanding}
 use Rattle.pass_renewed_proof.specs.Prices.{Prices, renewed_price}
-use Rattle.pass_renewed_proof.specs.Renewed.{Flags, RenewedGiven, Roots, continue_renewed, framed_of, renew_after}
+use Rattle.pass_renewed_proof.specs.Renewed.{RenewedGiven, continue_renewed, renew_after}
 use Rattle.pass_renewed_proof.specs.Renewed.{renewed_from, renewed_step, renewed_values, with_renewed}
 use Rattle.pass_renewed_proof.specs.SlotRules.{KeepsAllSlots}
 

@@ -1,9 +1,6 @@
 -- What is known of each state of the first run.
-use Rattle.std.proofs.Common.{◌≡◌, ℕ, zero, suc, ◌+◌, List, [], ◌∷◌, length, refl, sym, ap, ◌∙◌, subst}
+use Rattle.std.proofs.Common.{◌≡◌, ℕ, zero, suc, ◌+◌, List, [], ◌∷◌, length, refl, sym, ◌∙◌, subst}
 use Rattle.ir_model.specs.Names.{function_at, position_of}
-use Rattle.ir_model.specs.declared.module.Module.{Module}
-use Rattle.ir_paths.specs.declared.point.Point.{Point}
-use Rattle.ir_laws.specs.facts.sound_states.Named.{AreLocalsNamed}
 use Rattle.pass_kept_proof.proofs.Same.{kept_wide}
 use Rattle.pass_kept_proof.specs.Kept.{Keep, continue_keeping, kept}
 use Rattle.pass_kept_proof.specs.Machines.{kept_machine}
@@ -17,12 +14,11 @@ use Rattle.run_hooks.proofs.PlacedSteps.{states_placed}
 use Rattle.run_hooks.proofs.Reaching.{states_reached}
 use Rattle.run_hooks.proofs.Steps.{same_runs, source_step}
 use Rattle.run_hooks.specs.Away.{IsPlacedState}
-use Rattle.run_hooks.specs.Hooks.{Hooks, hooked_state_at, step_of}
+use Rattle.run_hooks.specs.Hooks.{hooked_state_at, step_of}
 use Rattle.run_hooks.specs.Left.{IsLastState}
 use Rattle.run_hooks.specs.Meanings.{kept_hooks}
 use Rattle.run_hooks.specs.Reached.{IsReachedState}
-use Rattle.run_source.specs.Source.{first_state, given, step_by}
-use Rattle.run_source.specs.declared.state.Instance.{Instance}
+use Rattle.run_source.specs.Source.{first_state, step_by}
 use Rattle.run_source.specs.declared.state.State.{State}
 use Rattle.run_source_tables.specs.Given.{Given}
 use Rattle.run_states.proofs.sound_states.Acts.{continue_sound}
@@ -37,7 +33,7 @@ use Rattle.run_types.specs.States.{IsFittingState}
 use Rattle.std.specs.Prelude.{slice_get}
 use Rattle.pass_renewed_meaning.proofs.Places.{has_switches, place_rules}
 use Rattle.pass_renewed_meaning.specs.Rules.{KeepsAll, Setting}
-use Rattle.pass_renewed_meaning.specs.Runs.{IsOfRun, first_given, first_step}
+use Rattle.pass_renewed_meaning.specs.Runs.{IsOfRun, first_given}
 use Rattle.pass_renewed_proof.proofs.EnteredValues.{set_length}
 
 -- ---- as many values as names, where a resume hands on some

@@ -21,7 +21,6 @@ use Rattle.run_memory.specs.declared.pointer.Value.{Value}
 use Rattle.run_source.specs.Source.{save, save_before, save_for, suspend}
 use Rattle.run_source.specs.State.{gives, next, own_instance, with_instance, with_left}
 use Rattle.run_source.specs.declared.state.Instance.{Instance}
-use Rattle.run_source.specs.declared.state.Saved.{Saved}
 use Rattle.run_source.specs.declared.state.State.{State}
 use Rattle.run_source.specs.declared.state.Status.{Status}
 use Rattle.run_step.specs.Results.{and_then, found, ok_if}

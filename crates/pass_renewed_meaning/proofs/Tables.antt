@@ -3,14 +3,13 @@ use Rattle.std.proofs.Common.{◌≡◌, ℕ, zero, suc, List, [], ◌∷◌, ma
 use Rattle.std.specs.Prelude.{slice_get, unwrap_or}
 use Rattle.ir_model.specs.Names.{function_at, no_function}
 use Rattle.ir_model.specs.declared.instr.Instr.{Instr}
-use Rattle.ir_model.specs.declared.module.Block.{Block}
 use Rattle.ir_model.specs.declared.module.Function.{Function}
 use Rattle.ir_model.specs.declared.module.Module.{Module}
 use Rattle.ir_paths.proofs.Right.{facts_of_right}
 use Rattle.ir_paths.specs.Facts.{AreFactsOf, all_facts, facts_of}
 use Rattle.ir_paths.specs.declared.point.Facts.{Facts}
 use Rattle.run_source_tables.specs.Given.{facts_at}
-use Rattle.run_step.specs.Step.{AtInstr, fetch, fetch_in}
+use Rattle.run_step.specs.Step.{AtInstr, fetch}
 use Rattle.pass_renewed_proof.specs.Renewed.{Flags, facts_from, renewed_facts}
 
 -- ---- lists

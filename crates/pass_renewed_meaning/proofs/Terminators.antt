@@ -1,7 +1,6 @@
 -- Branches and returns: the second run does what the first does.
-use Rattle.std.proofs.Common.{◌≡◌, ℕ, ◌+◌, Bool, true, false, List, [], ◌∷◌, length, Option, Some, None, Result, Ok, Err, refl, sym, ap}
+use Rattle.std.proofs.Common.{◌≡◌, ℕ, Bool, true, false, List, [], ◌∷◌, length, Option, Some, None, Result, Ok, Err, refl, sym, ap}
 use Rattle.std.proofs.Common.{◌∙◌, subst, if◌then◌else◌, ◌==◌}
-use Rattle.std.specs.Prelude.{slice_get}
 use Rattle.std.specs.List.{list_all}
 use Rattle.ir_base.specs.declared.cause.Cause.{Cause}
 use Rattle.ir_base.specs.declared.outcome.Outcome.{Outcome}
@@ -9,7 +8,6 @@ use Rattle.ir_model.specs.Names.{function_at, position_of}
 use Rattle.ir_model.specs.Ty.{int}
 use Rattle.ir_model.specs.declared.instr.Case.{Case}
 use Rattle.ir_model.specs.declared.instr.Terminator.{Terminator}
-use Rattle.ir_model.specs.declared.module.Function.{Function}
 use Rattle.ir_model.specs.declared.operand.Arg.{Arg}
 use Rattle.ir_model.specs.declared.operand.Operand.{Operand}
 use Rattle.ir_paths.specs.Facts.{IsWindow}
@@ -26,16 +24,16 @@ use Rattle.run_hooks.specs.Away.{HasStop}
 use Rattle.run_hooks.specs.Left.{HaveLeft, IsLastState}
 use Rattle.run_laws.specs.transfer.Shapes.{Pair}
 use Rattle.run_memory.specs.declared.pointer.Value.{Value}
-use Rattle.run_source.specs.Source.{act, advance_by, branch_leaving, context_of, enter_block, go_to, left_windows}
+use Rattle.run_source.specs.Source.{advance_by, branch_leaving, context_of, enter_block, go_to, left_windows}
 use Rattle.run_source.specs.Source.{may_leave, pop, return, returned}
-use Rattle.run_source.specs.State.{function_of, or_undefined, own_facts, own_instance, with_left, with_status, work_of}
+use Rattle.run_source.specs.State.{or_undefined, own_facts, own_instance, with_left, with_status, work_of}
 use Rattle.run_source.specs.declared.state.Activation.{Activation}
 use Rattle.run_source.specs.declared.state.Instance.{Instance}
 use Rattle.run_source.specs.declared.state.State.{State}
 use Rattle.run_source.specs.declared.state.Status.{Status}
 use Rattle.run_source_tables.specs.Given.{Given}
 use Rattle.run_step.specs.Results.{and_then, found, ok_if}
-use Rattle.run_step.specs.Step.{Action, AtTerm, Coro, Deallocate, Done, Enter, Fetched, GoTo, NewSlot, Nowhere, Return}
+use Rattle.run_step.specs.Step.{Action, AtTerm, GoTo, Nowhere, Return}
 use Rattle.run_step.specs.Step.{Stuck, action_of, branch, fetch, outcome_of, switch, target_of, value_at}
 use Rattle.run_step.specs.Values.{arg_value}
 use Rattle.pass_renewed_meaning.proofs.Alike.{below_alike, instances_alike}
@@ -52,7 +50,7 @@ use Rattle.pass_renewed_proof.proofs.GoingTo.{gone_to}
 use Rattle.pass_renewed_proof.proofs.Returns.{back_to_caller, run_ends}
 use Rattle.pass_renewed_proof.proofs.SameBranches.{same_label}
 use Rattle.pass_renewed_proof.specs.Ahead.{IsBehindSuspendCall}
-use Rattle.pass_renewed_proof.specs.Beside.{AreBelow, AreOutdone, IsBeside}
+use Rattle.pass_renewed_proof.specs.Beside.{AreBelow, AreOutdone}
 use Rattle.pass_renewed_proof.specs.Branching.{AreWindowsOf, IsBranching}
 use Rattle.pass_renewed_proof.specs.Renewed.{renewed_act}
 

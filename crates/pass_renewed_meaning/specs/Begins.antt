@@ -1,5 +1,5 @@
 -- Where an activation begins an instance.
-use Rattle.std.specs.Prelude.{◌≡◌, ℕ, Bool, false, true, Option}
+use Rattle.std.specs.Prelude.{◌≡◌, ℕ, false, true, Option}
 use Rattle.ir_model.specs.declared.instr.Instr.{Instr}
 use Rattle.ir_model.specs.declared.module.Module.{Module}
 use Rattle.ir_model.specs.declared.operand.Intrinsic.{Intrinsic}

@@ -1,5 +1,5 @@
 -- What the run that makes slots anew does for one step of the run before, and what that costs.
-use Rattle.std.specs.Prelude.{◌≡◌, ℕ, ℤ, List, ◌∷◌, ◌≤◌, ◌<◌, ◌+◌}
+use Rattle.std.specs.Prelude.{◌≡◌, ℕ, ℤ, List, ◌∷◌, ◌≤◌, ◌<◌}
 use Rattle.ir_base.specs.declared.outcome.Outcome.{Outcome}
 use Rattle.ir_base.specs.declared.outcome.Word.{Word}
 use Rattle.ir_model.specs.declared.module.Frame.{Frame}

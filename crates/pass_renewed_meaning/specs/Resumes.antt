@@ -1,5 +1,5 @@
 -- Where an instance is resumed or destroyed, and where its new activation goes on.
-use Rattle.std.specs.Prelude.{◌≡◌, ◌<◌, ◌+◌, ℕ, List, [], None, Some, IsTrue, length, slice_get}
+use Rattle.std.specs.Prelude.{◌≡◌, ◌<◌, ◌+◌, ℕ, [], None, Some, IsTrue, length, slice_get}
 use Rattle.ir_model.specs.Names.{function_at, position_of}
 use Rattle.ir_model.specs.declared.instr.Instr.{Instr}
 use Rattle.ir_model.specs.declared.module.Block.{Block}
@@ -9,7 +9,6 @@ use Rattle.pass_kept_proof.specs.Needed.{BranchesTo}
 use Rattle.rule_windows.specs.Windows.{own_edges}
 use Rattle.run_source.specs.Source.{Sleeper}
 use Rattle.run_source.specs.declared.state.State.{State}
-use Rattle.run_source.specs.declared.state.Status.{Status}
 use Rattle.run_step.specs.Step.{fetch, phis_of}
 use Rattle.pass_renewed_proof.specs.Making.{IsGiving}
 use Rattle.pass_renewed_proof.specs.Renewed.{Flags, Roots}

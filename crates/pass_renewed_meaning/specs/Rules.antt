@@ -1,12 +1,11 @@
 -- What steps ask of a function besides what is asked of its slots; each part is a consequence of rules by which modules
 -- are refused, or of blocks on edges.
-use Rattle.std.specs.Prelude.{◌≡◌, ◌⊎◌, ◌<◌, ◌^◌, ℕ, ℤ, Bool, List, [], Option, Some, slice_get}
+use Rattle.std.specs.Prelude.{◌≡◌, ◌⊎◌, ◌<◌, ◌^◌, ℕ, ℤ, Bool, List, [], Option, slice_get}
 use Rattle.ir_base.specs.declared.outcome.Word.{Word}
 use Rattle.ir_model.specs.Layout.{size_of}
 use Rattle.ir_model.specs.Names.{function_at, position_of}
 use Rattle.ir_model.specs.Ty.{Ty}
 use Rattle.ir_model.specs.declared.instr.Instr.{Instr}
-use Rattle.ir_model.specs.declared.module.Block.{Block}
 use Rattle.ir_model.specs.declared.module.Frame.{Frame}
 use Rattle.ir_model.specs.declared.module.Function.{Function}
 use Rattle.ir_model.specs.declared.module.Module.{Module}

@@ -1,5 +1,4 @@
 -- What is known of each state of the first run: the invariants that steps ask for.
-use Rattle.std.specs.Prelude.{ℕ}
 use Rattle.pass_kept_proof.specs.Kept.{continue_keeping}
 use Rattle.run_hooks.specs.Away.{IsPlacedState}
 use Rattle.run_hooks.specs.Left.{IsLastState}
