@@ -4,9 +4,12 @@ pub mod Costs
 pub mod Distances
 pub mod Entry
 pub mod Fetched
+pub mod Followed
 pub mod Framings
 pub mod Geps
 pub mod Layers
+pub mod Led
+pub mod Lined
 pub mod Lines
 pub mod Loaded
 pub mod Meaning
@@ -19,6 +22,7 @@ pub mod Places
 pub mod Reached
 pub mod Related
 pub mod Saves
+pub mod Stepping
 pub mod Stores
 pub mod Tests
 pub mod Worked

@@ -74,7 +74,7 @@ call_quiet e u z (Some f) declared ty r must_tail vs none is = absurd (cc)
 call_quiet e u z None None ty r must_tail vs none is = absurd (cc)
 call_quiet e u z None (Some n) ty r must_tail vs none is = observed_quiet e u z n ty r (words_of vs) is
 
-quiet_memory : (e : Context) (u z : Work) (i : Instr) → IsQuiet e i → instr_action e u i ≡ Done z
+pub quiet_memory : (e : Context) (u z : Work) (i : Instr) → IsQuiet e i → instr_action e u i ≡ Done z
     → z.world.memory ≡ u.world.memory
 quiet_memory e u z (Instr.Binary r op flags ty a b) q is =
     result_quiet (λ (k : Num). set_value u r (value_of k))

@@ -1,0 +1,5 @@
+pub mod Far
+pub mod Front
+pub mod Steps
+pub mod Through
+pub mod Twice

@@ -1,0 +1,11 @@
+pub mod After
+pub mod Called
+pub mod Codes
+pub mod Executed
+pub mod Line
+pub mod May
+pub mod Operands
+pub mod Ordinary
+pub mod Other
+pub mod Rest
+pub mod Stands
