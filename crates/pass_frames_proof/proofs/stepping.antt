@@ -4,8 +4,10 @@ pub mod Codes
 pub mod Executed
 pub mod Line
 pub mod May
+pub mod Names
 pub mod Operands
 pub mod Ordinary
 pub mod Other
 pub mod Rest
+pub mod Same
 pub mod Stands

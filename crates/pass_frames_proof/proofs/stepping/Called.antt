@@ -10,7 +10,8 @@ use Rattle.ir_model.specs.declared.operand.Callee.{Callee}
 use Rattle.pass_frames_proof.proofs.lined.Lines.{framed_does, no_gift}
 use Rattle.pass_frames_proof.proofs.stepping.May.{named_alike}
 use Rattle.pass_frames_proof.proofs.stepping.Other.{AreStanding, fetched_there, here_is, joined, one_followed, one_standing, same_names, shape, stands, values_other}
-use Rattle.pass_frames_proof.proofs.stepping.Rest.{below_kept, instance_kept}
+use Rattle.pass_frames_proof.proofs.stepping.Rest.{LeavesRest, below_kept, instance_kept}
+use Rattle.pass_frames_proof.proofs.stepping.Same.{rest_left}
 use Rattle.pass_frames_proof.proofs.stepping.Stands.{cost_is, renewed_does}
 use Rattle.pass_frames_proof.specs.Followed.{IsFollowed}
 use Rattle.pass_frames_proof.specs.Lined.{gives_frame}
@@ -209,6 +210,11 @@ module _ (b : Building) (g : RenewedGiven) (given : AreGiven b g) (s t : State) 
         (is_coroutine b s.top.func && lies_in_frame (offsets (b.framing s.top.func)) slot.alloca) (r.top.slots slot e);
   }
 
+  left : LeavesRest b s t r s.world t.world
+  left =
+      rest_left b s t r s.world t.world (λ q. ⊥) given.framings refl (λ q none. refl) (λ q lt seen no. no)
+      (λ q l no. no)
+
   related_call : AreBuiltOf b (enter g.given s func args result) (enter b.given.given t func others result)
   related_call = record {
     homes = r.homes;
@@ -220,13 +226,11 @@ module _ (b : Building) (g : RenewedGiven) (given : AreGiven b g) (s t : State) 
     hidden = r.hidden;
     count = r.count;
     instances = λ k x y e e'.
-        instance_kept b s t r s.world t.world (λ q. ⊥) (λ q none. refl) (λ q lt seen no. no) (λ q l no. no) new_s new_t
-        (old_t ∷ t.below) k x y e (r.instances k x y e e');
+        instance_kept b s t r s.world t.world left new_t (old_t ∷ t.below) k x y e (r.instances k x y e e');
     top = top_new;
     below = (
       caller,
-      below_kept b s t r s.world t.world (λ q. ⊥) (λ q none. refl) (λ q lt seen no. no) (λ q l no. no) new_s new_t
-          (old_t ∷ t.below) s.below t.below (λ q l no. no) r.below,
+      below_kept b s t r s.world t.world left new_t (old_t ∷ t.below) s.below t.below (λ q l. l) (λ q l. l) r.below,
     );
     once = r.once;
     cells = ((λ is slot e name. let no : true ≡ false = sym is ∙ h.callee in absurd (cc)), r.cells);

@@ -31,7 +31,9 @@ use Rattle.pass_frames_proof.proofs.stepping.Executed.{led_there, stands_there}
 use Rattle.pass_frames_proof.proofs.stepping.Line.{common, line_gives, never_idle}
 use Rattle.pass_frames_proof.proofs.stepping.May.{cell_name, cells, free, is, low, not_returned, own_blocks, values}
 use Rattle.pass_frames_proof.proofs.stepping.Operands.{asked}
-use Rattle.pass_frames_proof.proofs.stepping.Rest.{below_apart, cell_kept, instance_kept, kept, own_slots, rest_related, stood_apart}
+use Rattle.pass_frames_proof.proofs.stepping.Rest.{LeavesRest, below_apart, instance_kept, own_slots, rest_related, stood_apart}
+use Rattle.pass_frames_proof.proofs.stepping.Same.{kept, rest_left}
+use Rattle.pass_fetch.specs.Fetching.{value_bytes}
 use Rattle.pass_frames_proof.proofs.stepping.Stands.{cost_is, made_of, renewed_does, top_is, values_of}
 use Rattle.pass_frames_proof.specs.Code.{address_state, load_name, slot_table}
 use Rattle.pass_frames_proof.specs.Followed.{IsFollowed, IsOn}
@@ -41,7 +43,7 @@ use Rattle.pass_frames_proof.specs.Lined.{GivesNone, lined}
 use Rattle.pass_frames_proof.specs.Lines.{IsCellOf, at_work}
 use Rattle.pass_frames_proof.specs.Meaning.{action_at, coroutine_cost, other_cost, step_cost}
 use Rattle.pass_frames_proof.specs.Places.{Framing, Placed, copies, edged, framed, named, offsets, place, plan, written}
-use Rattle.pass_frames_proof.specs.Related.{AreActivations, AreAhead, AreBuiltOf, AreCellsRight, AreCoroutines, AreNamed, AreWheresRight, Building, HasCells, IsAhead, IsCellName, IsFreeOf, IsWhere, instance_in, is_coroutine, is_first, point_of, slots_below, top_place}
+use Rattle.pass_frames_proof.specs.Related.{AreActivations, AreAhead, AreBuiltOf, AreCellsRight, AreCoroutines, AreNamed, AreWheresRight, Building, HasCells, IsAhead, IsCellName, IsFreeOf, instance_in, is_coroutine, is_first, point_of, slots_below, top_place}
 use Rattle.pass_frames_proof.specs.Stepping.{AreGiven, IsAtOrdinary, StandsInPlace, placed_front, placed_instr, placed_line, state_in}
 use Rattle.pass_proofs.proofs.fetch.rules.Puts.{fetch_rises}
 use Rattle.pass_proofs.specs.addresses.rules.Addresses.{lies_in_frame}
@@ -172,6 +174,10 @@ module _ (b : Building) (g : RenewedGiven) (given : AreGiven b g) (s t : State) 
   same_blocks : (e : ℕ) → (Touched e → ⊥) → slice_get led.work.world.memory e ≡ slice_get t.world.memory e
   same_blocks e none = led.spares.same e (λ slot listed of same. none (slot, listed, of, same))
 
+  left : LeavesRest b s t r v.world led.work.world
+  left =
+      rest_left b s t r v.world led.work.world Touched given.framings led.source_memory same_blocks stood others_apart
+
   -- ---- the activation on top
 
   abbrev a' : Activation
@@ -288,12 +294,19 @@ module _ (b : Building) (g : RenewedGiven) (given : AreGiven b g) (s t : State) 
       → AreWheresRight x R led.work.world.memory (instance_in t.instances t.top.instance) t.top
   wheres_here k = record {
     each = λ e listed.
-        let q = k.each e listed in
-        cell_kept R t.world.memory led.work.world.memory Touched
-        (kept b s t r v.world led.work.world Touched same_blocks stood others_apart) t.top e.cell ptr
-        (IsWhere (instance_in t.instances t.top.instance) x t.top e) q
-        (λ z. other_block t.top z.0.alloca e.cell z.0.block q.block (own_blocks t r.once) z.1 q.own
-        (λ same. apart e listed z.0.alloca z.2 same) z.3);
+        let q = k.each e listed in record {
+          block = q.block;
+          address = q.address;
+          own = q.own;
+          bytes = q.bytes;
+          sized = q.sized;
+          holds = kept b s t r v.world led.work.world Touched given.framings led.source_memory same_blocks stood
+              others_apart q.block
+              (λ z. other_block t.top z.0.alloca e.cell z.0.block q.block (own_blocks t r.once) z.1 q.own
+              (λ same. apart e listed z.0.alloca z.2 same) z.3)
+              0 (value_bytes ptr) q.bytes q.holds;
+          has = q.has;
+        };
   }
     where
       apart : (e : EarlySlot) → Contains (copies x).slots e → (u : ℕ) → IsCellOf x u → u ≡ e.cell → ⊥
@@ -333,7 +346,7 @@ module _ (b : Building) (g : RenewedGiven) (given : AreGiven b g) (s t : State) 
     instance = r.top.instance;
     has_left = r.top.has_left;
     values = values_of b r.homes R t' a' c' (is_coroutine b s.top.func) h.coroutine after;
-    slots = own_slots b s t r v.world led.work.world Touched same_blocks stood others_apart s.top.block (s.top.at + 1)
+    slots = own_slots b s t r v.world led.work.world left s.top.block (s.top.at + 1)
         t.top.block (t.top.at + length line) v.values led.work.values;
   }
 
@@ -372,9 +385,9 @@ module _ (b : Building) (g : RenewedGiven) (given : AreGiven b g) (s t : State) 
 
   pub related_after : AreBuiltOf b (settled s v) (lined t (length line) led.work)
   related_after =
-      rest_related b s t r v.world led.work.world Touched same_blocks stood others_apart s.top.block (s.top.at + 1)
+      rest_related b s t r v.world led.work.world left s.top.block (s.top.at + 1)
       t.top.block (t.top.at + length line) v.values led.work.values led.over
-      led.source_memory ahead_after top_after
+      ahead_after top_after
 
   -- ---- what is shown on the way
 
@@ -389,8 +402,10 @@ module _ (b : Building) (g : RenewedGiven) (given : AreGiven b g) (s t : State) 
           let y = other_instance b s t r j p there in (
             y.0,
             y.1,
-            instance_kept b s t r s.world u.world (λ z. ⊥)
-                (λ z none. ap (λ (w : World). slice_get w.memory z) e) (λ q lt seen no. no) (λ q l no. no) s.top (lined t k u).top t.below j p y.0 there y.2,
+            instance_kept b s t r s.world u.world
+                (rest_left b s t r s.world u.world (λ z. ⊥) given.framings refl
+                (λ z none. ap (λ (w : World). slice_get w.memory z) e) (λ q lt seen no. no) (λ q l no. no))
+                (lined t k u).top t.below j p y.0 there y.2,
           );
     };
   }
@@ -408,8 +423,10 @@ module _ (b : Building) (g : RenewedGiven) (given : AreGiven b g) (s t : State) 
           let y = other_instance b s t r j p there in (
             y.0,
             y.1,
-            instance_kept b s t r s.world u.world Touched
-                (λ z none. spares.same z (λ slot listed of same. none (slot, listed, of, same))) stood others_apart s.top (lined t k u).top t.below j p y.0 there y.2,
+            instance_kept b s t r s.world u.world
+                (rest_left b s t r s.world u.world Touched given.framings refl
+                (λ z none. spares.same z (λ slot listed of same. none (slot, listed, of, same))) stood others_apart)
+                (lined t k u).top t.below j p y.0 there y.2,
           );
     };
   }

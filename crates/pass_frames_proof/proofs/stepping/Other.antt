@@ -22,7 +22,8 @@ use Rattle.pass_frames_proof.proofs.lined.Lines.{framed_does, no_gift}
 use Rattle.pass_frames_proof.proofs.stepping.Line.{common, never_idle}
 use Rattle.pass_frames_proof.proofs.stepping.May.{named_alike, not_pointed}
 use Rattle.pass_frames_proof.proofs.stepping.Operands.{AreSameNames, other_stands, same_address}
-use Rattle.pass_frames_proof.proofs.stepping.Rest.{own_slots, rest_related}
+use Rattle.pass_frames_proof.proofs.stepping.Rest.{LeavesRest, own_slots, rest_related}
+use Rattle.pass_frames_proof.proofs.stepping.Same.{rest_left}
 use Rattle.pass_frames_proof.proofs.stepping.Stands.{cost_is, renewed_does}
 use Rattle.pass_frames_proof.specs.Followed.{IsFollowed}
 use Rattle.pass_frames_proof.specs.Lined.{gives_frame}
@@ -218,9 +219,8 @@ module _ (b : Building) (g : RenewedGiven) (given : AreGiven b g) (s t : State) 
       → AreBuiltOf b (record s { world = w; top = record s.top { block = block; at = at; values = env } })
       (record t { world = u; top = record t.top { block = block; at = at; values = other } })
   related_with w u block at env other over same same' standing =
-      rest_related b s t r w u (λ k. ⊥)
-      (λ k none. ap (λ (m : List MemoryBlock). slice_get m k) same') (λ k lt seen no. no) (λ k l no. no) block at block at
-      env other over same (λ is first here. let no : true ≡ false = sym is ∙ plain in absurd (cc)) (record {
+      rest_related b s t r w u left block at block at env other over
+      (λ is first here. let no : true ≡ false = sym is ∙ plain in absurd (cc)) (record {
         func = r.top.func;
         place = sym (point_is (record s.top { block = block; at = at; values = env }) plain);
         result = r.top.result;
@@ -232,10 +232,13 @@ module _ (b : Building) (g : RenewedGiven) (given : AreGiven b g) (s t : State) 
             (record s.top { block = block; at = at; values = env })
             (record t.top { block = block; at = at; values = other }) (is_coroutine b s.top.func) plain
             (record { each = standing.each; room = standing.room });
-        slots = own_slots b s t r w u (λ k. ⊥)
-            (λ k none. ap (λ (m : List MemoryBlock). slice_get m k) same') (λ k lt seen no. no) (λ k l no. no) block at
-            block at env other;
+        slots = own_slots b s t r w u left block at block at env other;
       })
+    where
+      left : LeavesRest b s t r w u
+      left =
+          rest_left b s t r w u (λ k. ⊥) given.framings same
+          (λ k none. ap (λ (m : List MemoryBlock). slice_get m k) same') (λ k lt seen no. no) (λ k l no. no)
 
 -- ---- an ordinary instruction
 

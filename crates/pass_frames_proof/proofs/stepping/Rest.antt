@@ -4,15 +4,21 @@ use Rattle.std.proofs.lemmas.List.{map-append}
 use Rattle.std.specs.List.{Contains}
 use Rattle.std.specs.Prelude.{None, Option, Some, map, slice_get, ◌&&◌}
 use Rattle.flow_solver.specs.Paths.{IsListed}
-use Rattle.ir_laws.proofs.facts.Lists.{get_within, none_past}
+use Rattle.ir_laws.proofs.facts.Lists.{none_past}
 use Rattle.ir_laws.proofs.paths.edges.Lists.{different_both}
 use Rattle.ir_laws.specs.paths.woven_rules.Pairs.{AreDifferent}
 use Rattle.ir_model.specs.Ty.{Ty, ptr}
+use Rattle.ir_paths.specs.declared.point.Point.{Point}
+use Rattle.pass_cells.specs.Kept.{entry}
+use Rattle.pass_cells.specs.declared.plan.KeptValue.{KeptValue}
 use Rattle.pass_fetch.specs.Fetching.{value_bytes}
-use Rattle.pass_frames.specs.Tables.{offset_at}
 use Rattle.pass_frames_proof.proofs.lines.Cells.{contained}
-use Rattle.pass_frames_proof.specs.Places.{Framing, offsets}
-use Rattle.pass_frames_proof.specs.Related.{Anything, AreActivations, AreAhead, AreAllAhead, AreBelow, AreBuiltOf, AreCellsRight, AreCellsThere, AreFieldsHeld, AreFieldsRight, AreFreeCells, AreInstances, AreMade, AreMates, AreWheresRight, AreWheresThere, Building, HasCells, HasFields, HasValues, IsAhead, IsCell, IsFreeOf, IsOwnSlot, IsSlotBy, IsStatus, instance_in, is_coroutine, is_first, returned_from, slots_below, top_place}
+use Rattle.pass_frames_proof.proofs.lines.Names.{distance_of}
+use Rattle.pass_frames_proof.proofs.lines.Results.{kept_is_cell}
+use Rattle.pass_frames_proof.proofs.stepping.Names.{cell_is_name, where_is_name}
+use Rattle.pass_frames_proof.specs.Framings.{IsFraming}
+use Rattle.pass_frames_proof.specs.Places.{Framing, offsets, plan}
+use Rattle.pass_frames_proof.specs.Related.{Anything, AreActivations, AreAhead, AreAllAhead, AreBelow, AreBuiltOf, AreCellsRight, AreCellsThere, AreFieldsRight, AreFreeCells, AreInstances, AreMade, AreMates, AreWheresRight, AreWheresThere, Building, HasCells, HasFields, HasValues, IsAhead, IsCell, IsCellName, IsFreeOf, IsKeptValue, IsSuspendNumber, IsOwnSlot, IsSlotBy, IsStatus, instance_in, is_coroutine, is_first, returned_from, slots_below, top_place}
 use Rattle.pass_proofs.specs.addresses.rules.Addresses.{lies_in_frame}
 use Rattle.run_framed.specs.Framed.{frame_rights}
 use Rattle.run_laws.proofs.transfer.Muted.{muted_length}
@@ -43,7 +49,7 @@ got_by xs k lt None e = let past : length xs ≤ k = none_past xs k e in absurd 
 pub got : {A : Type 0} (xs : List A) (k : ℕ) → k < length xs → (x : A) × (slice_get xs k ≡ Some x)
 got xs k lt = got_by xs k lt (slice_get xs k) refl
 
-seen_known : (homes : List Home) (k : ℕ) → (home_of homes k).is_seen ≡ true → k < length homes
+pub seen_known : (homes : List Home) (k : ℕ) → (home_of homes k).is_seen ≡ true → k < length homes
 seen_known [] k e = absurd (cc)
 seen_known (h ∷ homes) zero e = omega arith
 seen_known (h ∷ homes) (suc k) e = let lt : k < length homes = seen_known homes k e in omega (arith, lt)
@@ -71,167 +77,122 @@ joined_slots : (c : Activation) (cs : List Activation)
     ≡ map (λ (slot : Slot). slot.block) c.slots ++ map (λ (slot : Slot). slot.block) (slots_below cs)
 joined_slots c cs = map-append (λ (slot : Slot). slot.block) c.slots (slots_below cs)
 
-one_below : (c : Activation) (cs : List Activation) (slot : Slot) → Contains c.slots slot
+pub one_below : (c : Activation) (cs : List Activation) (slot : Slot) → Contains c.slots slot
     → IsListed slot.block (map (λ (z : Slot). z.block) (c.slots ++ slots_below cs))
 one_below c cs slot e =
     subst (IsListed slot.block) (sym (joined_slots c cs))
     (listed_before slot.block (map (λ (z : Slot). z.block) c.slots) (map (λ (z : Slot). z.block) (slots_below cs))
     (slot_block c.slots slot e))
 
-more_below : (c : Activation) (cs : List Activation) (n : ℕ)
+pub more_below : (c : Activation) (cs : List Activation) (n : ℕ)
     → IsListed n (map (λ (z : Slot). z.block) (slots_below cs))
     → IsListed n (map (λ (z : Slot). z.block) (c.slots ++ slots_below cs))
 more_below c cs n l =
     subst (IsListed n) (sym (joined_slots c cs))
     (listed_behind n (map (λ (z : Slot). z.block) c.slots) (map (λ (z : Slot). z.block) (slots_below cs)) l)
 
--- ---- what stays where some blocks are touched
+-- ---- cells of an activation whose ranges stay
 
-module _ (rights : Rights) (m k : List MemoryBlock) (Touched : ℕ → Type 0)
-    (kept : (b o most : ℕ) (bytes : List Byte) → (Touched b → ⊥) → Holds rights m b o most bytes
-    → Holds rights k b o most bytes) where
-  pub cell_kept : (c : Activation) (cell : ℕ) (ty : Ty) (Has : Value → Type 0) (h : IsCell rights m c cell ty Has)
-      → (Touched h.block → ⊥) → IsCell rights k c cell ty Has
-  cell_kept c cell ty Has h none = record {
+module _ (rights : Rights) (m k : List MemoryBlock) (x : Framing) (is : IsFraming x) (c : Activation)
+    (kept : (slot : Slot) → Contains c.slots slot → IsCellName x slot.alloca → (o most : ℕ) (bytes : List Byte)
+    → Holds rights m slot.block o most bytes → Holds rights k slot.block o most bytes) where
+  cell_on : (cell : ℕ) (ty : Ty) (Has : Value → Type 0) → IsCellName x cell → IsCell rights m c cell ty Has
+      → IsCell rights k c cell ty Has
+  cell_on cell ty Has name h = record {
     block = h.block;
     address = h.address;
     own = h.own;
     bytes = h.bytes;
     sized = h.sized;
-    holds = kept h.block 0 (value_bytes ty) h.bytes none h.holds;
+    holds = kept (record { alloca = cell; block = h.block }) h.own name 0 (value_bytes ty) h.bytes h.holds;
     has = h.has;
   }
 
-  pub fields_kept : (x : Framing) (homes : List Home) (suspend : ℕ) (env : Env) (block start : ℕ)
-      → (Touched block → ⊥) → AreFieldsRight x homes rights m suspend env block start
-      → AreFieldsRight x homes rights k suspend env block start
-  fields_kept x homes suspend env block start none h = record {
-    each = λ v position kv is crosses at. let f = h.each v position kv is crosses at in (
-      f.0,
-      f.1,
-      kept block (start + offset_at x.layout position) (value_bytes kv.field_ty) f.0 none f.2,
-      f.3,
-    );
+  value_cell : (v : ℕ) (kv : KeptValue) → IsKeptValue x v kv → IsCellName x kv.cell
+  value_cell v kv e = cell_is_name x kv.cell (kept_is_cell x is v kv e)
+
+  distance_cell : (v cell : ℕ) → entry (plan x).cells v ≡ Some cell → IsCellName x cell
+  distance_cell v cell e = cell_is_name x cell (distance_of x is v cell e)
+
+  rights_kept : (homes : List Home) (env : Env) → AreCellsRight x homes rights m env c
+      → AreCellsRight x homes rights k env c
+  rights_kept homes env h = record {
+    values = λ v kv e. cell_on kv.cell kv.ty _ (value_cell v kv e) (h.values v kv e);
+    distances = λ v cell slot e root. cell_on cell _ _ (distance_cell v cell e) (h.distances v cell slot e root);
   }
 
-  held_kept : (x : Framing) (homes : List Home) (suspend : ℕ) (env : Env) (block start : ℕ) → (Touched block → ⊥)
-      → AreFieldsHeld x homes rights m suspend env block start
-      → AreFieldsHeld x homes rights k suspend env block start
-  held_kept x homes suspend env block start none h = record {
-    each = λ v position kv is crosses at. let f = h.each v position kv is crosses at in (
-      f.0,
-      f.1,
-      kept block (start + offset_at x.layout position) (value_bytes kv.field_ty) f.0 none f.2,
-      f.3,
-    );
+  there_kept : AreCellsThere x rights m c → AreCellsThere x rights k c
+  there_kept h = record {
+    values = λ v kv e. cell_on kv.cell kv.ty Anything (value_cell v kv e) (h.values v kv e);
+    distances = λ v cell e. cell_on cell _ Anything (distance_cell v cell e) (h.distances v cell e);
   }
 
-  has_fields_kept : (x : Framing) (homes : List Home) (suspend : ℕ) (env : Env) (block start : ℕ) (mode : Mode)
-      → (Touched block → ⊥) → HasFields x homes rights m suspend env block start mode
-      → HasFields x homes rights k suspend env block start mode
-  has_fields_kept x homes suspend env block start Mode.Plain none h =
-      fields_kept x homes suspend env block start none h
-  has_fields_kept x homes suspend env block start Mode.Ramp none h =
-      fields_kept x homes suspend env block start none h
-  has_fields_kept x homes suspend env block start (Mode.GivenRamp frame) none h =
-      fields_kept x homes suspend env block start none h
-  has_fields_kept x homes suspend env block start Mode.Resumed none h =
-      fields_kept x homes suspend env block start none h
-  has_fields_kept x homes suspend env block start (Mode.Entering from label) none h =
-      held_kept x homes suspend env block start none h
+  pub wheres_kept : (own : Option Instance) → AreWheresRight x rights m own c → AreWheresRight x rights k own c
+  wheres_kept own h = record { each = λ s e. cell_on s.cell _ _ (where_is_name x s e) (h.each s e) }
 
-  -- all cells of an activation
-  module _ (c : Activation) (none : (slot : Slot) → Contains c.slots slot → Touched slot.block → ⊥) where
-    cell_on : (cell : ℕ) (ty : Ty) (Has : Value → Type 0) → IsCell rights m c cell ty Has
-        → IsCell rights k c cell ty Has
-    cell_on cell ty Has h = cell_kept c cell ty Has h (none (record { alloca = cell; block = h.block }) h.own)
+  where_there_kept : AreWheresThere x rights m c → AreWheresThere x rights k c
+  where_there_kept h = record { each = λ s e. cell_on s.cell ptr Anything (where_is_name x s e) (h.each s e) }
 
-    pub rights_kept : (x : Framing) (homes : List Home) (env : Env) → AreCellsRight x homes rights m env c
-        → AreCellsRight x homes rights k env c
-    rights_kept x homes env h = record {
-      values = λ v kv is. cell_on kv.cell kv.ty _ (h.values v kv is);
-      distances = λ v cell slot e root. cell_on cell _ _ (h.distances v cell slot e root);
-    }
+  made_kept : (mode : Mode) → AreMade x rights m c mode → AreMade x rights k c mode
+  made_kept Mode.Plain h = (there_kept h.0, where_there_kept h.1)
+  made_kept Mode.Ramp h = (there_kept h.0, where_there_kept h.1)
+  made_kept (Mode.GivenRamp frame) h = (there_kept h.0, where_there_kept h.1)
+  made_kept Mode.Resumed h = (there_kept h.0, where_there_kept h.1)
+  made_kept (Mode.Entering from label) h = tt
 
-    pub there_kept : (x : Framing) → AreCellsThere x rights m c → AreCellsThere x rights k c
-    there_kept x h = record {
-      values = λ v kv is. cell_on kv.cell kv.ty Anything (h.values v kv is);
-      distances = λ v cell e. cell_on cell _ Anything (h.distances v cell e);
-    }
-
-    pub wheres_kept : (x : Framing) (own : Option Instance) → AreWheresRight x rights m own c
-        → AreWheresRight x rights k own c
-    wheres_kept x own h = record { each = λ s e. cell_on s.cell _ _ (h.each s e) }
-
-    where_there_kept : (x : Framing) → AreWheresThere x rights m c → AreWheresThere x rights k c
-    where_there_kept x h = record { each = λ s e. cell_on s.cell ptr Anything (h.each s e) }
-
-    made_kept : (x : Framing) (mode : Mode) → AreMade x rights m c mode → AreMade x rights k c mode
-    made_kept x Mode.Plain h = (there_kept x h.0, where_there_kept x h.1)
-    made_kept x Mode.Ramp h = (there_kept x h.0, where_there_kept x h.1)
-    made_kept x (Mode.GivenRamp frame) h = (there_kept x h.0, where_there_kept x h.1)
-    made_kept x Mode.Resumed h = (there_kept x h.0, where_there_kept x h.1)
-    made_kept x (Mode.Entering from label) h = tt
-
-    has_kept : (x : Framing) (homes : List Home) (own : Option Instance) (a : Activation) (from : Option ℕ)
-        → ((y : Instance) → own ≡ Some y → Touched y.block → ⊥) → HasCells x homes rights m own a c from
-        → HasCells x homes rights k own a c from
-    has_kept x homes own a None frames h = (rights_kept x homes a.values h.0, wheres_kept x own h.1)
-    has_kept x homes None a (Some suspend) frames h = absurd h
-    has_kept x homes (Some y) a (Some suspend) frames h =
-        (has_fields_kept x homes suspend a.values y.block y.start a.mode (frames y refl) h.0, h.1)
+  has_kept : (homes : List Home) (own : Option Instance) (a : Activation) (from : Option ℕ)
+      → ((y : Instance) (j : ℕ) → own ≡ Some y → from ≡ Some j
+      → HasFields x homes rights m j a.values y.block y.start a.mode
+      → HasFields x homes rights k j a.values y.block y.start a.mode) → HasCells x homes rights m own a c from
+      → HasCells x homes rights k own a c from
+  has_kept homes own a None fields h = (rights_kept homes a.values h.0, wheres_kept own h.1)
+  has_kept homes None a (Some suspend) fields h = absurd h
+  has_kept homes (Some y) a (Some suspend) fields h = (fields y suspend refl refl h.0, h.1)
 
 -- ---- the states
 
-module _ (b : Building) (s t : State) (r : AreBuiltOf b s t) (w u : World) (Touched : ℕ → Type 0)
-    (same : (e : ℕ) → (Touched e → ⊥) → slice_get u.memory e ≡ slice_get t.world.memory e)
-    (stood : (n : ℕ) → n < length s.world.memory → (home_of r.homes n).is_seen ≡ true
-    → Touched (home_of r.homes n).block → ⊥)
-    (others : (n : ℕ) → IsListed n (map (λ (slot : Slot). slot.block) (slots_below t.below)) → Touched n → ⊥) where
+-- what a step that stays in its activation leaves of the others and of the instances
+pub record LeavesRest (b : Building) (s t : State) (r : AreBuiltOf b s t) (w u : World) : Type 0 where
+  pub framings : (func : ℕ) → is_coroutine b func ≡ true → IsFraming (b.framing func)
+  pub cells : (c : Activation) → IsListed c t.below → is_coroutine b c.func ≡ true → (slot : Slot)
+      → Contains c.slots slot → IsCellName (b.framing c.func) slot.alloca → (o most : ℕ) (bytes : List Byte)
+      → Holds (frame_rights b.given t.instances) t.world.memory slot.block o most bytes
+      → Holds (frame_rights b.given t.instances) u.memory slot.block o most bytes
+  pub fields : (i : ℕ) (x y : Instance) → slice_get s.instances i ≡ Some x → AreInstances b r.homes t x y → (p : Point)
+      (env : Env) → x.status ≡ Status.Suspended p env → (j : ℕ) → IsSuspendNumber (b.framing x.coroutine) j p
+      → x.freed ≡ false
+      → AreFieldsRight (b.framing x.coroutine) r.homes (frame_rights b.given t.instances) t.world.memory j env y.block
+      y.start
+      → AreFieldsRight (b.framing x.coroutine) r.homes (frame_rights b.given t.instances) u.memory j env y.block y.start
+  pub returned : (a c : Activation) (y : Instance) (j : ℕ) → IsListed a s.below
+      → instance_in t.instances c.instance ≡ Some y → returned_from (b.framing a.func) a a.mode ≡ Some j
+      → HasFields (b.framing a.func) r.homes (frame_rights b.given t.instances) t.world.memory j a.values y.block y.start
+      a.mode
+      → HasFields (b.framing a.func) r.homes (frame_rights b.given t.instances) u.memory j a.values y.block y.start
+      a.mode
+  pub mates : AreMates r.homes w.memory u.memory
+  pub free : (block : ℕ) → IsFreeOf r.homes r.hides s.world.memory block → IsFreeOf r.homes r.hides w.memory block
+  pub ahead : (x : Framing) (c : Activation) (name align : ℕ) (ty : Ty) → IsListed c t.below
+      → IsAhead x r.homes r.hides s.world.memory t.world.memory c name ty align
+      → IsAhead x r.homes r.hides w.memory u.memory c name ty align
+  pub known : length w.memory ≡ length s.world.memory
+
+module _ (b : Building) (s t : State) (r : AreBuiltOf b s t) (w u : World) (l : LeavesRest b s t r w u) where
   abbrev R : Rights
   R = frame_rights b.given t.instances
 
-  pub kept : (e o most : ℕ) (bytes : List Byte) → (Touched e → ⊥) → Holds R t.world.memory e o most bytes
-      → Holds R u.memory e o most bytes
-  kept e o most bytes none h = record {
-    block = h.block;
-    there = same e none ∙ h.there;
-    live = h.live;
-    writable = h.writable;
-    whole = h.whole;
-    within = h.within;
-    holds = h.holds;
-    unclosed = h.unclosed;
-    aligned = h.aligned;
-  }
-
-  -- a frame lies in a block of the source's
-  pub frames : (x y : Instance) → AreInstances b r.homes t x y → Touched y.block → ⊥
-  frames x y h touched =
-      let seen : (home_of r.homes x.block).is_seen ≡ true = ap (λ (q : Home). q.is_seen) h.block in
-      let lt : x.block < length r.homes = seen_known r.homes x.block seen in
-      let known : length r.homes ≡ length s.world.memory = r.known in
-      stood x.block (omega (arith, lt, known)) seen
-      (subst Touched (sym (ap (λ (q : Home). q.block) h.block)) touched)
-
-  -- ---- instances
-
-  module _ (a c : Activation) (rest : List Activation) where
+  module _ (c : Activation) (rest : List Activation) where
     abbrev t' : State
     t' = record t { world = u; top = c; below = rest }
 
+    -- ---- instances
+
     status_kept : (i : ℕ) (x y : Instance) → slice_get s.instances i ≡ Some x → AreInstances b r.homes t x y
-        → (q : Status) → IsStatus b r.homes t x y q y.status → IsStatus b r.homes t' x y q y.status
-    status_kept i x y e h Status.Running q = q
-    status_kept i x y e h Status.Finished q = q
-    status_kept i x y e h (Status.Suspended p env) q = (
-      q.0,
-      q.1,
-      q.2,
-      q.3,
-      λ live. fields_kept R t.world.memory u.memory Touched kept (b.framing x.coroutine) r.homes
-          q.1 env y.block y.start (frames x y h) (q.4 live),
-    )
+        → (q : Status) → x.status ≡ q → IsStatus b r.homes t x y q y.status → IsStatus b r.homes t' x y q y.status
+    status_kept i x y e h Status.Running is q = q
+    status_kept i x y e h Status.Finished is q = q
+    status_kept i x y e h (Status.Suspended p env) is q =
+        (q.0, q.1, q.2, q.3, λ live. l.fields i x y e h p env is q.1 q.3 live (q.4 live))
 
     pub instance_kept : (i : ℕ) (x y : Instance) → slice_get s.instances i ≡ Some x → AreInstances b r.homes t x y
         → AreInstances b r.homes t' x y
@@ -240,7 +201,7 @@ module _ (b : Building) (s t : State) (r : AreBuiltOf b s t) (w u : World) (Touc
       is_coroutine = h.is_coroutine;
       block = h.block;
       start = h.start;
-      status = status_kept i x y e h x.status h.status;
+      status = status_kept i x y e h x.status refl h.status;
       last_save = h.last_save;
       released = h.released;
       freed = h.freed;
@@ -250,32 +211,31 @@ module _ (b : Building) (s t : State) (r : AreBuiltOf b s t) (w u : World) (Touc
 
     -- ---- activations
 
-    own_frame : (i : Option ℕ) (y : Instance) → instance_in t.instances i ≡ Some y → Touched y.block → ⊥
-    own_frame None y e = absurd (cc)
-    own_frame (Some i) y e =
-        let lt : i < length t.instances = get_within t.instances i y e in
-        let same : length t.instances ≡ length s.instances = r.count in
-        let x = got s.instances i (omega (arith, lt, same)) in
-        frames x.0 y (r.instances i x.0 y x.1 e)
-
-    values_kept : (p q : Activation) → ((slot : Slot) → Contains q.slots slot → Touched slot.block → ⊥) → (f : Bool)
-        → HasValues b r.homes R t p q f → HasValues b r.homes R t' p q f
-    values_kept p q none true h = record {
+    values_kept : (p q : Activation) → IsListed p s.below → IsListed q t.below → q.func ≡ p.func → (f : Bool)
+        → is_coroutine b p.func ≡ f → HasValues b r.homes R t p q f → HasValues b r.homes R t' p q f
+    values_kept p q lp lq func true is h = record {
       names = h.names;
-      cells = has_kept R t.world.memory u.memory Touched kept q none (b.framing p.func) r.homes
-          (instance_in t.instances q.instance) p (returned_from (b.framing p.func) p p.mode) (own_frame q.instance)
-          h.cells;
-      made = made_kept R t.world.memory u.memory Touched kept q none (b.framing p.func) p.mode h.made;
+      cells = has_kept R t.world.memory u.memory (b.framing p.func) (l.framings p.func is) q kept r.homes
+          (instance_in t.instances q.instance) p (returned_from (b.framing p.func) p p.mode)
+          (λ y j own from. l.returned p q y j lp own from) h.cells;
+      made = made_kept R t.world.memory u.memory (b.framing p.func) (l.framings p.func is) q kept p.mode h.made;
     }
-    values_kept p q none false h = h
+      where
+        kept : (slot : Slot) → Contains q.slots slot → IsCellName (b.framing p.func) slot.alloca → (o most : ℕ)
+            (bytes : List Byte) → Holds R t.world.memory slot.block o most bytes
+            → Holds R u.memory slot.block o most bytes
+        kept slot e name =
+            l.cells q lq (subst (λ (k : ℕ). is_coroutine b k ≡ true) (sym func) is) slot e
+            (subst (λ (k : ℕ). IsCellName (b.framing k) slot.alloca) (sym func) name)
+    values_kept p q lp lq func false is h = h
 
-    pub below_kept : (ps cs : List Activation)
-        → ((n : ℕ) → IsListed n (map (λ (slot : Slot). slot.block) (slots_below cs)) → Touched n → ⊥)
-        → AreBelow b r.homes r.hides t ps cs → AreBelow b r.homes r.hides t' ps cs
-    below_kept [] [] none h = tt
-    below_kept [] (q ∷ cs) none h = absurd h
-    below_kept (p ∷ ps) [] none h = absurd h
-    below_kept (p ∷ ps) (q ∷ cs) none h = (
+    pub below_kept : (ps cs : List Activation) → ((p : Activation) → IsListed p ps → IsListed p s.below)
+        → ((q : Activation) → IsListed q cs → IsListed q t.below) → AreBelow b r.homes r.hides t ps cs
+        → AreBelow b r.homes r.hides t' ps cs
+    below_kept [] [] lp lq h = tt
+    below_kept [] (q ∷ cs) lp lq h = absurd h
+    below_kept (p ∷ ps) [] lp lq h = absurd h
+    below_kept (p ∷ ps) (q ∷ cs) lp lq h = (
       record {
         func = h.0.func;
         place = h.0.place;
@@ -283,78 +243,38 @@ module _ (b : Building) (s t : State) (r : AreBuiltOf b s t) (w u : World) (Touc
         mode = h.0.mode;
         instance = h.0.instance;
         has_left = h.0.has_left;
-        values = values_kept p q (λ slot e. none slot.block (one_below q cs slot e)) (is_coroutine b p.func)
-            h.0.values;
+        values = values_kept p q (lp p (inl refl)) (lq q (inl refl)) h.0.func (is_coroutine b p.func) refl h.0.values;
         slots = h.0.slots;
       },
-      below_kept ps cs (λ n l. none n (more_below q cs n l)) h.1,
+      below_kept ps cs (λ z k. lp z (inr k)) (λ z k. lq z (inr k)) h.1,
     )
 
-  -- ---- cells stay free
+  -- ---- cells stay free, and so does what is made ahead
 
-  free_kept : ((block : ℕ) → IsFreeOf r.homes r.hides s.world.memory block → IsFreeOf r.homes r.hides w.memory block)
-      → (cs : List Activation) → AreFreeCells b r.homes r.hides s.world.memory cs
+  free_kept : (cs : List Activation) → AreFreeCells b r.homes r.hides s.world.memory cs
       → AreFreeCells b r.homes r.hides w.memory cs
-  free_kept turns [] h = tt
-  free_kept turns (c ∷ cs) h = (
-    (λ is slot e name. turns slot.block (h.0 is slot e name)),
-    free_kept turns cs h.1,
-  )
+  free_kept [] h = tt
+  free_kept (c ∷ cs) h = ((λ is slot e name. l.free slot.block (h.0 is slot e name)), free_kept cs h.1)
 
-  -- ---- blocks that stand alone, and those that are made ahead
-
-  pub mates_kept : w.memory ≡ s.world.memory → AreMates r.homes w.memory u.memory
-  mates_kept source = record {
-    whole = λ n x e. r.mates.whole n x (old n x e);
-    each = λ n k x e home.
-        let mate = r.mates.each n k x (old n x e) home in
-        let lt : n < length s.world.memory = get_within s.world.memory n x (old n x e) in (
-          mate.0,
-          same k
-              (λ z. stood n lt (ap (λ (q : Home). q.is_seen) home)
-              (subst Touched (sym (ap (λ (q : Home). q.block) home)) z))
-              ∙ mate.1,
-        );
-    alone = λ n m k lt lt'.
-        r.mates.alone n m k (subst (λ (z : List MemoryBlock). n < length z) source lt)
-        (subst (λ (z : List MemoryBlock). m < length z) source lt');
-  }
-    where
-      old : (n : ℕ) (x : MemoryBlock) → slice_get w.memory n ≡ Some x → slice_get s.world.memory n ≡ Some x
-      old n x e = ap (λ (m : List MemoryBlock). slice_get m n) (sym source) ∙ e
-
-  ahead_kept : w.memory ≡ s.world.memory → (x : Framing) (a c : Activation)
-      → ((slot : Slot) → Contains c.slots slot → Touched slot.block → ⊥)
-      → AreAhead x r.homes r.hides s.world.memory t.world.memory a c
-      → AreAhead x r.homes r.hides w.memory u.memory a c
-  ahead_kept source x a c none h = record {
-    slots = λ at v align ty e le outside. one v align ty (h.slots at v align ty e le outside);
-    temporaries = λ z at align ty listed e le. one z.temporary z.align z.ty (h.temporaries z at align ty listed e le);
-  }
-    where
-      one : (v align : ℕ) (ty : Ty) → IsAhead x r.homes r.hides s.world.memory t.world.memory c v ty align
-          → IsAhead x r.homes r.hides w.memory u.memory c v ty align
-      one v align ty k = record {
-        block = k.block;
-        address = k.address;
-        own = k.own;
-        free = subst (λ (m : List MemoryBlock). IsFreeOf r.homes r.hides m k.block) (sym source) k.free;
-        bytes = k.bytes;
-        sized = k.sized;
-        there = same k.block (none (record { alloca = v; block = k.block }) k.own) ∙ k.there;
-      }
-
-  pub all_ahead_kept : w.memory ≡ s.world.memory → (ps cs : List Activation)
-      → ((n : ℕ) → IsListed n (map (λ (slot : Slot). slot.block) (slots_below cs)) → Touched n → ⊥)
+  pub all_ahead_kept : (ps cs : List Activation) → ((q : Activation) → IsListed q cs → IsListed q t.below)
       → AreAllAhead b r.homes r.hides s.world.memory t.world.memory ps cs
       → AreAllAhead b r.homes r.hides w.memory u.memory ps cs
-  all_ahead_kept source [] cs none h = tt
-  all_ahead_kept source (a ∷ ps) [] none h = tt
-  all_ahead_kept source (a ∷ ps) (c ∷ cs) none h = (
-    λ is first here. ahead_kept source (b.framing a.func) a c (λ slot e. none slot.block (one_below c cs slot e))
-        (h.0 is first here),
-    all_ahead_kept source ps cs (λ n l. none n (more_below c cs n l)) h.1,
+  all_ahead_kept [] cs lq h = tt
+  all_ahead_kept (a ∷ ps) [] lq h = tt
+  all_ahead_kept (a ∷ ps) (c ∷ cs) lq h = (
+    λ is first here. one (h.0 is first here),
+    all_ahead_kept ps cs (λ z k. lq z (inr k)) h.1,
   )
+    where
+      one : AreAhead (b.framing a.func) r.homes r.hides s.world.memory t.world.memory a c
+          → AreAhead (b.framing a.func) r.homes r.hides w.memory u.memory a c
+      one k = record {
+        slots = λ at v align ty e le outside.
+            l.ahead (b.framing a.func) c v align ty (lq c (inl refl)) (k.slots at v align ty e le outside);
+        temporaries = λ z at align ty listed e le.
+            l.ahead (b.framing a.func) c z.temporary z.align z.ty (lq c (inl refl))
+            (k.temporaries z at align ty listed e le);
+      }
 
   -- ---- the activation on top goes on in its own block or another one
 
@@ -376,27 +296,26 @@ module _ (b : Building) (s t : State) (r : AreBuiltOf b s t) (w u : World) (Touc
         slot_by slot
         (is_coroutine b s.top.func && lies_in_frame (offsets (b.framing s.top.func)) slot.alloca) (r.top.slots slot e)
 
-    pub rest_related : AreOver owner_rights R r.homes r.hides (λ d. d) w u → w.memory ≡ s.world.memory
+    pub rest_related : AreOver owner_rights R r.homes r.hides (λ d. d) w u
         → (is_coroutine b s.top.func ≡ true → is_first s.top.mode ≡ true → sb ≡ 0
         → AreAhead (b.framing s.top.func) r.homes r.hides w.memory u.memory on_s on_t)
         → AreActivations b r.homes r.hides (record t { world = u; top = on_t }) (top_place b) on_s on_t
         → AreBuiltOf b (record s { world = w; top = on_s }) (record t { world = u; top = on_t })
-    rest_related over source ahead top = record {
+    rest_related over ahead top = record {
       homes = r.homes;
       hides = r.hides;
       world = over;
-      known = r.known ∙ sym (ap (λ (m : List MemoryBlock). length m) source);
+      known = r.known ∙ sym l.known;
       globals = r.globals;
-      mates = mates_kept source;
+      mates = l.mates;
       hidden = r.hidden;
       count = r.count;
-      instances = λ i x y e d. instance_kept on_s on_t t.below i x y e (r.instances i x y e d);
+      instances = λ i x y e d. instance_kept on_t t.below i x y e (r.instances i x y e d);
       top = top;
-      below = below_kept on_s on_t t.below s.below t.below others r.below;
+      below = below_kept on_t t.below s.below t.below (λ z k. k) (λ z k. k) r.below;
       once = r.once;
-      cells = free_kept
-          (λ k. subst (λ (m : List MemoryBlock). IsFreeOf r.homes r.hides m k) (sym source)) (t.top ∷ t.below) r.cells;
-      ahead = (ahead, all_ahead_kept source s.below t.below others r.ahead.1);
+      cells = free_kept (t.top ∷ t.below) r.cells;
+      ahead = (ahead, all_ahead_kept s.below t.below (λ z k. k) r.ahead.1);
       outcome = r.outcome;
     }
 
