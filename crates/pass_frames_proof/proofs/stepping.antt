@@ -2,12 +2,14 @@ pub mod After
 pub mod Called
 pub mod Codes
 pub mod Executed
+pub mod Finish
 pub mod Line
 pub mod May
 pub mod Names
 pub mod Operands
 pub mod Ordinary
 pub mod Other
+pub mod Place
 pub mod Rest
 pub mod Same
 pub mod Stands

@@ -18,10 +18,13 @@ use Rattle.pass_frames_proof.specs.Lines.{HasOwnBlocks, IsCellOf, IsStorable, at
 use Rattle.pass_frames_proof.specs.Ordinary.{IsPlainName, IsQuiet}
 use Rattle.pass_frames_proof.specs.Places.{Framing, named, plan}
 use Rattle.pass_frames_proof.specs.Related.{AreCellsRight, IsFreeOf, IsKeptValue}
+use Rattle.run_laws.specs.access.Changed.{KeepsFree}
 use Rattle.run_laws.specs.access.Lines.{Runs}
 use Rattle.run_laws.specs.changed.Changed.{Each, callee_at}
+use Rattle.run_laws.specs.embedded.Refilled.{AreRefilled}
 use Rattle.run_laws.specs.embedded.Related.{HasBytes}
 use Rattle.run_laws.specs.memory.Pointers.{Home, IsValue}
+use Rattle.run_laws.specs.transfer.Muted.{muted}
 use Rattle.run_laws.specs.transfer.Shapes.{InstrStays}
 use Rattle.run_laws.specs.transfer.Transfer.{AreJoined, AreOver, AreSameDistances, IsNamedAlike, IsPointedAlike, StandsFor, looks_at, same_maps}
 use Rattle.run_memory.specs.declared.block.MemoryBlock.{MemoryBlock}
@@ -129,10 +132,9 @@ abbrev pub IsNotSet : ℕ → Instr → Type 0
 IsNotSet u i = result_of i ≡ Some u → ⊥
 
 -- the line is executed, and the relation holds behind it
-pub record StepsLed (x : Framing) (homes : List Home) (hides : ℕ → Bool) (c d : Context) (w y v : Work)
-    (a : Activation) (i : Instr) (front line : List Instr) : Type 0 where
+pub record IsDoneLed (x : Framing) (homes : List Home) (hides : ℕ → Bool) (c d : Context) (w y v : Work)
+    (a : Activation) (i : Instr) (front : List Instr) : Type 0 where
   pub work : Work
-  pub runs : RunsThrough d (IsOnWay x a y work) line y work
   pub over : AreOver c.rights d.rights homes hides (λ k. k) v.world work.world
   pub cells : AreCellsRight x homes d.rights work.world.memory v.values (at_work a work)
   pub set : (r : ℕ) → result_of i ≡ Some r → IsValue homes (value_in v.values r) (value_in work.values r)
@@ -141,8 +143,22 @@ pub record StepsLed (x : Framing) (homes : List Home) (hides : ℕ → Bool) (c 
   pub room : length work.values ≡ length y.values
   pub source : (u : ℕ) → (result_of i ≡ Some u → ⊥) → value_in v.values u ≡ value_in w.values u
   pub source_room : length v.values ≡ length w.values
+
+-- of an instruction that changes no memory: cells alone are filled
+pub record StepsLed (x : Framing) (homes : List Home) (hides : ℕ → Bool) (c d : Context) (w y v : Work)
+    (a : Activation) (i : Instr) (front line : List Instr) : Type 0 where
+  pub led : IsDoneLed x homes hides c d w y v a i front
+  pub runs : RunsThrough d (IsOnWay x a y led.work) line y led.work
   pub source_memory : v.world.memory ≡ w.world.memory
-  pub spares : SparesBlocks x a y.world.memory work.world.memory
+  pub spares : SparesBlocks x a y.world.memory led.work.world.memory
+
+-- of a store: the source's blocks differ in bytes alone, and what is free in the target stays
+pub record StoresLed (x : Framing) (homes : List Home) (hides : ℕ → Bool) (c d : Context) (w y v : Work)
+    (a : Activation) (i : Instr) (front line : List Instr) : Type 0 where
+  pub led : IsDoneLed x homes hides c d w y v a i front
+  pub runs : RunsThrough d (λ u. u.world ≡ y.world) line y led.work
+  pub refilled : AreRefilled w.world.memory v.world.memory
+  pub keeps : KeepsFree c.rights homes (muted hides w.world.memory) y.world.memory led.work.world.memory
 
 -- an address or what is quiet changes no memory
 abbrev pub LeavesMemory : Context → Instr → Type 0

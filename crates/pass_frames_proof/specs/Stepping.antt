@@ -104,6 +104,18 @@ pub record AreNamesInOrder (x : Framing) (n : Placed) (i : Instr) : Type 0 where
 
 -- ---- states
 
+-- no alloca, and no call but of a function by its name
+abbrev pub IsPlainCall : Callee → Type 0
+IsPlainCall (Callee.Named n) = Unit {0}
+IsPlainCall (Callee.Allocator a) = ⊥
+IsPlainCall (Callee.Intrinsic i) = ⊥
+IsPlainCall (Callee.Local v) = ⊥
+
+abbrev pub IsCommon : Instr → Type 0
+IsCommon (Instr.Alloca r ty align) = ⊥
+IsCommon (Instr.Call r must_tail ty callee args) = IsPlainCall callee
+IsCommon i = Unit {0}
+
 abbrev pub IsNotEntering : Mode → Type 0
 IsNotEntering (Mode.Entering from label) = ⊥
 IsNotEntering _ = Unit {0}
@@ -156,7 +168,7 @@ pub record IsAtOrdinary (b : Building) (g : RenewedGiven) (s : State) (i : Instr
   pub mode : IsNotEntering s.top.mode
   pub there : slice_get (instrs_at (b.framing s.top.func) s.top.block) s.top.at ≡ Some i
   pub unreturned : is_return (b.framing s.top.func) s.top.block ≡ false
-  pub leaves : LeavesMemory (context_of g.given s) i
+  pub common : IsCommon i
   pub does : instr_action (context_of g.given s) (work_of s) i ≡ Done v
   pub unlocated : IsUnlocated (b.framing s.top.func) (state_in (b.framing s.top.func) s.top.block s.top.at) i
   pub unmeasured : (r : ℕ) → result_of i ≡ Some r → IsPlainName (b.framing s.top.func) r

@@ -2,10 +2,12 @@
 
 ghost use Rattle.std.specs.Prelude.{◌≡◌, ℕ, Bool, List, Option};
 ghost use Rattle.ir_model.specs.declared.instr.Instr.{Instr};
+ghost use Rattle.ir_model.specs.declared.operand.Arg.{Arg};
+ghost use Rattle.ir_model.specs.declared.operand.Operand.{Operand};
 ghost use Rattle.pass_fetch.specs.Instrs.{with_fetched};
 ghost use Rattle.pass_fetch.specs.declared.fetch.Fetch.{Fetch};
 ghost use Rattle.pass_frames_proof.specs.Framings.{IsFraming};
-ghost use Rattle.pass_frames_proof.specs.Led.{IsLed, LeavesMemory, MayBeLed, MayStepLed, StepsLed, led_line, twice_front};
+ghost use Rattle.pass_frames_proof.specs.Led.{IsLed, LeavesMemory, MayBeLed, MayStepLed, StepsLed, StoresLed, led_line, twice_front};
 ghost use Rattle.pass_frames_proof.specs.Places.{Framing};
 ghost use Rattle.run_laws.specs.memory.Pointers.{Home};
 ghost use Rattle.run_laws.specs.memory.Standing.{AreByteRights};
@@ -28,4 +30,15 @@ pub fn led_steps_are_made()
         (front : List Instr) → LeavesMemory c i → instr_action c w i ≡ Done v
         → MayStepLed x homes hides c d w y a n i j front
         → StepsLed x homes hides c d w y v a i front (led_line x front i j) }
+{}
+
+/// So it is of a store: the bytes that it writes are homes of the source's, and what is free in the target stays.
+pub fn led_stores_are_made()
+    ensures { (x : Framing) → IsFraming x → (homes : List Home) (hides : ℕ → Bool) (c d : Context)
+        → AreByteRights c.rights → AreByteRights d.rights → (w y v : Work) (a : Activation) (n : ℕ) (arg : Arg)
+        (p : Operand) (align : ℕ) (j : Instr) (front : List Instr)
+        → instr_action c w (Instr.Store arg p align) ≡ Done v
+        → MayStepLed x homes hides c d w y a n (Instr.Store arg p align) j front
+        → StoresLed x homes hides c d w y v a (Instr.Store arg p align) front
+        (led_line x front (Instr.Store arg p align) j) }
 {}

@@ -5,10 +5,12 @@ ghost use Rattle.ir_model.specs.Ty.{Ty};
 ghost use Rattle.ir_model.specs.declared.instr.Instr.{Instr};
 ghost use Rattle.ir_model.specs.declared.instr.Terminator.{Terminator};
 ghost use Rattle.pass_frames_proof.specs.Followed.{IsFollowed};
+ghost use Rattle.pass_frames_proof.specs.Led.{LeavesMemory};
 ghost use Rattle.pass_frames_proof.specs.Related.{AreBuiltOf, Building};
 ghost use Rattle.pass_frames_proof.specs.Stepping.{AreGiven, GoesAsFar, HasFieldIndices, IsAtOrdinary, IsAtOther, IsAtOtherBranch, IsAtOtherCall};
 ghost use Rattle.pass_renewed_proof.specs.Renewed.{RenewedGiven};
 ghost use Rattle.run_memory.specs.declared.pointer.Value.{Value};
+ghost use Rattle.run_source.specs.Source.{context_of};
 ghost use Rattle.run_source.specs.declared.state.State.{State};
 ghost use Rattle.run_step.specs.Step.{Context, Work};
 ghost use Rattle.run_step.specs.Values.{Env, distance};
@@ -17,7 +19,7 @@ ghost use Rattle.run_step.specs.Values.{Env, distance};
 /// the frame are made, it is executed, and its result is stored.
 pub fn ordinary_instructions_are_followed()
     ensures { (b : Building) (g : RenewedGiven) → AreGiven b g → (s t : State) → AreBuiltOf b s t → (i : Instr) (v : Work)
-        → IsAtOrdinary b g s i v → IsFollowed b g s t }
+        → IsAtOrdinary b g s i v → LeavesMemory (context_of g.given s) i → IsFollowed b g s t }
 {}
 
 /// In a function that is no coroutine the framed run makes the same step: of such an instruction, of a branch, and

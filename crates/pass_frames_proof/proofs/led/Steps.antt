@@ -20,7 +20,7 @@ use Rattle.pass_frames_proof.proofs.lines.Names.{distance_of}
 use Rattle.pass_frames_proof.proofs.lines.Results.{kept_is_cell, result_stored}
 use Rattle.pass_frames_proof.proofs.ordinary.Quiet.{quiet_memory}
 use Rattle.pass_frames_proof.specs.Framings.{IsFraming}
-use Rattle.pass_frames_proof.specs.Led.{IsNotSet, IsOnWay, IsStill, LeavesMemory, MayStepLed, RunsThrough, SparesBlocks, StepsLed, led_line}
+use Rattle.pass_frames_proof.specs.Led.{IsDoneLed, IsNotSet, IsOnWay, IsStill, LeavesMemory, MayStepLed, RunsThrough, SparesBlocks, StepsLed, led_line}
 use Rattle.pass_frames_proof.specs.Lines.{AreAway, AreInCells, Fills, IsCellOf, LeavesCellsBut, NoneFilled, OneFilled, RunsOver, at_work}
 use Rattle.pass_frames_proof.specs.Places.{Framing, edged, named, plan}
 use Rattle.pass_frames_proof.specs.Related.{AreCellsRight, IsCell, IsDistanceOf}
@@ -109,7 +109,7 @@ still_value c k u z (Instr.Gep r inbounds ty p indices) s n e =
     e
 still_value c k u z _ s n e = absurd s
 
-still_others : (c : Context) (k : ℕ) (line : List Instr) (w x : Work) → Each IsStill line → Each (IsNotSet k) line
+pub still_others : (c : Context) (k : ℕ) (line : List Instr) (w x : Work) → Each IsStill line → Each (IsNotSet k) line
     → Runs c line w x → value_in x.values k ≡ value_in w.values k
 still_others c k [] w x s n r = ap (λ (u : Work). value_in u.values k) r
 still_others c k (i ∷ is) w x s n r =
@@ -415,10 +415,9 @@ module _ (x : Framing) (is : IsFraming x) (homes : List Home) (hides : ℕ → B
         ),
       )
 
-  pub led_step : StepsLed x homes hides c d w y v a i front (led_line x front i j)
-  led_step = record {
+  done_led : IsDoneLed x homes hides c d w y v a i front
+  done_led = record {
     work = last.work;
-    runs = through;
     over = over_behind;
     cells = last.right;
     set = λ u e.
@@ -429,6 +428,8 @@ module _ (x : Framing) (is : IsFraming x) (homes : List Home) (hides : ℕ → B
     room = last.over.room ∙ set.length_target ∙ m.led.sets.room;
     source = set.source;
     source_room = set.length_source;
-    source_memory = source_same;
-    spares = spares_all;
   }
+
+  pub led_step : StepsLed x homes hides c d w y v a i front (led_line x front i j)
+  unfolding done_led last
+  led_step = record { led = done_led; runs = through; source_memory = source_same; spares = spares_all }

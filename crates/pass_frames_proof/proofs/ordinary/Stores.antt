@@ -48,7 +48,7 @@ use Rattle.run_step.specs.declared.world.World.{World}
 -- ---- a store is defined where some blocks count as dead
 
 -- a pointer that stands leads into no hidden block
-stands_shown : (homes : List Home) (hides : ℕ → Bool)
+pub stands_shown : (homes : List Home) (hides : ℕ → Bool)
     → ((b : ℕ) → hides b ≡ true → (home_of homes b).is_seen ≡ false) → (v u : Value) → IsValue homes v u
     → IsShown hides v
 stands_shown homes hides hidden Value.Poison u h = tt
@@ -61,7 +61,7 @@ stands_shown homes hides hidden (Value.Ptr (Pointer.At b o)) u h = on (hides b) 
     on false e = e
     on true e = let no : true ≡ false = sym h.0 ∙ hidden b e in absurd (cc)
 
-store_defined : (hides : ℕ → Bool) (w u v : Work) (t : Bool) (r s : Result (List MemoryBlock) Cause)
+pub store_defined : (hides : ℕ → Bool) (w u v : Work) (t : Bool) (r s : Result (List MemoryBlock) Cause)
     → s ≡ muted_result hides r → (if t then done (set_memory w) r else Stuck Cause.Align) ≡ Done v
     → IsDefined (if t then done (set_memory u) s else Stuck Cause.Align)
 store_defined hides w u v false r s same e = absurd (cc)

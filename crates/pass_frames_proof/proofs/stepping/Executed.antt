@@ -10,7 +10,7 @@ use Rattle.pass_frames_proof.proofs.stepping.May.{is, may}
 use Rattle.pass_frames_proof.specs.Code.{load_name}
 use Rattle.pass_frames_proof.specs.Framings.{IsFraming}
 use Rattle.pass_frames_proof.specs.Layers.{becomes}
-use Rattle.pass_frames_proof.specs.Led.{StepsLed}
+use Rattle.pass_frames_proof.specs.Led.{LeavesMemory, StepsLed}
 use Rattle.pass_frames_proof.specs.Places.{Framing, Placed, placed_layer}
 use Rattle.pass_frames_proof.specs.Related.{AreBuiltOf, Building}
 use Rattle.pass_frames_proof.specs.Stepping.{AreGiven, IsAtOrdinary, StandsInPlace, placed_front, placed_instr, placed_line, state_in}
@@ -50,20 +50,20 @@ module _ (b : Building) (g : RenewedGiven) (given : AreGiven b g) (s t : State) 
   abbrev front : List Instr
   front = placed_front x n i
 
-  pub led_there : StepsLed x r.homes r.hides c d (work_of s) (work_of t) v t.top i front line
-  led_there =
+  pub led_there : LeavesMemory c i → StepsLed x r.homes r.hides c d (work_of s) (work_of t) v t.top i front line
+  led_there leaves =
       led_step x framing_there r.homes r.hides c d owner_rights_fit (frame_rights_fit b.given t.instances) (work_of s)
-      (work_of t) v t.top (load_name n) i (placed_instr x n i) front h.leaves h.does (may b g given s t r i v h)
+      (work_of t) v t.top (load_name n) i (placed_instr x n i) front leaves h.does (may b g given s t r i v h)
 
   -- ---- the code
 
   code_is : becomes (placed_layer x s.top.block) n i ≡ line
   code_is =
       instr_code x s.top.block n i (parts_left x framing_there s.top.block s.top.at i h.there)
-      ∙ line_is x s.top.block n i (common c i h.leaves) h.unlocated (λ u e. (h.unmeasured u e).no_distance)
+      ∙ line_is x s.top.block n i h.common h.unlocated (λ u e. (h.unmeasured u e).no_distance)
 
   pub stands_there : StandsInPlace x s.top.block s.top.at line
   stands_there =
       code_stands x s.top.block s.top.at i line h.there code_is
-      (line_no_alloca x s.top.block n i (common c i h.leaves) h.unlocated (λ u e. (h.unmeasured u e).no_distance))
+      (line_no_alloca x s.top.block n i h.common h.unlocated (λ u e. (h.unmeasured u e).no_distance))
       h.unreturned

@@ -25,7 +25,7 @@ use Rattle.pass_frames_proof.specs.Led.{IsStill, LeavesMemory}
 use Rattle.pass_frames_proof.specs.Lined.{GivesNone, gives_frame}
 use Rattle.pass_frames_proof.specs.Passes.{fetching_at, unmarked_at}
 use Rattle.pass_frames_proof.specs.Places.{Framing, Placed, addressing_layer, copies, marked, offsets, plan, unmarked}
-use Rattle.pass_frames_proof.specs.Stepping.{IsUnlocated, placed_front, placed_instr, placed_line}
+use Rattle.pass_frames_proof.specs.Stepping.{IsCommon, IsUnlocated, placed_front, placed_instr, placed_line}
 use Rattle.pass_front.specs.Front.{is_no_alloca}
 use Rattle.pass_addresses.specs.Placing.{lies_outside, stays, without_promise_of}
 use Rattle.pass_proofs.proofs.fetch.rules.Times.{with_result}
@@ -34,19 +34,6 @@ use Rattle.run_laws.specs.changed.Changed.{Each}
 use Rattle.run_step.specs.Step.{AtInstr, Context}
 
 -- ---- tests that an ordinary instruction passes, whatever its operands
-
--- no alloca, no marker, no coro intrinsic
-abbrev IsPlainCall : Callee → Type 0
-IsPlainCall (Callee.Named n) = Unit {0}
-IsPlainCall (Callee.Allocator a) = ⊥
-IsPlainCall (Callee.Intrinsic i) = ⊥
-IsPlainCall (Callee.Local v) = ⊥
-
-abbrev pub IsCommon : Instr → Type 0
-IsCommon (Instr.Alloca r ty align) = ⊥
-IsCommon (Instr.Store a p align) = Unit {0}
-IsCommon (Instr.Call r must_tail ty callee args) = IsPlainCall callee
-IsCommon _ = Unit {0}
 
 pub common : (c : Context) (i : Instr) → LeavesMemory c i → IsCommon i
 common c (Instr.Binary r op flags ty a b) q = tt

@@ -30,12 +30,12 @@ use Rattle.pass_frames_proof.specs.Code.{address_state, load_name, slot_table}
 use Rattle.pass_frames_proof.specs.Distances.{IsBelow}
 use Rattle.pass_frames_proof.specs.Fetched.{CanFetch}
 use Rattle.pass_frames_proof.specs.Framings.{IsFraming}
-use Rattle.pass_frames_proof.specs.Led.{IsLed, IsTwiceFor, LeavesMemory, MayBeLed, MayStepLed}
+use Rattle.pass_frames_proof.specs.Led.{IsLed, IsTwiceFor, MayBeLed, MayStepLed}
 use Rattle.pass_frames_proof.specs.Lines.{HasOwnBlocks, IsCellOf, IsStorable, at_work}
 use Rattle.pass_frames_proof.specs.Loaded.{loaded_value}
 use Rattle.pass_frames_proof.specs.Places.{Framing, Placed, edged, is_return, named, plan, written}
 use Rattle.pass_frames_proof.specs.Related.{AreBuiltOf, AreCellsRight, AreCoroutines, AreWheresRight, Building, HasCells, HasValues, IsCellName, IsFreeOf, IsKeptValue, all_slots, instance_in, is_coroutine, returned_from, slots_below}
-use Rattle.pass_frames_proof.specs.Stepping.{AreGiven, IsAtOrdinary, IsNotEntering, IsPlacedOperand, placed_front, placed_instr, state_in}
+use Rattle.pass_frames_proof.specs.Stepping.{IsCommon, AreGiven, IsAtOrdinary, IsNotEntering, IsPlacedOperand, placed_front, placed_instr, state_in}
 use Rattle.pass_frames_proof.specs.Passes.{block_at}
 use Rattle.pass_proofs.proofs.fetch.rules.Puts.{fetch_rises}
 use Rattle.pass_renewed_proof.specs.Renewed.{RenewedGiven}
@@ -91,18 +91,18 @@ named_alike c d functions declarations (Some n) = (
   declarations n ∙ sym (option_same (declaration_named c.code n)),
 )
 
-pub not_pointed : (c d : Context) (env : Env) (i : Instr) → LeavesMemory c i → IsPointedAlike same_maps c d env (AtInstr i)
+pub not_pointed : (c d : Context) (env : Env) (i : Instr) → IsCommon i → IsPointedAlike same_maps c d env (AtInstr i)
 not_pointed c d env (Instr.Binary r op flags ty a b) q = tt
 not_pointed c d env (Instr.Icmp r pred ty a b) q = tt
 not_pointed c d env (Instr.Select r k a b) q = tt
 not_pointed c d env (Instr.Cast r op nneg a to) q = tt
-not_pointed c d env (Instr.Alloca r ty align) q = tt
+not_pointed c d env (Instr.Alloca r ty align) q = absurd q
 not_pointed c d env (Instr.Load r ty p align) q = tt
 not_pointed c d env (Instr.Store a p align) q = tt
 not_pointed c d env (Instr.Gep r inbounds ty p indices) q = tt
 not_pointed c d env (Instr.Call r must_tail ty (Callee.Named n) args) q = tt
-not_pointed c d env (Instr.Call r must_tail ty (Callee.Allocator n) args) q = tt
-not_pointed c d env (Instr.Call r must_tail ty (Callee.Intrinsic n) args) q = tt
+not_pointed c d env (Instr.Call r must_tail ty (Callee.Allocator n) args) q = absurd q
+not_pointed c d env (Instr.Call r must_tail ty (Callee.Intrinsic n) args) q = absurd q
 not_pointed c d env (Instr.Call r must_tail ty (Callee.Local n) args) q = absurd q
 
 -- ---- the state
@@ -270,7 +270,7 @@ module _ (b : Building) (g : RenewedGiven) (given : AreGiven b g) (s t : State) 
     low = h.order.low;
     callee = named_alike c d same_names.functions same_names.declarations (callee_at (AtInstr i));
     bytes = h.bytes;
-    pointed = not_pointed c d s.top.values i h.leaves;
+    pointed = not_pointed c d s.top.values i h.common;
     distance = h.far r.homes d led.work.values (placed_instr x place_state i) given.code led.shape;
     storable = λ u does k kept e is_kept. storable_at u does k kept e is_kept;
     result = h.unmeasured;

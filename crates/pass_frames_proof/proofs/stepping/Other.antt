@@ -265,7 +265,7 @@ module _ (b : Building) (g : RenewedGiven) (given : AreGiven b g) (s t : State) 
     shape = shape b g given s t r h.plain h.runs h.mode (AtInstr i);
     callee = named_alike c' d' (same_names b g given s t r h.plain h.runs h.mode).functions
         (same_names b g given s t r h.plain h.runs h.mode).declarations (callee_at (AtInstr i));
-    pointed = not_pointed c' d' s.top.values i h.leaves;
+    pointed = not_pointed c' d' s.top.values i (common c' i h.leaves);
     distance = h.far r.homes d' t.top.values i given.code (shape b g given s t r h.plain h.runs h.mode (AtInstr i));
     cases = tt;
     no_slot = easy.no_slot;
