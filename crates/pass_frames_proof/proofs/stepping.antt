@@ -12,4 +12,7 @@ pub mod Other
 pub mod Place
 pub mod Rest
 pub mod Same
+pub mod Shown
 pub mod Stands
+pub mod Stored
+pub mod Stores

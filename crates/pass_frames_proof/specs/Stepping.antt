@@ -1,6 +1,7 @@
 -- What the two runs are given, and what is asked of a state whose next step is an ordinary instruction.
 use Rattle.std.specs.Prelude.{◌≡◌, ◌<◌, ◌≤◌, ◌⊎◌, ◌+◌, ◌^◌, ℕ, Bool, true, false, List, [], length, slice_get, Some, None, Option}
 use Rattle.std.specs.List.{Contains}
+use Rattle.flow_solver.specs.Paths.{IsListed}
 use Rattle.ir_base.specs.declared.name.Name.{Name}
 use Rattle.ir_base.specs.declared.outcome.Outcome.{Outcome}
 use Rattle.ir_model.specs.Names.{declaration_named, function_at, function_named}
@@ -11,12 +12,13 @@ use Rattle.ir_model.specs.declared.module.Module.{Module}
 use Rattle.ir_model.specs.declared.operand.Callee.{Callee}
 use Rattle.ir_model.specs.declared.operand.Operand.{Operand}
 use Rattle.ir_parts.specs.Contents.{instr_operands, result_of}
+use Rattle.ir_paths.specs.declared.point.Point.{Point}
 use Rattle.pass_cells.specs.Cells.{fetches_of}
 use Rattle.pass_cells.specs.Kept.{entry}
 use Rattle.pass_cells.specs.declared.plan.KeptValue.{KeptValue}
 use Rattle.frame_contents.specs.Held.{position_of}
 use Rattle.pass_copies.specs.declared.slot.EarlySlot.{EarlySlot}
-use Rattle.pass_fetch.specs.Fetching.{next_after_all}
+use Rattle.pass_fetch.specs.Fetching.{next_after_all, value_bytes}
 use Rattle.pass_fetch.specs.Instrs.{with_fetched}
 use Rattle.pass_frames.specs.Framed.{begin_of}
 use Rattle.pass_frames.specs.Tables.{offset_at}
@@ -29,22 +31,27 @@ use Rattle.pass_frames_proof.specs.Lined.{GivesNone}
 use Rattle.pass_frames_proof.specs.Lines.{IsStorable}
 use Rattle.pass_frames_proof.specs.Ordinary.{IsPlainName}
 use Rattle.pass_frames_proof.specs.Places.{Framing, Placed, copies, edged, framed, instrs_at, is_return, named, offsets, place, placed_layer, plan, written}
-use Rattle.pass_frames_proof.specs.Related.{AreBuilt, Building, IsKeptValue, is_coroutine}
+use Rattle.pass_frames_proof.specs.Related.{AreBuilt, AreBuiltOf, AreInstances, Building, IsKeptValue, IsSuspendNumber, is_coroutine, returned_from}
 use Rattle.pass_proofs.specs.addresses.rules.Addresses.{lies_in_frame}
 use Rattle.pass_renewed_proof.specs.Renewed.{RenewedGiven}
 use Rattle.run_framed.specs.Framed.{framed_context}
 use Rattle.run_laws.specs.access.Lines.{StandAt}
+use Rattle.run_laws.specs.access.Changed.{IsFree}
 use Rattle.run_laws.specs.changed.Changed.{Each}
 use Rattle.run_laws.specs.embedded.Related.{HasBytes}
 use Rattle.run_laws.specs.memory.Pointers.{Home, IsValue}
+use Rattle.run_laws.specs.transfer.Muted.{muted}
 use Rattle.run_laws.specs.transfer.Shapes.{InstrStays}
 use Rattle.run_laws.specs.transfer.Transfer.{AreSameDistances, IsPointedAlike, StandsFor, looks_at, same_maps}
+use Rattle.run_memory.specs.Memory.{owner_rights}
 use Rattle.run_memory.specs.declared.pointer.Value.{Value}
 use Rattle.run_source.specs.Source.{context_of}
 use Rattle.run_source.specs.State.{address_in, function_of, work_of}
+use Rattle.run_source.specs.declared.state.Activation.{Activation}
 use Rattle.run_source.specs.declared.state.Instance.{Instance}
 use Rattle.run_source.specs.declared.state.Mode.{Mode}
 use Rattle.run_source.specs.declared.state.State.{State}
+use Rattle.run_source.specs.declared.state.Status.{Status}
 use Rattle.run_source_tables.specs.Given.{facts_at}
 use Rattle.run_step.specs.Step.{AtInstr, AtTerm, Context, Done, Enter, GoTo, Work, fetch, instr_action, term_action}
 use Rattle.run_step.specs.Values.{Env, pointer_to, value_in}
@@ -186,6 +193,19 @@ pub record IsAtOrdinary (b : Building) (g : RenewedGiven) (s : State) (i : Instr
   pub allocas : (at u align : ℕ) (ty : Ty)
       → slice_get (instrs_at (b.framing s.top.func) 0) at ≡ Some (Instr.Alloca u ty align)
       → (u < length (edged (b.framing s.top.func)).names) × (result_of i ≡ Some u → ⊥)
+
+-- No byte of a live slot lies in the fields of values that cross the suspend at which an instance is: the two conflict. No
+-- activation below stands in a block on a resume or destroy edge, in which there is no call.
+pub record AreFieldsSpared (b : Building) (s t : State) (r : AreBuiltOf b s t) : Type 0 where
+  pub fields : (i : ℕ) (x y : Instance) → slice_get s.instances i ≡ Some x → AreInstances b r.homes t x y
+      → x.freed ≡ false → (p : Point) (env : Env) → x.status ≡ Status.Suspended p env → (j : ℕ)
+      → IsSuspendNumber (b.framing x.coroutine) j p → (v position : ℕ) (k : KeptValue)
+      → IsKeptValue (b.framing x.coroutine) v k → Contains (b.framing x.coroutine).contents.crossing (v, j)
+      → position_of (b.framing x.coroutine).contents.held v ≡ Some position → (q : ℕ) → q < value_bytes k.field_ty
+      → IsFree owner_rights r.homes (muted r.hides s.world.memory) y.block
+      (y.start + offset_at (b.framing x.coroutine).layout position + q)
+  pub below : (a : Activation) → IsListed a s.below → is_coroutine b a.func ≡ true
+      → returned_from (b.framing a.func) a a.mode ≡ None
 
 -- ---- functions that are no coroutines
 

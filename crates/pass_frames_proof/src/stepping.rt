@@ -4,10 +4,12 @@ ghost use Rattle.std.specs.Prelude.{◌≡◌, ℕ, Bool, List, Option};
 ghost use Rattle.ir_model.specs.Ty.{Ty};
 ghost use Rattle.ir_model.specs.declared.instr.Instr.{Instr};
 ghost use Rattle.ir_model.specs.declared.instr.Terminator.{Terminator};
+ghost use Rattle.ir_model.specs.declared.operand.Arg.{Arg};
+ghost use Rattle.ir_model.specs.declared.operand.Operand.{Operand};
 ghost use Rattle.pass_frames_proof.specs.Followed.{IsFollowed};
 ghost use Rattle.pass_frames_proof.specs.Led.{LeavesMemory};
 ghost use Rattle.pass_frames_proof.specs.Related.{AreBuiltOf, Building};
-ghost use Rattle.pass_frames_proof.specs.Stepping.{AreGiven, GoesAsFar, HasFieldIndices, IsAtOrdinary, IsAtOther, IsAtOtherBranch, IsAtOtherCall};
+ghost use Rattle.pass_frames_proof.specs.Stepping.{AreFieldsSpared, AreGiven, GoesAsFar, HasFieldIndices, IsAtOrdinary, IsAtOther, IsAtOtherBranch, IsAtOtherCall};
 ghost use Rattle.pass_renewed_proof.specs.Renewed.{RenewedGiven};
 ghost use Rattle.run_memory.specs.declared.pointer.Value.{Value};
 ghost use Rattle.run_source.specs.Source.{context_of};
@@ -20,6 +22,13 @@ ghost use Rattle.run_step.specs.Values.{Env, distance};
 pub fn ordinary_instructions_are_followed()
     ensures { (b : Building) (g : RenewedGiven) → AreGiven b g → (s t : State) → AreBuiltOf b s t → (i : Instr) (v : Work)
         → IsAtOrdinary b g s i v → LeavesMemory (context_of g.given s) i → IsFollowed b g s t }
+{}
+
+/// So is a store, where no live slot lies in the fields of suspended instances.
+pub fn stores_are_followed()
+    ensures { (b : Building) (g : RenewedGiven) → AreGiven b g → (s t : State) (r : AreBuiltOf b s t) (arg : Arg)
+        (p : Operand) (align : ℕ) (v : Work) → IsAtOrdinary b g s (Instr.Store arg p align) v
+        → AreFieldsSpared b s t r → IsFollowed b g s t }
 {}
 
 /// In a function that is no coroutine the framed run makes the same step: of such an instruction, of a branch, and

@@ -1,6 +1,6 @@
 -- A store behind a line that fetches its operands.
-use Rattle.std.proofs.Common.{◌≡◌, inr, ℕ, ◌<◌, ◌≤◌, Bool, true, false, List, [], ◌∷◌, ◌++◌, length, refl, sym, ap, ◌∙◌, subst, arith}
-use Rattle.std.specs.Prelude.{None, Option, Some}
+use Rattle.std.proofs.Common.{◌≡◌, inr, ℕ, ◌<◌, ◌≤◌, Bool, true, List, [], ◌∷◌, ◌++◌, length, refl, sym, ap, ◌∙◌, subst, arith}
+use Rattle.std.specs.Prelude.{None}
 use Rattle.ir_model.specs.Ty.{int, ptr}
 use Rattle.ir_model.specs.declared.instr.Instr.{Instr}
 use Rattle.ir_model.specs.declared.operand.Arg.{Arg}
@@ -15,7 +15,7 @@ use Rattle.pass_frames_proof.proofs.ordinary.Stores.{stands_shown, store_defined
 use Rattle.pass_frames_proof.specs.Framings.{IsFraming}
 use Rattle.pass_frames_proof.specs.Led.{IsDoneLed, MayStepLed, RunsThrough, StoresLed, led_line}
 use Rattle.pass_frames_proof.specs.Lines.{IsCellOf, at_work}
-use Rattle.pass_frames_proof.specs.Places.{Framing, named, plan}
+use Rattle.pass_frames_proof.specs.Places.{Framing, named}
 use Rattle.pass_frames_proof.specs.Related.{AreCellsRight, IsCell, IsDistanceOf}
 use Rattle.run_laws.proofs.access.Done.{free_held}
 use Rattle.run_laws.proofs.access.Touched.{free_untouched}
@@ -24,13 +24,12 @@ use Rattle.run_laws.proofs.embedded.Values.{address_kept}
 use Rattle.run_laws.proofs.transfer.Muted.{shown_address, store_muted}
 use Rattle.run_laws.proofs.transfer.Over.{step_over}
 use Rattle.run_laws.specs.access.Changed.{IsDefined, KeepsFree, LeavesFree}
-use Rattle.run_laws.specs.access.Lines.{Holds}
 use Rattle.run_laws.specs.access.Touched.{AreTouches, WritesAt, touch_of}
 use Rattle.run_laws.specs.embedded.Refilled.{AreRefilled, OnlyRefills}
 use Rattle.run_laws.specs.memory.Pointers.{Home, IsValue}
 use Rattle.run_laws.specs.memory.Standing.{AreByteRights}
 use Rattle.run_laws.specs.transfer.Muted.{muted, muted_work}
-use Rattle.run_laws.specs.transfer.Shapes.{ArgStays, InstrStays, Store}
+use Rattle.run_laws.specs.transfer.Shapes.{InstrStays, Store}
 use Rattle.run_laws.specs.transfer.Transfer.{AreJoined, AreOver, AreSet, GoesOver, IsTransferred, StandsFor, same_maps}
 use Rattle.run_memory.specs.Memory.{access_bytes, store}
 use Rattle.run_memory.specs.declared.pointer.Value.{Value}

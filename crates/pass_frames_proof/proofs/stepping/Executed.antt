@@ -5,7 +5,7 @@ use Rattle.pass_frames_proof.proofs.code.Instrs.{instr_code}
 use Rattle.pass_frames_proof.proofs.code.Left.{parts_left}
 use Rattle.pass_frames_proof.proofs.led.Steps.{led_step}
 use Rattle.pass_frames_proof.proofs.stepping.Codes.{code_stands}
-use Rattle.pass_frames_proof.proofs.stepping.Line.{common, line_is, line_no_alloca}
+use Rattle.pass_frames_proof.proofs.stepping.Line.{line_is, line_no_alloca}
 use Rattle.pass_frames_proof.proofs.stepping.May.{is, may}
 use Rattle.pass_frames_proof.specs.Code.{load_name}
 use Rattle.pass_frames_proof.specs.Framings.{IsFraming}

@@ -1,5 +1,5 @@
 -- Behind the line of an ordinary instruction the states are related, where what it leaves is known.
-use Rattle.std.proofs.Common.{◌≡◌, ◌⊎◌, inl, inr, ⊎_elim, ℕ, ◌+◌, ◌-◌, ◌<◌, ◌≤◌, true, false, List, ◌∷◌, length, refl, sym, ap, ◌∙◌, subst, arith}
+use Rattle.std.proofs.Common.{◌≡◌, ◌⊎◌, inl, inr, ⊎_elim, ℕ, ◌+◌, ◌<◌, ◌≤◌, true, false, List, ◌∷◌, length, refl, sym, ap, ◌∙◌, subst, arith}
 use Rattle.std.proofs.lemmas.Bool.{cases_lt}
 use Rattle.std.proofs.lemmas.List.{length-append}
 use Rattle.std.specs.List.{Contains}
@@ -17,7 +17,7 @@ use Rattle.pass_fetch.specs.Fetching.{fetches_of_all, next_after_all}
 use Rattle.pass_fetch.specs.Instrs.{with_fetched}
 use Rattle.pass_fetch.specs.declared.fetch.Fetch.{Fetch}
 use Rattle.pass_frames_proof.proofs.stepping.After.{cells_turned, not_set, past_value, right_there, wheres_there, wheres_turned}
-use Rattle.pass_frames_proof.proofs.stepping.May.{cells, free, is, low, not_returned, values}
+use Rattle.pass_frames_proof.proofs.stepping.May.{is, low, not_returned, values}
 use Rattle.pass_frames_proof.proofs.stepping.Operands.{asked}
 use Rattle.pass_frames_proof.proofs.stepping.Rest.{LeavesRest, own_slots, rest_related}
 use Rattle.pass_frames_proof.proofs.stepping.Stands.{made_of, top_is, values_of}
@@ -27,7 +27,7 @@ use Rattle.pass_frames_proof.specs.Framings.{IsFraming}
 use Rattle.pass_frames_proof.specs.Led.{IsNotSet}
 use Rattle.pass_frames_proof.specs.Lined.{lined}
 use Rattle.pass_frames_proof.specs.Lines.{IsCellOf, at_work}
-use Rattle.pass_frames_proof.specs.Places.{Framing, Placed, copies, edged, offsets, place, plan, written}
+use Rattle.pass_frames_proof.specs.Places.{Framing, Placed, copies, edged, offsets, plan, written}
 use Rattle.pass_frames_proof.specs.Related.{AreActivations, AreAhead, AreBuiltOf, AreCellsRight, AreCoroutines, AreNamed, AreWheresRight, Building, HasCells, IsAhead, instance_in, is_coroutine, is_first, point_of, top_place}
 use Rattle.pass_frames_proof.specs.Stepping.{AreGiven, IsAtOrdinary, StandsInPlace, placed_front, placed_instr, placed_line, state_in}
 use Rattle.pass_proofs.proofs.fetch.rules.Puts.{fetch_rises}

@@ -1,23 +1,20 @@
 -- An ordinary instruction of a coroutine is followed: its operands are fetched, it is executed, and its result is stored.
-use Rattle.std.proofs.Common.{◌≡◌, ◌⊎◌, inl, inr, ⊎_elim, ℕ, ◌-◌, ◌<◌, ◌≤◌, true, List, length, refl, sym, ap, ◌∙◌, subst, arith}
+use Rattle.std.proofs.Common.{◌≡◌, ◌⊎◌, inl, inr, ⊎_elim, ℕ, ◌<◌, ◌≤◌, true, List, length, refl, sym, ◌∙◌, subst, arith}
 use Rattle.std.specs.List.{Contains}
 use Rattle.std.specs.Prelude.{map, slice_get}
 use Rattle.flow_solver.specs.Paths.{IsListed}
 use Rattle.ir_base.specs.declared.outcome.Outcome.{Outcome}
 use Rattle.ir_model.specs.Ty.{Ty, ptr}
 use Rattle.ir_model.specs.declared.instr.Instr.{Instr}
-use Rattle.ir_parts.specs.Contents.{instr_operands}
 use Rattle.pass_copies.specs.declared.slot.EarlySlot.{EarlySlot}
-use Rattle.pass_fetch.specs.Fetching.{next_after_all}
 use Rattle.pass_frames_proof.proofs.followed.Assembly.{events_same, other_instance}
 use Rattle.pass_frames_proof.proofs.lined.Lines.{each_between, line_leads}
 use Rattle.pass_frames_proof.proofs.lines.Cells.{other_block}
 use Rattle.pass_frames_proof.proofs.stepping.Executed.{led_there, stands_there}
-use Rattle.pass_frames_proof.proofs.stepping.May.{cell_name, cells, free, is, low, own_blocks, values}
+use Rattle.pass_frames_proof.proofs.stepping.May.{cell_name, cells, free, own_blocks}
 use Rattle.pass_frames_proof.proofs.stepping.Rest.{LeavesRest, below_apart, instance_kept, stood_apart}
 use Rattle.pass_frames_proof.proofs.stepping.Same.{kept, rest_left}
 use Rattle.pass_fetch.specs.Fetching.{value_bytes}
-use Rattle.pass_frames_proof.specs.Code.{load_name}
 use Rattle.pass_frames_proof.specs.Followed.{IsFollowed, IsOn}
 use Rattle.pass_frames_proof.specs.Led.{IsOnWay, SparesBlocks, StepsLed}
 use Rattle.pass_frames_proof.specs.Lined.{GivesNone, lined}
@@ -25,7 +22,6 @@ use Rattle.pass_frames_proof.specs.Lines.{IsCellOf}
 use Rattle.pass_frames_proof.specs.Places.{Framing, Placed, copies, named, written}
 use Rattle.pass_frames_proof.specs.Related.{AreBuiltOf, AreWheresRight, Building, IsAhead, IsCellName, IsFreeOf, instance_in, slots_below}
 use Rattle.pass_frames_proof.specs.Stepping.{AreGiven, IsAtOrdinary, StandsInPlace, placed_front, placed_line, state_in}
-use Rattle.pass_proofs.proofs.fetch.rules.Puts.{fetch_rises}
 use Rattle.pass_renewed_proof.specs.Renewed.{RenewedGiven}
 use Rattle.run_agreement.specs.Machines.{iterate}
 use Rattle.run_framed.specs.Framed.{framed_context, framed_step, frame_rights}
@@ -39,8 +35,8 @@ use Rattle.run_source.specs.State.{function_of, settled, work_of}
 use Rattle.run_source.specs.declared.state.State.{State}
 use Rattle.run_step.specs.Step.{Context, Work}
 use Rattle.run_step.specs.declared.world.Slot.{Slot}
-use Rattle.run_step.specs.declared.world.World.{World}
 use Rattle.pass_frames_proof.proofs.stepping.Names.{named_written, slots_new}
+use Rattle.pass_frames_proof.proofs.stepping.Shown.{still_shown}
 use Rattle.pass_frames_proof.proofs.stepping.Place.{gives, runs, stand_there}
 use Rattle.pass_frames_proof.proofs.stepping.Finish.{finished, related_after}
 use Rattle.pass_frames_proof.specs.Led.{IsDoneLed, LeavesMemory}
@@ -168,25 +164,6 @@ module _ (b : Building) (g : RenewedGiven) (given : AreGiven b g) (s t : State) 
 
   -- ---- what is shown on the way
 
-  shown_before : (k : ℕ) (u : Work) → u.world ≡ t.world → IsOn b s (lined t k u)
-  shown_before k u e = record {
-    running = running;
-    shown = record {
-      homes = r.homes;
-      events = ap (λ (w : World). w.events) e ∙ events_same b s t r;
-      outcome = r.outcome;
-      instances = λ j p there suspended.
-          let y = other_instance b s t r j p there in (
-            y.0,
-            y.1,
-            instance_kept b s t r s.world u.world
-                (rest_left b s t r s.world u.world (λ z. ⊥) given.framings refl
-                (λ z none. ap (λ (w : World). slice_get w.memory z) e) (λ q lt seen no. no) (λ q l no. no))
-                (lined t k u).top t.below j p y.0 there y.2,
-          );
-    };
-  }
-
   shown_behind : (k : ℕ) (u : Work) → u.world.events ≡ led.work.world.events
       → SparesBlocks x t.top t.world.memory u.world.memory
       → IsOn b (settled s v) (lined t k u)
@@ -213,7 +190,7 @@ module _ (b : Building) (g : RenewedGiven) (given : AreGiven b g) (s t : State) 
   on_way k pos lt =
       let z = each_between b.given t P line led.work running stand there_none all.runs k lt in
       ⊎_elim
-      (λ e. inl (subst (IsOn b s) (sym z.1.0) (shown_before k z.0 e)))
+      (λ e. inl (subst (IsOn b s) (sym z.1.0) (still_shown b s t r given.framings running k z.0 e)))
       (λ e. inr (subst (IsOn b (settled s v)) (sym z.1.0) (shown_behind k z.0 e.0 e.1)))
       z.1.1
 

@@ -8,7 +8,7 @@ use Rattle.ir_model.specs.declared.module.Function.{Function}
 use Rattle.ir_model.specs.declared.module.Module.{Module}
 use Rattle.ir_paths.specs.declared.point.Point.{Point}
 use Rattle.pass_frames_proof.proofs.stepping.Codes.{instr_there}
-use Rattle.pass_frames_proof.proofs.stepping.Line.{common, line_gives, never_idle}
+use Rattle.pass_frames_proof.proofs.stepping.Line.{line_gives, never_idle}
 use Rattle.pass_frames_proof.proofs.stepping.May.{is}
 use Rattle.pass_frames_proof.proofs.stepping.Stands.{cost_is, renewed_does, top_is}
 use Rattle.pass_frames_proof.specs.Framings.{IsFraming}

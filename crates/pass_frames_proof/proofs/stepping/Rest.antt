@@ -1,5 +1,5 @@
 -- Behind a step that stays in its activation the other ones and the instances stay related.
-use Rattle.std.proofs.Common.{◌≡◌, inl, inr, ℕ, zero, suc, ◌+◌, ◌<◌, ◌≤◌, Bool, true, false, List, [], ◌∷◌, ◌++◌, length, refl, sym, ap, ◌∙◌, subst, arith}
+use Rattle.std.proofs.Common.{◌≡◌, inl, inr, ℕ, zero, suc, ◌<◌, ◌≤◌, Bool, true, false, List, [], ◌∷◌, ◌++◌, length, refl, sym, ap, ◌∙◌, subst, arith}
 use Rattle.std.proofs.lemmas.List.{map-append}
 use Rattle.std.specs.List.{Contains}
 use Rattle.std.specs.Prelude.{None, Option, Some, map, slice_get, ◌&&◌}
@@ -164,7 +164,7 @@ pub record LeavesRest (b : Building) (s t : State) (r : AreBuiltOf b s t) (w u :
       → AreFieldsRight (b.framing x.coroutine) r.homes (frame_rights b.given t.instances) t.world.memory j env y.block
       y.start
       → AreFieldsRight (b.framing x.coroutine) r.homes (frame_rights b.given t.instances) u.memory j env y.block y.start
-  pub returned : (a c : Activation) (y : Instance) (j : ℕ) → IsListed a s.below
+  pub returned : (a c : Activation) (y : Instance) (j : ℕ) → IsListed a s.below → is_coroutine b a.func ≡ true
       → instance_in t.instances c.instance ≡ Some y → returned_from (b.framing a.func) a a.mode ≡ Some j
       → HasFields (b.framing a.func) r.homes (frame_rights b.given t.instances) t.world.memory j a.values y.block y.start
       a.mode
@@ -217,7 +217,7 @@ module _ (b : Building) (s t : State) (r : AreBuiltOf b s t) (w u : World) (l : 
       names = h.names;
       cells = has_kept R t.world.memory u.memory (b.framing p.func) (l.framings p.func is) q kept r.homes
           (instance_in t.instances q.instance) p (returned_from (b.framing p.func) p p.mode)
-          (λ y j own from. l.returned p q y j lp own from) h.cells;
+          (λ y j own from. l.returned p q y j lp is own from) h.cells;
       made = made_kept R t.world.memory u.memory (b.framing p.func) (l.framings p.func is) q kept p.mode h.made;
     }
       where

@@ -155,7 +155,7 @@ module _ (b : Building) (s t : State) (r : AreBuiltOf b s t) (w u : World) (Touc
     fields = λ i x y e h p env is j number live.
         right_kept R t.world.memory u.memory y.block (kept y.block (frames x y h)) (b.framing x.coroutine) r.homes j env
         y.start;
-    returned = λ a c y j l own from.
+    returned = λ a c y j l is own from.
         fields_kept R t.world.memory u.memory y.block (kept y.block (own_frame c.instance y own)) (b.framing a.func)
         r.homes j a.values y.start a.mode;
     mates = mates_kept;
