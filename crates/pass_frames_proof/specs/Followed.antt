@@ -26,7 +26,8 @@ pub record IsOn (b : Building) (s t : State) : Type 0 where
   pub running : t.outcome ≡ Outcome.Running
   pub shown : AreShownAlike b s t
 
--- From a related state so many steps lead to one that is related to the next state. The price of the step pays for them.
+-- From a related state so many steps lead to one that is related to the next state. The price of the step pays for
+-- them.
 pub record IsFollowed (b : Building) (g : RenewedGiven) (s t : State) : Type 0 where
   pub steps : ℕ
   pub few : steps ≤ step_cost b g s s.top.mode

@@ -1,4 +1,5 @@
--- An instruction behind a line that fetches its operands: the line sets new names alone, and then the instruction is the
+-- An instruction behind a line that fetches its operands: the line sets new names alone, and then the instruction
+-- is the
 -- same but for operands that stand for the source's. Operands may be fetched twice: kept values are loaded, and then
 -- addresses of slots in the frame are made.
 use Rattle.std.specs.Prelude.{◌≡◌, ◌≤◌, ◌⊎◌, ℕ, Bool, List, [], ◌∷◌, ◌++◌, length, slice_get, Some, None, Option}
@@ -110,7 +111,8 @@ IsOnWay x a y z u =
 -- ---- the step
 
 -- what is asked of the works, of the instruction in its place, and of its result
-pub record MayStepLed (x : Framing) (homes : List Home) (hides : ℕ → Bool) (c d : Context) (w y : Work) (a : Activation)
+pub record MayStepLed (x : Framing) (homes : List Home) (hides : ℕ
+    → Bool) (c d : Context) (w y : Work) (a : Activation)
     (n : ℕ) (i j : Instr) (front : List Instr) : Type 0 where
   pub led : IsLed homes c d w y n i j front
   pub joined : AreJoined homes hides same_maps c d w y

@@ -85,7 +85,8 @@ StandsInPlace x k at line =
 
 -- what an instruction is once its kept operands are loaded, and then addresses are made
 abbrev pub placed_instr : Framing → Placed → Instr → Instr
-placed_instr x n i = with_fetched (slot_table x) (address_state n).0 (with_fetched (fetches_of (plan x)) (load_name n) i)
+placed_instr x n i = with_fetched (slot_table x) (address_state n).0 (with_fetched (fetches_of (plan x))
+    (load_name n) i)
 
 abbrev pub placed_front : Framing → Placed → Instr → List Instr
 placed_front x n i = twice_front (fetches_of (plan x)) (slot_table x) (load_name n) (address_state n).0 i
@@ -167,7 +168,8 @@ GoesAsFar b c env i =
     → InstrStays (StandsFor (looks_at (AtInstr i)) (IsValue homes) c d env other) i j
     → AreSameDistances c d env other (AtInstr i) (AtInstr j)
 
--- The next step is an ordinary instruction of a coroutine. Names are of its table, their values fit their types, and its
+-- The next step is an ordinary instruction of a coroutine. Names are of its table, their values fit their types,
+-- and its
 -- result has a name of its own; slots are used behind begin.
 pub record IsAtOrdinary (b : Building) (g : RenewedGiven) (s : State) (i : Instr) (v : Work) : Type 0 where
   pub runs : s.outcome ≡ Outcome.Running
@@ -194,7 +196,8 @@ pub record IsAtOrdinary (b : Building) (g : RenewedGiven) (s : State) (i : Instr
       → slice_get (instrs_at (b.framing s.top.func) 0) at ≡ Some (Instr.Alloca u ty align)
       → (u < length (edged (b.framing s.top.func)).names) × (result_of i ≡ Some u → ⊥)
 
--- No byte of a live slot lies in the fields of values that cross the suspend at which an instance is: the two conflict. No
+-- No byte of a live slot lies in the fields of values that cross the suspend at which an instance is: the two
+-- conflict. No
 -- activation below stands in a block on a resume or destroy edge, in which there is no call.
 pub record AreFieldsSpared (b : Building) (s t : State) (r : AreBuiltOf b s t) : Type 0 where
   pub fields : (i : ℕ) (x y : Instance) → slice_get s.instances i ≡ Some x → AreInstances b r.homes t x y

@@ -17,10 +17,12 @@ ghost use Rattle.run_source.specs.declared.state.State.{State};
 ghost use Rattle.run_step.specs.Step.{Context, Work};
 ghost use Rattle.run_step.specs.Values.{Env, distance};
 
-/// In a coroutine an instruction that changes no memory is followed: its kept operands are loaded, addresses of slots in
+/// In a coroutine an instruction that changes no memory is followed: its kept operands are loaded, addresses of
+/// slots in
 /// the frame are made, it is executed, and its result is stored.
 pub fn ordinary_instructions_are_followed()
-    ensures { (b : Building) (g : RenewedGiven) → AreGiven b g → (s t : State) → AreBuiltOf b s t → (i : Instr) (v : Work)
+    ensures { (b : Building) (g : RenewedGiven) → AreGiven b g → (s t : State) → AreBuiltOf b s t
+        → (i : Instr) (v : Work)
         → IsAtOrdinary b g s i v → LeavesMemory (context_of g.given s) i → IsFollowed b g s t }
 {}
 
@@ -34,7 +36,8 @@ pub fn stores_are_followed()
 /// In a function that is no coroutine the framed run makes the same step: of such an instruction, of a branch, and
 /// of a call of another such function.
 pub fn steps_of_other_functions_are_followed()
-    ensures ordinary { (b : Building) (g : RenewedGiven) → AreGiven b g → (s t : State) → AreBuiltOf b s t → (i : Instr)
+    ensures ordinary { (b : Building) (g : RenewedGiven) → AreGiven b g → (s t : State) → AreBuiltOf b s t
+        → (i : Instr)
         (v : Work) → IsAtOther b g s i v → IsFollowed b g s t }
     ensures branch { (b : Building) (g : RenewedGiven) → AreGiven b g → (s t : State) → AreBuiltOf b s t
         → (e : Terminator) (label : ℕ) → IsAtOtherBranch b g s e label → IsFollowed b g s t }
@@ -43,7 +46,8 @@ pub fn steps_of_other_functions_are_followed()
         → IsAtOtherCall b g s i func args result must_tail → IsFollowed b g s t }
 {}
 
-/// In the framed module, which has the same types, a getelementptr goes as far where its operands stand for the source's.
+/// In the framed module, which has the same types, a getelementptr goes as far where its operands stand for the
+/// source's.
 pub fn addresses_go_as_far()
     ensures { (b : Building) (c : Context) (env : Env) (i : Instr)
         → ((u : Ty) (is : List (Option ℕ)) → distance b.framed_code u is ≡ distance c.code u is)

@@ -41,7 +41,8 @@ events_same b s t r = r.world.events ∙ same_events s.world.events
 
 -- an instance has one beside it
 pub other_instance : (b : Building) (s t : State) (r : AreBuiltOf b s t) (i : ℕ) (x : Instance)
-    → slice_get s.instances i ≡ Some x → (y : Instance) × (slice_get t.instances i ≡ Some y) × AreInstances b r.homes t x y
+    → slice_get s.instances i ≡ Some x → (y : Instance) × (slice_get t.instances i
+    ≡ Some y) × AreInstances b r.homes t x y
 other_instance b s t r i x e = on (slice_get t.instances i) refl
   where
     on : (o : Option Instance) → slice_get t.instances i ≡ o

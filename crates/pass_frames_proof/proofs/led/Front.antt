@@ -170,7 +170,8 @@ module _ (homes : List Home) (t u : List (Option Fetch)) (given more : ℕ → V
   pub led_twice : IsLed homes c d w y n i (with_fetched u m (with_fetched t n i)) (twice_front t u n m i)
   led_twice = record {
     work = second.work;
-    runs = runs_append d (fetches_of_all t n xs) (fetches_of_all u m (instr_operands (with_fetched t n i))) y first.work
+    runs = runs_append d (fetches_of_all t n xs) (fetches_of_all u m (instr_operands
+        (with_fetched t n i))) y first.work
         second.work first.runs second.runs;
     still = each_joined IsStill (fetches_of_all t n xs) (fetches_of_all u m (instr_operands (with_fetched t n i)))
         (all_still t n xs) (all_still u m (instr_operands (with_fetched t n i)));

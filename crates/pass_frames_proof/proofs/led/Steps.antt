@@ -63,7 +63,8 @@ still_world c u z (Instr.Load r ty p align) s e = on (is_alignment align) e
         else Stuck Cause.Align) ≡ Done z
         → z.world ≡ u.world
     on true d =
-        result_world (set_value u r) (load c.rights u.world.memory (address (value_at c u ptr p)) (access_of ty) align) u
+        result_world (set_value u r) (load c.rights u.world.memory (address (value_at c u ptr p))
+        (access_of ty) align) u
         z (λ k. refl) d
     on false d = absurd (cc)
 still_world c u z (Instr.Gep r inbounds ty p indices) s e =
@@ -289,11 +290,13 @@ module _ (x : Framing) (is : IsFraming x) (homes : List Home) (hides : ℕ → B
   right : AreRight w.values z
   right = record {
     values = λ u k kept.
-        cell_stays d.rights law' [] y.world.memory z.world.memory a y z k.cell k.ty (IsValue homes (value_in w.values u))
+        cell_stays d.rights law' [] y.world.memory z.world.memory a y z k.cell k.ty (IsValue homes
+        (value_in w.values u))
         unfilled (m.cells.values u k kept) tt (cells_on k.cell (kept_is_cell x is u k kept));
     distances = λ u cell slot e root.
         cell_stays d.rights law' [] y.world.memory z.world.memory a y z cell (int 64)
-        (IsDistanceOf (value_in w.values slot) (value_in w.values u)) unfilled (m.cells.distances u cell slot e root) tt
+        (IsDistanceOf (value_in w.values slot) (value_in w.values u)) unfilled
+        (m.cells.distances u cell slot e root) tt
         (cells_on cell (distance_of x is u cell e));
   }
 
@@ -349,7 +352,8 @@ module _ (x : Framing) (is : IsFraming x) (homes : List Home) (hides : ℕ → B
         values = behind.right.values;
         distances = λ u cell slot told root. ⊎_elim
             (λ (same : u ≡ r).
-            let none : None ≡ Some cell = sym (m.result r e).no_distance ∙ ap (entry (plan x).cells) (sym same) ∙ told in
+            let none : None ≡ Some cell = sym (m.result r e).no_distance ∙ ap (entry (plan x).cells) (sym same)
+            ∙ told in
             absurd (cc))
             (λ differ. behind.right.distances u cell slot differ told root) (is_number u r);
       };

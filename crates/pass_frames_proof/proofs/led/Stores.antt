@@ -102,7 +102,8 @@ module _ (x : Framing) (is : IsFraming x) (homes : List Home) (hides : ℕ → B
 
   went : GoesOver c.rights d.rights homes hides same_maps None [] [] w S (Done v) (instr_action d S k)
   went =
-      subst (λ (act : Action). GoesOver c.rights d.rights homes hides same_maps None [] [] w S act (instr_action d S k))
+      subst (λ (act : Action). GoesOver c.rights d.rights homes hides same_maps None [] [] w S act
+      (instr_action d S k))
       is_done (step_over homes hides same_maps c d w S (AtInstr i) (AtInstr k) law law' joined transferred)
 
   abbrev z : Work
@@ -181,10 +182,12 @@ module _ (x : Framing) (is : IsFraming x) (homes : List Home) (hides : ℕ → B
   right = record {
     values = λ u q kept.
         cell_kept q.cell q.ty (IsValue homes (value_in v.values u)) (kept_is_cell x is u q kept)
-        (subst (λ (t : Value). IsCell d.rights y.world.memory (at_work a y) q.cell q.ty (IsValue homes t)) (sym (same u))
+        (subst (λ (t : Value). IsCell d.rights y.world.memory (at_work a y) q.cell q.ty (IsValue homes t)) (sym
+        (same u))
         (m.cells.values u q kept));
     distances = λ u cell slot e root.
-        cell_kept cell (int 64) (IsDistanceOf (value_in v.values slot) (value_in v.values u)) (distance_of x is u cell e)
+        cell_kept cell (int 64) (IsDistanceOf (value_in v.values slot) (value_in v.values u))
+        (distance_of x is u cell e)
         (subst
         (λ (t : Value × Value). IsCell d.rights y.world.memory (at_work a y) cell (int 64) (IsDistanceOf t.0 t.1))
         (λ q. (sym (same slot) q, sym (same u) q)) (m.cells.distances u cell slot e root));

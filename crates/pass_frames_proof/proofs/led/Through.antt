@@ -17,7 +17,8 @@ module _ (c : Context) (P : Work → Type 0) where
   through_joined (i ∷ is) more w v x r q = (r.0, (r.1.0, (r.1.1.0, through_joined is more r.1.0 v x r.1.1.1 q)))
 
   -- a line of one instruction at most
-  pub one_through : (line : List Instr) (w x : Work) → length line ≤ 1 → P w → Runs c line w x → RunsThrough c P line w x
+  pub one_through : (line : List Instr) (w x : Work) → length line ≤ 1 → P w → Runs c line w x
+      → RunsThrough c P line w x
   one_through [] w x le h r = r
   one_through (i ∷ []) w x le h r = (h, r)
   one_through (i ∷ j ∷ is) w x le h r = absurd (more (length is) le)

@@ -25,7 +25,8 @@ module _ (t : List (Option Fetch)) where
       → callee_operands (callee_by n o (Callee.Local v)) ++ arg_operands (fetched_args t (next_by n o) args)
       ≡ operand_by n o (Operand.Local v) ∷ fetched_all t (next_by n o) (arg_operands args)
   call_fetched n v None args = ap (λ (xs : List Operand). Operand.Local v ∷ xs) (args_fetched n args)
-  call_fetched n v (Some f) args = ap (λ (xs : List Operand). Operand.Local n ∷ xs) (args_fetched (next_by n (Some f)) args)
+  call_fetched n v (Some f) args = ap (λ (xs : List Operand). Operand.Local n ∷ xs) (args_fetched (next_by n
+      (Some f)) args)
 
   pub operands_fetched : (n : ℕ) (i : Instr) → instr_operands (with_fetched t n i) ≡ fetched_all t n (instr_operands i)
   operands_fetched n (Instr.Binary r op flags ty a b) = refl

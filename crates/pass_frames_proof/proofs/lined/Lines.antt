@@ -150,6 +150,7 @@ pub line_between : (h : FramedGiven) (t : State) (line : List Instr) (x : Work) 
     → Runs (framed_context h t) line (work_of t) x → (k : ℕ) → k < length line
     → (u : Work) × (iterate (framed_step h) k t ≡ lined t k u)
 line_between h t line x runs stands none r k lt =
-    let z = each_between h t (λ u. Unit {0}) line x runs stands none (anything (framed_context h t) line (work_of t) x r) k
+    let z = each_between h t (λ u. Unit {0}) line x runs stands none (anything (framed_context h t) line
+    (work_of t) x r) k
     lt in
     (z.0, z.1.0)

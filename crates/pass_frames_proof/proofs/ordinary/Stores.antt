@@ -101,7 +101,8 @@ module _ (x : Framing) (is : IsFraming x) (homes : List Home) (hides : ℕ → B
 
   went : GoesOver c.rights d.rights homes hides same_maps None [] [] w S (Done v) (instr_action d S j)
   went =
-      subst (λ (act : Action). GoesOver c.rights d.rights homes hides same_maps None [] [] w S act (instr_action d S j))
+      subst (λ (act : Action). GoesOver c.rights d.rights homes hides same_maps None [] [] w S act
+      (instr_action d S j))
       is_done (step_over homes hides same_maps c d w S (AtInstr i) (AtInstr j) law law' beside turned)
 
   abbrev z : Work
@@ -123,7 +124,8 @@ module _ (x : Framing) (is : IsFraming x) (homes : List Home) (hides : ℕ → B
     address (value_at d S ptr (fetched_operand T (next_after T n arg.value) p)),
     (
       refl,
-      address_kept homes (value_at c w ptr p) (value_at d S ptr (fetched_operand T (next_after T n arg.value) p)) leads,
+      address_kept homes (value_at c w ptr p) (value_at d S ptr (fetched_operand T
+          (next_after T n arg.value) p)) leads,
     ),
   )
 
@@ -178,10 +180,12 @@ module _ (x : Framing) (is : IsFraming x) (homes : List Home) (hides : ℕ → B
   right = record {
     values = λ u k kept.
         cell_kept k.cell k.ty (IsValue homes (value_in v.values u)) (kept_is_cell x is u k kept)
-        (subst (λ (t : Value). IsCell d.rights y.world.memory (at_work a y) k.cell k.ty (IsValue homes t)) (sym (same u))
+        (subst (λ (t : Value). IsCell d.rights y.world.memory (at_work a y) k.cell k.ty (IsValue homes t)) (sym
+        (same u))
         (m.operands.cells.values u k kept));
     distances = λ u cell slot e root.
-        cell_kept cell (int 64) (IsDistanceOf (value_in v.values slot) (value_in v.values u)) (distance_of x is u cell e)
+        cell_kept cell (int 64) (IsDistanceOf (value_in v.values slot) (value_in v.values u))
+        (distance_of x is u cell e)
         (subst
         (λ (t : Value × Value). IsCell d.rights y.world.memory (at_work a y) cell (int 64) (IsDistanceOf t.0 t.1))
         (λ k. (sym (same slot) k, sym (same u) k)) (m.operands.cells.distances u cell slot e root));

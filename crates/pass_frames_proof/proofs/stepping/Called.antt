@@ -254,5 +254,6 @@ module _ (b : Building) (g : RenewedGiven) (given : AreGiven b g) (s t : State) 
       cost_is_enough =
           subst (λ (k : ℕ). 1 ≤ k)
           (sym (cost_is b g s s.top.mode h.mode
-          ∙ ap (λ (k : Bool). if k then coroutine_cost b g s (action_at g s) else other_cost b g s (action_at g s)) h.plain
+          ∙ ap (λ (k : Bool). if k then coroutine_cost b g s (action_at g s) else other_cost b g s
+          (action_at g s)) h.plain
           ∙ ap (other_cost b g s) (ap (action_of c (work_of s)) h.there ∙ h.does))) costs

@@ -61,8 +61,10 @@ module _ (b : Building) (g : RenewedGiven) (given : AreGiven b g) (s t : State) 
     (v : Work) (h : IsAtOrdinary b g s i v)
     (stands : StandsInPlace (b.framing s.top.func) s.top.block s.top.at
     (placed_line (b.framing s.top.func) (state_in (b.framing s.top.func) s.top.block s.top.at) i))
-    (led : IsDoneLed (b.framing s.top.func) r.homes r.hides (context_of g.given s) (framed_context b.given t) (work_of s)
-    (work_of t) v t.top i (placed_front (b.framing s.top.func) (state_in (b.framing s.top.func) s.top.block s.top.at) i))
+    (led : IsDoneLed (b.framing s.top.func) r.homes r.hides (context_of g.given s) (framed_context b.given t)
+    (work_of s)
+    (work_of t) v t.top i (placed_front (b.framing s.top.func) (state_in
+    (b.framing s.top.func) s.top.block s.top.at) i))
     (left : LeavesRest b s t r v.world led.work.world)
     (wheres_here : AreWheresRight (b.framing s.top.func) (frame_rights b.given t.instances) led.work.world.memory
     (instance_in t.instances t.top.instance) t.top)
@@ -103,7 +105,10 @@ module _ (b : Building) (g : RenewedGiven) (given : AreGiven b g) (s t : State) 
 
   place_after : point_of c' ≡ top_place b a'
   place_after =
-      (λ k. record { block = block_is b g given s t r i v h stands k; at = at_is b g given s t r i v h stands k + length line })
+      (λ k. record {
+        block = block_is b g given s t r i v h stands k;
+        at = at_is b g given s t r i v h stands k + length line;
+      })
       ∙ ap (λ (k : ℕ). record { block = s.top.block; at = k }) (sym stands.1)
       ∙ sym (top_is b a' h.coroutine h.mode)
 

@@ -103,7 +103,8 @@ still_no_alloca (Instr.Load r ty p align) s = refl
 still_no_alloca (Instr.Gep r inbounds ty p indices) s = refl
 still_no_alloca _ s = absurd s
 
-stored_no_alloca : (x : Framing) (o : Option ℕ) → Each (λ (j : Instr). is_no_alloca j ≡ true) (stored_result (plan x) o)
+stored_no_alloca : (x : Framing) (o : Option ℕ) → Each (λ (j : Instr). is_no_alloca j
+    ≡ true) (stored_result (plan x) o)
 stored_no_alloca x None = tt
 stored_no_alloca x (Some v) = by_place (entry (plan x).places v)
   where
@@ -219,7 +220,8 @@ module _ (x : Framing) (k : ℕ) (n : Placed) (i : Instr) (q : IsCommon i) (u : 
   -- and no alloca
   pub line_no_alloca : Each (λ (j : Instr). is_no_alloca j ≡ true) (placed_line x n i)
   line_no_alloca =
-      each_joined (λ (j : Instr). is_no_alloca j ≡ true) (placed_front x n i) (last ∷ stored_result (plan x) (result_of i))
+      each_joined (λ (j : Instr). is_no_alloca j ≡ true) (placed_front x n i) (last ∷ stored_result (plan x)
+      (result_of i))
       (each_turns IsStill (λ (j : Instr). is_no_alloca j ≡ true) still_no_alloca (placed_front x n i)
       (each_joined IsStill (loads x n i) (fetches_of_all (slot_table x) M (instr_operands one))
       (all_still (fetches_of (plan x)) (load_name n) (instr_operands i))

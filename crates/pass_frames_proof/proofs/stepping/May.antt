@@ -59,11 +59,14 @@ use Rattle.run_step.specs.declared.world.Slot.{Slot}
 -- it has come to no block on a resume or destroy edge
 pub not_returned : (x : Framing) (a : Activation) (mode : Mode) → IsNotEntering mode → is_return x a.block ≡ false
     → returned_from x a mode ≡ None
-not_returned x a Mode.Plain h e = ap (λ (b : Bool). if b then entry (plan x).returns (block_at (edged x) a.block).label else None) e
-not_returned x a Mode.Ramp h e = ap (λ (b : Bool). if b then entry (plan x).returns (block_at (edged x) a.block).label else None) e
+not_returned x a Mode.Plain h e = ap (λ (b : Bool). if b then entry (plan x).returns (block_at
+    (edged x) a.block).label else None) e
+not_returned x a Mode.Ramp h e = ap (λ (b : Bool). if b then entry (plan x).returns (block_at
+    (edged x) a.block).label else None) e
 not_returned x a (Mode.GivenRamp frame) h e =
     ap (λ (b : Bool). if b then entry (plan x).returns (block_at (edged x) a.block).label else None) e
-not_returned x a Mode.Resumed h e = ap (λ (b : Bool). if b then entry (plan x).returns (block_at (edged x) a.block).label else None) e
+not_returned x a Mode.Resumed h e = ap (λ (b : Bool). if b then entry (plan x).returns (block_at
+    (edged x) a.block).label else None) e
 not_returned x a (Mode.Entering from label) h e = absurd h
 
 coroutine_values : (b : Building) (homes : List Home) (rights : Rights) (t : State) (a c : Activation) (k : Bool)
@@ -139,7 +142,8 @@ module _ (b : Building) (g : RenewedGiven) (given : AreGiven b g) (s t : State) 
   pub cells : AreCellsRight x r.homes R t.world.memory s.top.values t.top
       × AreWheresRight x R t.world.memory (instance_in t.instances t.top.instance) t.top
   cells =
-      subst (λ (o : Option ℕ). HasCells x r.homes R t.world.memory (instance_in t.instances t.top.instance) s.top t.top o)
+      subst (λ (o : Option ℕ). HasCells x r.homes R t.world.memory
+      (instance_in t.instances t.top.instance) s.top t.top o)
       (not_returned x s.top s.top.mode h.mode h.unreturned) values.cells
 
   -- ---- names
@@ -165,7 +169,8 @@ module _ (b : Building) (g : RenewedGiven) (given : AreGiven b g) (s t : State) 
       → IsValue r.homes (operand_value c.code s.top.values ty o) (operand_value d.code t.top.values ty o)
   others o none ty =
       other_stands r.homes g.given.code b.given.given.code same_names
-      (λ k lt. r.globals k (subst (λ (z : Module). k < length z.globals) given.code lt)) s.top.values t.top.values o none
+      (λ k lt. r.globals k (subst (λ
+      (z : Module). k < length z.globals) given.code lt)) s.top.values t.top.values o none
       ty
 
   framing_is : (func : ℕ) → func ≡ s.top.func → b.framing func ≡ x
@@ -190,7 +195,8 @@ module _ (b : Building) (g : RenewedGiven) (given : AreGiven b g) (s t : State) 
   may_be_led = record {
     can = each_all (CanFetch T (loaded_value x d (work_of t)) n d (work_of t)) can_first (instr_operands i);
     can_more = each_turns (IsPlacedOperand x s) (CanFetch (slot_table x) more n d (work_of t))
-        (can_more b s t r x is framing_is h.mode values.names h.begin h.offsets c d right n low others) (instr_operands i)
+        (can_more b s t r x is framing_is h.mode values.names h.begin h.offsets c d right n low others)
+        (instr_operands i)
         h.operands;
     below = each_turns (IsBelow (length (edged x).names)) (IsBelow n)
         (λ o lt. more_below (length (edged x).names) n o low lt) (instr_operands i) h.below;

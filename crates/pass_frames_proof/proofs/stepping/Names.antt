@@ -79,7 +79,8 @@ module _ (x : Framing) where
       let a : length (edged x).names ≤ length one = longer (edged x).names (numbered_names (codes "$c.cell.") k) in
       let b : length one ≤ length two = longer one (numbered_names (codes "$c.field.") k) in
       let c : length two ≤ length three = longer two (numbered_names (codes "$c.distance.") k) in
-      let d : length three ≤ length (named x).names = longer three (numbered_names (codes "$c.link.") (plan x).links) in
+      let d : length three ≤ length (named x).names = longer three (numbered_names (codes "$c.link.")
+      (plan x).links) in
       omega (arith, a, b, c, d)
 
   pub cell_is_name : (u : ℕ) → IsCellOf x u → IsCellName x u

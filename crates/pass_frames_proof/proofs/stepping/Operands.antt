@@ -137,7 +137,8 @@ outside_not x v e =
 
 -- an address is made of what lies in the frame
 slot_fetch : (x : Framing) (v : ℕ)
-    → fetch_of (slot_table x) (Operand.Local v) ≡ option_map (Fetch.Address (begin_of x.function)) (entry (offsets x) v)
+    → fetch_of (slot_table x) (Operand.Local v) ≡ option_map (Fetch.Address (begin_of x.function)) (entry
+    (offsets x) v)
 slot_fetch x v =
     ap fetch_at (slice_get-map (option_map (Fetch.Address (begin_of x.function))) (offsets x) v)
     ∙ on (slice_get (offsets x) v)
@@ -266,7 +267,8 @@ module _ (b : Building) (s t : State) (r : AreBuiltOf b s t) (x : Framing) (is :
     slot_reached told =
         subst (λ (o : Option Instance). CanFetch (slot_table x) (slot_address x o) n d (work_of t) (Operand.Local v))
         (sym found.is_own)
-        (can_reach x d (work_of t) found.beside.block found.beside.start n v found.begun (omega (arith, plain.low, low))
+        (can_reach x d (work_of t) found.beside.block found.beside.start n v found.begun (omega
+        (arith, plain.low, low))
         near_all)
       where
         near_all : (o : ℕ) → entry (offsets x) v ≡ Some o → found.beside.start + o < 2 ^ 64

@@ -1,4 +1,5 @@
--- An ordinary instruction of a coroutine is followed: its operands are fetched, it is executed, and its result is stored.
+-- An ordinary instruction of a coroutine is followed: its operands are fetched, it is executed, and its result is
+-- stored.
 use Rattle.std.proofs.Common.{◌≡◌, ◌⊎◌, inl, inr, ⊎_elim, ℕ, ◌<◌, ◌≤◌, true, List, length, refl, sym, ◌∙◌, subst, arith}
 use Rattle.std.specs.List.{Contains}
 use Rattle.std.specs.Prelude.{map, slice_get}
@@ -47,8 +48,10 @@ module _ (b : Building) (g : RenewedGiven) (given : AreGiven b g) (s t : State) 
     (v : Work) (h : IsAtOrdinary b g s i v)
     (stands : StandsInPlace (b.framing s.top.func) s.top.block s.top.at
     (placed_line (b.framing s.top.func) (state_in (b.framing s.top.func) s.top.block s.top.at) i))
-    (all : StepsLed (b.framing s.top.func) r.homes r.hides (context_of g.given s) (framed_context b.given t) (work_of s)
-    (work_of t) v t.top i (placed_front (b.framing s.top.func) (state_in (b.framing s.top.func) s.top.block s.top.at) i)
+    (all : StepsLed (b.framing s.top.func) r.homes r.hides (context_of g.given s) (framed_context b.given t)
+    (work_of s)
+    (work_of t) v t.top i (placed_front (b.framing s.top.func) (state_in
+    (b.framing s.top.func) s.top.block s.top.at) i)
     (placed_line (b.framing s.top.func) (state_in (b.framing s.top.func) s.top.block s.top.at) i)) where
   abbrev x : Framing
   x = b.framing s.top.func
@@ -197,7 +200,8 @@ module _ (b : Building) (g : RenewedGiven) (given : AreGiven b g) (s t : State) 
   pub followed : IsFollowed b g s t
   followed = finished b g given s t r i v h stands led left wheres ahead_here leads on_way
 
-pub ordinary_followed : (b : Building) (g : RenewedGiven) → AreGiven b g → (s t : State) → AreBuiltOf b s t → (i : Instr)
+pub ordinary_followed : (b : Building) (g : RenewedGiven) → AreGiven b g → (s t : State) → AreBuiltOf b s t
+    → (i : Instr)
     (v : Work) → IsAtOrdinary b g s i v → LeavesMemory (context_of g.given s) i → IsFollowed b g s t
 ordinary_followed b g given s t r i v h leaves =
     followed b g given s t r i v h (stands_there b g given s t r i v h) (led_there b g given s t r i v h leaves)

@@ -165,7 +165,8 @@ module _ (b : Building) (g : RenewedGiven) (given : AreGiven b g) (s t : State) 
   }
 
   pub operand_stands : (o : Operand) (ty : Ty)
-      → IsValue r.homes (operand_value g.given.code s.top.values ty o) (operand_value b.given.given.code t.top.values ty o)
+      → IsValue r.homes (operand_value g.given.code s.top.values ty o)
+      (operand_value b.given.given.code t.top.values ty o)
   operand_stands (Operand.Local v) ty = values.each v
   operand_stands (Operand.Global name) ty = others (Operand.Global name) (λ v e. absurd (cc)) ty
     where
@@ -276,7 +277,8 @@ module _ (b : Building) (g : RenewedGiven) (given : AreGiven b g) (s t : State) 
       (args_at (AtInstr i)) (work_of s) (work_of t) (Done v) (instr_action d' (work_of t) i)
   went =
       subst
-      (λ (act : Action). GoesOver owner_rights R' r.homes r.hides same_maps (given_at (AtInstr i)) (args_at (AtInstr i))
+      (λ (act : Action). GoesOver owner_rights R' r.homes r.hides same_maps (given_at (AtInstr i)) (args_at
+      (AtInstr i))
       (args_at (AtInstr i)) (work_of s) (work_of t) act (instr_action d' (work_of t) i)) h.does
       (step_over r.homes r.hides same_maps c' d' (work_of s) (work_of t) (AtInstr i) (AtInstr i) owner_rights_fit
       (frame_rights_fit b.given t.instances) (joined b g given s t r h.plain h.runs h.mode) transferred)
@@ -302,7 +304,14 @@ module _ (b : Building) (g : RenewedGiven) (given : AreGiven b g) (s t : State) 
   related_next =
       subst
       (λ (p : Point). AreBuiltOf b (settled s v)
-      (record t { world = went.0.world; top = record t.top { block = p.block; at = p.at + 1; values = went.0.values } }))
+      (record t {
+        world = went.0.world;
+        top = record t.top {
+          block = p.block;
+          at = p.at + 1;
+          values = went.0.values;
+        };
+      }))
       (sym (here_is b g given s t r h.plain h.runs h.mode))
       (related_with b g given s t r h.plain h.runs h.mode v.world went.0.world s.top.block (s.top.at + 1) v.values
       went.0.values went.2 (leaves_memory c' (work_of s) v i h.leaves h.does)
@@ -321,7 +330,8 @@ module _ (b : Building) (g : RenewedGiven) (given : AreGiven b g) (s t : State) 
 no_windows : (g : Given) (s : State) (label : ℕ) → (own_facts g s).windows ≡ [] → go_to g s label
     ≡ Ok (enter_block g s label)
 no_windows g s label none =
-    ap (λ (ws : List Window). branch_leaving g s label (filter (leaves (state_point s) (entry_point (function_of g s) label)) ws)) none
+    ap (λ (ws : List Window). branch_leaving g s label (filter (leaves (state_point s) (entry_point
+    (function_of g s) label)) ws)) none
 
 module _ (b : Building) (g : RenewedGiven) (given : AreGiven b g) (s t : State) (r : AreBuiltOf b s t) (e : Terminator)
     (label : ℕ) (h : IsAtOtherBranch b g s e label) where

@@ -163,10 +163,12 @@ pub record LeavesRest (b : Building) (s t : State) (r : AreBuiltOf b s t) (w u :
       → x.freed ≡ false
       → AreFieldsRight (b.framing x.coroutine) r.homes (frame_rights b.given t.instances) t.world.memory j env y.block
       y.start
-      → AreFieldsRight (b.framing x.coroutine) r.homes (frame_rights b.given t.instances) u.memory j env y.block y.start
+      → AreFieldsRight (b.framing x.coroutine) r.homes
+      (frame_rights b.given t.instances) u.memory j env y.block y.start
   pub returned : (a c : Activation) (y : Instance) (j : ℕ) → IsListed a s.below → is_coroutine b a.func ≡ true
       → instance_in t.instances c.instance ≡ Some y → returned_from (b.framing a.func) a a.mode ≡ Some j
-      → HasFields (b.framing a.func) r.homes (frame_rights b.given t.instances) t.world.memory j a.values y.block y.start
+      → HasFields (b.framing a.func) r.homes
+      (frame_rights b.given t.instances) t.world.memory j a.values y.block y.start
       a.mode
       → HasFields (b.framing a.func) r.homes (frame_rights b.given t.instances) u.memory j a.values y.block y.start
       a.mode

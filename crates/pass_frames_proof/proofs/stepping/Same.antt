@@ -150,10 +150,12 @@ module _ (b : Building) (s t : State) (r : AreBuiltOf b s t) (w u : World) (Touc
   pub rest_left : LeavesRest b s t r w u
   rest_left = record {
     framings = framings;
-    cells = λ c l is slot e name o most bytes. kept slot.block (others slot.block (slot_listed t.below c slot l e)) o most
+    cells = λ c l is slot e name o most bytes. kept slot.block (others slot.block
+        (slot_listed t.below c slot l e)) o most
         bytes;
     fields = λ i x y e h p env is j number live.
-        right_kept R t.world.memory u.memory y.block (kept y.block (frames x y h)) (b.framing x.coroutine) r.homes j env
+        right_kept R t.world.memory u.memory y.block (kept y.block (frames x y h))
+        (b.framing x.coroutine) r.homes j env
         y.start;
     returned = λ a c y j l is own from.
         fields_kept R t.world.memory u.memory y.block (kept y.block (own_frame c.instance y own)) (b.framing a.func)

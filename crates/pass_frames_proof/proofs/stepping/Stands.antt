@@ -43,7 +43,8 @@ cost_is b g s (Mode.Entering from label) h = absurd h
 
 -- ---- places
 
-placed_at : (x : Framing) (a : Activation) (mode : Mode) → IsNotEntering mode → place_by x a mode ≡ place x (point_of a)
+placed_at : (x : Framing) (a : Activation) (mode : Mode) → IsNotEntering mode → place_by x a mode
+    ≡ place x (point_of a)
 placed_at x a Mode.Plain h = refl
 placed_at x a Mode.Ramp h = refl
 placed_at x a (Mode.GivenRamp frame) h = refl
@@ -57,7 +58,8 @@ top_is b a is mode =
     ap (λ (k : Bool). if k then place_by (b.framing a.func) a a.mode else point_of a) is
     ∙ placed_at (b.framing a.func) a a.mode mode
 
-pub made_of : (x : Framing) (rights : Rights) (m : List MemoryBlock) (c : Activation) (mode : Mode) → IsNotEntering mode
+pub made_of : (x : Framing) (rights : Rights) (m : List MemoryBlock) (c : Activation) (mode : Mode)
+    → IsNotEntering mode
     → AreCellsThere x rights m c × AreWheresThere x rights m c → AreMade x rights m c mode
 made_of x rights m c Mode.Plain h e = e
 made_of x rights m c Mode.Ramp h e = e

@@ -38,8 +38,10 @@ module _ (b : Building) (g : RenewedGiven) (given : AreGiven b g) (s t : State) 
     (v : Work) (h : IsAtOrdinary b g s i v)
     (stands : StandsInPlace (b.framing s.top.func) s.top.block s.top.at
     (placed_line (b.framing s.top.func) (state_in (b.framing s.top.func) s.top.block s.top.at) i))
-    (all : StoresLed (b.framing s.top.func) r.homes r.hides (context_of g.given s) (framed_context b.given t) (work_of s)
-    (work_of t) v t.top i (placed_front (b.framing s.top.func) (state_in (b.framing s.top.func) s.top.block s.top.at) i)
+    (all : StoresLed (b.framing s.top.func) r.homes r.hides (context_of g.given s) (framed_context b.given t)
+    (work_of s)
+    (work_of t) v t.top i (placed_front (b.framing s.top.func) (state_in
+    (b.framing s.top.func) s.top.block s.top.at) i)
     (placed_line (b.framing s.top.func) (state_in (b.framing s.top.func) s.top.block s.top.at) i))
     (spared : AreFieldsSpared b s t r) where
   abbrev x : Framing
@@ -78,7 +80,11 @@ module _ (b : Building) (g : RenewedGiven) (given : AreGiven b g) (s t : State) 
           bytes = q.bytes;
           sized = q.sized;
           holds = free_kept b s t r v.world work.world given.framings all.refilled all.keeps spared q.block
-              (free b g given s t r i v h (record { alloca = e.cell; block = q.block }) q.own (where_is_name x e listed))
+              (free b g given s t r i v h (record {
+                alloca = e.cell;
+                block =
+                    q.block;
+              }) q.own (where_is_name x e listed))
               0 (value_bytes ptr) q.bytes q.holds;
           has = q.has;
         };
@@ -97,14 +103,16 @@ module _ (b : Building) (g : RenewedGiven) (given : AreGiven b g) (s t : State) 
       (λ name align ty other. ahead_kept b s t r v.world work.world given.framings all.refilled all.keeps spared x t.top
       name align ty) leads on_way
 
-pub stores_followed : (b : Building) (g : RenewedGiven) → AreGiven b g → (s t : State) (r : AreBuiltOf b s t) (arg : Arg)
+pub stores_followed : (b : Building) (g : RenewedGiven) → AreGiven b g
+    → (s t : State) (r : AreBuiltOf b s t) (arg : Arg)
     (p : Operand) (align : ℕ) (v : Work) → IsAtOrdinary b g s (Instr.Store arg p align) v → AreFieldsSpared b s t r
     → IsFollowed b g s t
 stores_followed b g given s t r arg p align v h spared =
     store_followed b g given s t r (Instr.Store arg p align) v h
     (stands_there b g given s t r (Instr.Store arg p align) v h)
     (led_store (b.framing s.top.func) (is b g given s t r (Instr.Store arg p align) v h) r.homes r.hides
-    (context_of g.given s) (framed_context b.given t) owner_rights_fit (frame_rights_fit b.given t.instances) (work_of s)
+    (context_of g.given s) (framed_context b.given t) owner_rights_fit (frame_rights_fit b.given t.instances)
+    (work_of s)
     (work_of t) v t.top (load_name (state_in (b.framing s.top.func) s.top.block s.top.at)) arg p align
     (placed_instr (b.framing s.top.func) (state_in (b.framing s.top.func) s.top.block s.top.at)
     (Instr.Store arg p align))
