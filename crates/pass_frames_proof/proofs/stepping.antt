@@ -9,6 +9,7 @@ pub mod Names
 pub mod Operands
 pub mod Ordinary
 pub mod Other
+pub mod Others
 pub mod Place
 pub mod Rest
 pub mod Same

@@ -223,7 +223,7 @@ pub record IsAtOther (b : Building) (g : RenewedGiven) (s : State) (i : Instr) (
   pub plain : is_coroutine b s.top.func ≡ false
   pub mode : IsNotEntering s.top.mode
   pub there : fetch (function_of g.given s) s.top.block s.top.at ≡ AtInstr i
-  pub leaves : LeavesMemory (context_of g.given s) i
+  pub common : IsCommon i
   pub does : instr_action (context_of g.given s) (work_of s) i ≡ Done v
   pub far : GoesAsFar b (context_of g.given s) s.top.values i
   pub bytes : HasBytes (AtInstr i)

@@ -33,12 +33,14 @@ pub fn stores_are_followed()
         → AreFieldsSpared b s t r → IsFollowed b g s t }
 {}
 
-/// In a function that is no coroutine the framed run makes the same step: of such an instruction, of a branch, and
-/// of a call of another such function.
+/// In a function that is no coroutine the framed run makes the same step: of such an instruction, of a store, of a
+/// branch, and of a call of another such function.
 pub fn steps_of_other_functions_are_followed()
     ensures ordinary { (b : Building) (g : RenewedGiven) → AreGiven b g → (s t : State) → AreBuiltOf b s t
-        → (i : Instr)
-        (v : Work) → IsAtOther b g s i v → IsFollowed b g s t }
+        → (i : Instr) (v : Work) → IsAtOther b g s i v → LeavesMemory (context_of g.given s) i → IsFollowed b g s t }
+    ensures store { (b : Building) (g : RenewedGiven) → AreGiven b g → (s t : State) (r : AreBuiltOf b s t) (arg : Arg)
+        (p : Operand) (align : ℕ) (v : Work) → IsAtOther b g s (Instr.Store arg p align) v
+        → AreFieldsSpared b s t r → IsFollowed b g s t }
     ensures branch { (b : Building) (g : RenewedGiven) → AreGiven b g → (s t : State) → AreBuiltOf b s t
         → (e : Terminator) (label : ℕ) → IsAtOtherBranch b g s e label → IsFollowed b g s t }
     ensures call { (b : Building) (g : RenewedGiven) → AreGiven b g → (s t : State) → AreBuiltOf b s t → (i : Instr)

@@ -1,5 +1,5 @@
--- Steps of functions that are no coroutines: the framed run makes the same one.
-use Rattle.std.proofs.Common.{◌≡◌, ◌⊎◌, inl, inr, ⊎_elim, ℕ, ◌+◌, ◌<◌, ◌≤◌, Bool, true, false, List, [], ◌∷◌, length, refl, sym, ap, ◌∙◌, subst, arith}
+-- A function that is no coroutine: the framed run makes the same step. Of a branch too.
+use Rattle.std.proofs.Common.{◌≡◌, ◌⊎◌, inl, inr, ⊎_elim, ℕ, ◌<◌, ◌≤◌, Bool, true, false, List, [], ◌∷◌, length, refl, sym, ap, ◌∙◌, subst, arith}
 use Rattle.std.specs.Prelude.{None, Ok, Option, Some, filter, slice_get, if◌then◌else◌}
 use Rattle.ir_base.specs.declared.outcome.Outcome.{Outcome}
 use Rattle.ir_laws.proofs.facts.Members.{each_all}
@@ -7,7 +7,6 @@ use Rattle.ir_laws.proofs.facts.Truth.{is_number}
 use Rattle.ir_model.specs.Names.{declaration_named, function_at, function_named, position_of}
 use Rattle.ir_model.specs.Ty.{Ty}
 use Rattle.ir_model.specs.declared.instr.Case.{Case}
-use Rattle.ir_model.specs.declared.instr.Instr.{Instr}
 use Rattle.ir_model.specs.declared.instr.Phi.{Phi}
 use Rattle.ir_model.specs.declared.instr.Terminator.{Terminator}
 use Rattle.ir_model.specs.declared.module.Function.{Function}
@@ -17,39 +16,34 @@ use Rattle.ir_paths.specs.Paths.{entry_point}
 use Rattle.ir_paths.specs.Windows.{leaves}
 use Rattle.ir_paths.specs.declared.point.Point.{Point}
 use Rattle.ir_paths.specs.declared.point.Window.{Window}
-use Rattle.pass_frames_proof.proofs.led.Steps.{leaves_memory, IsSimple, simple}
-use Rattle.pass_frames_proof.proofs.lined.Lines.{framed_does, no_gift}
-use Rattle.pass_frames_proof.proofs.stepping.Line.{common, never_idle}
-use Rattle.pass_frames_proof.proofs.stepping.May.{named_alike, not_pointed}
+use Rattle.pass_frames_proof.proofs.lined.Lines.{framed_does}
 use Rattle.pass_frames_proof.proofs.stepping.Operands.{AreSameNames, other_stands, same_address}
 use Rattle.pass_frames_proof.proofs.stepping.Rest.{LeavesRest, own_slots, rest_related}
 use Rattle.pass_frames_proof.proofs.stepping.Same.{rest_left}
 use Rattle.pass_frames_proof.proofs.stepping.Stands.{cost_is, renewed_does}
 use Rattle.pass_frames_proof.specs.Followed.{IsFollowed}
-use Rattle.pass_frames_proof.specs.Lined.{gives_frame}
 use Rattle.pass_frames_proof.specs.Meaning.{action_at, coroutine_cost, other_cost, step_cost}
 use Rattle.pass_frames_proof.specs.Related.{AreBuiltOf, AreOthers, Building, HasValues, is_coroutine, place_by, point_of, top_place}
-use Rattle.pass_frames_proof.specs.Stepping.{AreGiven, IsAtOther, IsAtOtherBranch, IsNotEntering}
+use Rattle.pass_frames_proof.specs.Stepping.{AreGiven, IsAtOtherBranch, IsNotEntering}
 use Rattle.pass_renewed_proof.specs.Renewed.{RenewedGiven, renewed_step}
 use Rattle.run_framed.specs.Framed.{framed_context, framed_step, frame_rights}
 use Rattle.run_laws.proofs.memory.Itself.{owner_rights_fit}
 use Rattle.run_laws.proofs.transfer.Alone.{here_itself, looked_at}
 use Rattle.run_laws.proofs.transfer.Over.{step_over}
 use Rattle.run_laws.proofs.transfer.Sets.{sets_name}
-use Rattle.run_laws.specs.changed.Changed.{callee_at}
 use Rattle.run_laws.specs.memory.Pointers.{Home, IsValue}
 use Rattle.run_laws.specs.transfer.Shapes.{StaysAt}
-use Rattle.run_laws.specs.transfer.Transfer.{AreJoined, AreOver, AreSet, GoesOver, IsSameCase, IsTransferred, StandsFor, args_at, cases_at, given_at, looks_at, same_maps}
+use Rattle.run_laws.specs.transfer.Transfer.{AreJoined, AreOver, AreSet, GoesOver, IsSameCase, IsTransferred, StandsFor, cases_at, looks_at, same_maps}
 use Rattle.run_laws_worked.proofs.Frames.{frame_rights_fit}
 use Rattle.run_memory.specs.Memory.{Rights, owner_rights}
 use Rattle.run_memory.specs.declared.block.MemoryBlock.{MemoryBlock}
 use Rattle.run_memory.specs.declared.pointer.Value.{Value}
 use Rattle.run_source.specs.Source.{branch_leaving, context_of, enter_block, go_to}
-use Rattle.run_source.specs.State.{point_of as state_point, function_of, or_undefined, own_facts, settled, work_of}
+use Rattle.run_source.specs.State.{point_of as state_point, function_of, or_undefined, own_facts, work_of}
 use Rattle.run_source.specs.declared.state.Activation.{Activation}
 use Rattle.run_source.specs.declared.state.State.{State}
 use Rattle.run_source_tables.specs.Given.{Given, facts_at}
-use Rattle.run_step.specs.Step.{Action, AtInstr, AtTerm, Context, Done, Fetched, GoTo, Work, action_of, fetch, incoming_from, instr_action, label_of, phi_values, phis_of, term_action, values_in, with_all}
+use Rattle.run_step.specs.Step.{Action, AtTerm, Context, Fetched, GoTo, action_of, fetch, incoming_from, label_of, phi_values, phis_of, term_action, values_in, with_all}
 use Rattle.run_step.specs.Values.{Env, operand_value, value_in, with_value}
 use Rattle.run_step.specs.declared.world.World.{World}
 
@@ -214,12 +208,12 @@ module _ (b : Building) (g : RenewedGiven) (given : AreGiven b g) (s t : State) 
       ∙ ap (λ (k : Bool). if k then coroutine_cost b g s (action_at g s) else other_cost b g s (action_at g s)) plain
       ∙ ap (other_cost b g s) e ∙ one)) (omega arith)
 
-  -- behind a step of it the states are related where its values and the memories are
-  related_with : (w u : World) (block at : ℕ) (env other : Env) → AreOver owner_rights R r.homes r.hides (λ k. k) w u
-      → w.memory ≡ s.world.memory → u.memory ≡ t.world.memory → AreStanding r.homes env other
+  -- behind a step of it the states are related where its values are, and the rest is left
+  pub related_left : (w u : World) (block at : ℕ) (env other : Env) → AreOver owner_rights R r.homes r.hides (λ k. k) w u
+      → LeavesRest b s t r w u → AreStanding r.homes env other
       → AreBuiltOf b (record s { world = w; top = record s.top { block = block; at = at; values = env } })
       (record t { world = u; top = record t.top { block = block; at = at; values = other } })
-  related_with w u block at env other over same same' standing =
+  related_left w u block at env other over left standing =
       rest_related b s t r w u left block at block at env other over
       (λ is first here. let no : true ≡ false = sym is ∙ plain in absurd (cc)) (record {
         func = r.top.func;
@@ -235,95 +229,12 @@ module _ (b : Building) (g : RenewedGiven) (given : AreGiven b g) (s t : State) 
             (record { each = standing.each; room = standing.room });
         slots = own_slots b s t r w u left block at block at env other;
       })
-    where
-      left : LeavesRest b s t r w u
-      left =
-          rest_left b s t r w u (λ k. ⊥) given.framings same
-          (λ k none. ap (λ (m : List MemoryBlock). slice_get m k) same') (λ k lt seen no. no) (λ k l no. no)
 
--- ---- an ordinary instruction
-
-module _ (b : Building) (g : RenewedGiven) (given : AreGiven b g) (s t : State) (r : AreBuiltOf b s t) (i : Instr)
-    (v : Work) (h : IsAtOther b g s i v) where
-  abbrev R' : Rights
-  R' = frame_rights b.given t.instances
-
-  abbrev c' : Context
-  c' = context_of g.given s
-
-  abbrev d' : Context
-  d' = framed_context b.given t
-
-  easy : IsSimple c' d' i i
-  easy =
-      simple (StandsFor (looks_at (AtInstr i)) (IsValue r.homes) c' d' s.top.values t.top.values) c' d' i i
-      (shape b g given s t r h.plain h.runs h.mode (AtInstr i)) h.leaves
-      (named_alike c' d' (same_names b g given s t r h.plain h.runs h.mode).functions
-      (same_names b g given s t r h.plain h.runs h.mode).declarations (callee_at (AtInstr i)))
-
-  transferred : IsTransferred (IsValue r.homes) same_maps c' d' s.top.values t.top.values (AtInstr i) (AtInstr i)
-  transferred = record {
-    shape = shape b g given s t r h.plain h.runs h.mode (AtInstr i);
-    callee = named_alike c' d' (same_names b g given s t r h.plain h.runs h.mode).functions
-        (same_names b g given s t r h.plain h.runs h.mode).declarations (callee_at (AtInstr i));
-    pointed = not_pointed c' d' s.top.values i (common c' i h.leaves);
-    distance = h.far r.homes d' t.top.values i given.code (shape b g given s t r h.plain h.runs h.mode (AtInstr i));
-    cases = tt;
-    no_slot = easy.no_slot;
-    bytes = h.bytes;
-  }
-
-  went : GoesOver owner_rights R' r.homes r.hides same_maps (given_at (AtInstr i)) (args_at (AtInstr i))
-      (args_at (AtInstr i)) (work_of s) (work_of t) (Done v) (instr_action d' (work_of t) i)
-  went =
-      subst
-      (λ (act : Action). GoesOver owner_rights R' r.homes r.hides same_maps (given_at (AtInstr i)) (args_at
-      (AtInstr i))
-      (args_at (AtInstr i)) (work_of s) (work_of t) act (instr_action d' (work_of t) i)) h.does
-      (step_over r.homes r.hides same_maps c' d' (work_of s) (work_of t) (AtInstr i) (AtInstr i) owner_rights_fit
-      (frame_rights_fit b.given t.instances) (joined b g given s t r h.plain h.runs h.mode) transferred)
-
-  source_is : renewed_step g s ≡ settled s v
-  source_is =
-      renewed_does g s (AtInstr i) (Done v) h.runs h.there
-      (never_idle (g.flags s.top.func) i (common c' i h.leaves)) h.does
-
-  target_is : framed_step b.given t ≡ settled t went.0
-  target_is =
-      framed_does b.given t (AtInstr i) (Done went.0) (r.outcome ∙ h.runs)
-      (fetched_there b g given s t r h.plain h.runs h.mode (AtInstr i) h.there)
-      (no_gift b.given t i (subst (λ (k : Module). gives_frame k i ≡ false) (sym given.code) h.gives)) went.1
-
-  at_same : t.top.at ≡ s.top.at
-  at_same = ap (λ (p : Point). p.at) (here_is b g given s t r h.plain h.runs h.mode)
-
-  block_same : t.top.block ≡ s.top.block
-  block_same = ap (λ (p : Point). p.block) (here_is b g given s t r h.plain h.runs h.mode)
-
-  related_next : AreBuiltOf b (settled s v) (settled t went.0)
-  related_next =
-      subst
-      (λ (p : Point). AreBuiltOf b (settled s v)
-      (record t {
-        world = went.0.world;
-        top = record t.top {
-          block = p.block;
-          at = p.at + 1;
-          values = went.0.values;
-        };
-      }))
-      (sym (here_is b g given s t r h.plain h.runs h.mode))
-      (related_with b g given s t r h.plain h.runs h.mode v.world went.0.world s.top.block (s.top.at + 1) v.values
-      went.0.values went.2 (leaves_memory c' (work_of s) v i h.leaves h.does)
-      (leaves_memory d' (work_of t) went.0 i easy.leaves went.1)
-      (set_standing r.homes (given_at (AtInstr i)) s.top.values t.top.values v.values went.0.values
-      (stands b g given s t r h.plain h.runs h.mode) went.3))
-
-  pub other_followed : IsFollowed b g s t
-  other_followed =
-      one_followed b g s t
-      (cost_one b g given s t r h.plain h.runs h.mode (Done v) (ap (action_of c' (work_of s)) h.there ∙ h.does) refl)
-      (subst (λ (p : State × State). AreBuiltOf b p.0 p.1) (λ k. (sym source_is k, sym target_is k)) related_next)
+  -- no memory is changed
+  pub memory_left : (w u : World) → w.memory ≡ s.world.memory → u.memory ≡ t.world.memory → LeavesRest b s t r w u
+  memory_left w u same same' =
+      rest_left b s t r w u (λ k. ⊥) given.framings same
+      (λ k none. ap (λ (m : List MemoryBlock). slice_get m k) same') (λ k lt seen no. no) (λ k l no. no)
 
 -- ---- a branch
 
@@ -412,9 +323,10 @@ module _ (b : Building) (g : RenewedGiven) (given : AreGiven b g) (s t : State) 
         sym (code_is b g given s t r h.plain h.runs h.mode) k,
         sym (ap (λ (p : Point). p.block) (here_is b g given s t r h.plain h.runs h.mode)) k,
       ))
-      (related_with b g given s t r h.plain h.runs h.mode s.world t.world (position_of F label) 0
+      (related_left b g given s t r h.plain h.runs h.mode s.world t.world (position_of F label) 0
       (values_in g.given.code (slice_get F.blocks (position_of F label)) from s.top.values)
-      (values_in b.given.given.code (slice_get F.blocks (position_of F label)) from t.top.values) r.world refl refl
+      (values_in b.given.given.code (slice_get F.blocks (position_of F label)) from t.top.values) r.world
+      (memory_left b g given s t r h.plain h.runs h.mode s.world t.world refl refl)
       (phis_standing r.homes g.given.code b.given.given.code from s.top.values t.top.values s.top.values t.top.values phis
       (operand_stands b g given s t r h.plain h.runs h.mode) (stands b g given s t r h.plain h.runs h.mode)))
 
