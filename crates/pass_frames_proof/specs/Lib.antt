@@ -2,6 +2,7 @@ pub mod Agains
 pub mod Code
 pub mod Costs
 pub mod Distances
+pub mod Edges
 pub mod Entry
 pub mod Fetched
 pub mod Followed

@@ -26,7 +26,7 @@ use Rattle.pass_frames_proof.specs.Code.{address_state, load_name, loaded, locat
 use Rattle.pass_frames_proof.specs.Distances.{AreFields, IsBelow}
 use Rattle.pass_frames_proof.specs.Framings.{IsFraming}
 use Rattle.pass_frames_proof.specs.Layers.{state_at}
-use Rattle.pass_frames_proof.specs.Led.{LeavesMemory, led_line, twice_front}
+use Rattle.pass_frames_proof.specs.Led.{led_line, twice_front}
 use Rattle.pass_frames_proof.specs.Lined.{GivesNone}
 use Rattle.pass_frames_proof.specs.Lines.{IsStorable}
 use Rattle.pass_frames_proof.specs.Ordinary.{IsPlainName}

@@ -10,6 +10,7 @@ pub mod fetched;
 pub mod followed;
 pub mod framings;
 pub mod geps;
+pub mod jumping;
 pub mod layers;
 pub mod led;
 pub mod lined;

@@ -69,7 +69,7 @@ not_returned x a Mode.Resumed h e = ap (λ (b : Bool). if b then entry (plan x).
     (edged x) a.block).label else None) e
 not_returned x a (Mode.Entering from label) h e = absurd h
 
-coroutine_values : (b : Building) (homes : List Home) (rights : Rights) (t : State) (a c : Activation) (k : Bool)
+pub coroutine_values : (b : Building) (homes : List Home) (rights : Rights) (t : State) (a c : Activation) (k : Bool)
     → k ≡ true → HasValues b homes rights t a c k → AreCoroutines (b.framing a.func) homes rights t a c
 coroutine_values b homes rights t a c true e h = h
 coroutine_values b homes rights t a c false e h = absurd (cc)

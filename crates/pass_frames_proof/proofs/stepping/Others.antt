@@ -5,11 +5,10 @@ use Rattle.ir_model.specs.Ty.{ptr}
 use Rattle.ir_model.specs.declared.instr.Instr.{Instr}
 use Rattle.ir_model.specs.declared.module.Module.{Module}
 use Rattle.ir_model.specs.declared.operand.Operand.{Operand}
-use Rattle.ir_paths.specs.Windows.{leaves}
 use Rattle.ir_paths.specs.declared.point.Point.{Point}
 use Rattle.pass_frames_proof.proofs.led.Steps.{leaves_memory, IsSimple, simple}
 use Rattle.pass_frames_proof.proofs.lined.Lines.{framed_does, no_gift}
-use Rattle.pass_frames_proof.proofs.stepping.Line.{common, never_idle}
+use Rattle.pass_frames_proof.proofs.stepping.Line.{never_idle}
 use Rattle.pass_frames_proof.proofs.stepping.May.{named_alike, not_pointed}
 use Rattle.pass_frames_proof.proofs.stepping.Rest.{LeavesRest}
 use Rattle.pass_frames_proof.proofs.stepping.Stands.{renewed_does}
