@@ -1,3 +1,4 @@
 pub mod Jumps
 pub mod Landed
 pub mod Pairs
+pub mod Places

@@ -1,7 +1,13 @@
 //! Jumps of a coroutine are followed: what its phis and the terminator need is fetched at the end of the block, and
 //! phis are stored in front of the next one.
 
-ghost use Rattle.std.specs.Prelude.{ℕ, List};
+ghost use Rattle.std.specs.Prelude.{◌≡◌, ℕ, false, List, Some, slice_get};
+ghost use Rattle.pass_cells.specs.Written.{stored_phis};
+ghost use Rattle.pass_frames_proof.specs.Code.{end_code, end_term, last_state};
+ghost use Rattle.pass_frames_proof.specs.Framings.{IsFraming};
+ghost use Rattle.pass_frames_proof.specs.Passes.{block_at};
+ghost use Rattle.pass_frames_proof.specs.Phis.{IsOrdinaryBlock};
+ghost use Rattle.pass_frames_proof.specs.Places.{Framing, edged, fetched, is_return, plan};
 ghost use Rattle.ir_model.specs.declared.instr.Instr.{Instr};
 ghost use Rattle.ir_model.specs.declared.instr.Terminator.{Terminator};
 ghost use Rattle.pass_frames_proof.specs.Edges.{AreEndsLed, AreFrontsLed, EndsInPlace, FrontsInPlace, IsAtJump, block_to};
@@ -10,6 +16,17 @@ ghost use Rattle.pass_frames_proof.specs.Related.{AreBuiltOf, Building};
 ghost use Rattle.pass_frames_proof.specs.Stepping.{AreGiven};
 ghost use Rattle.pass_renewed_proof.specs.Renewed.{RenewedGiven};
 ghost use Rattle.run_source.specs.declared.state.State.{State};
+
+/// At the end of a block stands what fetches its phis' and its terminator's operands, and then the terminator. In front
+/// of a block that is neither the entry nor on a resume or destroy edge stand the stores of its phis.
+pub fn ends_stand_at_their_places()
+    ensures ends { (x : Framing) → IsFraming x → (k : ℕ) → slice_get (edged x).blocks k ≡ Some (block_at (edged x) k)
+        → is_return x k ≡ false
+        → EndsInPlace x k (end_code x k (last_state x k)) (end_term x (last_state x k) (block_at (edged x) k).term) }
+    ensures fronts { (x : Framing) → IsFraming x → (k : ℕ) → slice_get (edged x).blocks k ≡ Some (block_at (edged x) k)
+        → is_return x k ≡ false → IsOrdinaryBlock x k
+        → FrontsInPlace x k (stored_phis (plan x) (block_at (fetched x) k).phis) }
+{}
 
 /// A jump to a block that is neither the entry nor on a resume or destroy edge is followed, where the line at the end
 /// of the block and that in front of the next one are executed.

@@ -39,11 +39,11 @@ instr_there f k at i e =
 -- ---- the entry's layer
 
 module _ {S : Type 0} (fs : List Instr) (L : Layer S) where
-  led_passed : (s : S) (is : List Instr) → passed (led_by fs L) s is ≡ passed L s is
+  pub led_passed : (s : S) (is : List Instr) → passed (led_by fs L) s is ≡ passed L s is
   led_passed s [] = refl
   led_passed s (i ∷ is) = led_passed (L.after s i) is
 
-stay_all : (is : List Instr) → Each (λ (j : Instr). is_no_alloca j ≡ true) is → Each (IsIdle (only is_no_alloca)) is
+pub stay_all : (is : List Instr) → Each (λ (j : Instr). is_no_alloca j ≡ true) is → Each (IsIdle (only is_no_alloca)) is
 stay_all [] h = tt
 stay_all (i ∷ is) h = (only_idle is_no_alloca i h.0, stay_all is h.1)
 
