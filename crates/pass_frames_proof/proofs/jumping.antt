@@ -1,3 +1,4 @@
+pub mod Before
 pub mod Jumps
 pub mod Landed
 pub mod Pairs

@@ -4,6 +4,7 @@ use Rattle.std.specs.List.{Contains}
 use Rattle.ir_base.specs.declared.outcome.Outcome.{Outcome}
 use Rattle.ir_model.specs.Names.{position_of}
 use Rattle.ir_model.specs.declared.instr.Instr.{Instr}
+use Rattle.ir_model.specs.declared.instr.Phi.{Phi}
 use Rattle.ir_model.specs.declared.instr.Terminator.{Terminator}
 use Rattle.ir_paths.specs.Paths.{entry_point}
 use Rattle.ir_paths.specs.Windows.{leaves}
@@ -12,7 +13,10 @@ use Rattle.pass_frames_proof.specs.Costs.{whole}
 use Rattle.pass_frames_proof.specs.Led.{RunsThrough, SparesBlocks}
 use Rattle.pass_frames_proof.specs.Lined.{GivesNone}
 use Rattle.pass_frames_proof.specs.Lines.{at_work}
-use Rattle.pass_frames_proof.specs.Places.{Framing, copies, edged, framed, instrs_at, is_return, named, place}
+use Rattle.pass_frames_proof.specs.Passes.{block_at}
+use Rattle.pass_frames_proof.specs.Phis.{given_phis}
+use Rattle.pass_frames_proof.specs.Stores.{IsNameGiven}
+use Rattle.pass_frames_proof.specs.Places.{Framing, copies, edged, fetched, framed, instrs_at, is_return, named, place}
 use Rattle.pass_frames_proof.specs.Related.{AreBuiltOf, AreCellsRight, Building, is_coroutine}
 use Rattle.pass_frames_proof.specs.Stepping.{IsNotEntering}
 use Rattle.pass_renewed_proof.specs.Renewed.{RenewedGiven}
@@ -132,3 +136,13 @@ pub record AreFrontsLed (b : Building) (g : RenewedGiven) (s t : State) (r : Are
   pub gives : Each (GivesNone b.given.given.code) line
   pub right : AreCellsRight (b.framing s.top.func) r.homes (frame_rights b.given t.instances) work.world.memory
       (with_all s.top.values (entered_phis g s (b.framing s.top.func) label)) (at_work t.top work)
+
+-- what the phis of the block get may be stored, and has a name in the target
+pub record ArePhisGiven (b : Building) (g : RenewedGiven) (s t : State) (r : AreBuiltOf b s t) (label : ℕ) (w : Work)
+    : Type 0 where
+  pub value : Phi → Value
+  pub same : given_phis value (block_at (fetched (b.framing s.top.func)) (block_to (b.framing s.top.func) label)).phis
+      ≡ entered_phis g s (b.framing s.top.func) label
+  pub each : Each
+      (IsNameGiven (b.framing s.top.func) r.homes (entered_work b t (b.framing s.top.func) s.top.block label w))
+      (given_phis value (block_at (fetched (b.framing s.top.func)) (block_to (b.framing s.top.func) label)).phis)

@@ -10,12 +10,12 @@ use Rattle.ir_model.specs.declared.instr.Terminator.{Terminator}
 use Rattle.pass_cells.specs.Kept.{entry}
 use Rattle.pass_copies.specs.declared.slot.EarlySlot.{EarlySlot}
 use Rattle.pass_fetch.specs.Fetching.{value_bytes}
-use Rattle.pass_frames_proof.proofs.code.Left.{Far, far_named}
 use Rattle.pass_frames_proof.proofs.followed.Assembly.{events_same, other_instance}
-use Rattle.pass_frames_proof.proofs.jumping.Pairs.{AreAllSet, all_set}
+use Rattle.pass_frames_proof.proofs.jumping.Before.{all_before, cells_before, far, free_before, old_names}
+use Rattle.pass_frames_proof.proofs.jumping.Pairs.{AreAllSet}
 use Rattle.pass_frames_proof.proofs.lines.Cells.{other_block}
 use Rattle.pass_frames_proof.proofs.stepping.After.{cells_turned, past_value, right_there, wheres_there, wheres_turned}
-use Rattle.pass_frames_proof.proofs.stepping.May.{coroutine_values, not_returned, own_blocks}
+use Rattle.pass_frames_proof.proofs.stepping.May.{not_returned, own_blocks}
 use Rattle.pass_frames_proof.proofs.stepping.Names.{cell_is_name, named_written, slots_new}
 use Rattle.pass_frames_proof.proofs.stepping.Operands.{asked}
 use Rattle.pass_frames_proof.proofs.stepping.Rest.{LeavesRest, below_apart, instance_kept, own_slots, rest_related, stood_apart}
@@ -26,7 +26,7 @@ use Rattle.pass_frames_proof.specs.Followed.{IsOn}
 use Rattle.pass_frames_proof.specs.Framings.{IsFraming}
 use Rattle.pass_frames_proof.specs.Led.{SparesBlocks}
 use Rattle.pass_frames_proof.specs.Lines.{IsCellOf, at_work}
-use Rattle.pass_frames_proof.specs.Places.{Framing, copies, edged, framed, named, offsets, plan, written}
+use Rattle.pass_frames_proof.specs.Places.{Framing, copies, edged, named, offsets, plan, written}
 use Rattle.pass_frames_proof.specs.Related.{AreActivations, AreBuiltOf, AreCellsRight, AreCoroutines, AreNamed, AreWheresRight, Building, HasCells, IsCellName, IsFreeOf, instance_in, is_coroutine, point_of, slots_below, top_place}
 use Rattle.pass_frames_proof.specs.Stepping.{AreGiven}
 use Rattle.pass_proofs.specs.addresses.rules.Addresses.{lies_in_frame}
@@ -37,7 +37,7 @@ use Rattle.run_memory.specs.Memory.{Rights}
 use Rattle.run_memory.specs.declared.pointer.Value.{Value}
 use Rattle.run_source.specs.declared.state.Activation.{Activation}
 use Rattle.run_source.specs.declared.state.State.{State}
-use Rattle.run_step.specs.Step.{Work, label_of, phi_values, phis_of, with_all}
+use Rattle.run_step.specs.Step.{Work, with_all}
 use Rattle.run_step.specs.Values.{Env, value_in}
 use Rattle.run_step.specs.declared.world.Slot.{Slot}
 use Rattle.run_step.specs.declared.world.World.{World}
@@ -58,21 +58,13 @@ module _ (b : Building) (g : RenewedGiven) (given : AreGiven b g) (s t : State) 
   pub is : IsFraming x
   is = given.framings s.top.func h.coroutine
 
-  old : AreCoroutines x r.homes R t s.top t.top
-  old = coroutine_values b r.homes R t s.top t.top (is_coroutine b s.top.func) h.coroutine r.top.values
-
   cells : AreCellsRight x r.homes R t.world.memory s.top.values t.top
       × AreWheresRight x R t.world.memory (instance_in t.instances t.top.instance) t.top
-  cells =
-      subst (λ (o : Option ℕ). HasCells x r.homes R t.world.memory
-      (instance_in t.instances t.top.instance) s.top t.top o)
-      (not_returned x s.top s.top.mode h.mode h.unreturned) old.cells
+  cells = cells_before b g given s t r e other label line h ends
 
   free : (slot : Slot) → Contains t.top.slots slot → IsCellName x slot.alloca
       → IsFreeOf r.homes r.hides s.world.memory slot.block
-  free slot listed name =
-      r.cells.0 (subst (λ (n : ℕ). is_coroutine b n ≡ true) (sym r.top.func) h.coroutine) slot listed
-      (subst (λ (n : ℕ). IsCellName (b.framing n) slot.alloca) (sym r.top.func) name)
+  free = free_before b g given s t r e other label line h ends
 
   -- ---- cells alone are touched
 
@@ -139,23 +131,9 @@ module _ (b : Building) (g : RenewedGiven) (given : AreGiven b g) (s t : State) 
   abbrev bound : ℕ
   bound = length (edged x).names
 
-  far : bound ≤ length (named x).names
-  far = let a : Far x is ≤ length (named x).names = far_named x is in omega (arith, a)
-
-  enough : length s.top.values ≤ length ends.work.values
-  enough =
-      let p = h.room in
-      let q = h.wide in
-      let u = ends.room in
-      let v = old.names.room in
-      omega (arith, p, q, u, v)
-
   all : AreAllSet r.homes bound s.top.values ends.work.values env
       (entered_work b t x s.top.block label ends.work).values
-  all =
-      all_set r.homes bound s.top.values ends.work.values (entered_phis g s x label)
-      (phi_values b.given.given.code ends.work.values (label_of (slice_get (framed x).blocks s.top.block))
-      (phis_of (slice_get (framed x).blocks k))) enough ends.phis
+  all = all_before b g given s t r e other label line h ends
 
   same_values : (u : ℕ) → value_in z.values u ≡ value_in (entered_work b t x s.top.block label ends.work).values u
   same_values u = ap (λ (v : Env). value_in v u) led.values
@@ -163,7 +141,7 @@ module _ (b : Building) (g : RenewedGiven) (given : AreGiven b g) (s t : State) 
   names : AreNamed x r.homes a' c'
   names = record {
     each = λ u asks unkept outside. by_name u unkept outside (cases_lt u (length (named x).names));
-    room = ap (λ (v : Env). length v) led.values ∙ all.target ∙ ends.room ∙ old.names.room;
+    room = ap (λ (v : Env). length v) led.values ∙ all.target ∙ ends.room ∙ (old_names b g given s t r e other label line h ends).room;
   }
     where
       by_name : (u : ℕ) → entry (plan x).places u ≡ None → lies_in_frame (offsets x) u ≡ false
@@ -173,11 +151,11 @@ module _ (b : Building) (g : RenewedGiven) (given : AreGiven b g) (s t : State) 
           subst (IsValue r.homes (value_in env u)) (sym (same_values u))
           (all.each u
           (subst (IsValue r.homes (value_in s.top.values u)) (sym (ends.low u lt))
-          (old.names.each u (asked x s.top s.top.mode u h.mode) unkept outside)))
+          ((old_names b g given s t r e other label line h ends).each u (asked x s.top s.top.mode u h.mode) unkept outside)))
       by_name u unkept outside (inr le) =
           subst (λ (v : Value). IsValue r.homes v (value_in z.values u))
           (sym (past_value env u
-          (let p = all.source in let q = h.room in let f = far in omega (arith, p, q, f, le)))) tt
+          (let p = all.source in let q = h.room in let f : bound ≤ length (named x).names = far b g given s t r e other label line h ends in omega (arith, p, q, f, le)))) tt
 
   right : AreCellsRight x r.homes R z.world.memory env c'
   right = cells_turned R z.world.memory (at_work t.top z) c' x r.homes env refl refl led.right
@@ -212,7 +190,7 @@ module _ (b : Building) (g : RenewedGiven) (given : AreGiven b g) (s t : State) 
       → value_in z.values u ≡ value_in t.top.values u
   high_value u le same =
       same_values u
-      ∙ all.high u (let f = far in let long : length (named x).names ≤ length (written x).names = named_written x in
+      ∙ all.high u (let f : bound ≤ length (named x).names = far b g given s t r e other label line h ends in let long : length (named x).names ≤ length (written x).names = named_written x in
       omega (arith, f, long, le)) ∙ same
 
   wheres : AreWheresRight x R z.world.memory (instance_in t.instances t.top.instance) c'
