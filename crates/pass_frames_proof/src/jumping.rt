@@ -10,7 +10,7 @@ ghost use Rattle.pass_frames_proof.specs.Phis.{IsOrdinaryBlock};
 ghost use Rattle.pass_frames_proof.specs.Places.{Framing, edged, fetched, is_return, plan};
 ghost use Rattle.ir_model.specs.declared.instr.Instr.{Instr};
 ghost use Rattle.ir_model.specs.declared.instr.Terminator.{Terminator};
-ghost use Rattle.pass_frames_proof.specs.Edges.{AreEndsLed, AreFrontsLed, EndsInPlace, FrontsInPlace, IsAtJump, block_to};
+ghost use Rattle.pass_frames_proof.specs.Edges.{AreEndsLed, AreFrontsLed, ArePhisGiven, EndsInPlace, FrontsInPlace, IsAtJump, block_to};
 ghost use Rattle.pass_frames_proof.specs.Followed.{IsFollowed};
 ghost use Rattle.pass_frames_proof.specs.Related.{AreBuiltOf, Building};
 ghost use Rattle.pass_frames_proof.specs.Stepping.{AreGiven};
@@ -37,4 +37,14 @@ pub fn jumps_are_followed()
         → FrontsInPlace (b.framing s.top.func) (block_to (b.framing s.top.func) label) front
         → (ends : AreEndsLed b g s t r label line other) → AreFrontsLed b g s t r label ends.work front
         → IsFollowed b g s t }
+{}
+
+/// In front of such a block the stores of its phis are executed, where these may be stored.
+pub fn fronts_are_executed()
+    ensures { (b : Building) (g : RenewedGiven) → AreGiven b g → (s t : State) (r : AreBuiltOf b s t) (e other : Terminator)
+        (label : ℕ) (line : List Instr) → IsAtJump b g s e label → (ends : AreEndsLed b g s t r label line other)
+        → ArePhisGiven b g s t r label ends.work
+        → AreFrontsLed b g s t r label ends.work
+        (stored_phis (plan (b.framing s.top.func))
+        (block_at (fetched (b.framing s.top.func)) (block_to (b.framing s.top.func) label)).phis) }
 {}
