@@ -3,6 +3,7 @@ pub mod Code
 pub mod Costs
 pub mod Distances
 pub mod Edges
+pub mod Ends
 pub mod Entry
 pub mod Fetched
 pub mod Followed
