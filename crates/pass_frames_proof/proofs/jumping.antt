@@ -1,4 +1,5 @@
 pub mod Before
+pub mod Ends
 pub mod Fronts
 pub mod Jumps
 pub mod Landed

@@ -9,6 +9,7 @@ pub mod Fetched
 pub mod Followed
 pub mod Framings
 pub mod Geps
+pub mod Jumps
 pub mod Layers
 pub mod Led
 pub mod Lined

@@ -11,6 +11,7 @@ ghost use Rattle.pass_frames_proof.specs.Places.{Framing, edged, fetched, is_ret
 ghost use Rattle.ir_model.specs.declared.instr.Instr.{Instr};
 ghost use Rattle.ir_model.specs.declared.instr.Terminator.{Terminator};
 ghost use Rattle.pass_frames_proof.specs.Edges.{AreEndsLed, AreFrontsLed, ArePhisGiven, EndsInPlace, FrontsInPlace, IsAtJump, block_to};
+ghost use Rattle.pass_frames_proof.specs.Jumps.{MayJump};
 ghost use Rattle.pass_frames_proof.specs.Followed.{IsFollowed};
 ghost use Rattle.pass_frames_proof.specs.Related.{AreBuiltOf, Building};
 ghost use Rattle.pass_frames_proof.specs.Stepping.{AreGiven};
@@ -37,6 +38,17 @@ pub fn jumps_are_followed()
         → FrontsInPlace (b.framing s.top.func) (block_to (b.framing s.top.func) label) front
         → (ends : AreEndsLed b g s t r label line other) → AreFrontsLed b g s t r label ends.work front
         → IsFollowed b g s t }
+{}
+
+/// At the end of the block what is fetched there is executed, where it may be. Phis of the next block get what stands
+/// for the source's.
+pub fn block_ends_are_executed()
+    ensures { (b : Building) (g : RenewedGiven) → AreGiven b g → (s t : State) (r : AreBuiltOf b s t) (e : Terminator)
+        (label : ℕ) → IsAtJump b g s e label → MayJump b g s t r label
+        → AreEndsLed b g s t r label
+        (end_code (b.framing s.top.func) s.top.block (last_state (b.framing s.top.func) s.top.block))
+        (end_term (b.framing s.top.func) (last_state (b.framing s.top.func) s.top.block)
+        (block_at (edged (b.framing s.top.func)) s.top.block).term) }
 {}
 
 /// In front of such a block the stores of its phis are executed, where these may be stored.
