@@ -5,3 +5,4 @@ pub mod Jumps
 pub mod Landed
 pub mod Pairs
 pub mod Places
+pub mod Whole

@@ -1,9 +1,8 @@
 -- What is asked of the end of a block where a coroutine jumps from it, by the code of the framed form.
-use Rattle.std.specs.Prelude.{◌≡◌, ℕ, List, [], length, codes, filter, slice_get, Some}
+use Rattle.std.specs.Prelude.{◌≡◌, ℕ, [], length, codes, filter, slice_get, Some}
 use Rattle.std.specs.List.{Contains}
 use Rattle.ir_model.specs.Names.{position_of}
 use Rattle.ir_model.specs.declared.instr.Phi.{Phi}
-use Rattle.ir_model.specs.declared.instr.Terminator.{Terminator}
 use Rattle.ir_model.specs.declared.module.Block.{Block}
 use Rattle.ir_paths.specs.Paths.{entry_point}
 use Rattle.ir_paths.specs.Windows.{leaves}

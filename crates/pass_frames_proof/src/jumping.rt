@@ -60,3 +60,19 @@ pub fn fronts_are_executed()
         (stored_phis (plan (b.framing s.top.func))
         (block_at (fetched (b.framing s.top.func)) (block_to (b.framing s.top.func) label)).phis) }
 {}
+
+/// So a jump to such a block is followed, where what is fetched at the end may be and phis may be stored.
+pub fn ordinary_jumps_are_followed()
+    ensures { (b : Building) (g : RenewedGiven) → AreGiven b g → (s t : State) (r : AreBuiltOf b s t) (e : Terminator)
+        (label : ℕ) → IsAtJump b g s e label
+        → slice_get (edged (b.framing s.top.func)).blocks s.top.block
+        ≡ Some (block_at (edged (b.framing s.top.func)) s.top.block)
+        → slice_get (edged (b.framing s.top.func)).blocks (block_to (b.framing s.top.func) label)
+        ≡ Some (block_at (edged (b.framing s.top.func)) (block_to (b.framing s.top.func) label))
+        → IsOrdinaryBlock (b.framing s.top.func) (block_to (b.framing s.top.func) label) → MayJump b g s t r label
+        → ((ends : AreEndsLed b g s t r label
+        (end_code (b.framing s.top.func) s.top.block (last_state (b.framing s.top.func) s.top.block))
+        (end_term (b.framing s.top.func) (last_state (b.framing s.top.func) s.top.block)
+        (block_at (edged (b.framing s.top.func)) s.top.block).term)) → ArePhisGiven b g s t r label ends.work)
+        → IsFollowed b g s t }
+{}

@@ -1,5 +1,5 @@
 -- The end of a block is executed where a coroutine jumps from it.
-use Rattle.std.proofs.Common.{◌≡◌, ℕ, ◌+◌, ◌<◌, ◌≤◌, List, [], ◌∷◌, ◌++◌, length, refl, sym, ap, ◌∙◌, subst, arith}
+use Rattle.std.proofs.Common.{◌≡◌, ℕ, ◌+◌, List, [], ◌∷◌, ◌++◌, length, refl, sym, subst, arith}
 use Rattle.std.specs.Prelude.{None, Option, Some, codes, replicate, slice_get}
 use Rattle.ir_laws.proofs.facts.Members.{each_joined}
 use Rattle.ir_model.specs.Ty.{Ty}
@@ -20,14 +20,14 @@ use Rattle.pass_frames_proof.proofs.distances.Sums.{value_stays}
 use Rattle.pass_frames_proof.proofs.led.Steps.{still_others, still_through}
 use Rattle.pass_frames_proof.proofs.phis.Rows.{ends as ends_run}
 use Rattle.pass_frames_proof.proofs.phis.Twice.{pairs_twice, phis_get_twice}
-use Rattle.pass_frames_proof.specs.Code.{address_state, end_addresses, end_code, end_loads, end_term, last_state, load_name, slot_table}
+use Rattle.pass_frames_proof.specs.Code.{address_state, end_code, end_loads, end_term, last_state, load_name, slot_table}
 use Rattle.pass_frames_proof.specs.Distances.{IsBelow, SetsFrom}
 use Rattle.pass_frames_proof.specs.Edges.{AreEndsLed, ArePairs, IsAtJump, block_to, entered_phis}
 use Rattle.pass_frames_proof.specs.Ends.{IsPhiTwice, end_line, phis_twice}
 use Rattle.pass_frames_proof.specs.Framings.{IsFraming}
 use Rattle.pass_frames_proof.specs.Jumps.{EndsAt, MayJump, label_at}
-use Rattle.pass_frames_proof.specs.Led.{IsStill, IsTwiceFor, seen_twice, twice_by}
-use Rattle.pass_frames_proof.specs.Fetched.{given_of, seen_by, seen_of}
+use Rattle.pass_frames_proof.specs.Led.{IsStill, twice_by}
+use Rattle.pass_frames_proof.specs.Fetched.{seen_by}
 use Rattle.pass_frames_proof.specs.Lined.{GivesNone}
 use Rattle.pass_frames_proof.specs.Passes.{block_at, phi_ends}
 use Rattle.pass_frames_proof.specs.Places.{Framing, edged, framed, named, plan, unmarked}
@@ -43,7 +43,7 @@ use Rattle.run_memory.specs.declared.pointer.Value.{Value}
 use Rattle.run_source.specs.Source.{context_of}
 use Rattle.run_source.specs.State.{work_of}
 use Rattle.run_source.specs.declared.state.State.{State}
-use Rattle.run_step.specs.Step.{Context, Work, incoming_from, label_of, phi_values, phis_of, value_at}
+use Rattle.run_step.specs.Step.{Context, Work, incoming_from, label_of, phi_values, phis_of}
 use Rattle.run_step.specs.Values.{operand_value}
 
 -- ---- what stands at the end is fetched

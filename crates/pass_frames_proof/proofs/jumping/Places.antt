@@ -1,5 +1,5 @@
 -- What stands at the end of a block of the framed form, and in front of an ordinary one.
-use Rattle.std.proofs.Common.{◌≡◌, ℕ, ◌+◌, ◌≤◌, Bool, true, false, List, [], ◌∷◌, ◌++◌, length, refl, sym, ap, ◌∙◌, subst, arith}
+use Rattle.std.proofs.Common.{◌≡◌, ℕ, ◌+◌, Bool, true, false, List, [], length, refl, sym, ap, ◌∙◌, subst, arith}
 use Rattle.std.proofs.lemmas.List.{append-nil, length-append}
 use Rattle.std.specs.Prelude.{Option, Some, filter, replicate, slice_get, unwrap_or, ◌==◌, ◌≢◌}
 use Rattle.ir_laws.proofs.facts.Members.{each_joined}
@@ -27,10 +27,10 @@ use Rattle.pass_frames_proof.specs.Code.{address_state, end_addresses, end_code,
 use Rattle.pass_frames_proof.specs.Costs.{whole}
 use Rattle.pass_frames_proof.specs.Edges.{EndsInPlace, FrontsInPlace}
 use Rattle.pass_frames_proof.specs.Framings.{IsFraming}
-use Rattle.pass_frames_proof.specs.Layers.{IsMadeBy, Layer, both, ended, grown, led_by, only, passed, place_in, up_to, woven}
+use Rattle.pass_frames_proof.specs.Layers.{IsMadeBy, Layer, both, grown, only, passed, place_in, up_to, woven}
 use Rattle.pass_frames_proof.specs.Passes.{IsBlockMade, allocas_led, block_at, no_block, phi_ends}
 use Rattle.pass_frames_proof.specs.Phis.{IsOrdinaryBlock}
-use Rattle.pass_frames_proof.specs.Places.{Framing, Placed, edged, entry_layer, fetched, framed, instrs_at, is_return, named, place, place_by, placed_layer, plan, unmarked}
+use Rattle.pass_frames_proof.specs.Places.{Framing, Placed, edged, entry_layer, fetched, framed, instrs_at, is_return, named, place_by, placed_layer, plan, unmarked}
 use Rattle.pass_front.specs.Front.{is_alloca, is_no_alloca}
 use Rattle.run_laws.specs.access.Lines.{StandAt}
 use Rattle.run_laws.specs.changed.Changed.{Each}

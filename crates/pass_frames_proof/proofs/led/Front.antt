@@ -119,7 +119,7 @@ module _ (t u : List (Option Fetch)) (given more : ℕ → Value) (homes : List 
     all_turned R x turns xs (next_after t k a) (next_after u l (fetched_operand t k a)) h.1 seen.1,
   )
 
-  stands : (x : Work) (a b : Operand) → IsTwiceFor homes t u given more c d w y a
+  pub stands : (x : Work) (a b : Operand) → IsTwiceFor homes t u given more c d w y a
       → ((ty : Ty) → value_at d x ty b ≡ seen_twice t u given more d y ty a)
       → StandsFor looks (IsValue homes) c d w.values x.values a b
   stands x a b h seen = on looks
