@@ -1,6 +1,7 @@
 pub mod Before
 pub mod Ends
 pub mod Fronts
+pub mod Goes
 pub mod Jumps
 pub mod Landed
 pub mod Pairs

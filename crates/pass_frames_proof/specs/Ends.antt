@@ -56,6 +56,7 @@ pub record Ends (t u : List (Option Fetch)) (given reached : ℕ → Value) (c :
   pub along_first : SetsFrom (length f.names) w first
   pub along_loaded : SetsFrom (length f.names) w loaded
   pub along_third : SetsFrom (length f.names) w third
+  pub on_third : SetsFrom (length h.names) loaded third
   pub along : SetsFrom (length f.names) w work
   pub loads_seen : AreBlocksSeen t given c w loaded label (length f.names) f.blocks
   pub addresses_seen : AreBlocksSeen u reached c loaded work label (length h.names) h.blocks

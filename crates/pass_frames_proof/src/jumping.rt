@@ -11,7 +11,11 @@ ghost use Rattle.pass_frames_proof.specs.Places.{Framing, edged, fetched, is_ret
 ghost use Rattle.ir_model.specs.declared.instr.Instr.{Instr};
 ghost use Rattle.ir_model.specs.declared.instr.Terminator.{Terminator};
 ghost use Rattle.pass_frames_proof.specs.Edges.{AreEndsLed, AreFrontsLed, ArePhisGiven, EndsInPlace, FrontsInPlace, IsAtJump, block_to};
-ghost use Rattle.pass_frames_proof.specs.Jumps.{MayJump};
+ghost use Rattle.pass_frames_proof.specs.Jumps.{EndsAt, MayGo, MayJump};
+ghost use Rattle.run_framed.specs.Framed.{framed_context};
+ghost use Rattle.run_memory.specs.declared.pointer.Value.{Value};
+ghost use Rattle.run_source.specs.State.{work_of};
+ghost use Rattle.run_step.specs.Step.{GoTo, term_action};
 ghost use Rattle.pass_frames_proof.specs.Followed.{IsFollowed};
 ghost use Rattle.pass_frames_proof.specs.Related.{AreBuiltOf, Building};
 ghost use Rattle.pass_frames_proof.specs.Stepping.{AreGiven};
@@ -49,6 +53,16 @@ pub fn block_ends_are_executed()
         (end_code (b.framing s.top.func) s.top.block (last_state (b.framing s.top.func) s.top.block))
         (end_term (b.framing s.top.func) (last_state (b.framing s.top.func) s.top.block)
         (block_at (edged (b.framing s.top.func)) s.top.block).term) }
+{}
+
+/// There the terminator goes to the same label, where what it looks at is fetched and stands for the source's.
+pub fn terminators_go_on()
+    ensures { (b : Building) (g : RenewedGiven) → AreGiven b g → (s t : State) (r : AreBuiltOf b s t) (e : Terminator)
+        (label : ℕ) → IsAtJump b g s e label → (here reached : ℕ → Value) → MayGo b g s t r e here reached
+        → (ends : EndsAt (b.framing s.top.func) here reached (framed_context b.given t) s.top.block (work_of t))
+        → term_action (framed_context b.given t) ends.work
+        (end_term (b.framing s.top.func) (last_state (b.framing s.top.func) s.top.block)
+        (block_at (edged (b.framing s.top.func)) s.top.block).term) ≡ GoTo label }
 {}
 
 /// In front of such a block the stores of its phis are executed, where these may be stored.

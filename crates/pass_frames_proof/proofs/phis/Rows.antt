@@ -130,6 +130,7 @@ module _ (T S : List (Option Fetch)) (given reached : ℕ → Value) (c : Contex
     along_first = one.sets;
     along_loaded = along_two;
     along_third = along_three;
+    on_third = three.sets;
     along = along_four;
     loads_seen = loads_seen;
     addresses_seen = addresses_seen;
