@@ -2,11 +2,17 @@ pub mod Agains
 pub mod Code
 pub mod Costs
 pub mod Distances
+pub mod Edges
+pub mod Ends
 pub mod Entry
 pub mod Fetched
+pub mod Followed
 pub mod Framings
 pub mod Geps
+pub mod Jumps
 pub mod Layers
+pub mod Led
+pub mod Lined
 pub mod Lines
 pub mod Loaded
 pub mod Meaning
@@ -19,6 +25,7 @@ pub mod Places
 pub mod Reached
 pub mod Related
 pub mod Saves
+pub mod Stepping
 pub mod Stores
 pub mod Tests
 pub mod Worked

@@ -4,8 +4,10 @@ use Rattle.std.specs.Prelude.{◌≡◌, ◌≢◌, ◌⊎◌, ℕ, zero, suc, �
 use Rattle.flow_solver.specs.Paths.{IsListed}
 use Rattle.frame_classes.specs.declared.class.SlotClass.{SlotClass}
 use Rattle.frame_contents.specs.Held.{position_of}
+use Rattle.ir_model.specs.Layout.{size_of}
 use Rattle.ir_model.specs.Names.{function_at}
 use Rattle.ir_model.specs.Ty.{Ty, int, ptr}
+use Rattle.ir_model.specs.declared.instr.Instr.{Instr}
 use Rattle.ir_model.specs.declared.module.Module.{Module}
 use Rattle.ir_model.specs.declared.operand.Intrinsic.{Intrinsic}
 use Rattle.ir_laws.specs.paths.woven_rules.Pairs.{AreDifferent}
@@ -28,8 +30,10 @@ use Rattle.run_laws.specs.embedded.Making.{whole_home}
 use Rattle.run_laws.specs.memory.Pointers.{Home, IsValue, home_of}
 use Rattle.run_laws.specs.transfer.Muted.{muted}
 use Rattle.run_laws.specs.transfer.Transfer.{AreOver}
-use Rattle.run_memory.specs.Memory.{Rights, decode, is_live, owner_rights}
+use Rattle.run_memory.specs.Memory.{Rights, decode, is_live, owner_rights, same_kind}
 use Rattle.run_memory.specs.declared.block.Byte.{Byte}
+use Rattle.run_memory.specs.declared.block.Kind.{Kind}
+use Rattle.run_memory.specs.declared.block.Life.{Life}
 use Rattle.run_memory.specs.declared.block.MemoryBlock.{MemoryBlock}
 use Rattle.run_memory.specs.declared.pointer.Offset.{Offset}
 use Rattle.run_memory.specs.declared.pointer.Pointer.{Pointer}
@@ -41,6 +45,7 @@ use Rattle.run_source.specs.declared.state.Mode.{Mode}
 use Rattle.run_source.specs.declared.state.Saved.{Saved}
 use Rattle.run_source.specs.declared.state.State.{State}
 use Rattle.run_source.specs.declared.state.Status.{Status}
+use Rattle.run_step.specs.Step.{has_markers}
 use Rattle.run_step.specs.Values.{Env, access_of, pointer_to, value_in}
 use Rattle.run_step.specs.declared.world.Slot.{Slot}
 use Rattle.std.specs.List.{Contains}
@@ -173,6 +178,33 @@ pub record AreFieldsRight (x : Framing) (homes : List Home) (rights : Rights) (m
       × Holds rights memory block (start + offset_at x.layout position) (value_bytes k.field_ty) bytes
       × IsKeptAs homes env v k k.slot (decode (access_of k.field_ty) bytes)
 
+-- Where slots are made anew one after another, an address that was handed on still leads into the old block. What is
+-- kept of it is its offset there.
+abbrev pub IsOffsetOf : Value → Value → Type 0
+IsOffsetOf v d =
+    (v ≡ Value.Poison)
+    ⊎ ((block : ℕ) × (o : Offset) × (v ≡ Value.Ptr (Pointer.At block o)) × (o.bits < 2 ^ 64)
+    × (d ≡ Value.Int (record { width = 64; bits = o.bits })))
+
+abbrev pub IsHeldAs : List Home → Env → ℕ → Option ℕ → Value → Type 0
+IsHeldAs homes env v None u = IsValue homes (value_in env v) u
+IsHeldAs homes env v (Some slot) u = IsOffsetOf (value_in env v) u
+
+pub record AreFieldsHeld (x : Framing) (homes : List Home) (rights : Rights) (memory : List MemoryBlock)
+    (suspend : ℕ) (env : Env) (block start : ℕ) : Type 0 where
+  pub each : (v position : ℕ) (k : KeptValue) → IsKeptValue x v k → Contains x.contents.crossing (v, suspend)
+      → position_of x.contents.held v ≡ Some position
+      → (bytes : List Byte) × (length bytes ≡ value_bytes k.field_ty)
+      × Holds rights memory block (start + offset_at x.layout position) (value_bytes k.field_ty) bytes
+      × IsHeldAs homes env v k.slot (decode (access_of k.field_ty) bytes)
+
+abbrev pub HasFields : Framing → List Home → Rights → List MemoryBlock → (suspend : ℕ) → Env → (block start : ℕ) → Mode
+    → Type 0
+HasFields x homes rights memory suspend env block start (Mode.Entering from label) =
+    AreFieldsHeld x homes rights memory suspend env block start
+HasFields x homes rights memory suspend env block start _ =
+    AreFieldsRight x homes rights memory suspend env block start
+
 -- the number of a suspend in order of the text
 abbrev pub IsSuspendNumber : Framing → ℕ → Point → Type 0
 IsSuspendNumber x j p = slice_get (points_where (is_call_of Intrinsic.CoroSuspend) (edged x)) j ≡ Some p
@@ -210,12 +242,16 @@ HasCells x homes rights memory own a c None =
     AreCellsRight x homes rights memory a.values c × AreWheresRight x rights memory own c
 HasCells x homes rights memory None a c (Some suspend) = ⊥
 HasCells x homes rights memory (Some y) a c (Some suspend) =
-    AreFieldsRight x homes rights memory suspend a.values y.block y.start × AreGone x suspend a.values
+    HasFields x homes rights memory suspend a.values y.block y.start a.mode × AreGone x suspend a.values
+
+-- the cells of addresses are there too, whatever they have
+pub record AreWheresThere (x : Framing) (rights : Rights) (memory : List MemoryBlock) (c : Activation) : Type 0 where
+  pub each : (s : EarlySlot) → Contains (copies x).slots s → IsCell rights memory c s.cell ptr Anything
 
 -- once all allocas are made their cells are there, also in the block on a resume or destroy edge
 abbrev pub AreMade : Framing → Rights → List MemoryBlock → Activation → Mode → Type 0
 AreMade x rights memory c (Mode.Entering from label) = Unit {0}
-AreMade x rights memory c _ = AreCellsThere x rights memory c
+AreMade x rights memory c _ = AreCellsThere x rights memory c × AreWheresThere x rights memory c
 
 abbrev pub instance_in : List Instance → Option ℕ → Option Instance
 instance_in instances None = None
@@ -344,6 +380,63 @@ AreFreeCells b homes hides memory (c ∷ cs) =
     → IsFreeOf homes hides memory slot.block)
     × AreFreeCells b homes hides memory cs
 
+-- ---- blocks that stand alone
+
+abbrev pub is_slot : MemoryBlock → Bool
+is_slot x = same_kind x.kind Kind.Slot
+
+-- A block that is no slot of a coroutine stands alone in a block of the target, and so do slots that lie in no frame.
+-- That block differs from it at most in its bytes. No two stand in one, dead or alive.
+pub record AreMates (homes : List Home) (memory target : List MemoryBlock) : Type 0 where
+  pub whole : (n : ℕ) (x : MemoryBlock) → slice_get memory n ≡ Some x → is_slot x ≡ false
+      → (k : ℕ) × (home_of homes n ≡ whole_home k)
+  pub each : (n k : ℕ) (x : MemoryBlock) → slice_get memory n ≡ Some x → home_of homes n ≡ whole_home k
+      → (bytes : List Byte) × (slice_get target k ≡ Some (record x { bytes = bytes }))
+  pub alone : (n m k : ℕ) → n < length memory → m < length memory → home_of homes n ≡ whole_home k
+      → home_of homes m ≡ whole_home k → n ≡ m
+
+-- ---- allocas of a ramp that the framed one has made at its call
+
+-- a block of the ramp's own for an alloca, in which nothing of the source stands; it is ended if it has markers
+pub record IsAhead (x : Framing) (homes : List Home) (hides : ℕ → Bool) (memory target : List MemoryBlock)
+    (c : Activation) (name : ℕ) (ty : Ty) (align : ℕ) : Type 0 where
+  pub block : ℕ
+  pub address : value_in c.values name ≡ pointer_to block
+  pub own : Contains c.slots (record { alloca = name; block = block })
+  pub free : IsFreeOf homes hides memory block
+  pub bytes : List Byte
+  pub sized : length bytes ≡ size_of x.code ty
+  pub there : slice_get target block ≡ Some (record {
+    size = size_of x.code ty;
+    align = align;
+    kind = Kind.Slot;
+    life = if has_markers (framed x) name then Life.Ended else Life.Live;
+    owned = None;
+    bytes = bytes;
+  })
+
+-- those of slots that lie in no frame, and temporaries of slots that are used before begin
+pub record AreAhead (x : Framing) (homes : List Home) (hides : ℕ → Bool) (memory target : List MemoryBlock)
+    (a c : Activation) : Type 0 where
+  pub slots : (at v align : ℕ) (ty : Ty) → slice_get (instrs_at x 0) at ≡ Some (Instr.Alloca v ty align) → a.at ≤ at
+      → lies_in_frame (offsets x) v ≡ false → IsAhead x homes hides memory target c v ty align
+  pub temporaries : (s : EarlySlot) (at align : ℕ) (ty : Ty) → Contains (copies x).slots s
+      → slice_get (instrs_at x 0) at ≡ Some (Instr.Alloca s.slot ty align) → a.at ≤ at
+      → IsAhead x homes hides memory target c s.temporary s.ty s.align
+
+abbrev pub is_first : Mode → Bool
+is_first Mode.Ramp = true
+is_first (Mode.GivenRamp frame) = true
+is_first mode = false
+
+abbrev pub AreAllAhead : Building → List Home → (ℕ → Bool) → (memory target : List MemoryBlock) → List Activation
+    → List Activation → Type 0
+AreAllAhead b homes hides memory target [] cs = Unit {0}
+AreAllAhead b homes hides memory target (a ∷ more) [] = Unit {0}
+AreAllAhead b homes hides memory target (a ∷ more) (c ∷ cs) =
+    (is_coroutine b a.func ≡ true → is_first a.mode ≡ true → a.block ≡ 0
+    → AreAhead (b.framing a.func) homes hides memory target a c) × AreAllAhead b homes hides memory target more cs
+
 -- ---- the states
 
 pub record AreBuiltOf (b : Building) (s t : State) : Type 0 where
@@ -351,6 +444,9 @@ pub record AreBuiltOf (b : Building) (s t : State) : Type 0 where
   pub hides : ℕ → Bool
   pub world : AreOver owner_rights (frame_rights b.given t.instances) homes hides (λ d. d) s.world t.world
   pub known : length homes ≡ length s.world.memory
+  -- each global stands where it did
+  pub globals : (n : ℕ) → n < length b.framed_code.globals → home_of homes n ≡ whole_home n
+  pub mates : AreMates homes s.world.memory t.world.memory
   -- into what is hidden no pointer is about
   pub hidden : (n : ℕ) → hides n ≡ true → (home_of homes n).is_seen ≡ false
   pub count : length t.instances ≡ length s.instances
@@ -361,6 +457,7 @@ pub record AreBuiltOf (b : Building) (s t : State) : Type 0 where
   -- slots have blocks of their own, and those of cells are free of the source's
   pub once : AreDifferent (map (λ (slot : Slot). slot.block) (all_slots t))
   pub cells : AreFreeCells b homes hides s.world.memory (t.top ∷ t.below)
+  pub ahead : AreAllAhead b homes hides s.world.memory t.world.memory (s.top ∷ s.below) (t.top ∷ t.below)
   pub outcome : t.outcome ≡ s.outcome
 
 -- ---- in between: what is seen, and what stands in the frames of suspended coroutines

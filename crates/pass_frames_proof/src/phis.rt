@@ -1,12 +1,16 @@
 //! Phis on an edge: what they get is fetched at the end of the block from which they come, and stored behind the start
 //! of their own.
 
-ghost use Rattle.std.specs.Prelude.{◌≡◌, ◌<◌, ◌≤◌, ℕ, List, Option, Some, codes, length, slice_get};
+ghost use Rattle.std.specs.Prelude.{◌≡◌, ◌<◌, ◌≤◌, ℕ, List, None, Option, Some, codes, length, slice_get};
 ghost use Rattle.ir_model.specs.declared.instr.Phi.{Phi};
 ghost use Rattle.ir_model.specs.declared.module.Block.{Block};
 ghost use Rattle.ir_model.specs.declared.module.Function.{Function};
 ghost use Rattle.pass_cells.specs.Written.{stored_phis};
+ghost use Rattle.ir_model.specs.declared.operand.Operand.{Operand};
 ghost use Rattle.pass_fetch.specs.Blocks.{next_after_phis_by, with_fetches};
+ghost use Rattle.pass_fetch.specs.Fetching.{fetch_of};
+ghost use Rattle.pass_frames_proof.specs.Edges.{ArePairs};
+ghost use Rattle.pass_frames_proof.specs.Ends.{Ends, IsPhiTwice, MayEnd, phis_twice};
 ghost use Rattle.pass_fetch.specs.declared.fetch.Fetch.{Fetch};
 ghost use Rattle.pass_frames_proof.specs.Code.{front_code, slot_table};
 ghost use Rattle.pass_frames_proof.specs.Framings.{IsFraming};
@@ -57,4 +61,29 @@ pub fn phis_are_those_of_fetches()
 pub fn fronts_are_stores()
     ensures { (x : Framing) → IsFraming x → (k : ℕ) → IsOrdinaryBlock x k
         → front_code x k ≡ stored_phis (plan x) (block_at (fetched x) k).phis }
+{}
+
+/// The end of a block is executed: loads for phis and for the terminator, and then addresses for both. Only new names
+/// are set.
+pub fn ends_are_executed()
+    ensures { (t u : List (Option Fetch)) (given reached : ℕ → Value) (c : Context) (f h : Function) (label n m : ℕ)
+        (xs ys : List Operand) (w : Work) → MayEnd t u given reached c f h label n m xs ys w
+        → Ends t u given reached c f h label n m xs ys w }
+{}
+
+/// Operands are loaded where they are kept, and then addresses are made where they lie in the frame. Each phi gets what
+/// is seen of its operand over both, which stands for what it gets in the source.
+pub fn phis_are_fetched_twice()
+    ensures values { (t u : List (Option Fetch)) (far : ℕ)
+        → ((n : ℕ) → far ≤ n → fetch_of u (Operand.Local n) ≡ None) → (given reached : ℕ → Value) (c : Context)
+        (w y z : Work) (label : ℕ) (f h : Function) (word other : List ℕ) (k : ℕ) (b d e q : Block)
+        → far ≤ length f.names → AreBlocksSeen t given c w y label (length f.names) f.blocks
+        → AreBlocksSeen u reached c y z label (length h.names) h.blocks → slice_get f.blocks k ≡ Some b
+        → slice_get (with_fetches f t word).blocks k ≡ Some d → slice_get h.blocks k ≡ Some e → e.phis ≡ d.phis
+        → slice_get (with_fetches h u other).blocks k ≡ Some q
+        → phi_values c.code z.values label q.phis ≡ phis_twice t u given reached c y label b.phis }
+    ensures pairs { (homes : List Home) (t u : List (Option Fetch)) (given reached : ℕ → Value) (c d : Context)
+        (w y : Work) (label bound : ℕ) (ps : List Phi)
+        → Each (IsPhiTwice homes t u given reached c d w y label bound) ps
+        → ArePairs homes bound (phi_values c.code w.values label ps) (phis_twice t u given reached d y label ps) }
 {}

@@ -25,14 +25,14 @@ pointer_index : (ty : Ty) (p : Pointer) → index_of (number_at ty (Value.Ptr p)
 pointer_index (int w) p = refl
 pointer_index _ p = refl
 
-itself : (d : Option ℕ) → IsSameDistance d d
+pub itself : (d : Option ℕ) → IsSameDistance d d
 itself None = tt
 itself (Some n) = refl
 
-none_same : (d e : Option ℕ) → d ≡ None → IsSameDistance d e
+pub none_same : (d e : Option ℕ) → d ≡ None → IsSameDistance d e
 none_same d e none = subst (λ (x : Option ℕ). IsSameDistance x e) (sym none) tt
 
-index_stands : (homes : List Home) (ty : Ty) (v u : Value) → IsValue homes v u
+pub index_stands : (homes : List Home) (ty : Ty) (v u : Value) → IsValue homes v u
     → (index_of (number_at ty v) ≡ None) ⊎ (index_of (number_at ty u) ≡ index_of (number_at ty v))
 index_stands homes ty Value.Poison u h = inl (poison_index ty)
 index_stands homes ty (Value.Int n) u h = inr (ap (λ (x : Value). index_of (number_at ty x)) h)

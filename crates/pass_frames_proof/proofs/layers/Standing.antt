@@ -124,7 +124,7 @@ module _ {S : Type 0} (L : Layer S) where
   pub first_place : (is : List Instr) → place_in L is 0 ≡ length L.front
   first_place is = ap length (append-nil L.front)
 
-  end_woven : (is : List Instr) → woven L is ≡ up_to L is (length is) ++ L.back (passed L L.start is)
+  pub end_woven : (is : List Instr) → woven L is ≡ up_to L is (length is) ++ L.back (passed L L.start is)
   end_woven is =
       ap (λ (js : List Instr). L.front ++ (grown L L.start js ++ L.back (passed L L.start is))) (sym (take_whole is))
       ∙ sym (append_assoc L.front (grown L L.start (take (length is) is)) (L.back (passed L L.start is)))

@@ -74,7 +74,7 @@ call_quiet e u z (Some f) declared ty r must_tail vs none is = absurd (cc)
 call_quiet e u z None None ty r must_tail vs none is = absurd (cc)
 call_quiet e u z None (Some n) ty r must_tail vs none is = observed_quiet e u z n ty r (words_of vs) is
 
-quiet_memory : (e : Context) (u z : Work) (i : Instr) → IsQuiet e i → instr_action e u i ≡ Done z
+pub quiet_memory : (e : Context) (u z : Work) (i : Instr) → IsQuiet e i → instr_action e u i ≡ Done z
     → z.world.memory ≡ u.world.memory
 quiet_memory e u z (Instr.Binary r op flags ty a b) q is =
     result_quiet (λ (k : Num). set_value u r (value_of k))
@@ -223,7 +223,8 @@ module _ (x : Framing) (is : IsFraming x) (homes : List Home) (hides : ℕ → B
         values = behind.right.values;
         distances = λ u cell slot told root. ⊎_elim
             (λ (same : u ≡ r).
-            let none : None ≡ Some cell = sym (m.result r e).no_distance ∙ ap (entry (plan x).cells) (sym same) ∙ told in
+            let none : None ≡ Some cell = sym (m.result r e).no_distance ∙ ap (entry (plan x).cells) (sym same)
+            ∙ told in
             absurd (cc))
             (λ differ. behind.right.distances u cell slot differ told root) (is_number u r);
       };
@@ -243,7 +244,8 @@ module _ (x : Framing) (is : IsFraming x) (homes : List Home) (hides : ℕ → B
         (with_fetched T n i ∷ stored_result (plan x) (result_of i)) y step.work last.work step.runs
         (z, (done_is x is homes hides c d law law' w y v a n i m.operands goes, last.over.runs));
     over = over_line x is homes hides c d law law' w y v a n i m.operands goes n (stored_result (plan x) (result_of i))
-        last.spans z last.work last.over last.inside (done_over x is homes hides c d law law' w y v a n i m.operands goes);
+        last.spans z last.work last.over last.inside
+        (done_over x is homes hides c d law law' w y v a n i m.operands goes);
     cells = last.right;
     set = λ u e.
         subst (λ (env : Env). IsValue homes (value_in v.values u) (value_in env u)) (sym last.values) (set.stands u e);

@@ -48,7 +48,7 @@ use Rattle.run_step.specs.declared.world.World.{World}
 -- ---- a store is defined where some blocks count as dead
 
 -- a pointer that stands leads into no hidden block
-stands_shown : (homes : List Home) (hides : ℕ → Bool)
+pub stands_shown : (homes : List Home) (hides : ℕ → Bool)
     → ((b : ℕ) → hides b ≡ true → (home_of homes b).is_seen ≡ false) → (v u : Value) → IsValue homes v u
     → IsShown hides v
 stands_shown homes hides hidden Value.Poison u h = tt
@@ -61,7 +61,7 @@ stands_shown homes hides hidden (Value.Ptr (Pointer.At b o)) u h = on (hides b) 
     on false e = e
     on true e = let no : true ≡ false = sym h.0 ∙ hidden b e in absurd (cc)
 
-store_defined : (hides : ℕ → Bool) (w u v : Work) (t : Bool) (r s : Result (List MemoryBlock) Cause)
+pub store_defined : (hides : ℕ → Bool) (w u v : Work) (t : Bool) (r s : Result (List MemoryBlock) Cause)
     → s ≡ muted_result hides r → (if t then done (set_memory w) r else Stuck Cause.Align) ≡ Done v
     → IsDefined (if t then done (set_memory u) s else Stuck Cause.Align)
 store_defined hides w u v false r s same e = absurd (cc)
@@ -101,7 +101,8 @@ module _ (x : Framing) (is : IsFraming x) (homes : List Home) (hides : ℕ → B
 
   went : GoesOver c.rights d.rights homes hides same_maps None [] [] w S (Done v) (instr_action d S j)
   went =
-      subst (λ (act : Action). GoesOver c.rights d.rights homes hides same_maps None [] [] w S act (instr_action d S j))
+      subst (λ (act : Action). GoesOver c.rights d.rights homes hides same_maps None [] [] w S act
+      (instr_action d S j))
       is_done (step_over homes hides same_maps c d w S (AtInstr i) (AtInstr j) law law' beside turned)
 
   abbrev z : Work
@@ -123,7 +124,8 @@ module _ (x : Framing) (is : IsFraming x) (homes : List Home) (hides : ℕ → B
     address (value_at d S ptr (fetched_operand T (next_after T n arg.value) p)),
     (
       refl,
-      address_kept homes (value_at c w ptr p) (value_at d S ptr (fetched_operand T (next_after T n arg.value) p)) leads,
+      address_kept homes (value_at c w ptr p) (value_at d S ptr (fetched_operand T
+          (next_after T n arg.value) p)) leads,
     ),
   )
 
@@ -178,10 +180,12 @@ module _ (x : Framing) (is : IsFraming x) (homes : List Home) (hides : ℕ → B
   right = record {
     values = λ u k kept.
         cell_kept k.cell k.ty (IsValue homes (value_in v.values u)) (kept_is_cell x is u k kept)
-        (subst (λ (t : Value). IsCell d.rights y.world.memory (at_work a y) k.cell k.ty (IsValue homes t)) (sym (same u))
+        (subst (λ (t : Value). IsCell d.rights y.world.memory (at_work a y) k.cell k.ty (IsValue homes t)) (sym
+        (same u))
         (m.operands.cells.values u k kept));
     distances = λ u cell slot e root.
-        cell_kept cell (int 64) (IsDistanceOf (value_in v.values slot) (value_in v.values u)) (distance_of x is u cell e)
+        cell_kept cell (int 64) (IsDistanceOf (value_in v.values slot) (value_in v.values u))
+        (distance_of x is u cell e)
         (subst
         (λ (t : Value × Value). IsCell d.rights y.world.memory (at_work a y) cell (int 64) (IsDistanceOf t.0 t.1))
         (λ k. (sym (same slot) k, sym (same u) k)) (m.operands.cells.distances u cell slot e root));

@@ -82,6 +82,18 @@ module _ (t : List (Option Fetch)) (given : ℕ → Value) (c : Context) (first 
         phis_stay ps (next_after_phi t n p) m x y (omega (arith, up, here)) can.1 le s h.1,
       )
 
+  pub blocks_stay : (bs : List Block) (n m : ℕ) (x y : Work) → first ≤ n
+      → CanAllComeFrom t given first c w label bs → next_after_phis_by t n bs ≤ m → SetsFrom m x y
+      → AreBlocksSeen t given c w x label n bs → AreBlocksSeen t given c w y label n bs
+  blocks_stay [] n m x y up can le s h = tt
+  blocks_stay (b ∷ bs) n m x y up can le s h =
+      let here : n ≤ next_after_phis t n b.phis = phis_rise t n b.phis in
+      let later : next_after_phis t n b.phis ≤ next_after_phis_by t (next_after_phis t n b.phis) bs =
+      blocks_rise t (next_after_phis t n b.phis) bs in (
+        phis_stay b.phis n m x y up can.0 (omega (arith, later, le)) s h.0,
+        blocks_stay bs (next_after_phis t n b.phis) m x y (omega (arith, up, here)) can.1 le s h.1,
+      )
+
   -- ---- one operand
 
   record IsStep (n from : ℕ) (a : Operand) (o : Option Fetch) (rows : Rows) (x : Work) : Type 0 where

@@ -1,5 +1,6 @@
 -- The states in which the two runs start stand beside each other.
 use Rattle.std.proofs.Common.{◌≡◌, ◌⊎◌, inl, inr, ℕ, zero, suc, ◌+◌, ◌<◌, ◌^◌, Bool, true, false, List, [], ◌∷◌, length, refl, sym, ap, ◌∙◌, subst, arith}
+use Rattle.std.proofs.lemmas.List.{length-map}
 use Rattle.std.specs.List.{Contains}
 use Rattle.std.specs.Prelude.{None, Option, Some, map, not, replicate, slice_get, ◌||◌, if◌then◌else◌}
 use Rattle.ir_base.specs.declared.outcome.Word.{Word}
@@ -8,7 +9,7 @@ use Rattle.ir_model.specs.Names.{function_at}
 use Rattle.ir_model.specs.declared.module.Function.{Function}
 use Rattle.ir_model.specs.declared.module.Module.{Module}
 use Rattle.ir_model.specs.declared.module.Param.{Param}
-use Rattle.pass_frames_proof.specs.Related.{AreActivations, AreBuilt, AreBuiltOf, Building, HasValues, is_coroutine, place_by, point_of, top_place}
+use Rattle.pass_frames_proof.specs.Related.{AreActivations, AreBuilt, AreBuiltOf, AreMates, Building, HasValues, is_coroutine, place_by, point_of, top_place}
 use Rattle.run_framed.specs.Framed.{FramedGiven, frame_rights, is_open}
 use Rattle.run_laws.specs.embedded.Related.{AreWorlds}
 use Rattle.run_laws.specs.memory.Pointers.{Home, IsValue, home_of}
@@ -21,7 +22,7 @@ use Rattle.run_memory.specs.declared.pointer.Offset.{Offset}
 use Rattle.run_memory.specs.declared.pointer.Value.{Value}
 use Rattle.run_source.specs.Source.{first_state}
 use Rattle.run_source.specs.declared.state.State.{State}
-use Rattle.run_step.specs.Step.{entry_values, first_world, with_params}
+use Rattle.run_step.specs.Step.{entry_values, first_world, global_block, with_params}
 use Rattle.run_step.specs.Values.{Env, value_in, with_value}
 use Rattle.run_step.specs.declared.world.Slot.{Slot}
 use Rattle.run_step.specs.declared.world.World.{World}
@@ -108,6 +109,24 @@ bounds m small = record {
         small = small b x there;
       };
 }
+
+-- each block stands in itself
+own_mates : (m : List MemoryBlock) → AreMates (own_homes 0 (length m)) m m
+own_mates m = record {
+  whole = λ n x there no_slot. (0 + n, own_home 0 (length m) n (get_within m n x there));
+  each = λ n k x there home.
+      let one : 0 + n ≡ k =
+      ap (λ (h : Home). h.block) (sym (own_home 0 (length m) n (get_within m n x there)) ∙ home) in
+      let same : n ≡ k = omega (arith, one) in
+      (x.bytes, subst (λ (i : ℕ). slice_get m i ≡ Some x) same there);
+  alone = λ n j k lt lt' home home'.
+      let one : 0 + n ≡ k = ap (λ (h : Home). h.block) (sym (own_home 0 (length m) n lt) ∙ home) in
+      let two : 0 + j ≡ k = ap (λ (h : Home). h.block) (sym (own_home 0 (length m) j lt') ∙ home') in
+      equal n j k one two;
+}
+  where
+    equal : (n j k : ℕ) → 0 + n ≡ k → 0 + j ≡ k → n ≡ j
+    equal n j k e d = omega (arith, e, d)
 
 muted_none : (m : List MemoryBlock) → muted (λ b. false) m ≡ m
 muted_none [] = refl
@@ -208,6 +227,10 @@ module _ (b : Building) (code : Module) (entry : ℕ) (args : List Word) (built 
           allocs = refl;
         }));
     known = own_many 0 (length (first_world code).memory);
+    globals = λ n lt.
+        own_home 0 (length (first_world code).memory) n (within n lt)
+        ∙ ap (λ (i : ℕ). record { block = i; offset = 0; is_seen = true }) (none_more n);
+    mates = mates_start;
     hidden = λ n e. absurd (cc);
     count = refl;
     instances = λ i x y e d. absurd (cc);
@@ -215,5 +238,25 @@ module _ (b : Building) (code : Module) (entry : ℕ) (args : List Word) (built 
     below = tt;
     once = tt;
     cells = ((λ c slot h k. absurd (none_there slot h)), tt);
+    ahead = ((λ is first. absurd (never is)), tt);
     outcome = refl;
   }
+    where
+      never : is_coroutine b entry ≡ true → ⊥
+      never is = let no : true ≡ false = sym is ∙ plain in absurd (cc)
+
+      mates_start : AreMates (own_homes 0 (length (first_world code).memory)) (first_world code).memory
+          (first_world b.framed_code).memory
+      mates_start =
+          subst (λ (w : World). AreMates (own_homes 0 (length (first_world code).memory)) (first_world code).memory
+          w.memory) (sym worlds) (own_mates (first_world code).memory)
+
+      none_more : (n : ℕ) → 0 + n ≡ n
+      none_more n = omega arith
+
+      many : length b.framed_code.globals ≡ length (first_world code).memory
+      many = sym (length-map b.framed_code.globals (global_block b.framed_code))
+          ∙ ap (λ (w : World). length w.memory) worlds
+
+      within : (n : ℕ) → n < length b.framed_code.globals → n < length (first_world code).memory
+      within n lt = subst (λ (k : ℕ). n < k) many lt

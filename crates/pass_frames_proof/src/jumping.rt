@@ -1,0 +1,92 @@
+//! Jumps of a coroutine are followed: what its phis and the terminator need is fetched at the end of the block, and
+//! phis are stored in front of the next one.
+
+ghost use Rattle.std.specs.Prelude.{◌≡◌, ℕ, false, List, Some, slice_get};
+ghost use Rattle.pass_cells.specs.Written.{stored_phis};
+ghost use Rattle.pass_frames_proof.specs.Code.{end_code, end_term, last_state};
+ghost use Rattle.pass_frames_proof.specs.Framings.{IsFraming};
+ghost use Rattle.pass_frames_proof.specs.Passes.{block_at};
+ghost use Rattle.pass_frames_proof.specs.Phis.{IsOrdinaryBlock};
+ghost use Rattle.pass_frames_proof.specs.Places.{Framing, edged, fetched, is_return, plan};
+ghost use Rattle.ir_model.specs.declared.instr.Instr.{Instr};
+ghost use Rattle.ir_model.specs.declared.instr.Terminator.{Terminator};
+ghost use Rattle.pass_frames_proof.specs.Edges.{AreEndsLed, AreFrontsLed, ArePhisGiven, EndsInPlace, FrontsInPlace, IsAtJump, block_to};
+ghost use Rattle.pass_frames_proof.specs.Jumps.{EndsAt, MayGo, MayJump};
+ghost use Rattle.run_framed.specs.Framed.{framed_context};
+ghost use Rattle.run_memory.specs.declared.pointer.Value.{Value};
+ghost use Rattle.run_source.specs.State.{work_of};
+ghost use Rattle.run_step.specs.Step.{GoTo, term_action};
+ghost use Rattle.pass_frames_proof.specs.Followed.{IsFollowed};
+ghost use Rattle.pass_frames_proof.specs.Related.{AreBuiltOf, Building};
+ghost use Rattle.pass_frames_proof.specs.Stepping.{AreGiven};
+ghost use Rattle.pass_renewed_proof.specs.Renewed.{RenewedGiven};
+ghost use Rattle.run_source.specs.declared.state.State.{State};
+
+/// At the end of a block stands what fetches its phis' and its terminator's operands, and then the terminator. In front
+/// of a block that is neither the entry nor on a resume or destroy edge stand the stores of its phis.
+pub fn ends_stand_at_their_places()
+    ensures ends { (x : Framing) → IsFraming x → (k : ℕ) → slice_get (edged x).blocks k ≡ Some (block_at (edged x) k)
+        → is_return x k ≡ false
+        → EndsInPlace x k (end_code x k (last_state x k)) (end_term x (last_state x k) (block_at (edged x) k).term) }
+    ensures fronts { (x : Framing) → IsFraming x → (k : ℕ) → slice_get (edged x).blocks k ≡ Some (block_at (edged x) k)
+        → is_return x k ≡ false → IsOrdinaryBlock x k
+        → FrontsInPlace x k (stored_phis (plan x) (block_at (fetched x) k).phis) }
+{}
+
+/// A jump to a block that is neither the entry nor on a resume or destroy edge is followed, where the line at the end
+/// of the block and that in front of the next one are executed.
+pub fn jumps_are_followed()
+    ensures { (b : Building) (g : RenewedGiven) → AreGiven b g → (s t : State) (r : AreBuiltOf b s t) (e other : Terminator)
+        (label : ℕ) (line front : List Instr) → IsAtJump b g s e label
+        → EndsInPlace (b.framing s.top.func) s.top.block line other
+        → FrontsInPlace (b.framing s.top.func) (block_to (b.framing s.top.func) label) front
+        → (ends : AreEndsLed b g s t r label line other) → AreFrontsLed b g s t r label ends.work front
+        → IsFollowed b g s t }
+{}
+
+/// At the end of the block what is fetched there is executed, where it may be. Phis of the next block get what stands
+/// for the source's.
+pub fn block_ends_are_executed()
+    ensures { (b : Building) (g : RenewedGiven) → AreGiven b g → (s t : State) (r : AreBuiltOf b s t) (e : Terminator)
+        (label : ℕ) → IsAtJump b g s e label → MayJump b g s t r label
+        → AreEndsLed b g s t r label
+        (end_code (b.framing s.top.func) s.top.block (last_state (b.framing s.top.func) s.top.block))
+        (end_term (b.framing s.top.func) (last_state (b.framing s.top.func) s.top.block)
+        (block_at (edged (b.framing s.top.func)) s.top.block).term) }
+{}
+
+/// There the terminator goes to the same label, where what it looks at is fetched and stands for the source's.
+pub fn terminators_go_on()
+    ensures { (b : Building) (g : RenewedGiven) → AreGiven b g → (s t : State) (r : AreBuiltOf b s t) (e : Terminator)
+        (label : ℕ) → IsAtJump b g s e label → (here reached : ℕ → Value) → MayGo b g s t r e here reached
+        → (ends : EndsAt (b.framing s.top.func) here reached (framed_context b.given t) s.top.block (work_of t))
+        → term_action (framed_context b.given t) ends.work
+        (end_term (b.framing s.top.func) (last_state (b.framing s.top.func) s.top.block)
+        (block_at (edged (b.framing s.top.func)) s.top.block).term) ≡ GoTo label }
+{}
+
+/// In front of such a block the stores of its phis are executed, where these may be stored.
+pub fn fronts_are_executed()
+    ensures { (b : Building) (g : RenewedGiven) → AreGiven b g → (s t : State) (r : AreBuiltOf b s t) (e other : Terminator)
+        (label : ℕ) (line : List Instr) → IsAtJump b g s e label → (ends : AreEndsLed b g s t r label line other)
+        → ArePhisGiven b g s t r label ends.work
+        → AreFrontsLed b g s t r label ends.work
+        (stored_phis (plan (b.framing s.top.func))
+        (block_at (fetched (b.framing s.top.func)) (block_to (b.framing s.top.func) label)).phis) }
+{}
+
+/// So a jump to such a block is followed, where what is fetched at the end may be and phis may be stored.
+pub fn ordinary_jumps_are_followed()
+    ensures { (b : Building) (g : RenewedGiven) → AreGiven b g → (s t : State) (r : AreBuiltOf b s t) (e : Terminator)
+        (label : ℕ) → IsAtJump b g s e label
+        → slice_get (edged (b.framing s.top.func)).blocks s.top.block
+        ≡ Some (block_at (edged (b.framing s.top.func)) s.top.block)
+        → slice_get (edged (b.framing s.top.func)).blocks (block_to (b.framing s.top.func) label)
+        ≡ Some (block_at (edged (b.framing s.top.func)) (block_to (b.framing s.top.func) label))
+        → IsOrdinaryBlock (b.framing s.top.func) (block_to (b.framing s.top.func) label) → MayJump b g s t r label
+        → ((ends : AreEndsLed b g s t r label
+        (end_code (b.framing s.top.func) s.top.block (last_state (b.framing s.top.func) s.top.block))
+        (end_term (b.framing s.top.func) (last_state (b.framing s.top.func) s.top.block)
+        (block_at (edged (b.framing s.top.func)) s.top.block).term)) → ArePhisGiven b g s t r label ends.work)
+        → IsFollowed b g s t }
+{}
