@@ -3,25 +3,32 @@ use Rattle.std.proofs.Common.{◌≡◌, ℕ, ℤ, Bool, true, false, List, Some
 use Rattle.std.proofs.lemmas.Option.{slice_get-map}
 use Rattle.std.specs.Prelude.{option_map, slice_get, if◌then◌else◌}
 use Rattle.ir_base.specs.declared.outcome.Word.{Word}
+use Rattle.ir_model.specs.Names.{function_at}
 use Rattle.ir_model.specs.declared.module.Frame.{Frame}
 use Rattle.ir_model.specs.declared.module.Function.{Function}
 use Rattle.ir_model.specs.declared.module.Module.{Module}
+use Rattle.ir_model.specs.declared.operand.Intrinsic.{Intrinsic}
 use Rattle.ir_paths.specs.Facts.{facts_of}
 use Rattle.pass_early.specs.Early.{early_function, early_module}
 use Rattle.pass_edges.specs.EdgeBlocks.{with_edge_blocks}
 use Rattle.pass_kept_proof.specs.SuspendRules.{KeepsSuspendRules}
 use Rattle.pass_proofs.proofs.early.path_rules.RenamedOperands.{map_was}
 use Rattle.pass_proofs.proofs.early.widths.Widths.{early_widths}
+use Rattle.pass_proofs.proofs.edges.rules.Kept.{suspend_blocks}
 use Rattle.pass_proofs.proofs.edges.shape.Kept.{calls_kept, switches_kept}
 use Rattle.pass_proofs.proofs.edges.widths.Widths.{edge_widths}
 use Rattle.pass_proofs.proofs.kept.sources.EdgeWindows.{edges_keep}
-use Rattle.pass_proofs.proofs.kept.sources.Modules.{early_coroutines_keep, early_has_paths, early_has_shape}
-use Rattle.pass_proofs.proofs.kept.sources.Modules.{early_rules}
+use Rattle.pass_proofs.proofs.kept.sources.Modules.{at_function, early_coroutines_keep, early_has_paths}
+use Rattle.pass_proofs.proofs.kept.sources.Modules.{early_has_shape, early_rules}
+use Rattle.pass_proofs.proofs.kept.sources.Names.{none_outside, suspend_inside}
 use Rattle.pass_proofs.proofs.kept.sources.Whole.{edges_kept, of_split, split_keeps, split_rules}
 use Rattle.pass_proofs.specs.edges.states.MovedState.{KeepsEdges, edge_function, edges_split}
+use Rattle.pass_renewed_meaning.specs.Rules.{KeepsStepRules}
+use Rattle.pass_renewed_proof.specs.Ledger.{AreSmallGlobals}
 use Rattle.rule_all.specs.Refused.{IsRefused}
 use Rattle.rule_laws.proofs.rules.path_rules.Passes.{accepted_paths, accepted_shape}
 use Rattle.rule_laws.proofs.rules.widths.Written.{text_wide}
+use Rattle.rule_laws.specs.frames.rows.Returns.{HaveOwnReturns}
 use Rattle.rule_laws.specs.rules.counted.Widths.{first_other_width}
 use Rattle.rule_laws.specs.rules.function_rules.Kept.{AllKeepFunctionRules, KeepsFunctionRules}
 use Rattle.rule_names.specs.declared.stage.Stage.{Stage}
@@ -33,6 +40,7 @@ use Rattle.run_accepted.proofs.Modules.{all_alive, all_places, all_switches, all
 use Rattle.run_accepted.proofs.Modules.{keeps_suspends}
 use Rattle.run_accepted.proofs.Places.{plain_places_kept}
 use Rattle.run_accepted.proofs.Sources.{source_rules}
+use Rattle.run_accepted.proofs.Steps.{no_phis, no_steps, small_globals, steps_kept}
 use Rattle.run_hooks.proofs.Keeping.{source_keeps}
 use Rattle.run_hooks.proofs.Steps.{same_runs, source_step}
 use Rattle.run_hooks.proofs.alive.Apart.{are_apart}
@@ -49,6 +57,7 @@ use Rattle.run_types.proofs.Meanings.{source_keeps_fitting}
 use Rattle.run_types.proofs.Runs.{states_fit}
 use Rattle.run_types.specs.Rules.{KeepsAllTypes}
 use Rattle.run_types.specs.States.{AreArguments, IsFittingState}
+use Rattle.text_canonical.proofs.order.Shaped.{text_is_shaped}
 use Rattle.text_grammar.specs.Text.{StandsFor}
 
 module _ (text : List ℕ) (m : Module) (stands : StandsFor text m) (accepted : IsRefused Stage.Source m None) where
@@ -185,3 +194,29 @@ module _ (text : List ℕ) (m : Module) (stands : StandsFor text m) (accepted : 
 
     pub edged_alive : KeepsAllAliveRules (given (edges_split (early_module m)) sizes answers)
     edged_alive = all_alive m3 edged_alive_at sizes answers
+
+  -- ---- what steps of runs that make slots anew ask
+
+  edged_steps_at : (k : ℕ) (h : Function) → slice_get (edges_split (early_module m)).functions k ≡ Some h
+      → KeepsStepRules (edges_split (early_module m)) h
+  edged_steps_at k h e = on h.coroutine refl
+    where
+      in_coroutine : (j : ℕ) (f : Function) → slice_get (early_module m).functions j ≡ Some f → f.coroutine ≡ true
+          → HaveOwnReturns (with_edge_blocks f)
+      in_coroutine j f there c = suspend_blocks m2 j f (old_rules j f there c) c
+          (early_has_shape text m stands accepted j f there).switches
+
+      on : (b : Bool) → h.coroutine ≡ b → KeepsStepRules (edges_split (early_module m)) h
+      on true c = steps_kept m3 k h (rules_now k h e) (edged_alive_at k h e) (edged_widths k h e)
+          (no_phis m3 k h (rules_now k h e) (of_split text m stands accepted (λ j g. HaveOwnReturns g) in_coroutine k h
+          e c))
+      on false c = steps_kept m3 k h (rules_now k h e) (edged_alive_at k h e) (edged_widths k h e)
+          (λ s x. absurd (none_outside m3 k h (rules_now k h e) c s.block s.at x.instr Intrinsic.CoroSuspend
+          suspend_inside x.stands x.is))
+
+  pub edged_steps : (func : ℕ) → KeepsStepRules (edges_split (early_module m))
+      (function_at (edges_split (early_module m)) func)
+  edged_steps = at_function (KeepsStepRules m3) m3 (no_steps m3) edged_steps_at
+
+  pub edged_globals : AreSmallGlobals (edges_split (early_module m))
+  edged_globals = small_globals m.globals (text_is_shaped text m stands).globals

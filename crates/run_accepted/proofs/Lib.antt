@@ -8,6 +8,7 @@ pub mod Types
 pub mod Edges
 pub mod Sources
 pub mod Modules
+pub mod Steps
 pub mod Accepted
 pub mod RampSlots
 pub mod Needed

@@ -9,12 +9,15 @@
 
 ghost use Rattle.std.specs.Prelude.{◌≡◌, ℕ, ℤ, List, None, false, true};
 ghost use Rattle.ir_base.specs.declared.outcome.Word.{Word};
+ghost use Rattle.ir_model.specs.Names.{function_at};
 ghost use Rattle.ir_model.specs.declared.module.Frame.{Frame};
 ghost use Rattle.ir_model.specs.declared.module.Function.{Function};
 ghost use Rattle.ir_model.specs.declared.module.Module.{Module};
 ghost use Rattle.ir_paths.specs.Facts.{facts_of};
 ghost use Rattle.pass_early.specs.Early.{early_module};
 ghost use Rattle.pass_proofs.specs.edges.states.MovedState.{edges_split};
+ghost use Rattle.pass_renewed_meaning.specs.Rules.{KeepsStepRules};
+ghost use Rattle.pass_renewed_proof.specs.Ledger.{AreSmallGlobals};
 ghost use Rattle.rule_all.specs.Refused.{IsRefused};
 ghost use Rattle.rule_laws.specs.rules.counted.Widths.{first_other_width};
 ghost use Rattle.rule_laws.specs.rules.function_rules.Kept.{AllKeepFunctionRules, KeepsFunctionRules};
@@ -84,6 +87,10 @@ pub fn accepted_edges_keep_rules_of_runs()
     ensures alive { (text : List ℕ) (m : Module) → StandsFor text m → IsRefused Stage.Source m None
         → (sizes : List Frame) (answers : List ℤ)
         → KeepsAllAliveRules (given (edges_split (early_module m)) sizes answers) }
+    ensures steps { (text : List ℕ) (m : Module) → StandsFor text m → IsRefused Stage.Source m None → (func : ℕ)
+        → KeepsStepRules (edges_split (early_module m)) (function_at (edges_split (early_module m)) func) }
+    ensures globals { (text : List ℕ) (m : Module) → StandsFor text m → IsRefused Stage.Source m None
+        → AreSmallGlobals (edges_split (early_module m)) }
 {}
 
 /// In each state of a run of an accepted source two slots of one instance that live at once conflict. So do a live slot

@@ -17,7 +17,7 @@ use Rattle.pass_proofs.proofs.edges.sources.Accepted.{locals_now}
 use Rattle.pass_proofs.specs.edges.states.MovedState.{edge_function}
 use Rattle.pass_renewed_meaning.specs.Rules.{KeepsAll}
 use Rattle.pass_renewed_proof.specs.Prices.{Prices}
-use Rattle.run_accepted.proofs.Accepted.{edged_places, edged_types}
+use Rattle.run_accepted.proofs.Accepted.{edged_globals, edged_places, edged_steps, edged_types}
 use Rattle.run_memory.specs.declared.pointer.Value.{Value}
 use Rattle.run_source.specs.declared.state.State.{State}
 use Rattle.run_types.specs.Fitting.{FitParams}
@@ -49,9 +49,9 @@ module _ (Q W : Lowered → Anew → Run → State → State → Type 0) (a : An
   pub all_kept : KeepsAll (setting l a r)
   all_kept = record {
     slots = h.slots;
-    steps = h.stepping;
+    steps = edged_steps l.text l.source low.source.stands low.source.accepted;
     locals = locals;
-    globals = h.globals;
+    globals = edged_globals l.text l.source low.source.stands low.source.accepted;
     places = (edged_places l.text l.source low.source.stands low.source.accepted (sizes_of l) r.answers).each;
     types = edged_types l.text l.source low.source.stands low.source.accepted;
     arguments = arguments;

@@ -17,12 +17,10 @@ use Rattle.compiler.specs.theorem.Lowered.{plain_run, price_kept, price_renewed,
 use Rattle.compiler.specs.theorem.Lowered.{source_run}
 use Rattle.pass_renewed_proof.specs.Prices.{Prices}
 use Rattle.compiler.specs.theorem.SharedBytes.{AreShown}
-use Rattle.ir_model.specs.Names.{function_at}
 use Rattle.text_grammar.specs.Text.{StandsFor}
 use Rattle.pass_proofs.specs.kept.sources.Beside.{IsKeptOf}
 use Rattle.pass_renewed_meaning.specs.Followed.{AreInStep}
-use Rattle.pass_renewed_meaning.specs.Rules.{KeepsStepRules, Setting}
-use Rattle.pass_renewed_proof.specs.Ledger.{AreSmallGlobals}
+use Rattle.pass_renewed_meaning.specs.Rules.{Setting}
 use Rattle.pass_renewed_proof.specs.SlotRules.{KeepsAllSlots}
 use Rattle.pass_frames.specs.Framed.{IsFramedForm}
 
@@ -45,19 +43,16 @@ AreMadeAnew l a = AreInStep (edged l) a.flags a.roots
 
 -- | Pass | from | to | costs | |
 -- | saves written out, edges with blocks, what is needed handed on | Source | Kept | 4 | stands |
--- | slots made anew, then frames built, by prices that fit | Kept | Framed | 4 * (1 + p + q), on average | the first stands by facts, the second is a premise |
+-- | slots made anew, then frames built, by prices that fit | Kept | Framed | 4 * (1 + p + q), on average | the first stands by `slots`, the second is a premise |
 -- | functions split | Framed | Plain | 4 | stands by facts of framed forms |
 -- | calls of coro.id gone, then names in order | Plain | Plain | 1 | stands |
 pub record Steps (Q W : Lowered → Anew → Run → State → State → Type 0) (a : Anew) (p : Prices)
     (l : Lowered) : Type 0 where
   -- waits for: the analyses' answers as tables
   pub anew : IsAnewOf (early l) a
-  -- waits for: local slots stay local where edges have blocks, and the rules that slots ask
+  -- waits for: local slots stay local where edges have blocks, and the rules that slots ask; by this the simulation of
+  -- slots made anew stands
   pub slots : KeepsAllSlots (edged l) a.keep a.flags a.roots
-  -- waits for: rules of functions, and blocks on edges; the simulation of slots made anew stands by these two
-  pub stepping : (func : ℕ) → KeepsStepRules (edged l) (function_at (edged l) func)
-  -- waits for: Y1 of globals
-  pub globals : AreSmallGlobals (edged l)
   -- waits for: the simulation of frames
   pub framing : IsAccepted l → AreGoodLayouts (early l) l.layouts.coroutines
       → IsFramedForm l.layouts (early l) l.framed → IsAnewOf (early l) a
