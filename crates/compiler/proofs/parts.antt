@@ -1,3 +1,6 @@
 pub mod Agree
 pub mod Followable
+pub mod Index
+pub mod Laid
+pub mod Lengths
 pub mod Ordered

@@ -2,6 +2,7 @@
 use Rattle.std.proofs.Common.{◌≡◌, ℕ, zero, suc, Bool, true, false, List, [], ◌∷◌, refl, sym, ap, ◌∙◌, subst}
 use Rattle.std.specs.Prelude.{Some, map, slice_get, unwrap_or, if◌then◌else◌}
 use Rattle.compiler.proofs.parts.Followable.{followable, kept_there}
+use Rattle.compiler.proofs.parts.Lengths.{laid_facts}
 use Rattle.compiler.proofs.parts.Ordered.{framed_in_order}
 use Rattle.compiler.proofs.whole.exit_sources.Accepted.{exits_kept, locals_kept}
 use Rattle.compiler.specs.cleanup.accepted.Ready.{IsReady}
@@ -121,7 +122,8 @@ module _ (l : Lowered) (low : IsLowered l) (good : AreGoodLayouts (early l) l.la
   calls_kept =
       calls_followable l.layouts (exits_split l.framed)
       (followable l.layouts l.framed ready
-      (framed_in_order l.layouts (early l) l.framed low.is_framed good) facts.exits)
+      (framed_in_order l.layouts (early l) l.framed low.is_framed good)
+      (laid_facts l.layouts (early l) l.framed low.is_framed good) facts.exits)
       (gives_none l.layouts l.framed ready.items ready.short (kept_there l.layouts l.framed ready))
 
   pub framed_agrees : AgreesWithin 4 (at (framed_run l l.framed r)) (at (plain_run (split_from l l.framed) r other))

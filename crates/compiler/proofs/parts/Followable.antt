@@ -3,7 +3,7 @@ use Rattle.std.proofs.Common.{◌≡◌, inl, inr, ℕ, zero, suc, ◌+◌, Bool
 use Rattle.std.proofs.lemmas.Option.{slice_get-map}
 use Rattle.std.specs.Prelude.{Option, codes, map, option_map, slice_get, unwrap_or, if◌then◌else◌}
 use Rattle.compiler.specs.cleanup.accepted.Ready.{IsReady}
-use Rattle.compiler.specs.parts.Framed.{AreFramedFacts}
+use Rattle.compiler.specs.parts.Framed.{AreFramedFacts, AreLaidFacts}
 use Rattle.flow_solver.specs.Paths.{IsListed}
 use Rattle.frame_layout.specs.declared.layout.Layout.{Layout}
 use Rattle.frame_layout.specs.declared.layout.Layouts.{Layouts}
@@ -34,19 +34,19 @@ use Rattle.run_framed.specs.Framed.{layout_of}
 
 -- ---- functions, one for one
 
-record ComesExited (m : Module) (k : ℕ) (g : Function) : Type 0 where
-  source : Function
-  stands : slice_get m.functions k ≡ Some source
-  is : exit_function source ≡ g
+pub record ComesExited (m : Module) (k : ℕ) (g : Function) : Type 0 where
+  pub source : Function
+  pub stands : slice_get m.functions k ≡ Some source
+  pub is : exit_function source ≡ g
 
-comes : (m : Module) (k : ℕ) (g : Function) → slice_get (exits_split m).functions k ≡ Some g → ComesExited m k g
+pub comes : (m : Module) (k : ℕ) (g : Function) → slice_get (exits_split m).functions k ≡ Some g → ComesExited m k g
 comes m k g there = on (slice_get m.functions k) refl (sym (slice_get-map exit_function m.functions k) ∙ there)
   where
     on : (o : Option Function) → slice_get m.functions k ≡ o → option_map exit_function o ≡ Some g → ComesExited m k g
     on None e d = absurd (cc)
     on (Some f) e d = let same : exit_function f ≡ g = cc in record { source = f; stands = e; is = same }
 
-same_kind : (f : Function) → (exit_function f).coroutine ≡ f.coroutine
+pub same_kind : (f : Function) → (exit_function f).coroutine ≡ f.coroutine
 same_kind f = on f.coroutine
   where
     on : (b : Bool) → (if b then with_exit_blocks f else f).coroutine ≡ f.coroutine
@@ -103,7 +103,7 @@ module _ (ls : Layouts) (m : Module) (ready : IsReady ls m) where
       on x = subst (KeepsFunctionRules (exits_split m) k) x.is (by x.source x.source.coroutine refl x.stands)
 
 module _ (ls : Layouts) (m : Module) (ready : IsReady ls m) (laid : AreLayoutsOf 0 m.functions ls.coroutines)
-    (facts : AreFramedFacts ls (exits_split m)) where
+    (places : AreLaidFacts ls (exits_split m)) (facts : AreFramedFacts ls (exits_split m)) where
   rules : (k : ℕ) (f : Function) → slice_get (exits_split m).functions k ≡ Some f
       → KeepsFunctionRules (exits_split m) k f
   rules = kept_there ls m ready
@@ -159,7 +159,7 @@ module _ (ls : Layouts) (m : Module) (ready : IsReady ls m) (laid : AreLayoutsOf
             returns = z.returns;
             saved = z.saved;
             layout = layouts_found ls.coroutines (exits_split m).functions layouts k f there c;
-            laid = z.laid;
+            laid = (places k f there c).laid;
           };
       plain = λ k f there c. rules k f there;
       blocks = facts.blocks;
@@ -179,7 +179,7 @@ module _ (ls : Layouts) (m : Module) (ready : IsReady ls m) (laid : AreLayoutsOf
         record {
           small = subst (λ (g : Function). IsSmall (shape_of g (layout_of ls.coroutines k))) x.is
               (r.small (layout_of ls.coroutines k) given);
-          promise = z.promise;
+          promise = (places k f there c).promise;
           apart = z.apart;
           named = z.named;
           leads = z.leads;

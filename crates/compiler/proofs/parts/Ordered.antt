@@ -17,7 +17,7 @@ plain_more : (k : ℕ) (f : Function) (fs : List Function) (ls : List Layout) �
 plain_more k f fs [] plain rest = (plain, rest)
 plain_more k f fs (l ∷ ls) plain rest = inl (plain, rest)
 
-in_order : (m : Module) (k : ℕ) (fs : List Function) (ls : List Layout) → AreGood m k fs ls → AreLayoutsOf k fs ls
+pub in_order : (m : Module) (k : ℕ) (fs : List Function) (ls : List Layout) → AreGood m k fs ls → AreLayoutsOf k fs ls
 in_order m k [] [] h = tt
 in_order m k [] (l ∷ ls) h = absurd h
 in_order m k (f ∷ fs) ls (inl h) = plain_more k f fs ls h.0 (in_order m (k + 1) fs ls h.1)

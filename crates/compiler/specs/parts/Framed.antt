@@ -36,16 +36,22 @@ pub record IsFramedFact (ls : Layouts) (m : Module) (k : ℕ) (f : Function) : T
       → IsReturnBlock f p.resume × IsReturnBlock f p.destroy
   -- waits for: the first pass writes saves out, and later ones leave suspends as they are
   pub saved : (p : SuspendPoint) → IsListed p (suspends_of f) → is_some p.save ≡ true
-  -- waits for: fields of good layouts as runs look them up
-  pub laid : IsLaidOut (framed_given m ls.coroutines []) k
-  pub promise : (x : PlacedField) → find (λ y. is_promise_kind y.kind) (layout_of ls.coroutines k).fields ≡ Some x
-      → x.offset ≡ 16
   -- waits for: K5 and K6 of the framed form
   pub apart : (at : ℕ) (i : Instr)
       → fetch f (position_of f (shape_of f (layout_of ls.coroutines k)).end) at ≡ AtInstr i → is_suspend i ≡ true → ⊥
   pub named : (block at : ℕ) (i : Instr) → fetch f block at ≡ AtInstr i → is_call_of Intrinsic.CoroSave i ≡ true
       → is_some (call_result i) ≡ true
   pub leads : (p s : Point) → IsCallAt Intrinsic.CoroSave f p → suspend_of f p ≡ Some s → Leads f [] p s
+
+-- The fields of its frame are laid out, the promise first.
+pub record IsLaidFact (ls : Layouts) (m : Module) (k : ℕ) : Type 0 where
+  pub laid : IsLaidOut (framed_given m ls.coroutines []) k
+  pub promise : (x : PlacedField) → find (λ y. is_promise_kind y.kind) (layout_of ls.coroutines k).fields ≡ Some x
+      → x.offset ≡ 16
+
+-- so it is of good layouts
+abbrev pub AreLaidFacts : Layouts → Module → Type 0
+AreLaidFacts ls m = (k : ℕ) (f : Function) → slice_get m.functions k ≡ Some f → f.coroutine ≡ true → IsLaidFact ls m k
 
 -- of the module
 pub record AreFramedFacts (ls : Layouts) (m : Module) : Type 0 where
