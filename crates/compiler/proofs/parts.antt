@@ -1,4 +1,5 @@
 pub mod Agree
+pub mod Behind
 pub mod Followable
 pub mod Index
 pub mod Laid
