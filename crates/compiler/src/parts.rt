@@ -3,19 +3,23 @@
 //! What is ready for splitting may be followed in its parts, up to facts of the framed form that aren't derived yet
 //! (`AreFramedFacts`, each with what it waits for).
 
-ghost use Rattle.std.specs.Prelude.{◌≡◌, ℕ, List, [], Some, find, slice_get, true};
+ghost use Rattle.std.specs.Prelude.{◌≡◌, ◌<◌, ℕ, List, [], Some, find, slice_get, true};
 ghost use Rattle.compiler.specs.cleanup.accepted.Ready.{IsReady};
 ghost use Rattle.compiler.specs.parts.Framed.{AreFramedFacts, AreLaidFacts, ArePartsFacts};
 ghost use Rattle.compiler.specs.theorem.Entries.{IsEntry, IsEntryCall, Run};
 ghost use Rattle.compiler.specs.theorem.Lowered.{IsLowered, Lowered, early, framed_run, plain_run, split_from};
 ghost use Rattle.compiler.specs.theorem.GoodLayouts.{AreGoodLayouts};
-ghost use Rattle.frame_contents.specs.Held.{suspend_count};
+ghost use Rattle.frame_contents.specs.Held.{fields_of, suspend_count};
+ghost use Rattle.frame_contents.specs.Frames.{AreContents};
+ghost use Rattle.frame_contents.specs.declared.contents.Contents.{Contents};
+ghost use Rattle.frame_good.specs.Frames.{AreGood};
+ghost use Rattle.frame_layout.specs.declared.layout.Field.{Field};
 ghost use Rattle.frame_layout.specs.Frames.{index_size};
 ghost use Rattle.frame_layout.specs.declared.layout.Layout.{Layout};
 ghost use Rattle.frame_layout.specs.declared.layout.PlacedField.{PlacedField};
 ghost use Rattle.ir_model.specs.declared.module.Function.{Function};
 ghost use Rattle.pass_split_proof.specs.states.Instances.{IsLaidOut, index_length};
-ghost use Rattle.run_framed.specs.Framed.{framed_given, is_promise_kind, layout_of};
+ghost use Rattle.run_framed.specs.Framed.{framed_given, is_open_kind, is_promise_kind, layout_of};
 ghost use Rattle.frame_layout.specs.declared.layout.Layouts.{Layouts};
 ghost use Rattle.ir_model.specs.declared.module.Module.{Module};
 ghost use Rattle.pass_frames.specs.Framed.{IsFramedForm};
@@ -40,6 +44,21 @@ pub fn good_layouts_keep_places()
     ensures laid { (m : Module) (ls : List Layout) → AreGoodLayouts m ls → (k : ℕ) (f : Function)
         → slice_get m.functions k ≡ Some f → f.coroutine ≡ true → (n : Module)
         → index_length (framed_given n ls []) k ≡ index_size (suspend_count f) → IsLaidOut (framed_given n ls []) k }
+{}
+
+/// The same of layouts as those of accepted sources are good, by the bytes of fields: what may be touched has to have one.
+pub fn layouts_by_bytes_keep_places()
+    ensures order { (m : Module) (k : ℕ) (fs : List Function) (ls : List Layout) → AreGood m k fs ls
+        → AreLayoutsOf k fs ls }
+    ensures promise { (m : Module) (ls : List Layout) → AreGood m 0 m.functions ls → (k : ℕ) (f : Function)
+        → slice_get m.functions k ≡ Some f → f.coroutine ≡ true → (x : PlacedField)
+        → find (λ y. is_promise_kind y.kind) (layout_of ls k).fields ≡ Some x → x.offset ≡ 16 }
+    ensures laid { (m : Module) (ls : List Layout) → AreGood m 0 m.functions ls → (k : ℕ) (f : Function)
+        → slice_get m.functions k ≡ Some f → f.coroutine ≡ true
+        → ((c : Contents) → AreContents m f c → (i : ℕ) (x : Field) → slice_get (fields_of f c.held) i ≡ Some x
+        → is_open_kind x.kind ≡ true → 0 < x.size)
+        → (n : Module) → index_length (framed_given n ls []) k ≡ index_size (suspend_count f)
+        → IsLaidOut (framed_given n ls []) k }
 {}
 
 /// A module that is ready for splitting, with such layouts of its coroutines in order, may be followed in its parts where
