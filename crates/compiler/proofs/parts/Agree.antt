@@ -1,11 +1,13 @@
 -- The run of a framed form agrees with the run of its parts.
 use Rattle.std.proofs.Common.{◌≡◌, ℕ, zero, suc, Bool, true, false, List, [], ◌∷◌, refl, sym, ap, ◌∙◌, subst}
 use Rattle.std.specs.Prelude.{Some, map, slice_get, unwrap_or, if◌then◌else◌}
+use Rattle.compiler.proofs.parts.Behind.{named_behind}
 use Rattle.compiler.proofs.parts.Followable.{followable, kept_there}
+use Rattle.compiler.proofs.parts.Lengths.{laid_facts}
 use Rattle.compiler.proofs.parts.Ordered.{framed_in_order}
 use Rattle.compiler.proofs.whole.exit_sources.Accepted.{exits_kept, locals_kept}
 use Rattle.compiler.specs.cleanup.accepted.Ready.{IsReady}
-use Rattle.compiler.specs.parts.Framed.{ArePartsFacts}
+use Rattle.compiler.specs.parts.Framed.{ArePartsFacts, TakeBytes}
 use Rattle.compiler.specs.theorem.Entries.{IsEntry, IsEntryCall, Run}
 use Rattle.compiler.specs.theorem.GoodLayouts.{AreGoodLayouts}
 use Rattle.compiler.specs.theorem.Lowered.{IsLowered, Lowered, early, framed_run, plain_run, split_from}
@@ -22,13 +24,14 @@ use Rattle.pass_exits.specs.ExitBlocks.{with_exit_blocks}
 use Rattle.pass_proofs.proofs.early.widths.Headings.{early_names, early_signatures}
 use Rattle.pass_proofs.proofs.exits.exited.Exited.{signatures_same}
 use Rattle.pass_proofs.proofs.frames.headings.Headings.{framed_names, framed_signatures}
-use Rattle.pass_proofs.specs.exits.states.Exits.{exit_function, exits_split}
+use Rattle.pass_proofs.specs.exits.states.Exits.{AreExitsKept, exit_function, exits_split}
 use Rattle.pass_split_proof.proofs.first_exits.Parted.{split_parted}
 use Rattle.pass_split_proof.proofs.ready.Entries.{entry_moves}
 use Rattle.pass_split_proof.proofs.ready.Gives.{gives_none}
 use Rattle.pass_split_proof.proofs.ready.Steps.{calls_followable}
 use Rattle.pass_split_proof.proofs.priced.Whole.{splits_agree}
 use Rattle.pass_split_proof.specs.first_exits.Parted.{parted_module}
+use Rattle.pass_split_proof.specs.priced.Returns.{AllJumpBehind}
 use Rattle.pass_split_proof.specs.simulation.Statement.{IsEntryOfParts}
 use Rattle.pass_split_proof.specs.whole.Whole.{PartsKeepCalls}
 use Rattle.run_agreement.specs.Agreements.{AgreesWithin}
@@ -86,7 +89,7 @@ named_alike (f ∷ fs) = λ i. on f.coroutine f i ∷ named_alike fs i
 -- ---- the two passes
 
 module _ (l : Lowered) (low : IsLowered l) (good : AreGoodLayouts (early l) l.layouts.coroutines)
-    (ready : IsReady l.layouts l.framed) (facts : ArePartsFacts l.layouts l.framed) (r : Run) (other : ℕ)
+    (ready : IsReady l.layouts l.framed) (bytes : TakeBytes (early l)) (facts : ArePartsFacts l.layouts l.framed) (r : Run) (other : ℕ)
     (call : IsEntryCall l.source r) (entry : IsEntry l.source (split_from l l.framed) r.entry other) where
   abbrev x : Module
   x = exits_split l.framed
@@ -121,8 +124,18 @@ module _ (l : Lowered) (low : IsLowered l) (good : AreGoodLayouts (early l) l.la
   calls_kept =
       calls_followable l.layouts (exits_split l.framed)
       (followable l.layouts l.framed ready
-      (framed_in_order l.layouts (early l) l.framed low.is_framed good) facts.exits)
+      (framed_in_order l.layouts (early l) l.framed low.is_framed good)
+      (laid_facts l.layouts (early l) l.framed low.is_framed good bytes) facts.exits)
       (gives_none l.layouts l.framed ready.items ready.short (kept_there l.layouts l.framed ready))
+
+  kept : AreExitsKept l.framed
+  kept = exits_kept l.text l.source low.source.stands low.source.accepted l.share l.layouts low.laid l.framed
+      low.is_framed
+
+  jump_behind : AllJumpBehind l.framed
+  jump_behind k f there c =
+      let x = kept k f there c in
+      record { jumps = facts.behind k f there c; named = named_behind l.framed k f x.rules c x.switches }
 
   pub framed_agrees : AgreesWithin 4 (at (framed_run l l.framed r)) (at (plain_run (split_from l l.framed) r other))
   framed_agrees =
@@ -131,6 +144,5 @@ module _ (l : Lowered) (low : IsLowered l) (good : AreGoodLayouts (early l) l.la
       (splits_agree l.layouts l.framed
       (locals_kept l.text l.source low.source.stands low.source.accepted l.share l.layouts low.laid l.framed
       low.is_framed)
-      (exits_kept l.text l.source low.source.stands low.source.accepted l.share l.layouts low.laid l.framed
-      low.is_framed)
-      facts.behind calls_kept r.entry other r.args r.answers entry_is arguments)
+      kept
+      jump_behind calls_kept r.entry other r.args r.answers entry_is arguments)

@@ -3,18 +3,23 @@ use Rattle.std.proofs.Common.{◌≡◌, inl, inr, ℕ, zero, suc, ◌+◌, Bool
 use Rattle.std.proofs.lemmas.Option.{slice_get-map}
 use Rattle.std.specs.Prelude.{Option, codes, map, option_map, slice_get, unwrap_or, if◌then◌else◌}
 use Rattle.compiler.specs.cleanup.accepted.Ready.{IsReady}
-use Rattle.compiler.specs.parts.Framed.{AreFramedFacts}
+use Rattle.compiler.specs.parts.Framed.{AreFramedFacts, AreLaidFacts, IsLightBlock}
 use Rattle.flow_solver.specs.Paths.{IsListed}
 use Rattle.frame_layout.specs.declared.layout.Layout.{Layout}
 use Rattle.frame_layout.specs.declared.layout.Layouts.{Layouts}
 use Rattle.ir_laws.specs.facts.sound_states.Named.{AreLocalsNamed, HasNamedLocals}
 use Rattle.ir_base.specs.declared.name.Name.{Name}
-use Rattle.ir_model.specs.Names.{function_named, no_function}
+use Rattle.ir_model.specs.Names.{function_named, no_function, position_of}
+use Rattle.ir_model.specs.Calls.{first_result, first_result_by}
+use Rattle.ir_model.specs.declared.module.Block.{Block}
 use Rattle.ir_model.specs.declared.module.Function.{Function}
 use Rattle.ir_model.specs.declared.module.Module.{Module}
+use Rattle.ir_model.specs.declared.operand.Intrinsic.{Intrinsic}
 use Rattle.pass_exits.specs.ExitBlocks.{with_exit_blocks}
-use Rattle.pass_intrinsics.specs.Shapes.{part_name, shape_of}
+use Rattle.pass_intrinsics.specs.Shapes.{part_name, shape_of, suspends_of}
+use Rattle.pass_intrinsics.specs.declared.shape.SuspendPoint.{SuspendPoint}
 use Rattle.pass_proofs.proofs.exits.exited.Exited.{signatures_same}
+use Rattle.pass_proofs.proofs.split.edges.Rules.{destroy_known, resume_known}
 use Rattle.pass_proofs.proofs.split.exited.Exited.{splittable_exited}
 use Rattle.pass_proofs.specs.exits.states.Exits.{exit_function, exits_split}
 use Rattle.pass_proofs.specs.split.rules.Splittable.{IsSplittable}
@@ -25,28 +30,34 @@ use Rattle.pass_split_proof.proofs.ready.Moved.{cleanup_untaken, names_moved}
 use Rattle.pass_split_proof.specs.code.Positions.{layout_at}
 use Rattle.pass_split_proof.specs.ready.Layouts.{AreLayoutsOf}
 use Rattle.pass_split_proof.specs.ready.Module.{IsFollowable}
+use Rattle.pass_split_proof.specs.steps.Returns.{IsReturnBlock}
 use Rattle.rule_laws.proofs.rules.function_rules.Signatures.{go_by_signatures}
 use Rattle.rule_laws.proofs.rules.named_results.Named.{locals_tabled}
+use Rattle.ir_laws.proofs.paths.uses.Paths.{place_of}
+use Rattle.rule_laws.proofs.rules.source_rules.Locals.{own_label}
+use Rattle.pass_proofs.proofs.split.edges.Cuttable.{HasBlock}
 use Rattle.rule_laws.specs.frames.replaced.Parted.{IsSmall}
+use Rattle.rule_laws.specs.frames.replaced.Splittable.{HasOwnEdges, IsLedToBy}
 use Rattle.rule_laws.specs.frames.suspend_counts.Given.{IsGiven}
 use Rattle.rule_laws.specs.rules.function_rules.Kept.{KeepsFunctionRules}
-use Rattle.run_framed.specs.Framed.{layout_of}
+use Rattle.run_framed.specs.Framed.{layout_of, no_layout}
+use Rattle.run_laws.specs.changed.Changed.{Each}
 
 -- ---- functions, one for one
 
-record ComesExited (m : Module) (k : ℕ) (g : Function) : Type 0 where
-  source : Function
-  stands : slice_get m.functions k ≡ Some source
-  is : exit_function source ≡ g
+pub record ComesExited (m : Module) (k : ℕ) (g : Function) : Type 0 where
+  pub source : Function
+  pub stands : slice_get m.functions k ≡ Some source
+  pub is : exit_function source ≡ g
 
-comes : (m : Module) (k : ℕ) (g : Function) → slice_get (exits_split m).functions k ≡ Some g → ComesExited m k g
+pub comes : (m : Module) (k : ℕ) (g : Function) → slice_get (exits_split m).functions k ≡ Some g → ComesExited m k g
 comes m k g there = on (slice_get m.functions k) refl (sym (slice_get-map exit_function m.functions k) ∙ there)
   where
     on : (o : Option Function) → slice_get m.functions k ≡ o → option_map exit_function o ≡ Some g → ComesExited m k g
     on None e d = absurd (cc)
     on (Some f) e d = let same : exit_function f ≡ g = cc in record { source = f; stands = e; is = same }
 
-same_kind : (f : Function) → (exit_function f).coroutine ≡ f.coroutine
+pub same_kind : (f : Function) → (exit_function f).coroutine ≡ f.coroutine
 same_kind f = on f.coroutine
   where
     on : (b : Bool) → (if b then with_exit_blocks f else f).coroutine ≡ f.coroutine
@@ -88,6 +99,46 @@ first_given ls (f ∷ fs) (suc k) = wider (layouts_after f ls) (first_given (lay
     wider rest {l} (inl h) more = inl (more l h)
     wider rest {l} (inr e) more = inr e
 
+begun_first : (f : Function) (begin : ℕ) → first_result Intrinsic.CoroBegin f ≡ Some begin
+    → (b : Block) × (slice_get f.blocks 0 ≡ Some b)
+begun_first f begin e = on f.blocks refl
+  where
+    on : (bs : List Block) → f.blocks ≡ bs → (b : Block) × (slice_get f.blocks 0 ≡ Some b)
+    on [] d = let none : None ≡ Some begin = sym (ap (first_result_by Intrinsic.CoroBegin) d) ∙ e in absurd (cc)
+    on (b ∷ bs) d = (b, ap (λ (xs : List Block). slice_get xs 0) d)
+
+-- ---- blocks behind suspends
+
+return_block : (m : Module) (k : ℕ) (f : Function) → KeepsFunctionRules m k f → (label from : ℕ) → HasBlock f label
+    → IsLedToBy f label from → IsLightBlock f label → IsReturnBlock f label
+return_block m k f rules label from x led light =
+    let at = place_of f.blocks x.block x.listed in
+    let stands : position_of f label ≡ at.0 = ap (position_of f) (sym x.has_label)
+    ∙ own_label k f rules.definitions at.0 x.block at.1 in
+    let there : slice_get f.blocks (position_of f label) ≡ Some x.block = ap (slice_get f.blocks) stands ∙ at.1 in
+    record {
+      block = x.block;
+      got = there;
+      is_label = x.has_label;
+      no_phis = led.phis (position_of f label) x.block there x.has_label;
+      light = light.light;
+      no_end = light.no_end;
+    }
+
+return_blocks : (m : Module) (k : ℕ) (f : Function) (begin : ℕ) → IsSplittable m k f begin
+    → ((p : SuspendPoint) → IsListed p (suspends_of f) → IsLightBlock f p.resume × IsLightBlock f p.destroy)
+    → (p : SuspendPoint) → IsListed p (suspends_of f) → IsReturnBlock f p.resume × IsReturnBlock f p.destroy
+return_blocks m k f begin x light p l =
+    let own = each_listed (HasOwnEdges f) (suspends_of f) x.edges p l in (
+      return_block m k f x.rules p.resume p.block (resume_known m k f begin x (no_layout k) p l) own.resume (light p l).0,
+      return_block m k f x.rules p.destroy p.block (destroy_known m k f begin x (no_layout k) p l) own.destroy (light p l).1,
+    )
+  where
+    each_listed : {A : Type 0} (P : A → Type 0) (xs : List A) → Each P xs → (x : A) → IsListed x xs → P x
+    each_listed P [] h x l = absurd l
+    each_listed P (y ∷ ys) h x (inl e) = subst P (sym e) h.0
+    each_listed P (y ∷ ys) h x (inr l) = each_listed P ys h.1 x l
+
 module _ (ls : Layouts) (m : Module) (ready : IsReady ls m) where
   pub kept_there : (k : ℕ) (f : Function) → slice_get (exits_split m).functions k ≡ Some f
       → KeepsFunctionRules (exits_split m) k f
@@ -103,7 +154,7 @@ module _ (ls : Layouts) (m : Module) (ready : IsReady ls m) where
       on x = subst (KeepsFunctionRules (exits_split m) k) x.is (by x.source x.source.coroutine refl x.stands)
 
 module _ (ls : Layouts) (m : Module) (ready : IsReady ls m) (laid : AreLayoutsOf 0 m.functions ls.coroutines)
-    (facts : AreFramedFacts ls (exits_split m)) where
+    (places : AreLaidFacts ls (exits_split m)) (facts : AreFramedFacts ls (exits_split m)) where
   rules : (k : ℕ) (f : Function) → slice_get (exits_split m).functions k ≡ Some f
       → KeepsFunctionRules (exits_split m) k f
   rules = kept_there ls m ready
@@ -145,6 +196,12 @@ module _ (ls : Layouts) (m : Module) (ready : IsReady ls m) (laid : AreLayoutsOf
             (splittable_exited m k (with_exit_blocks x.source) r.begin r.splittable),
       )
 
+  -- begin stands in a block
+  first_blocks : (k : ℕ) (f : Function) → slice_get (exits_split m).functions k ≡ Some f → (c : Bool) → f.coroutine ≡ c
+      → (b : Block) × (slice_get f.blocks 0 ≡ Some b)
+  first_blocks k f there false c = facts.blocks k f there c
+  first_blocks k f there true c = let y = splittable k f (coroutine_comes k f there c) in begun_first f y.0 y.1.named
+
   pub followable : IsFollowable ls (exits_split m)
   followable = record {
     partable = record {
@@ -156,13 +213,13 @@ module _ (ls : Layouts) (m : Module) (ready : IsReady ls m) (laid : AreLayoutsOf
           record {
             begin = y.0;
             splittable = y.1;
-            returns = z.returns;
+            returns = return_blocks (exits_split m) k f y.0 y.1 z.returns;
             saved = z.saved;
             layout = layouts_found ls.coroutines (exits_split m).functions layouts k f there c;
-            laid = z.laid;
+            laid = (places k f there c).laid;
           };
       plain = λ k f there c. rules k f there;
-      blocks = facts.blocks;
+      blocks = λ k f there. first_blocks k f there f.coroutine refl;
       globals = globals_kept ls m ready.items ready.short;
       contents = facts.contents;
     };
@@ -179,7 +236,7 @@ module _ (ls : Layouts) (m : Module) (ready : IsReady ls m) (laid : AreLayoutsOf
         record {
           small = subst (λ (g : Function). IsSmall (shape_of g (layout_of ls.coroutines k))) x.is
               (r.small (layout_of ls.coroutines k) given);
-          promise = z.promise;
+          promise = (places k f there c).promise;
           apart = z.apart;
           named = z.named;
           leads = z.leads;

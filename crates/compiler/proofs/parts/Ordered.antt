@@ -1,8 +1,8 @@
 -- Good layouts are those of the coroutines in order, also of the framed form.
 use Rattle.std.proofs.Common.{◌≡◌, inl, inr, ℕ, ◌+◌, Bool, false, List, [], ◌∷◌, ap, ◌∙◌}
 use Rattle.std.specs.Prelude.{map}
+use Rattle.compiler.proofs.parts.Found.{found_in_order}
 use Rattle.compiler.specs.theorem.GoodLayouts.{AreGoodLayouts}
-use Rattle.frame_good.specs.Frames.{AreGood, Coroutine, NoMore, Other}
 use Rattle.frame_layout.specs.declared.layout.Layout.{Layout}
 use Rattle.frame_layout.specs.declared.layout.Layouts.{Layouts}
 use Rattle.ir_base.specs.declared.name.Name.{Name}
@@ -12,17 +12,6 @@ use Rattle.ir_model.specs.declared.module.Module.{Module}
 use Rattle.pass_frames.specs.Framed.{IsFramedForm}
 use Rattle.pass_proofs.proofs.frames.headings.Headings.{framed_names}
 use Rattle.pass_split_proof.specs.ready.Layouts.{AreLayoutsOf}
-
-plain_more : (k : ℕ) (f : Function) (fs : List Function) (ls : List Layout) → f.coroutine ≡ false
-    → AreLayoutsOf (k + 1) fs ls → AreLayoutsOf k (f ∷ fs) ls
-plain_more k f fs [] plain rest = (plain, rest)
-plain_more k f fs (l ∷ ls) plain rest = inl (plain, rest)
-
-in_order : (m : Module) (k : ℕ) (fs : List Function) (ls : List Layout) → AreGood m k fs ls → AreLayoutsOf k fs ls
-in_order m _ _ _ (NoMore k) = tt
-in_order m _ _ _ (Other k f fs ls plain rest) = plain_more k f fs ls plain (in_order m (k + 1) fs ls rest)
-in_order m _ _ _ (Coroutine k f fs l ls is good rest) =
-    inr (is, (good.by_contents good.contents good.contents_are).is_of, in_order m (k + 1) fs ls rest)
 
 -- ---- framed forms
 
@@ -53,4 +42,4 @@ pub framed_in_order : (layouts : Layouts) (m n : Module) → IsFramedForm layout
     → AreGoodLayouts m layouts.coroutines → AreLayoutsOf 0 n.functions layouts.coroutines
 framed_in_order layouts m n is good =
     by_names 0 m.functions n.functions layouts.coroutines (framed_names layouts m n is).functions
-    (in_order m 0 m.functions layouts.coroutines good)
+    (found_in_order m 0 m.functions layouts.coroutines good)

@@ -1,11 +1,16 @@
 -- What is asked of a framed form, with blocks on edges that leave windows, besides the rules that splitting asks.
-use Rattle.std.specs.Prelude.{◌≡◌, ℕ, Bool, true, [], List, None, Some, find, is_some, slice_get}
+use Rattle.std.specs.Prelude.{◌≡◌, ◌<◌, ℕ, Bool, true, false, [], List, None, Some, find, is_some, slice_get}
 use Rattle.flow_solver.specs.Paths.{IsListed}
+use Rattle.frame_contents.specs.Frames.{AreContents as AreContentsOf}
+use Rattle.frame_contents.specs.Held.{fields_of}
+use Rattle.frame_contents.specs.declared.contents.Contents.{Contents}
+use Rattle.frame_layout.specs.declared.layout.Field.{Field}
 use Rattle.frame_layout.specs.declared.layout.Layouts.{Layouts}
 use Rattle.frame_layout.specs.declared.layout.PlacedField.{PlacedField}
 use Rattle.ir_model.specs.Names.{position_of}
 use Rattle.ir_model.specs.Ty.{Ty}
 use Rattle.ir_model.specs.declared.instr.Instr.{Instr}
+use Rattle.ir_model.specs.declared.instr.Terminator.{Terminator}
 use Rattle.ir_model.specs.declared.module.Block.{Block}
 use Rattle.ir_model.specs.declared.module.Function.{Function}
 use Rattle.ir_model.specs.declared.module.Module.{Module}
@@ -15,37 +20,47 @@ use Rattle.ir_model.specs.declared.operand.Operand.{Operand}
 use Rattle.ir_paths.specs.Paths.{Leads}
 use Rattle.ir_paths.specs.Windows.{call_result, is_call_of, suspend_of}
 use Rattle.ir_paths.specs.declared.point.Point.{Point}
-use Rattle.pass_intrinsics.specs.Shapes.{shape_of, suspends_of}
+use Rattle.pass_intrinsics.specs.Shapes.{is_end, shape_of, suspends_of}
 use Rattle.pass_intrinsics.specs.declared.shape.SuspendPoint.{SuspendPoint}
 use Rattle.pass_kept_proof.specs.SuspendRules.{IsCallAt}
 use Rattle.pass_proofs.specs.exits.states.Exits.{exits_split}
-use Rattle.pass_split_proof.specs.priced.Returns.{AllJumpBehind}
 use Rattle.pass_split_proof.specs.ready.Fields.{AreInnerIndices}
 use Rattle.pass_split_proof.specs.states.Instances.{IsLaidOut}
 use Rattle.pass_split_proof.specs.states.Memories.{AreContents}
-use Rattle.pass_split_proof.specs.steps.Returns.{IsReturnBlock}
+use Rattle.pass_split_proof.specs.states.Related.{is_return_label, weight}
 use Rattle.rule_laws.specs.rules.counted.Widths.{first_other_width}
 use Rattle.rule_shape.specs.Suspends.{is_suspend}
-use Rattle.run_framed.specs.Framed.{framed_given, is_promise_kind, layout_of}
+use Rattle.run_framed.specs.Framed.{framed_given, is_open_kind, is_promise_kind, layout_of}
 use Rattle.run_step.specs.Step.{AtInstr, fetch}
+
+-- the block of a label begins with what is one step of a part, and isn't the end
+pub record IsLightBlock (f : Function) (label : ℕ) : Type 0 where
+  pub light : weight (fetch f (position_of f label) 0) ≡ 1
+  pub no_end : (i : Instr) → fetch f (position_of f label) 0 ≡ AtInstr i → is_end i ≡ true → ⊥
 
 -- of a coroutine
 pub record IsFramedFact (ls : Layouts) (m : Module) (k : ℕ) (f : Function) : Type 0 where
   -- waits for: what is woven in front of a block on a resume or destroy edge are loads, stores and additions
   pub returns : (p : SuspendPoint) → IsListed p (suspends_of f)
-      → IsReturnBlock f p.resume × IsReturnBlock f p.destroy
+      → IsLightBlock f p.resume × IsLightBlock f p.destroy
   -- waits for: the first pass writes saves out, and later ones leave suspends as they are
   pub saved : (p : SuspendPoint) → IsListed p (suspends_of f) → is_some p.save ≡ true
-  -- waits for: fields of good layouts as runs look them up
-  pub laid : IsLaidOut (framed_given m ls.coroutines []) k
-  pub promise : (x : PlacedField) → find (λ y. is_promise_kind y.kind) (layout_of ls.coroutines k).fields ≡ Some x
-      → x.offset ≡ 16
   -- waits for: K5 and K6 of the framed form
   pub apart : (at : ℕ) (i : Instr)
       → fetch f (position_of f (shape_of f (layout_of ls.coroutines k)).end) at ≡ AtInstr i → is_suspend i ≡ true → ⊥
   pub named : (block at : ℕ) (i : Instr) → fetch f block at ≡ AtInstr i → is_call_of Intrinsic.CoroSave i ≡ true
       → is_some (call_result i) ≡ true
   pub leads : (p s : Point) → IsCallAt Intrinsic.CoroSave f p → suspend_of f p ≡ Some s → Leads f [] p s
+
+-- The fields of its frame are laid out, the promise first.
+pub record IsLaidFact (ls : Layouts) (m : Module) (k : ℕ) : Type 0 where
+  pub laid : IsLaidOut (framed_given m ls.coroutines []) k
+  pub promise : (x : PlacedField) → find (λ y. is_promise_kind y.kind) (layout_of ls.coroutines k).fields ≡ Some x
+      → x.offset ≡ 16
+
+-- so it is of good layouts, where what may be touched takes bytes
+abbrev pub AreLaidFacts : Layouts → Module → Type 0
+AreLaidFacts ls m = (k : ℕ) (f : Function) → slice_get m.functions k ≡ Some f → f.coroutine ≡ true → IsLaidFact ls m k
 
 -- of the module
 pub record AreFramedFacts (ls : Layouts) (m : Module) : Type 0 where
@@ -59,7 +74,7 @@ pub record AreFramedFacts (ls : Layouts) (m : Module) : Type 0 where
       (base : Operand) (indices : List Arg)
       → fetch f block at ≡ AtInstr (Instr.Gep name inbounds ty base indices) → AreInnerIndices m ty indices
   -- waits for: no function of a text is without a block
-  pub blocks : (k : ℕ) (f : Function) → slice_get m.functions k ≡ Some f
+  pub blocks : (k : ℕ) (f : Function) → slice_get m.functions k ≡ Some f → f.coroutine ≡ false
       → (b : Block) × (slice_get f.blocks 0 ≡ Some b)
   -- waits for: Y1 and Y4 of globals
   pub contents : AreContents m
@@ -67,5 +82,13 @@ pub record AreFramedFacts (ls : Layouts) (m : Module) : Type 0 where
 -- of the framed form, and with blocks on the edges that leave windows
 pub record ArePartsFacts (ls : Layouts) (m : Module) : Type 0 where
   pub exits : AreFramedFacts ls (exits_split m)
-  -- waits for: blocks on resume and destroy edges end in jumps, and labels are names of the function
-  pub behind : AllJumpBehind m
+  -- waits for: blocks on resume and destroy edges end in jumps
+  pub behind : (k : ℕ) (f : Function) → slice_get m.functions k ≡ Some f → f.coroutine ≡ true → (block : ℕ) (b : Block)
+      → slice_get f.blocks block ≡ Some b → is_return_label (suspends_of f) b.label ≡ true
+      → (u : ℕ) × (b.term ≡ Terminator.Jump u)
+
+-- what may be touched of the frames of coroutines takes a byte at least
+abbrev pub TakeBytes : Module → Type 0
+TakeBytes m = (k : ℕ) (f : Function) → slice_get m.functions k ≡ Some f → f.coroutine ≡ true → (c : Contents)
+    → AreContentsOf m f c → (i : ℕ) (x : Field) → slice_get (fields_of f c.held) i ≡ Some x
+    → is_open_kind x.kind ≡ true → 0 < x.size
