@@ -5,5 +5,6 @@ pub mod Goes
 pub mod Jumps
 pub mod Landed
 pub mod Pairs
+pub mod Placed
 pub mod Places
 pub mod Whole

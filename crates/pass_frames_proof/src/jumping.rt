@@ -1,7 +1,8 @@
 //! Jumps of a coroutine are followed: what its phis and the terminator need is fetched at the end of the block, and
 //! phis are stored in front of the next one.
 
-ghost use Rattle.std.specs.Prelude.{◌≡◌, ℕ, false, List, Some, slice_get};
+ghost use Rattle.std.specs.Prelude.{◌≡◌, ◌≢◌, ℕ, false, List, Some, slice_get};
+ghost use Rattle.ir_model.specs.declared.module.Block.{Block};
 ghost use Rattle.pass_cells.specs.Written.{stored_phis};
 ghost use Rattle.pass_frames_proof.specs.Code.{end_code, end_term, last_state};
 ghost use Rattle.pass_frames_proof.specs.Framings.{IsFraming};
@@ -11,7 +12,7 @@ ghost use Rattle.pass_frames_proof.specs.Places.{Framing, edged, fetched, is_ret
 ghost use Rattle.ir_model.specs.declared.instr.Instr.{Instr};
 ghost use Rattle.ir_model.specs.declared.instr.Terminator.{Terminator};
 ghost use Rattle.pass_frames_proof.specs.Edges.{AreEndsLed, AreFrontsLed, ArePhisGiven, EndsInPlace, FrontsInPlace, IsAtJump, block_to};
-ghost use Rattle.pass_frames_proof.specs.Jumps.{EndsAt, MayGo, MayJump};
+ghost use Rattle.pass_frames_proof.specs.Jumps.{EndsAt, MayGo, MayJump, PhisInPlace};
 ghost use Rattle.run_framed.specs.Framed.{framed_context};
 ghost use Rattle.run_memory.specs.declared.pointer.Value.{Value};
 ghost use Rattle.run_source.specs.State.{work_of};
@@ -31,6 +32,11 @@ pub fn ends_stand_at_their_places()
     ensures fronts { (x : Framing) → IsFraming x → (k : ℕ) → slice_get (edged x).blocks k ≡ Some (block_at (edged x) k)
         → is_return x k ≡ false → IsOrdinaryBlock x k
         → FrontsInPlace x k (stored_phis (plan x) (block_at (fetched x) k).phis) }
+{}
+
+/// The phis of a block behind the entry are those before the passes but for what is fetched.
+pub fn phis_stand_in_place()
+    ensures { (x : Framing) (k : ℕ) → k ≢ 0 → (b : Block) → slice_get (edged x).blocks k ≡ Some b → PhisInPlace x k }
 {}
 
 /// A jump to a block that is neither the entry nor on a resume or destroy edge is followed, where the line at the end

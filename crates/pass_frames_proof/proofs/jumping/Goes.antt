@@ -1,5 +1,5 @@
 -- A terminator whose operands are fetched twice goes to the same label.
-use Rattle.std.proofs.Common.{◌≡◌, ℕ, ◌+◌, ◌<◌, ◌≤◌, List, [], ◌∷◌, length, refl, sym, ap, ◌∙◌, subst, arith}
+use Rattle.std.proofs.Common.{◌≡◌, ℕ, ◌≤◌, List, [], ◌∷◌, length, refl, sym, ap, ◌∙◌, subst, arith}
 use Rattle.std.specs.Prelude.{None, Option, Some}
 use Rattle.ir_model.specs.Ty.{Ty}
 use Rattle.ir_model.specs.declared.instr.Case.{Case}
@@ -16,7 +16,7 @@ use Rattle.pass_frames_proof.proofs.led.Front.{stands}
 use Rattle.pass_frames_proof.specs.Code.{address_state, end_term, last_state, load_name, slot_table}
 use Rattle.pass_frames_proof.specs.Distances.{IsBelow, SetsFrom}
 use Rattle.pass_frames_proof.specs.Edges.{IsAtJump}
-use Rattle.pass_frames_proof.specs.Fetched.{AreSeenAs, IsSeenAs, given_of, seen_by, seen_of}
+use Rattle.pass_frames_proof.specs.Fetched.{AreSeenAs, IsSeenAs, seen_by, seen_of}
 use Rattle.pass_frames_proof.specs.Framings.{IsFraming}
 use Rattle.pass_frames_proof.specs.Jumps.{EndsAt, MayGo}
 use Rattle.pass_frames_proof.specs.Led.{IsTwiceFor, seen_twice, twice_by}
