@@ -3,6 +3,7 @@ pub mod Ends
 pub mod Fronts
 pub mod Goes
 pub mod Jumps
+pub mod Labels
 pub mod Landed
 pub mod Pairs
 pub mod Placed

@@ -2,13 +2,14 @@
 //! phis are stored in front of the next one.
 
 ghost use Rattle.std.specs.Prelude.{◌≡◌, ◌≢◌, ℕ, false, List, Some, slice_get};
+ghost use Rattle.ir_model.specs.Names.{block_labelled, position_of};
 ghost use Rattle.ir_model.specs.declared.module.Block.{Block};
 ghost use Rattle.pass_cells.specs.Written.{stored_phis};
 ghost use Rattle.pass_frames_proof.specs.Code.{end_code, end_term, last_state};
 ghost use Rattle.pass_frames_proof.specs.Framings.{IsFraming};
 ghost use Rattle.pass_frames_proof.specs.Passes.{block_at};
 ghost use Rattle.pass_frames_proof.specs.Phis.{IsOrdinaryBlock};
-ghost use Rattle.pass_frames_proof.specs.Places.{Framing, edged, fetched, is_return, plan};
+ghost use Rattle.pass_frames_proof.specs.Places.{Framing, edged, fetched, framed, is_return, plan};
 ghost use Rattle.ir_model.specs.declared.instr.Instr.{Instr};
 ghost use Rattle.ir_model.specs.declared.instr.Terminator.{Terminator};
 ghost use Rattle.pass_frames_proof.specs.Edges.{AreEndsLed, AreFrontsLed, ArePhisGiven, EndsInPlace, FrontsInPlace, IsAtJump, block_to};
@@ -16,7 +17,7 @@ ghost use Rattle.pass_frames_proof.specs.Jumps.{EndsAt, MayGo, MayJump, PhisInPl
 ghost use Rattle.run_framed.specs.Framed.{framed_context};
 ghost use Rattle.run_memory.specs.declared.pointer.Value.{Value};
 ghost use Rattle.run_source.specs.State.{work_of};
-ghost use Rattle.run_step.specs.Step.{GoTo, term_action};
+ghost use Rattle.run_step.specs.Step.{GoTo, label_of, term_action};
 ghost use Rattle.pass_frames_proof.specs.Followed.{IsFollowed};
 ghost use Rattle.pass_frames_proof.specs.Related.{AreBuiltOf, Building};
 ghost use Rattle.pass_frames_proof.specs.Stepping.{AreGiven};
@@ -37,6 +38,14 @@ pub fn ends_stand_at_their_places()
 /// The phis of a block behind the entry are those before the passes but for what is fetched.
 pub fn phis_stand_in_place()
     ensures { (x : Framing) (k : ℕ) → k ≢ 0 → (b : Block) → slice_get (edged x).blocks k ≡ Some b → PhisInPlace x k }
+{}
+
+/// A block of the framed form has the label that it had, and the block with a label is where it was.
+pub fn labels_stay()
+    ensures block { (x : Framing) (k : ℕ) (b : Block) → slice_get (edged x).blocks k ≡ Some b
+        → label_of (slice_get (framed x).blocks k) ≡ b.label }
+    ensures position { (x : Framing) (label k : ℕ) → block_labelled (edged x) label ≡ Some k
+        → position_of (framed x) label ≡ position_of (edged x) label }
 {}
 
 /// A jump to a block that is neither the entry nor on a resume or destroy edge is followed, where the line at the end
