@@ -8,4 +8,5 @@ pub mod Landed
 pub mod Pairs
 pub mod Placed
 pub mod Places
+pub mod Ready
 pub mod Whole

@@ -15,7 +15,7 @@ ghost use Rattle.pass_frames_proof.specs.Places.{Framing, edged, fetched, framed
 ghost use Rattle.ir_model.specs.declared.instr.Instr.{Instr};
 ghost use Rattle.ir_model.specs.declared.instr.Terminator.{Terminator};
 ghost use Rattle.pass_frames_proof.specs.Edges.{AreEndsLed, AreFrontsLed, ArePhisGiven, EndsInPlace, FrontsInPlace, IsAtJump, block_to};
-ghost use Rattle.pass_frames_proof.specs.Jumps.{EndsAt, MayGo, MayJump, PhisInPlace};
+ghost use Rattle.pass_frames_proof.specs.Jumps.{CanJump, EndsAt, MayGo, MayJump, PhisInPlace};
 ghost use Rattle.run_framed.specs.Framed.{framed_context};
 ghost use Rattle.run_memory.specs.declared.pointer.Value.{Value};
 ghost use Rattle.run_source.specs.State.{work_of};
@@ -91,6 +91,17 @@ pub fn terminators_go_on()
         → term_action (framed_context b.given t) ends.work
         (end_term (b.framing s.top.func) (last_state (b.framing s.top.func) s.top.block)
         (block_at (edged (b.framing s.top.func)) s.top.block).term) ≡ GoTo label }
+{}
+
+/// What a jump asks of the code of the framed form comes of the passes.
+pub fn jumps_are_ready()
+    ensures { (b : Building) (g : RenewedGiven) → AreGiven b g → (s t : State) (r : AreBuiltOf b s t) (e : Terminator)
+        (label : ℕ) → IsAtJump b g s e label
+        → slice_get (edged (b.framing s.top.func)).blocks s.top.block
+        ≡ Some (block_at (edged (b.framing s.top.func)) s.top.block)
+        → slice_get (edged (b.framing s.top.func)).blocks (block_to (b.framing s.top.func) label)
+        ≡ Some (block_at (edged (b.framing s.top.func)) (block_to (b.framing s.top.func) label))
+        → CanJump b g s t r e label → MayJump b g s t r label }
 {}
 
 /// In front of such a block the stores of its phis are executed, where these may be stored.

@@ -26,22 +26,22 @@ unfolding fetched_function
 fetched_is p f k b e = e
 
 module _ (x : Framing) (k : ℕ) (n : k ≢ 0) (b : Block) (here : slice_get (edged x).blocks k ≡ Some b) where
-  one : (d : Block) × (slice_get (with_fetches (named x) (fetches_of (plan x)) (codes "$c.use.")).blocks k ≡ Some d)
+  pub one : (d : Block) × (slice_get (with_fetches (named x) (fetches_of (plan x)) (codes "$c.use.")).blocks k ≡ Some d)
       × IsMadeBy (fetching_at (named x) (fetches_of (plan x)) k) b d
   one = fetches_made (named x) (fetches_of (plan x)) (codes "$c.use.") k b here
 
-  two : (d : Block) × (slice_get (unmarked x).blocks k ≡ Some d) × (d.phis ≡ one.0.phis)
+  pub two : (d : Block) × (slice_get (unmarked x).blocks k ≡ Some d) × (d.phis ≡ one.0.phis)
   two =
       let u = unmarked_there x k one.0 (fetched_is (plan x) (edged x) k one.0 one.1) in (u.0, u.1, u.2)
 
-  three : (d : Block) × (slice_get (with_fetches (unmarked x) (slot_table x) (codes "$c.at.")).blocks k ≡ Some d)
+  pub three : (d : Block) × (slice_get (with_fetches (unmarked x) (slot_table x) (codes "$c.at.")).blocks k ≡ Some d)
       × IsMadeBy (fetching_at (unmarked x) (slot_table x) k) two.0 d
   three = fetches_made (unmarked x) (slot_table x) (codes "$c.at.") k two.0 two.1
 
-  last : (c : Block) × (slice_get (framed x).blocks k ≡ Some c) × IsMadeBy (placed_layer x k) b c
+  pub last : (c : Block) × (slice_get (framed x).blocks k ≡ Some c) × IsMadeBy (placed_layer x k) b c
   last = others_made x k n b here
 
-  pub phis_placed : PhisInPlace x k
+  abbrev pub phis_placed : PhisInPlace x k
   phis_placed = record {
     before = b;
     loaded = one.0;
