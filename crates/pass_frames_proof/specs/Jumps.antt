@@ -71,7 +71,8 @@ pub record MayGo (b : Building) (g : RenewedGiven) (s t : State) (r : AreBuiltOf
       (load_name (last_state (b.framing s.top.func) s.top.block)) (term_operands e)
       ≤ length (unmarked (b.framing s.top.func)).names
   pub below : Each (IsBelow (length (named (b.framing s.top.func)).names)) (term_operands e)
-  pub seen : Each (IsTwiceFor r.homes (fetches_of (plan (b.framing s.top.func))) (slot_table (b.framing s.top.func)) given
+  pub seen : Each (IsTwiceFor r.homes (fetches_of (plan (b.framing s.top.func))) (slot_table
+      (b.framing s.top.func)) given
       reached (context_of g.given s) (framed_context b.given t) (work_of s) (work_of t)) (term_operands e)
   pub cases : Each (IsSameCase (context_of g.given s) (framed_context b.given t)) (cases_at (AtTerm e))
   pub room : length s.top.values ≤ length t.top.values
@@ -88,7 +89,8 @@ pub record MayJump (b : Building) (g : RenewedGiven) (s t : State) (r : AreBuilt
   pub label_same : (block_at (unmarked (b.framing s.top.func)) s.top.block).label
       ≡ label_at (b.framing s.top.func) s.top.block
   pub phis : PhisInPlace (b.framing s.top.func) (block_to (b.framing s.top.func) label)
-  pub seen : Each (IsPhiTwice r.homes (fetches_of (plan (b.framing s.top.func))) (slot_table (b.framing s.top.func)) given
+  pub seen : Each (IsPhiTwice r.homes (fetches_of (plan (b.framing s.top.func))) (slot_table
+      (b.framing s.top.func)) given
       reached (context_of g.given s) (framed_context b.given t) (work_of s) (work_of t)
       (label_at (b.framing s.top.func) s.top.block) (length (edged (b.framing s.top.func)).names)) phis.before.phis
   pub below : Each (λ (p : Phi). IsBelow (length (named (b.framing s.top.func)).names)
@@ -118,7 +120,8 @@ pub record CanJump (b : Building) (g : RenewedGiven) (s t : State) (r : AreBuilt
   pub given : ℕ → Value
   pub reached : ℕ → Value
   pub ends : MayEndAt (b.framing s.top.func) given reached (framed_context b.given t) s.top.block (work_of t)
-  pub seen : Each (IsPhiTwice r.homes (fetches_of (plan (b.framing s.top.func))) (slot_table (b.framing s.top.func)) given
+  pub seen : Each (IsPhiTwice r.homes (fetches_of (plan (b.framing s.top.func))) (slot_table
+      (b.framing s.top.func)) given
       reached (context_of g.given s) (framed_context b.given t) (work_of s) (work_of t)
       (label_at (b.framing s.top.func) s.top.block) (length (edged (b.framing s.top.func)).names))
       (block_at (edged (b.framing s.top.func)) (block_to (b.framing s.top.func) label)).phis

@@ -26,7 +26,8 @@ unfolding fetched_function
 fetched_is p f k b e = e
 
 module _ (x : Framing) (k : ℕ) (n : k ≢ 0) (b : Block) (here : slice_get (edged x).blocks k ≡ Some b) where
-  pub one : (d : Block) × (slice_get (with_fetches (named x) (fetches_of (plan x)) (codes "$c.use.")).blocks k ≡ Some d)
+  pub one : (d : Block) × (slice_get (with_fetches (named x) (fetches_of (plan x)) (codes "$c.use.")).blocks k
+      ≡ Some d)
       × IsMadeBy (fetching_at (named x) (fetches_of (plan x)) k) b d
   one = fetches_made (named x) (fetches_of (plan x)) (codes "$c.use.") k b here
 
@@ -64,7 +65,8 @@ module _ (x : Framing) (k : ℕ) where
       ≡ passed (loading_layer x k) (loading_layer x k).start is
   loads_passed is =
       ap (λ (s : Placed). load_name s)
-      (both_passed (unmarked_layer x k) (addressing_layer x k) (placed_layer x k).start.0 (placed_layer x k).start.1 is)
+      (both_passed (unmarked_layer x k) (addressing_layer x k) (placed_layer x k).start.0
+      (placed_layer x k).start.1 is)
       ∙ ap (λ (s : Unmarked). s.0.0.0)
       (both_passed (copied_layer x k) (unmarked_at (marked x)) (unmarked_layer x k).start.0
       (unmarked_layer x k).start.1 is)
