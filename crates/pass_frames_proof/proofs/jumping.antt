@@ -3,7 +3,10 @@ pub mod Ends
 pub mod Fronts
 pub mod Goes
 pub mod Jumps
+pub mod Labels
 pub mod Landed
 pub mod Pairs
+pub mod Placed
 pub mod Places
+pub mod Ready
 pub mod Whole

@@ -25,7 +25,8 @@ abbrev pub end_line : (t u : List (Option Fetch)) → (f h : Function) → (labe
 end_line t u f h label n m xs ys =
     (end_at (phi_ends f t) label ++ fetches_of_all t n xs) ++ (end_at (phi_ends h u) label ++ fetches_of_all u m ys)
 
--- What is asked where the end of a block begins. What is loaded and what addresses are made can be, also behind what is
+-- What is asked where the end of a block begins. What is loaded and what addresses are made can be, also behind
+-- what is
 -- set on the way. Their names are one behind another.
 pub record MayEnd (t u : List (Option Fetch)) (given reached : ℕ → Value) (c : Context) (f h : Function)
     (label n m : ℕ) (xs ys : List Operand) (w : Work) : Type 0 where

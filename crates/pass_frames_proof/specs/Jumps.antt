@@ -1,7 +1,7 @@
 -- What is asked of the end of a block where a coroutine jumps from it, by the code of the framed form.
-use Rattle.std.specs.Prelude.{◌≡◌, ◌≤◌, ℕ, [], length, codes, filter, slice_get, Some}
+use Rattle.std.specs.Prelude.{◌≡◌, ◌≤◌, ◌+◌, ℕ, [], length, codes, filter, slice_get, Some}
 use Rattle.std.specs.List.{Contains}
-use Rattle.ir_model.specs.Names.{position_of}
+use Rattle.ir_model.specs.Names.{block_labelled, position_of}
 use Rattle.ir_model.specs.declared.instr.Phi.{Phi}
 use Rattle.ir_model.specs.declared.instr.Terminator.{Terminator}
 use Rattle.ir_model.specs.declared.module.Block.{Block}
@@ -71,10 +71,15 @@ pub record MayGo (b : Building) (g : RenewedGiven) (s t : State) (r : AreBuiltOf
       (load_name (last_state (b.framing s.top.func) s.top.block)) (term_operands e)
       ≤ length (unmarked (b.framing s.top.func)).names
   pub below : Each (IsBelow (length (named (b.framing s.top.func)).names)) (term_operands e)
-  pub seen : Each (IsTwiceFor r.homes (fetches_of (plan (b.framing s.top.func))) (slot_table (b.framing s.top.func)) given
+  pub seen : Each (IsTwiceFor r.homes (fetches_of (plan (b.framing s.top.func))) (slot_table
+      (b.framing s.top.func)) given
       reached (context_of g.given s) (framed_context b.given t) (work_of s) (work_of t)) (term_operands e)
   pub cases : Each (IsSameCase (context_of g.given s) (framed_context b.given t)) (cases_at (AtTerm e))
   pub room : length s.top.values ≤ length t.top.values
+
+-- the state of the framed run at the terminator of its block
+abbrev pub ended_at : Framing → ℕ → State → State
+ended_at x k t = record t { top = record t.top { at = t.top.at + length (end_code x k (last_state x k)) } }
 
 -- what is fetched at the end may be, phis get what stands for the source's, and the terminator goes to the same label
 pub record MayJump (b : Building) (g : RenewedGiven) (s t : State) (r : AreBuiltOf b s t) (label : ℕ) : Type 0 where
@@ -84,7 +89,8 @@ pub record MayJump (b : Building) (g : RenewedGiven) (s t : State) (r : AreBuilt
   pub label_same : (block_at (unmarked (b.framing s.top.func)) s.top.block).label
       ≡ label_at (b.framing s.top.func) s.top.block
   pub phis : PhisInPlace (b.framing s.top.func) (block_to (b.framing s.top.func) label)
-  pub seen : Each (IsPhiTwice r.homes (fetches_of (plan (b.framing s.top.func))) (slot_table (b.framing s.top.func)) given
+  pub seen : Each (IsPhiTwice r.homes (fetches_of (plan (b.framing s.top.func))) (slot_table
+      (b.framing s.top.func)) given
       reached (context_of g.given s) (framed_context b.given t) (work_of s) (work_of t)
       (label_at (b.framing s.top.func) s.top.block) (length (edged (b.framing s.top.func)).names)) phis.before.phis
   pub below : Each (λ (p : Phi). IsBelow (length (named (b.framing s.top.func)).names)
@@ -101,10 +107,33 @@ pub record MayJump (b : Building) (g : RenewedGiven) (s t : State) (r : AreBuilt
       ≡ label_at (b.framing s.top.func) s.top.block
   pub block : position_of (framed (b.framing s.top.func)) label ≡ block_to (b.framing s.top.func) label
   -- no window is left in the framed form
-  pub stays : (n : ℕ)
-      → filter (leaves (state_point (record t { top = record t.top { at = n } }))
+  pub stays : filter (leaves (state_point (ended_at (b.framing s.top.func) s.top.block t))
       (entry_point (function_of b.given.given t) label)) (own_facts b.given.given t).windows ≡ []
   pub goes : (e : EndsAt (b.framing s.top.func) given reached (framed_context b.given t) s.top.block (work_of t))
       → term_action (framed_context b.given t) e.work
       (end_term (b.framing s.top.func) (last_state (b.framing s.top.func) s.top.block)
       (block_at (edged (b.framing s.top.func)) s.top.block).term) ≡ GoTo label
+
+-- the same by the code of the coroutine
+pub record CanJump (b : Building) (g : RenewedGiven) (s t : State) (r : AreBuiltOf b s t) (e : Terminator) (label : ℕ)
+    : Type 0 where
+  pub given : ℕ → Value
+  pub reached : ℕ → Value
+  pub ends : MayEndAt (b.framing s.top.func) given reached (framed_context b.given t) s.top.block (work_of t)
+  pub seen : Each (IsPhiTwice r.homes (fetches_of (plan (b.framing s.top.func))) (slot_table
+      (b.framing s.top.func)) given
+      reached (context_of g.given s) (framed_context b.given t) (work_of s) (work_of t)
+      (label_at (b.framing s.top.func) s.top.block) (length (edged (b.framing s.top.func)).names))
+      (block_at (edged (b.framing s.top.func)) (block_to (b.framing s.top.func) label)).phis
+  pub below : Each (λ (p : Phi). IsBelow (length (named (b.framing s.top.func)).names)
+      (incoming_from p.incoming (label_at (b.framing s.top.func) s.top.block)))
+      (block_at (edged (b.framing s.top.func)) (block_to (b.framing s.top.func) label)).phis
+  pub unset : (z : EarlySlot) → Contains (copies (b.framing s.top.func)).slots z
+      → Each (IsNotSet z.cell)
+      (end_code (b.framing s.top.func) s.top.block (last_state (b.framing s.top.func) s.top.block))
+      × Each (IsNotSet z.temporary)
+      (end_code (b.framing s.top.func) s.top.block (last_state (b.framing s.top.func) s.top.block))
+  pub labelled : block_labelled (edged (b.framing s.top.func)) label ≡ Some (block_to (b.framing s.top.func) label)
+  pub stays : filter (leaves (state_point (ended_at (b.framing s.top.func) s.top.block t))
+      (entry_point (function_of b.given.given t) label)) (own_facts b.given.given t).windows ≡ []
+  pub go : MayGo b g s t r e given reached

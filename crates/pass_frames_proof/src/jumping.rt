@@ -1,28 +1,33 @@
 //! Jumps of a coroutine are followed: what its phis and the terminator need is fetched at the end of the block, and
 //! phis are stored in front of the next one.
 
-ghost use Rattle.std.specs.Prelude.{◌≡◌, ℕ, false, List, Some, slice_get};
+ghost use Rattle.std.specs.Prelude.{◌≡◌, ◌≢◌, ℕ, false, List, Some, slice_get};
+ghost use Rattle.ir_model.specs.Names.{block_labelled, position_of};
+ghost use Rattle.ir_model.specs.declared.module.Block.{Block};
+ghost use Rattle.pass_cells.specs.Cells.{fetches_of};
 ghost use Rattle.pass_cells.specs.Written.{stored_phis};
-ghost use Rattle.pass_frames_proof.specs.Code.{end_code, end_term, last_state};
+ghost use Rattle.pass_fetch.specs.Instrs.{fetched_term};
+ghost use Rattle.pass_frames_proof.specs.Code.{end_code, end_term, last_state, load_name};
 ghost use Rattle.pass_frames_proof.specs.Framings.{IsFraming};
 ghost use Rattle.pass_frames_proof.specs.Passes.{block_at};
 ghost use Rattle.pass_frames_proof.specs.Phis.{IsOrdinaryBlock};
-ghost use Rattle.pass_frames_proof.specs.Places.{Framing, edged, fetched, is_return, plan};
+ghost use Rattle.pass_frames_proof.specs.Places.{Framing, edged, fetched, framed, is_return, plan, unmarked};
 ghost use Rattle.ir_model.specs.declared.instr.Instr.{Instr};
 ghost use Rattle.ir_model.specs.declared.instr.Terminator.{Terminator};
 ghost use Rattle.pass_frames_proof.specs.Edges.{AreEndsLed, AreFrontsLed, ArePhisGiven, EndsInPlace, FrontsInPlace, IsAtJump, block_to};
-ghost use Rattle.pass_frames_proof.specs.Jumps.{EndsAt, MayGo, MayJump};
+ghost use Rattle.pass_frames_proof.specs.Jumps.{CanJump, EndsAt, MayGo, MayJump, PhisInPlace};
 ghost use Rattle.run_framed.specs.Framed.{framed_context};
 ghost use Rattle.run_memory.specs.declared.pointer.Value.{Value};
 ghost use Rattle.run_source.specs.State.{work_of};
-ghost use Rattle.run_step.specs.Step.{GoTo, term_action};
+ghost use Rattle.run_step.specs.Step.{GoTo, label_of, term_action};
 ghost use Rattle.pass_frames_proof.specs.Followed.{IsFollowed};
 ghost use Rattle.pass_frames_proof.specs.Related.{AreBuiltOf, Building};
 ghost use Rattle.pass_frames_proof.specs.Stepping.{AreGiven};
 ghost use Rattle.pass_renewed_proof.specs.Renewed.{RenewedGiven};
 ghost use Rattle.run_source.specs.declared.state.State.{State};
 
-/// At the end of a block stands what fetches its phis' and its terminator's operands, and then the terminator. In front
+/// At the end of a block stands what fetches its phis' and its terminator's operands, and then the terminator. In
+/// front
 /// of a block that is neither the entry nor on a resume or destroy edge stand the stores of its phis.
 pub fn ends_stand_at_their_places()
     ensures ends { (x : Framing) → IsFraming x → (k : ℕ) → slice_get (edged x).blocks k ≡ Some (block_at (edged x) k)
@@ -33,10 +38,33 @@ pub fn ends_stand_at_their_places()
         → FrontsInPlace x k (stored_phis (plan x) (block_at (fetched x) k).phis) }
 {}
 
+/// The phis of a block behind the entry are those before the passes but for what is fetched.
+pub fn phis_stand_in_place()
+    ensures { (x : Framing) (k : ℕ) → k ≢ 0 → (b : Block) → slice_get (edged x).blocks k ≡ Some b → PhisInPlace x k }
+{}
+
+/// Between the two passes that fetch a block has its label, and its terminator with what is loaded.
+pub fn blocks_between_are_loaded()
+    ensures label { (x : Framing) (k : ℕ) → slice_get (edged x).blocks k ≡ Some (block_at (edged x) k)
+        → (block_at (unmarked x) k).label ≡ (block_at (edged x) k).label }
+    ensures term { (x : Framing) (k : ℕ) → slice_get (edged x).blocks k ≡ Some (block_at (edged x) k)
+        → (block_at (unmarked x) k).term
+        ≡ fetched_term (fetches_of (plan x)) (load_name (last_state x k)) (block_at (edged x) k).term }
+{}
+
+/// A block of the framed form has the label that it had, and the block with a label is where it was.
+pub fn labels_stay()
+    ensures block { (x : Framing) (k : ℕ) (b : Block) → slice_get (edged x).blocks k ≡ Some b
+        → label_of (slice_get (framed x).blocks k) ≡ b.label }
+    ensures position { (x : Framing) (label k : ℕ) → block_labelled (edged x) label ≡ Some k
+        → position_of (framed x) label ≡ position_of (edged x) label }
+{}
+
 /// A jump to a block that is neither the entry nor on a resume or destroy edge is followed, where the line at the end
 /// of the block and that in front of the next one are executed.
 pub fn jumps_are_followed()
-    ensures { (b : Building) (g : RenewedGiven) → AreGiven b g → (s t : State) (r : AreBuiltOf b s t) (e other : Terminator)
+    ensures { (b : Building) (g : RenewedGiven) → AreGiven b g
+        → (s t : State) (r : AreBuiltOf b s t) (e other : Terminator)
         (label : ℕ) (line front : List Instr) → IsAtJump b g s e label
         → EndsInPlace (b.framing s.top.func) s.top.block line other
         → FrontsInPlace (b.framing s.top.func) (block_to (b.framing s.top.func) label) front
@@ -65,9 +93,21 @@ pub fn terminators_go_on()
         (block_at (edged (b.framing s.top.func)) s.top.block).term) ≡ GoTo label }
 {}
 
+/// What a jump asks of the code of the framed form comes of the passes.
+pub fn jumps_are_ready()
+    ensures { (b : Building) (g : RenewedGiven) → AreGiven b g → (s t : State) (r : AreBuiltOf b s t) (e : Terminator)
+        (label : ℕ) → IsAtJump b g s e label
+        → slice_get (edged (b.framing s.top.func)).blocks s.top.block
+        ≡ Some (block_at (edged (b.framing s.top.func)) s.top.block)
+        → slice_get (edged (b.framing s.top.func)).blocks (block_to (b.framing s.top.func) label)
+        ≡ Some (block_at (edged (b.framing s.top.func)) (block_to (b.framing s.top.func) label))
+        → CanJump b g s t r e label → MayJump b g s t r label }
+{}
+
 /// In front of such a block the stores of its phis are executed, where these may be stored.
 pub fn fronts_are_executed()
-    ensures { (b : Building) (g : RenewedGiven) → AreGiven b g → (s t : State) (r : AreBuiltOf b s t) (e other : Terminator)
+    ensures { (b : Building) (g : RenewedGiven) → AreGiven b g
+        → (s t : State) (r : AreBuiltOf b s t) (e other : Terminator)
         (label : ℕ) (line : List Instr) → IsAtJump b g s e label → (ends : AreEndsLed b g s t r label line other)
         → ArePhisGiven b g s t r label ends.work
         → AreFrontsLed b g s t r label ends.work

@@ -71,7 +71,8 @@ pub fn ends_are_executed()
         → Ends t u given reached c f h label n m xs ys w }
 {}
 
-/// Operands are loaded where they are kept, and then addresses are made where they lie in the frame. Each phi gets what
+/// Operands are loaded where they are kept, and then addresses are made where they lie in the frame. Each phi gets
+/// what
 /// is seen of its operand over both, which stands for what it gets in the source.
 pub fn phis_are_fetched_twice()
     ensures values { (t u : List (Option Fetch)) (far : ℕ)

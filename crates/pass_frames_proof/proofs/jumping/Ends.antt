@@ -1,5 +1,5 @@
 -- The end of a block is executed where a coroutine jumps from it.
-use Rattle.std.proofs.Common.{◌≡◌, ℕ, ◌+◌, List, [], ◌∷◌, ◌++◌, length, refl, sym, subst, arith}
+use Rattle.std.proofs.Common.{◌≡◌, ℕ, List, [], ◌∷◌, ◌++◌, length, refl, sym, subst, arith}
 use Rattle.std.specs.Prelude.{None, Option, Some, codes, replicate, slice_get}
 use Rattle.ir_laws.proofs.facts.Members.{each_joined}
 use Rattle.ir_model.specs.Ty.{Ty}
@@ -206,6 +206,6 @@ module _ (b : Building) (g : RenewedGiven) (given : AreGiven b g) (s t : State) 
     goes = q.goes run;
     gives = all (GivesNone b.given.given.code) (into_gives b.given.given.code);
     block = q.block;
-    stays = q.stays (t.top.at + length line);
+    stays = q.stays;
     phis = phis;
   }

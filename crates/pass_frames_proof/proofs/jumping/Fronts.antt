@@ -155,7 +155,8 @@ module _ (b : Building) (g : RenewedGiven) (given : AreGiven b g) (s t : State) 
   right_there : AreCellsRight x r.homes R t.world.memory s.top.values (at_work t.top w)
   right_there = record {
     values = λ v q kept.
-        cell_turned R t.world.memory t.top (at_work t.top w) q.cell q.ty (IsValue r.homes (value_in s.top.values v)) refl
+        cell_turned R t.world.memory t.top (at_work t.top w) q.cell q.ty (IsValue r.homes
+        (value_in s.top.values v)) refl
         (cell_value q.cell (kept_is_cell x is v q kept)) (old.values v q kept);
     distances = λ v cell slot told root.
         cell_turned R t.world.memory t.top (at_work t.top w) cell (int 64)
@@ -243,7 +244,11 @@ module _ (b : Building) (g : RenewedGiven) (given : AreGiven b g) (s t : State) 
       same = λ n none.
           fills_elsewhere R stored_there.spans w.world.memory z.world.memory n stored_there.over.fills
           (each_turns
-          (λ (q : Span). (cell : ℕ) × IsCellOf x cell × Contains t.top.slots (record { alloca = cell; block = q.block }))
+          (λ (q : Span). (cell : ℕ) × IsCellOf x cell × Contains t.top.slots (record {
+            alloca = cell;
+            block =
+                q.block;
+          }))
           (λ (q : Span). q.block ≡ n → ⊥)
           (λ q k. none (record { alloca = k.0; block = q.block }) k.2 k.1) stored_there.spans stored_there.inside)
           ∙ ap (λ (u : World). slice_get u.memory n) ends.world;

@@ -1,5 +1,5 @@
 -- A terminator whose operands are fetched twice goes to the same label.
-use Rattle.std.proofs.Common.{◌≡◌, ℕ, ◌+◌, ◌<◌, ◌≤◌, List, [], ◌∷◌, length, refl, sym, ap, ◌∙◌, subst, arith}
+use Rattle.std.proofs.Common.{◌≡◌, ℕ, ◌≤◌, List, [], ◌∷◌, length, refl, sym, ap, ◌∙◌, subst, arith}
 use Rattle.std.specs.Prelude.{None, Option, Some}
 use Rattle.ir_model.specs.Ty.{Ty}
 use Rattle.ir_model.specs.declared.instr.Case.{Case}
@@ -16,7 +16,7 @@ use Rattle.pass_frames_proof.proofs.led.Front.{stands}
 use Rattle.pass_frames_proof.specs.Code.{address_state, end_term, last_state, load_name, slot_table}
 use Rattle.pass_frames_proof.specs.Distances.{IsBelow, SetsFrom}
 use Rattle.pass_frames_proof.specs.Edges.{IsAtJump}
-use Rattle.pass_frames_proof.specs.Fetched.{AreSeenAs, IsSeenAs, given_of, seen_by, seen_of}
+use Rattle.pass_frames_proof.specs.Fetched.{AreSeenAs, IsSeenAs, seen_by, seen_of}
 use Rattle.pass_frames_proof.specs.Framings.{IsFraming}
 use Rattle.pass_frames_proof.specs.Jumps.{EndsAt, MayGo}
 use Rattle.pass_frames_proof.specs.Led.{IsTwiceFor, seen_twice, twice_by}
@@ -71,7 +71,8 @@ module _ (t u : List (Option Fetch)) (given reached : ℕ → Value) (d : Contex
       → ((a b : Operand) → IsTwiceFor homes t u given reached c d w y a
       → ((ty : Ty) → value_at d z ty b ≡ seen_twice t u given reached d y ty a) → R a b)
       → (e : Terminator) → term_action c w e ≡ GoTo label → Each (IsBelow first) (term_operands e)
-      → next_after_all t n (term_operands e) ≤ far → Each (IsTwiceFor homes t u given reached c d w y) (term_operands e)
+      → next_after_all t n (term_operands e) ≤ far → Each (IsTwiceFor homes t u given reached c d w y)
+      (term_operands e)
       → AreSeenAs t given d one two n (term_operands e)
       → AreSeenAs u reached d three z m (term_operands (fetched_term t n e))
       → TermStays R (λ k. k) e (fetched_term u m (fetched_term t n e))
@@ -129,7 +130,8 @@ module _ (b : Building) (g : RenewedGiven) (given : AreGiven b g) (s t : State) 
       (λ k le. let a : Far x is ≤ length (named x).names = far_named x is in
       (far_left x is k (omega (arith, a, le))).0) (work_of t) run.first run.loaded run.third run.work run.along_first
       run.along_third run.on_third n m q.low R r.homes c (work_of s) label
-      (stands T U here reached r.homes c d (work_of s) (work_of t) (looks_at (AtTerm e)) run.work) e h.does q.below q.fit
+      (stands T U here reached r.homes c d (work_of s) (work_of t) (looks_at
+      (AtTerm e)) run.work) e h.does q.below q.fit
       q.seen (subst (λ (k : Terminator). AreSeenAs T here d run.first run.loaded n (term_operands k)) q.term
       run.end_loaded)
       (subst (λ (k : Terminator). AreSeenAs U reached d run.third run.work m (term_operands k)) q.between
@@ -137,14 +139,16 @@ module _ (b : Building) (g : RenewedGiven) (given : AreGiven b g) (s t : State) 
 
   joined : AreJoined r.homes r.hides same_maps c d (work_of s) run.work
   joined = record {
-    over = subst (λ (k : World). AreOver owner_rights (frame_rights b.given t.instances) r.homes r.hides (λ k. k) s.world k)
+    over = subst (λ (k : World). AreOver owner_rights (frame_rights b.given t.instances) r.homes r.hides
+        (λ k. k) s.world k)
         (sym run.along.world) r.world;
     hidden = r.hidden;
     answers = given.answers;
     room = let a = q.room in let z = run.along.room in omega (arith, a, z);
   }
 
-  transferred : IsTransferred (IsValue r.homes) same_maps c d s.top.values run.work.values (AtTerm e) (AtTerm here_term)
+  transferred : IsTransferred (IsValue r.homes) same_maps c d s.top.values run.work.values (AtTerm e)
+      (AtTerm here_term)
   transferred = record {
     shape = shape;
     callee = tt;

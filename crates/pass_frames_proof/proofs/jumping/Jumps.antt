@@ -189,7 +189,8 @@ module _ (b : Building) (g : RenewedGiven) (given : AreGiven b g) (s t : State) 
 
   shown_line : (i : ℕ) → i < length line → IsOn b s (iterate (framed_step b.given) i t)
   shown_line i lt =
-      let q = each_between b.given t (λ (u : Work). u.world ≡ t.world) line w running stand ends.gives ends.runs i lt in
+      let q = each_between b.given t (λ
+      (u : Work). u.world ≡ t.world) line w running stand ends.gives ends.runs i lt in
       subst (IsOn b s) (sym q.1.0) (still_shown b s t r given.framings running i q.0 q.1.1)
 
   shown_end : IsOn b s (iterate (framed_step b.given) (length line) t)

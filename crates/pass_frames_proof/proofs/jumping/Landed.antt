@@ -141,7 +141,8 @@ module _ (b : Building) (g : RenewedGiven) (given : AreGiven b g) (s t : State) 
   names : AreNamed x r.homes a' c'
   names = record {
     each = λ u asks unkept outside. by_name u unkept outside (cases_lt u (length (named x).names));
-    room = ap (λ (v : Env). length v) led.values ∙ all.target ∙ ends.room ∙ (old_names b g given s t r e other label line h ends).room;
+    room = ap (λ (v : Env). length v) led.values ∙ all.target ∙ ends.room
+        ∙ (old_names b g given s t r e other label line h ends).room;
   }
     where
       by_name : (u : ℕ) → entry (plan x).places u ≡ None → lies_in_frame (offsets x) u ≡ false
@@ -151,11 +152,13 @@ module _ (b : Building) (g : RenewedGiven) (given : AreGiven b g) (s t : State) 
           subst (IsValue r.homes (value_in env u)) (sym (same_values u))
           (all.each u
           (subst (IsValue r.homes (value_in s.top.values u)) (sym (ends.low u lt))
-          ((old_names b g given s t r e other label line h ends).each u (asked x s.top s.top.mode u h.mode) unkept outside)))
+          ((old_names b g given s t r e other label line h ends).each u
+          (asked x s.top s.top.mode u h.mode) unkept outside)))
       by_name u unkept outside (inr le) =
           subst (λ (v : Value). IsValue r.homes v (value_in z.values u))
           (sym (past_value env u
-          (let p = all.source in let q = h.room in let f : bound ≤ length (named x).names = far b g given s t r e other label line h ends in omega (arith, p, q, f, le)))) tt
+          (let p = all.source in let q = h.room in let f : bound ≤ length (named x).names =
+          far b g given s t r e other label line h ends in omega (arith, p, q, f, le)))) tt
 
   right : AreCellsRight x r.homes R z.world.memory env c'
   right = cells_turned R z.world.memory (at_work t.top z) c' x r.homes env refl refl led.right
@@ -190,7 +193,9 @@ module _ (b : Building) (g : RenewedGiven) (given : AreGiven b g) (s t : State) 
       → value_in z.values u ≡ value_in t.top.values u
   high_value u le same =
       same_values u
-      ∙ all.high u (let f : bound ≤ length (named x).names = far b g given s t r e other label line h ends in let long : length (named x).names ≤ length (written x).names = named_written x in
+      ∙ all.high u (let f : bound ≤ length
+      (named x).names = far b g given s t r e other label line h ends in let long : length
+      (named x).names ≤ length (written x).names = named_written x in
       omega (arith, f, long, le)) ∙ same
 
   wheres : AreWheresRight x R z.world.memory (instance_in t.instances t.top.instance) c'

@@ -171,7 +171,8 @@ module _ (x : Framing) (is : IsFraming x) (there : slice_get (edged x).blocks 0 
     made_whole (entry_layer x) (edged x) (framed x) 0 (entry_made x) there (end_code x 0 (last_state x 0)) back0,
   )
     where
-      back0 : (entry_layer x).back (passed (entry_layer x) (entry_layer x).start (instrs_at x 0)) ≡ end_code x 0 (last_state x 0)
+      back0 : (entry_layer x).back (passed (entry_layer x) (entry_layer x).start (instrs_at x 0))
+          ≡ end_code x 0 (last_state x 0)
       back0 =
           led_back (placed_layer x 0) (instrs_at x 0) (end_code x 0 (last_state x 0))
           (back x is 0 there unreturned) (end_no_alloca x 0 (last_state x 0))

@@ -18,10 +18,10 @@ use Rattle.run_step.specs.Step.{phis_of}
 
 module _ (x : Framing) where
   -- the passes between the two that fetch
-  pub between : (k : ℕ) (d e : Block) → slice_get (unmarked x).blocks k ≡ Some d
-      → slice_get (fetched x).blocks k ≡ Some e
-      → d.phis ≡ e.phis
-  between k d e here there =
+  pub unmarked_there : (k : ℕ) (e : Block) → slice_get (fetched x).blocks k ≡ Some e
+      → (d : Block) × (slice_get (unmarked x).blocks k ≡ Some d) × (d.phis ≡ e.phis) × (d.label ≡ e.label)
+      × (d.term ≡ e.term)
+  unmarked_there k e there =
       let one : Block =
       written_block x.code (plan x) (at_entry k (cells_front (plan x) (fetched x).params))
       (after_written x.code (plan x) (length (fetched x).names) (take k (fetched x).blocks)) e in
@@ -41,7 +41,11 @@ module _ (x : Framing) where
       turned_there (filter (stays (marked x))) (with_copies x).blocks k two b in
       let f : slice_get (unmarked x).blocks k ≡ Some (turned_block (map without_promise_of) three) =
       turned_there (map without_promise_of) (without_markers (marked x) (with_copies x)).blocks k three c in
-      ap phis_of (sym here ∙ f)
+      (turned_block (map without_promise_of) three, f, refl, refl, refl)
+
+  pub between : (k : ℕ) (d e : Block) → slice_get (unmarked x).blocks k ≡ Some d
+      → slice_get (fetched x).blocks k ≡ Some e → d.phis ≡ e.phis
+  between k d e here there = let u = unmarked_there k e there in ap phis_of (sym here ∙ u.1) ∙ u.2
 
   first_phis : (bs : List Block) (k : ℕ) → phis_of (slice_get (with_allocas_first bs) k) ≡ phis_of (slice_get bs k)
   first_phis [] k = refl

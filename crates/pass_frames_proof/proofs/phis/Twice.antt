@@ -1,4 +1,5 @@
--- Phis whose operands are loaded where they are kept, and then have addresses made where they lie in the frame: for any
+-- Phis whose operands are loaded where they are kept, and then have addresses made where they lie in the frame: for
+-- any
 -- two tables.
 use Rattle.std.proofs.Common.{◌≡◌, ℕ, zero, suc, ◌≤◌, Bool, true, false, List, [], ◌∷◌, length, refl, sym, ap, ◌∙◌, arith}
 use Rattle.std.specs.Prelude.{None, Option, Some, map, slice_get, if◌then◌else◌, ◌==◌}
@@ -91,7 +92,8 @@ module _ (t u : List (Option Fetch)) (far : ℕ) (new : (n : ℕ) → far ≤ n 
 
 -- what a phi of the form with both gets
 pub phis_get_twice : (t u : List (Option Fetch)) (far : ℕ) → ((n : ℕ) → far ≤ n → fetch_of u (Operand.Local n) ≡ None)
-    → (given reached : ℕ → Value) (c : Context) (w y z : Work) (label : ℕ) (f h : Function) (word other : List ℕ) (k : ℕ)
+    → (given reached : ℕ → Value) (c : Context) (w y z : Work) (label : ℕ) (f h : Function) (word other : List ℕ)
+    (k : ℕ)
     (b d e q : Block) → far ≤ length f.names → AreBlocksSeen t given c w y label (length f.names) f.blocks
     → AreBlocksSeen u reached c y z label (length h.names) h.blocks → slice_get f.blocks k ≡ Some b
     → slice_get (with_fetches f t word).blocks k ≡ Some d → slice_get h.blocks k ≡ Some e → e.phis ≡ d.phis

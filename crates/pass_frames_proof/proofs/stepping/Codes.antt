@@ -43,7 +43,8 @@ module _ {S : Type 0} (fs : List Instr) (L : Layer S) where
   led_passed s [] = refl
   led_passed s (i ∷ is) = led_passed (L.after s i) is
 
-pub stay_all : (is : List Instr) → Each (λ (j : Instr). is_no_alloca j ≡ true) is → Each (IsIdle (only is_no_alloca)) is
+pub stay_all : (is : List Instr) → Each (λ (j : Instr). is_no_alloca j ≡ true) is
+    → Each (IsIdle (only is_no_alloca)) is
 stay_all [] h = tt
 stay_all (i ∷ is) h = (only_idle is_no_alloca i h.0, stay_all is h.1)
 

@@ -209,7 +209,8 @@ module _ (b : Building) (g : RenewedGiven) (given : AreGiven b g) (s t : State) 
       ∙ ap (other_cost b g s) e ∙ one)) (omega arith)
 
   -- behind a step of it the states are related where its values are, and the rest is left
-  pub related_left : (w u : World) (block at : ℕ) (env other : Env) → AreOver owner_rights R r.homes r.hides (λ k. k) w u
+  pub related_left : (w u : World) (block at : ℕ) (env other : Env)
+      → AreOver owner_rights R r.homes r.hides (λ k. k) w u
       → LeavesRest b s t r w u → AreStanding r.homes env other
       → AreBuiltOf b (record s { world = w; top = record s.top { block = block; at = at; values = env } })
       (record t { world = u; top = record t.top { block = block; at = at; values = other } })

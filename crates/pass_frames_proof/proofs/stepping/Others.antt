@@ -69,7 +69,8 @@ module _ (b : Building) (g : RenewedGiven) (given : AreGiven b g) (s t : State) 
       (frame_rights_fit b.given t.instances) (joined b g given s t r h.plain h.runs h.mode) transferred)
 
   -- where the rest is left the step is followed
-  pub done_followed : (went : GoesOver owner_rights R r.homes r.hides same_maps (given_at (AtInstr i)) (args_at (AtInstr i))
+  pub done_followed : (went : GoesOver owner_rights R r.homes r.hides same_maps (given_at (AtInstr i)) (args_at
+      (AtInstr i))
       (args_at (AtInstr i)) (work_of s) (work_of t) (Done v) (instr_action d (work_of t) i))
       → LeavesRest b s t r v.world went.0.world → IsFollowed b g s t
   done_followed went left =
