@@ -4,7 +4,9 @@ pub mod Facts
 pub mod Fronts
 pub mod Needed
 pub mod Renewing
+pub mod Tables
 pub mod Numbered
+pub mod Roots
 pub mod Rows
 pub mod Stack
 pub mod Whole

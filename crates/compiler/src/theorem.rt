@@ -2,9 +2,9 @@
 //! with those that are premises yet.
 
 ghost use Rattle.run_source.specs.declared.state.State.{State};
-ghost use Rattle.compiler.specs.theorem.Anew.{Anew};
+ghost use Rattle.compiler.specs.theorem.Anew.{Anew, IsAnewOf};
 ghost use Rattle.compiler.specs.theorem.Entries.{Run, IsEntry};
-ghost use Rattle.compiler.specs.theorem.Lowered.{AreAllocasFirst, Lowered, IsLowered, printed_from};
+ghost use Rattle.compiler.specs.theorem.Lowered.{AreAllocasFirst, Lowered, IsLowered, early, printed_from};
 ghost use Rattle.ir_model.specs.declared.module.Module.{Module};
 ghost use Rattle.frame_layout.specs.declared.layout.Layouts.{Layouts};
 ghost use Rattle.pass_frames.specs.Framed.{IsFramedForm};
@@ -32,6 +32,12 @@ pub trait RelatesElided {
 /// In a framed form the entry of each coroutine begins with its allocas.
 pub fn allocas_stand_first_in_framed_forms()
     ensures { (layouts : Layouts) (m n : Module) → IsFramedForm layouts m n → AreAllocasFirst n }
+{}
+
+/// An accepted source has tables of what a resume hands on and of the slots that its activation makes anew: those of its
+/// frames' contents.
+pub fn sources_have_tables()
+    ensures { (l : Lowered) → IsLowered l → (a : Anew) × IsAnewOf (early l) a }
 {}
 
 /// What is printed of a source that breaks no rule agrees with it within its step factor, with frames that share

@@ -51,7 +51,7 @@ use Rattle.run_step.specs.Step.{AtInstr, Nowhere}
 
 -- ---- names in lists
 
-named_in : (v : ℕ) (vs : List ℕ) → IsListed v vs → has_name vs v ≡ true
+pub named_in : (v : ℕ) (vs : List ℕ) → IsListed v vs → has_name vs v ≡ true
 named_in v [] h = absurd h
 named_in v (u ∷ us) (inl same) = ap (λ (n : ℕ). (n == v) || has_name us v) (sym same)
     ∙ ap (λ (b : Bool). b || has_name us v) (itself v)
@@ -62,16 +62,16 @@ named_in v (u ∷ us) (inr h) = on (u == v) (named_in v us h)
     on false e = e
 
 -- a name stands at a position
-record StandsIn (vs : List ℕ) (v : ℕ) : Type 0 where
-  at : ℕ
-  there : slice_get vs at ≡ Some v
+pub record StandsIn (vs : List ℕ) (v : ℕ) : Type 0 where
+  pub at : ℕ
+  pub there : slice_get vs at ≡ Some v
 
-stands_at : (v : ℕ) (vs : List ℕ) → IsListed v vs → StandsIn vs v
+pub stands_at : (v : ℕ) (vs : List ℕ) → IsListed v vs → StandsIn vs v
 stands_at v [] h = absurd h
 stands_at v (u ∷ us) (inl same) = record { at = 0; there = ap Some (sym same) }
 stands_at v (u ∷ us) (inr h) = let x = stands_at v us h in record { at = suc x.at; there = x.there }
 
-some_class : (cs : List SlotClass) (k : ℕ) → k < length cs → (c : SlotClass) × (slice_get cs k ≡ Some c)
+pub some_class : (cs : List SlotClass) (k : ℕ) → k < length cs → (c : SlotClass) × (slice_get cs k ≡ Some c)
 some_class [] k h = absurd (omega (arith, h))
 some_class (c ∷ cs) zero h = (c, refl)
 some_class (c ∷ cs) (suc k) h = some_class cs k (omega (arith, h))

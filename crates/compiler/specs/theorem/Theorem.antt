@@ -48,7 +48,7 @@ AreMadeAnew l a = AreInStep (edged l) a.flags a.roots
 -- | calls of coro.id gone, then names in order | Plain | Plain | 1 | stands |
 pub record Steps (Q W : Lowered → Anew → Run → State → State → Type 0) (a : Anew) (p : Prices)
     (l : Lowered) : Type 0 where
-  -- waits for: the analyses' answers as tables
+  -- such tables there are (`sources_have_tables`)
   pub anew : IsAnewOf (early l) a
   -- waits for: local slots stay local where edges have blocks, and the rules that slots ask; by this the simulation of
   -- slots made anew stands
