@@ -1,3 +1,4 @@
 pub mod Held
 pub mod Fields
+pub mod Bytes
 pub mod Accepted

@@ -53,7 +53,7 @@ pub fn ready_modules_are_followable()
 /// functions that are split.
 pub fn framed_forms_agree_with_their_parts()
     ensures { (l : Lowered) → IsLowered l → AreGoodLayouts (early l) l.layouts.coroutines → IsReady l.layouts l.framed
-        → TakeBytes (early l) → ArePartsFacts l.layouts l.framed → (r : Run) (other : ℕ) → IsEntryCall l.source r
+        → ArePartsFacts l.layouts l.framed → (r : Run) (other : ℕ) → IsEntryCall l.source r
         → IsEntry l.source (split_from l l.framed) r.entry other
         → AgreesWithin 4 (at (framed_run l l.framed r)) (at (plain_run (split_from l l.framed) r other)) }
 {}

@@ -46,7 +46,7 @@ module _ {A B : Type 0} (g : A → B) (last : B) where
   last_there [] = refl
   last_there (x ∷ xs) = last_there xs
 
-  either_at : (xs : List A) (k : ℕ) (y : B) → slice_get (map g xs ++ last ∷ []) k ≡ Some y
+  pub either_at : (xs : List A) (k : ℕ) (y : B) → slice_get (map g xs ++ last ∷ []) k ≡ Some y
       → ((x : A) × (slice_get xs k ≡ Some x) × (g x ≡ y)) ⊎ ((k ≡ length xs) × (last ≡ y))
   either_at [] zero y e = let same : last ≡ y = cc in inr (refl, same)
   either_at [] (suc k) y e = absurd (cc)
@@ -62,7 +62,7 @@ index_aligned f = on (nat_le (suspend_count f) 256)
     on true = refl
     on false = refl
 
-index_takes : (f : Function) → 0 < (index_field f).size
+pub index_takes : (f : Function) → 0 < (index_field f).size
 index_takes f = on (nat_le (suspend_count f) 256)
   where
     on : (b : Bool) → 0 < (if b then 1 else 2)

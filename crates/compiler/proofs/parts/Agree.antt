@@ -5,9 +5,10 @@ use Rattle.compiler.proofs.parts.Behind.{named_behind}
 use Rattle.compiler.proofs.parts.Followable.{followable, kept_there}
 use Rattle.compiler.proofs.parts.Lengths.{laid_facts}
 use Rattle.compiler.proofs.parts.Ordered.{framed_in_order}
+use Rattle.compiler.proofs.theorem.Facts.{take_bytes}
 use Rattle.compiler.proofs.whole.exit_sources.Accepted.{exits_kept, locals_kept}
 use Rattle.compiler.specs.cleanup.accepted.Ready.{IsReady}
-use Rattle.compiler.specs.parts.Framed.{ArePartsFacts, TakeBytes}
+use Rattle.compiler.specs.parts.Framed.{ArePartsFacts}
 use Rattle.compiler.specs.theorem.Entries.{IsEntry, IsEntryCall, Run}
 use Rattle.compiler.specs.theorem.GoodLayouts.{AreGoodLayouts}
 use Rattle.compiler.specs.theorem.Lowered.{IsLowered, Lowered, early, framed_run, plain_run, split_from}
@@ -89,7 +90,7 @@ named_alike (f ∷ fs) = λ i. on f.coroutine f i ∷ named_alike fs i
 -- ---- the two passes
 
 module _ (l : Lowered) (low : IsLowered l) (good : AreGoodLayouts (early l) l.layouts.coroutines)
-    (ready : IsReady l.layouts l.framed) (bytes : TakeBytes (early l)) (facts : ArePartsFacts l.layouts l.framed) (r : Run) (other : ℕ)
+    (ready : IsReady l.layouts l.framed) (facts : ArePartsFacts l.layouts l.framed) (r : Run) (other : ℕ)
     (call : IsEntryCall l.source r) (entry : IsEntry l.source (split_from l l.framed) r.entry other) where
   abbrev x : Module
   x = exits_split l.framed
@@ -125,7 +126,7 @@ module _ (l : Lowered) (low : IsLowered l) (good : AreGoodLayouts (early l) l.la
       calls_followable l.layouts (exits_split l.framed)
       (followable l.layouts l.framed ready
       (framed_in_order l.layouts (early l) l.framed low.is_framed good)
-      (laid_facts l.layouts (early l) l.framed low.is_framed good bytes) facts.exits)
+      (laid_facts l.layouts (early l) l.framed low.is_framed good (take_bytes l low.source)) facts.exits)
       (gives_none l.layouts l.framed ready.items ready.short (kept_there l.layouts l.framed ready))
 
   kept : AreExitsKept l.framed

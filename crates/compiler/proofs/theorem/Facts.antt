@@ -1,7 +1,10 @@
--- What holds of each accepted source beside the rows: layouts are good, and slots that live at once conflict.
+-- What holds of each accepted source beside the rows: layouts are good, frames hold what takes bytes, and
+-- slots that live at once conflict.
 use Rattle.std.proofs.Common.{◌≡◌, ℕ, None, Ok, Some, subst, sym}
 use Rattle.std.specs.Prelude.{slice_get}
+use Rattle.compiler.proofs.fit.Bytes.{fields_take}
 use Rattle.compiler.proofs.fit.Fields.{fields_fit}
+use Rattle.compiler.specs.parts.Framed.{TakeBytes}
 use Rattle.compiler.specs.theorem.Entries.{Run}
 use Rattle.compiler.specs.theorem.GoodLayouts.{AreGoodLayouts}
 use Rattle.compiler.specs.theorem.Lowered.{IsAccepted, IsLowered, Lowered, early, sizes_of, source_run}
@@ -33,6 +36,12 @@ good_layouts l low = layouts_good (early l) l.share l.layouts
     let rules = early_rules l.text l.source low.source.stands low.source.accepted k f there in
     fields_fit (early l) k f (early_width l low.source k f there) rules.local.extents rules.definitions)
     ((accepted_laid l.text l.source low.source.stands low.source.accepted l.share (Ok l.layouts)).0 low.laid)
+
+-- what its coroutines' frames hold takes bytes
+pub take_bytes : (l : Lowered) → IsAccepted l → TakeBytes (early l)
+take_bytes l a k f there coroutine c are i x e opens =
+    fields_take (early l) k f (early_rules l.text l.source a.stands a.accepted k f there) (early_width l a k f there)
+    c are i x e
 
 -- ---- live slots
 

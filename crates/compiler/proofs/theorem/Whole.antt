@@ -58,7 +58,7 @@ module _ (Q W : Lowered → Anew → Run → State → State → Type 0) (a : An
       (compose_within f 4 (at (source_run l r)) (at (framed_run l l.framed r))
       (at (plain_run (split_from l l.framed) r other))
       (framed_within Q W a p l low h r call)
-      (framed_agrees l low (good_layouts l low) ready h.bytes h.parts r other call split_entry))
+      (framed_agrees l low (good_layouts l low) ready h.parts r other call split_entry))
       (cleaned_agrees l.text l.source low.source.stands low.source.accepted l.share l.layouts low.laid l.framed
       low.is_framed other
       r.args r.answers))

@@ -11,7 +11,7 @@ use Rattle.run_source.specs.declared.state.State.{State}
 use Rattle.compiler.specs.theorem.Anew.{Anew, IsAnewOf}
 use Rattle.compiler.specs.theorem.Entries.{IsEntryCall, Run}
 use Rattle.compiler.specs.theorem.GoodLayouts.{AreGoodLayouts}
-use Rattle.compiler.specs.parts.Framed.{ArePartsFacts, TakeBytes}
+use Rattle.compiler.specs.parts.Framed.{ArePartsFacts}
 use Rattle.compiler.specs.theorem.Lowered.{IsAccepted, Lowered, early, edged, framed_run, kept_run, lowered_from}
 use Rattle.compiler.specs.theorem.Lowered.{plain_run, price_kept, price_renewed, printed_from, renewed_run, sizes_of}
 use Rattle.compiler.specs.theorem.Lowered.{source_run}
@@ -61,9 +61,7 @@ pub record Steps (Q W : Lowered → Anew → Run → State → State → Type 0)
   -- waits for: prices counted by names and operands, a resume with the jump behind it
   pub paid : (r : Run) (n : ℕ) → IsEntryCall l.source r → IsFine (at (kept_run l a r) n).outcome
       → cost_at (kept_run l a r) (price_kept l a r p) n ≤ (4 * size_factor l.source) * n
-  -- waits for: Y1 and Y4 of what frames hold
-  pub bytes : TakeBytes (early l)
-  -- waits for: facts of framed forms, each said there; the simulation of parts stands by these two
+  -- waits for: facts of framed forms, each said there; the simulation of parts stands by this
   pub parts : ArePartsFacts l.layouts l.framed
   -- waits for: the relations of these two over those that stand, byte for byte
   pub shown : (r : Run) (s t : State) → Through (IsKeptOf l.source (sizes_of l) r.answers)
