@@ -30,6 +30,7 @@ use Rattle.pass_split_proof.proofs.ready.Moved.{cleanup_untaken, names_moved}
 use Rattle.pass_split_proof.specs.code.Positions.{layout_at}
 use Rattle.pass_split_proof.specs.ready.Layouts.{AreLayoutsOf}
 use Rattle.pass_split_proof.specs.ready.Module.{IsFollowable}
+use Rattle.pass_split_proof.specs.states.Memories.{AreContents}
 use Rattle.pass_split_proof.specs.steps.Returns.{IsReturnBlock}
 use Rattle.rule_laws.proofs.rules.function_rules.Signatures.{go_by_signatures}
 use Rattle.rule_laws.proofs.rules.named_results.Named.{locals_tabled}
@@ -154,7 +155,7 @@ module _ (ls : Layouts) (m : Module) (ready : IsReady ls m) where
       on x = subst (KeepsFunctionRules (exits_split m) k) x.is (by x.source x.source.coroutine refl x.stands)
 
 module _ (ls : Layouts) (m : Module) (ready : IsReady ls m) (laid : AreLayoutsOf 0 m.functions ls.coroutines)
-    (places : AreLaidFacts ls (exits_split m)) (facts : AreFramedFacts ls (exits_split m)) where
+    (places : AreLaidFacts ls (exits_split m)) (contents : AreContents (exits_split m)) (facts : AreFramedFacts ls (exits_split m)) where
   rules : (k : ℕ) (f : Function) → slice_get (exits_split m).functions k ≡ Some f
       → KeepsFunctionRules (exits_split m) k f
   rules = kept_there ls m ready
@@ -221,7 +222,7 @@ module _ (ls : Layouts) (m : Module) (ready : IsReady ls m) (laid : AreLayoutsOf
       plain = λ k f there c. rules k f there;
       blocks = λ k f there. first_blocks k f there f.coroutine refl;
       globals = globals_kept ls m ready.items ready.short;
-      contents = facts.contents;
+      contents = contents;
     };
     names = names_moved ls m ready.items ready.short;
     fields = facts.fields;

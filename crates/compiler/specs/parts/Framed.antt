@@ -26,7 +26,6 @@ use Rattle.pass_kept_proof.specs.SuspendRules.{IsCallAt}
 use Rattle.pass_proofs.specs.exits.states.Exits.{exits_split}
 use Rattle.pass_split_proof.specs.ready.Fields.{AreInnerIndices}
 use Rattle.pass_split_proof.specs.states.Instances.{IsLaidOut}
-use Rattle.pass_split_proof.specs.states.Memories.{AreContents}
 use Rattle.pass_split_proof.specs.states.Related.{is_return_label, weight}
 use Rattle.rule_laws.specs.rules.counted.Widths.{first_other_width}
 use Rattle.rule_shape.specs.Suspends.{is_suspend}
@@ -76,8 +75,6 @@ pub record AreFramedFacts (ls : Layouts) (m : Module) : Type 0 where
   -- waits for: no function of a text is without a block
   pub blocks : (k : ℕ) (f : Function) → slice_get m.functions k ≡ Some f → f.coroutine ≡ false
       → (b : Block) × (slice_get f.blocks 0 ≡ Some b)
-  -- waits for: Y1 and Y4 of globals
-  pub contents : AreContents m
 
 -- of the framed form, and with blocks on the edges that leave windows
 pub record ArePartsFacts (ls : Layouts) (m : Module) : Type 0 where
