@@ -6,3 +6,4 @@ pub mod Globals
 pub mod Index
 pub mod Lengths
 pub mod Ordered
+pub mod Plain
