@@ -5,7 +5,7 @@
 
 ghost use Rattle.std.specs.Prelude.{◌≡◌, ℕ, List, [], Some, find, slice_get, true};
 ghost use Rattle.compiler.specs.cleanup.accepted.Ready.{IsReady};
-ghost use Rattle.compiler.specs.parts.Framed.{AreFramedFacts, AreLaidFacts, ArePartsFacts, TakeBytes};
+ghost use Rattle.compiler.specs.parts.Framed.{AreFramedFacts, AreLaidFacts, ArePartsFacts, HaveFirstBlocks, TakeBytes};
 ghost use Rattle.compiler.specs.theorem.Entries.{IsEntry, IsEntryCall, Run};
 ghost use Rattle.compiler.specs.theorem.Lowered.{IsLowered, Lowered, early, framed_run, plain_run, split_from};
 ghost use Rattle.compiler.specs.theorem.GoodLayouts.{AreGoodLayouts};
@@ -15,6 +15,7 @@ ghost use Rattle.frame_layout.specs.declared.layout.Layout.{Layout};
 ghost use Rattle.frame_layout.specs.declared.layout.PlacedField.{PlacedField};
 ghost use Rattle.ir_model.specs.declared.module.Function.{Function};
 ghost use Rattle.pass_split_proof.specs.states.Instances.{IsLaidOut, index_length};
+ghost use Rattle.pass_split_proof.specs.states.Memories.{AreContents};
 ghost use Rattle.run_framed.specs.Framed.{framed_given, is_promise_kind, layout_of};
 ghost use Rattle.frame_layout.specs.declared.layout.Layouts.{Layouts};
 ghost use Rattle.ir_model.specs.declared.module.Module.{Module};
@@ -46,7 +47,8 @@ pub fn good_layouts_keep_places()
 /// it has these facts.
 pub fn ready_modules_are_followable()
     ensures { (ls : Layouts) (m : Module) → IsReady ls m → AreLayoutsOf 0 m.functions ls.coroutines
-        → AreLaidFacts ls (exits_split m) → AreFramedFacts ls (exits_split m) → IsFollowable ls (exits_split m) }
+        → AreLaidFacts ls (exits_split m) → AreContents (exits_split m) → HaveFirstBlocks (exits_split m)
+        → AreFramedFacts ls (exits_split m) → IsFollowable ls (exits_split m) }
 {}
 
 /// So the run of a framed form with such facts agrees within 4 with the run of its parts: the row of the theorem on

@@ -3,7 +3,7 @@ use Rattle.std.proofs.Common.{◌≡◌, inl, inr, ℕ, zero, suc, ◌+◌, Bool
 use Rattle.std.proofs.lemmas.Option.{slice_get-map}
 use Rattle.std.specs.Prelude.{Option, codes, map, option_map, slice_get, unwrap_or, if◌then◌else◌}
 use Rattle.compiler.specs.cleanup.accepted.Ready.{IsReady}
-use Rattle.compiler.specs.parts.Framed.{AreFramedFacts, AreLaidFacts, IsLightBlock}
+use Rattle.compiler.specs.parts.Framed.{AreFramedFacts, AreLaidFacts, HaveFirstBlocks, IsLightBlock}
 use Rattle.flow_solver.specs.Paths.{IsListed}
 use Rattle.frame_layout.specs.declared.layout.Layout.{Layout}
 use Rattle.frame_layout.specs.declared.layout.Layouts.{Layouts}
@@ -30,6 +30,7 @@ use Rattle.pass_split_proof.proofs.ready.Moved.{cleanup_untaken, names_moved}
 use Rattle.pass_split_proof.specs.code.Positions.{layout_at}
 use Rattle.pass_split_proof.specs.ready.Layouts.{AreLayoutsOf}
 use Rattle.pass_split_proof.specs.ready.Module.{IsFollowable}
+use Rattle.pass_split_proof.specs.states.Memories.{AreContents}
 use Rattle.pass_split_proof.specs.steps.Returns.{IsReturnBlock}
 use Rattle.rule_laws.proofs.rules.function_rules.Signatures.{go_by_signatures}
 use Rattle.rule_laws.proofs.rules.named_results.Named.{locals_tabled}
@@ -154,7 +155,8 @@ module _ (ls : Layouts) (m : Module) (ready : IsReady ls m) where
       on x = subst (KeepsFunctionRules (exits_split m) k) x.is (by x.source x.source.coroutine refl x.stands)
 
 module _ (ls : Layouts) (m : Module) (ready : IsReady ls m) (laid : AreLayoutsOf 0 m.functions ls.coroutines)
-    (places : AreLaidFacts ls (exits_split m)) (facts : AreFramedFacts ls (exits_split m)) where
+    (places : AreLaidFacts ls (exits_split m)) (contents : AreContents (exits_split m))
+    (blocks : HaveFirstBlocks (exits_split m)) (facts : AreFramedFacts ls (exits_split m)) where
   rules : (k : ℕ) (f : Function) → slice_get (exits_split m).functions k ≡ Some f
       → KeepsFunctionRules (exits_split m) k f
   rules = kept_there ls m ready
@@ -199,7 +201,7 @@ module _ (ls : Layouts) (m : Module) (ready : IsReady ls m) (laid : AreLayoutsOf
   -- begin stands in a block
   first_blocks : (k : ℕ) (f : Function) → slice_get (exits_split m).functions k ≡ Some f → (c : Bool) → f.coroutine ≡ c
       → (b : Block) × (slice_get f.blocks 0 ≡ Some b)
-  first_blocks k f there false c = facts.blocks k f there c
+  first_blocks k f there false c = blocks k f there c
   first_blocks k f there true c = let y = splittable k f (coroutine_comes k f there c) in begun_first f y.0 y.1.named
 
   pub followable : IsFollowable ls (exits_split m)
@@ -221,7 +223,7 @@ module _ (ls : Layouts) (m : Module) (ready : IsReady ls m) (laid : AreLayoutsOf
       plain = λ k f there c. rules k f there;
       blocks = λ k f there. first_blocks k f there f.coroutine refl;
       globals = globals_kept ls m ready.items ready.short;
-      contents = facts.contents;
+      contents = contents;
     };
     names = names_moved ls m ready.items ready.short;
     fields = facts.fields;

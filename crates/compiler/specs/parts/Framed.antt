@@ -26,7 +26,6 @@ use Rattle.pass_kept_proof.specs.SuspendRules.{IsCallAt}
 use Rattle.pass_proofs.specs.exits.states.Exits.{exits_split}
 use Rattle.pass_split_proof.specs.ready.Fields.{AreInnerIndices}
 use Rattle.pass_split_proof.specs.states.Instances.{IsLaidOut}
-use Rattle.pass_split_proof.specs.states.Memories.{AreContents}
 use Rattle.pass_split_proof.specs.states.Related.{is_return_label, weight}
 use Rattle.rule_laws.specs.rules.counted.Widths.{first_other_width}
 use Rattle.rule_shape.specs.Suspends.{is_suspend}
@@ -62,6 +61,11 @@ pub record IsLaidFact (ls : Layouts) (m : Module) (k : ℕ) : Type 0 where
 abbrev pub AreLaidFacts : Layouts → Module → Type 0
 AreLaidFacts ls m = (k : ℕ) (f : Function) → slice_get m.functions k ≡ Some f → f.coroutine ≡ true → IsLaidFact ls m k
 
+-- A function that is no coroutine has a first block.
+abbrev pub HaveFirstBlocks : Module → Type 0
+HaveFirstBlocks m = (k : ℕ) (f : Function) → slice_get m.functions k ≡ Some f → f.coroutine ≡ false
+    → (b : Block) × (slice_get f.blocks 0 ≡ Some b)
+
 -- of the module
 pub record AreFramedFacts (ls : Layouts) (m : Module) : Type 0 where
   pub coroutines : (k : ℕ) (f : Function) → slice_get m.functions k ≡ Some f → f.coroutine ≡ true
@@ -73,11 +77,6 @@ pub record AreFramedFacts (ls : Layouts) (m : Module) : Type 0 where
       → (block at name : ℕ) (inbounds : Bool) (ty : Ty)
       (base : Operand) (indices : List Arg)
       → fetch f block at ≡ AtInstr (Instr.Gep name inbounds ty base indices) → AreInnerIndices m ty indices
-  -- waits for: no function of a text is without a block
-  pub blocks : (k : ℕ) (f : Function) → slice_get m.functions k ≡ Some f → f.coroutine ≡ false
-      → (b : Block) × (slice_get f.blocks 0 ≡ Some b)
-  -- waits for: Y1 and Y4 of globals
-  pub contents : AreContents m
 
 -- of the framed form, and with blocks on the edges that leave windows
 pub record ArePartsFacts (ls : Layouts) (m : Module) : Type 0 where
