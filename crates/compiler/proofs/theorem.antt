@@ -6,5 +6,6 @@ pub mod Needed
 pub mod Renewing
 pub mod Numbered
 pub mod Rows
+pub mod Slots
 pub mod Stack
 pub mod Whole
