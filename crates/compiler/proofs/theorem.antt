@@ -8,5 +8,6 @@ pub mod Tables
 pub mod Numbered
 pub mod Roots
 pub mod Rows
+pub mod Slots
 pub mod Stack
 pub mod Whole

@@ -1,30 +1,39 @@
 -- Accepted sources keep what invariants of runs ask: as they are, behind the first pass, and with blocks on edges.
-use Rattle.std.proofs.Common.{◌≡◌, ℕ, ℤ, Bool, true, false, List, Some, None, refl, sym, ap, ◌∙◌, subst}
+use Rattle.std.proofs.Common.{◌≡◌, ℕ, ℤ, Bool, true, false, List, Option, Some, None, refl, sym, ap, ◌∙◌, subst}
 use Rattle.std.proofs.lemmas.Option.{slice_get-map}
-use Rattle.std.specs.Prelude.{option_map, slice_get, if◌then◌else◌}
+use Rattle.std.specs.Prelude.{option_map, slice_get, unwrap_or, if◌then◌else◌}
 use Rattle.ir_base.specs.declared.outcome.Word.{Word}
-use Rattle.ir_model.specs.Names.{function_at}
+use Rattle.ir_model.specs.Names.{function_at, no_function}
+use Rattle.ir_model.specs.Ty.{Ty}
+use Rattle.ir_model.specs.declared.instr.Instr.{Instr}
 use Rattle.ir_model.specs.declared.module.Frame.{Frame}
 use Rattle.ir_model.specs.declared.module.Function.{Function}
 use Rattle.ir_model.specs.declared.module.Module.{Module}
+use Rattle.ir_model.specs.declared.operand.Arg.{Arg}
 use Rattle.ir_model.specs.declared.operand.Intrinsic.{Intrinsic}
+use Rattle.ir_model.specs.declared.operand.Operand.{Operand}
 use Rattle.ir_paths.specs.Facts.{facts_of}
+use Rattle.ir_paths.specs.declared.point.Point.{Point}
 use Rattle.pass_early.specs.Early.{early_function, early_module}
 use Rattle.pass_edges.specs.EdgeBlocks.{with_edge_blocks}
-use Rattle.pass_kept_proof.specs.SuspendRules.{KeepsSuspendRules}
+use Rattle.pass_kept_proof.specs.Handed.{HasPlainNames}
+use Rattle.pass_kept_proof.specs.SuspendRules.{IsCallAt, KeepsSuspendRules}
 use Rattle.pass_proofs.proofs.early.path_rules.RenamedOperands.{map_was}
 use Rattle.pass_proofs.proofs.early.widths.Widths.{early_widths}
 use Rattle.pass_proofs.proofs.edges.rules.Kept.{suspend_blocks}
 use Rattle.pass_proofs.proofs.edges.shape.Kept.{calls_kept, switches_kept}
 use Rattle.pass_proofs.proofs.edges.widths.Widths.{edge_widths}
+use Rattle.pass_proofs.proofs.kept.sources.Closed.{not_behind_end}
 use Rattle.pass_proofs.proofs.kept.sources.EdgeWindows.{edges_keep}
 use Rattle.pass_proofs.proofs.kept.sources.Modules.{at_function, early_coroutines_keep, early_has_paths}
 use Rattle.pass_proofs.proofs.kept.sources.Modules.{early_has_shape, early_rules}
 use Rattle.pass_proofs.proofs.kept.sources.Names.{none_outside, suspend_inside}
-use Rattle.pass_proofs.proofs.kept.sources.Whole.{edges_kept, of_split, split_keeps, split_rules}
+use Rattle.pass_proofs.proofs.kept.sources.Whole.{edges_kept, of_split, split_keeps, split_named}
+use Rattle.pass_proofs.proofs.kept.sources.Whole.{split_rules}
 use Rattle.pass_proofs.specs.edges.states.MovedState.{KeepsEdges, edge_function, edges_split}
 use Rattle.pass_renewed_meaning.specs.Rules.{KeepsStepRules}
 use Rattle.pass_renewed_proof.specs.Ledger.{AreSmallGlobals}
+use Rattle.pass_renewed_proof.specs.SlotRules.{AreSteady, KeepsSlots}
 use Rattle.rule_all.specs.Refused.{IsRefused}
 use Rattle.rule_laws.proofs.rules.path_rules.Passes.{accepted_paths, accepted_shape}
 use Rattle.rule_laws.proofs.rules.widths.Written.{text_wide}
@@ -34,11 +43,14 @@ use Rattle.rule_laws.specs.rules.function_rules.Kept.{AllKeepFunctionRules, Keep
 use Rattle.rule_names.specs.declared.stage.Stage.{Stage}
 use Rattle.rule_shape.specs.OneOfEach.{wrong_call}
 use Rattle.rule_shape.specs.Switches.{wrong_switch}
+use Rattle.rule_windows.specs.Sets.{IsAfterEnd}
 use Rattle.run_accepted.proofs.Alive.{plain_keeps}
-use Rattle.run_accepted.proofs.Edges.{edges_keep_alive, edges_keep_places}
+use Rattle.run_accepted.proofs.Edges.{after_from, edges_keep_alive, edges_keep_places}
 use Rattle.run_accepted.proofs.Modules.{all_alive, all_places, all_switches, all_types, keeps_alive, keeps_places}
 use Rattle.run_accepted.proofs.Modules.{keeps_suspends}
 use Rattle.run_accepted.proofs.Places.{plain_places_kept}
+use Rattle.run_accepted.proofs.Plain.{none_behind_end}
+use Rattle.run_accepted.proofs.Slots.{HasSlotTables, begin_ends, slots_kept}
 use Rattle.run_accepted.proofs.Sources.{source_rules}
 use Rattle.run_accepted.proofs.Steps.{no_phis, no_steps, small_globals, steps_kept}
 use Rattle.run_hooks.proofs.Keeping.{source_keeps}
@@ -53,6 +65,7 @@ use Rattle.run_hooks.specs.alive.Alive.{KeepsAliveRules, KeepsAllAliveRules}
 use Rattle.run_hooks.specs.alive.Apart.{LiveAreApart}
 use Rattle.run_source.specs.Source.{continue, first_state, given, state_at, step}
 use Rattle.run_source_tables.specs.Given.{Given}
+use Rattle.run_step.specs.Step.{AtInstr, fetch}
 use Rattle.run_types.proofs.Meanings.{source_keeps_fitting}
 use Rattle.run_types.proofs.Runs.{states_fit}
 use Rattle.run_types.specs.Rules.{KeepsAllTypes}
@@ -217,6 +230,38 @@ module _ (text : List ℕ) (m : Module) (stands : StandsFor text m) (accepted : 
   pub edged_steps : (func : ℕ) → KeepsStepRules (edges_split (early_module m))
       (function_at (edges_split (early_module m)) func)
   edged_steps = at_function (KeepsStepRules m3) m3 (no_steps m3) edged_steps_at
+
+  -- ---- what is asked of slots that are made anew
+
+  -- K5: no begin stands behind the end
+  edged_begins_at : (k : ℕ) (h : Function) → slice_get (edges_split (early_module m)).functions k ≡ Some h
+      → (p : Point) → IsAfterEnd h p → IsCallAt Intrinsic.CoroBegin h p → ⊥
+  edged_begins_at k h e = on h.coroutine refl
+    where
+      in_coroutine : (j : ℕ) (f : Function) → slice_get (early_module m).functions j ≡ Some f → f.coroutine ≡ true
+          → (p : Point) → IsAfterEnd (with_edge_blocks f) p → IsCallAt Intrinsic.CoroBegin (with_edge_blocks f) p → ⊥
+      in_coroutine j f there c p a call =
+          let x = after_from f (keeps_edges j f there c) Intrinsic.CoroBegin p a call in
+          not_behind_end j f c (early_has_paths text m stands accepted j f there).outside Intrinsic.CoroBegin begin_ends
+          x.0 x.1.0 x.1.1
+
+      on : (b : Bool) → h.coroutine ≡ b → (p : Point) → IsAfterEnd h p → IsCallAt Intrinsic.CoroBegin h p → ⊥
+      on true c = of_split text m stands accepted (λ j g. (p : Point) → IsAfterEnd g p
+          → IsCallAt Intrinsic.CoroBegin g p → ⊥) in_coroutine k h e c
+      on false c = λ p a call. none_behind_end m3 k h (rules_now k h e) c p a
+
+  pub edged_slots : (k : ℕ) (h : Function) → slice_get (edges_split (early_module m)).functions k ≡ Some h
+      → (flags : ℕ → Bool) (roots : ℕ → Option ℕ) → HasSlotTables h flags roots
+      → ((name block at : ℕ) (inbounds : Bool) (ty : Ty) (base : Operand) (indices : List Arg)
+      → fetch h block at ≡ AtInstr (Instr.Gep name inbounds ty base indices)
+      → AreSteady (edges_split (early_module m)) ty indices)
+      → KeepsSlots (edges_split (early_module m)) h flags roots
+  edged_slots k h e flags roots tables steady =
+      let same : function_at (edges_split (early_module m)) k ≡ h =
+      ap (λ (o : Option Function). unwrap_or o no_function) e in
+      slots_kept m3 k h (rules_now k h e) flags roots tables (edged_alive_at k h e) (edged_places_at k h e)
+      (subst KeepsSuspendRules same (split_keeps text m stands accepted k))
+      (subst HasPlainNames same (split_named text m stands accepted k)) (edged_begins_at k h e) steady
 
   pub edged_globals : AreSmallGlobals (edges_split (early_module m))
   edged_globals = small_globals m.globals (text_is_shaped text m stands).globals

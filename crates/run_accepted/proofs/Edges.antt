@@ -1,6 +1,6 @@
 -- Where edges of a coroutine have blocks it keeps what runs ask of places and of markers, if it did.
 use Rattle.std.proofs.Common.{◌≡◌, ◌⊎◌, inl, inr, ℕ, ◌+◌, Bool, true, List, [], ◌∷◌, Option, None}
-use Rattle.std.proofs.Common.{refl, sym, ap, ◌∙◌, subst, length, arith}
+use Rattle.std.proofs.Common.{sym, ap, ◌∙◌, subst, length, arith}
 use Rattle.flow_points.specs.Reached.{IsReached}
 use Rattle.frame_slots.proofs.Points.{where_complete}
 use Rattle.ir_laws.proofs.paths.threads.Threads.{leads_home}
@@ -140,7 +140,7 @@ module _ (f : Function) (keeps : KeepsEdges f) where
 
   -- ---- saves and suspends
 
-  after_from : (j : Intrinsic) (p : Point) → IsAfterEnd g p → IsCallAt j g p
+  pub after_from : (j : Intrinsic) (p : Point) → IsAfterEnd g p → IsCallAt j g p
       → (q : Point) × (IsAfterEnd f q × IsCallAt j f q)
   after_from j p a c =
       let x = instr_from f keeps p c.instr c.stands in (

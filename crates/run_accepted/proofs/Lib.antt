@@ -9,6 +9,7 @@ pub mod Edges
 pub mod Sources
 pub mod Modules
 pub mod Steps
+pub mod Slots
 pub mod Accepted
 pub mod RampSlots
 pub mod Needed

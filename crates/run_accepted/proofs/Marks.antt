@@ -24,7 +24,7 @@ use Rattle.rule_laws.proofs.rules.path_rules.Holding.{of_parts}
 use Rattle.rule_laws.proofs.rules.path_rules.Outside.{place_point}
 use Rattle.rule_laws.proofs.rules.renamed.Outside.{none_breaks}
 use Rattle.rule_laws.proofs.rules.source_rules.Slots.{sized_alloca}
-use Rattle.rule_laws.proofs.rules.sources.Places.{instr_there, point}
+use Rattle.rule_laws.proofs.rules.sources.Places.{instr_there}
 use Rattle.rule_laws.specs.rules.function_rules.Kept.{KeepsFunctionRules}
 use Rattle.rule_locals.specs.Instrs.{on_instr}
 use Rattle.rule_locals.specs.Markers.{is_marker as is_marker_callee, marks, marks_otherwise, marks_size, slot_size}

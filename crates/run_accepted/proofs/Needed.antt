@@ -1,5 +1,5 @@
 -- What is needed behind a suspend crosses it, or is begin's value, or is the address of a slot that isn't the ramp's.
-use Rattle.std.proofs.Common.{◌≡◌, ◌⊎◌, inl, inr, ⊎_elim, ℕ, suc, Bool, true, false, List, [], ◌∷◌, Option, Some, None}
+use Rattle.std.proofs.Common.{◌≡◌, inl, inr, ⊎_elim, ℕ, suc, Bool, true, false, List, [], ◌∷◌, Option, Some, None}
 use Rattle.std.proofs.Common.{refl, sym, ap, ◌∙◌, subst}
 use Rattle.std.specs.List.{list_all, list_any}
 use Rattle.std.specs.Prelude.{IsTrue, not, option_and_then, option_to_list, slice_get, ◌==◌, ◌&&◌, ◌||◌, if◌then◌else◌}

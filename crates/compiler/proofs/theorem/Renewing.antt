@@ -2,6 +2,7 @@
 use Rattle.std.proofs.Common.{◌≡◌, Bool, Option, Some, sym, ap, ◌∙◌, subst}
 use Rattle.std.proofs.lemmas.Option.{slice_get-map}
 use Rattle.std.specs.Prelude.{map, option_map, slice_get, unwrap_or, if◌then◌else◌}
+use Rattle.compiler.proofs.theorem.Slots.{split_slots}
 use Rattle.compiler.specs.theorem.Anew.{Anew}
 use Rattle.compiler.specs.theorem.Entries.{IsEntryCall, Run}
 use Rattle.compiler.specs.theorem.Lowered.{IsLowered, Lowered, early, edged, sizes_of}
@@ -48,7 +49,7 @@ module _ (Q W : Lowered → Anew → Run → State → State → Type 0) (a : An
 
   pub all_kept : KeepsAll (setting l a r)
   all_kept = record {
-    slots = h.slots;
+    slots = split_slots l low a h.anew h.local h.steady;
     steps = edged_steps l.text l.source low.source.stands low.source.accepted;
     locals = locals;
     globals = edged_globals l.text l.source low.source.stands low.source.accepted;

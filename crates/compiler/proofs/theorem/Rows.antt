@@ -10,6 +10,7 @@ use Rattle.run_source.specs.declared.state.State.{State}
 use Rattle.compiler.proofs.theorem.Facts.{good_layouts}
 use Rattle.compiler.proofs.theorem.Needed.{split_needed}
 use Rattle.compiler.proofs.theorem.Renewing.{all_kept}
+use Rattle.compiler.proofs.theorem.Slots.{split_slots}
 use Rattle.compiler.specs.theorem.Anew.{Anew}
 use Rattle.compiler.specs.theorem.Entries.{IsEntryCall, Run}
 use Rattle.compiler.specs.theorem.Lowered.{IsLowered, Lowered, framed_run, kept_run, price_kept, price_renewed, renewed_run, sizes_of, source_run}
@@ -46,7 +47,9 @@ module _ (Q W : Lowered → Anew → Run → State → State → Type 0) (a : An
   to_framed =
       compose_by (AreMadeAnew l a) AreAlike (Q l a r) (W l a r) (kept_run l a r) (price_kept l a r p) (renewed_run l a r)
       (price_renewed l a r p) (framed_run l l.framed r) (λ t. 1)
-      (made_anew (setting l a r) p (all_kept Q W a p l low h r call)) (h.framing low.source (good_layouts l low) low.is_framed h.anew h.slots r call)
+      (made_anew (setting l a r) p (all_kept Q W a p l low h r call))
+      (h.framing low.source (good_layouts l low) low.is_framed h.anew (split_slots l low a h.anew h.local h.steady) r
+      call)
 
   -- Source to Framed
   pub framed_within : AgreesWithin (4 * (4 * size_factor l.source)) (at (source_run l r))

@@ -1,14 +1,17 @@
 -- What is lowered of a source agrees with it: one row for each pass. Those that stand are cited in the proof, the
 -- others are premises here.
-use Rattle.std.specs.Prelude.{ℕ, ◌+◌, ◌*◌, ◌≤◌}
+use Rattle.std.specs.Prelude.{ℕ, ◌*◌, ◌≤◌, IsTrue}
 use Rattle.run_hooks.specs.alive.Apart.{LiveAreApart}
 use Rattle.run_agreement.specs.Agreements.{Agrees, AgreesWithin}
 use Rattle.run_agreement.specs.Costs.{AgreesBy, Through, cost_at}
 use Rattle.run_agreement.specs.Factor.{size_factor, step_factor}
 use Rattle.run_agreement.specs.Machines.{IsFine, at, state_at}
+use Rattle.frame_classes.specs.Classes.{IsOf}
+use Rattle.frame_classes.specs.declared.class.SlotClass.{SlotClass}
+use Rattle.ir_model.specs.Names.{function_at}
 use Rattle.text_canonical.specs.canonical.Items.{module_text}
 use Rattle.run_source.specs.declared.state.State.{State}
-use Rattle.compiler.specs.theorem.Anew.{Anew, IsAnewOf}
+use Rattle.compiler.specs.theorem.Anew.{Anew, HaveSteadyIndices, IsAnewOf}
 use Rattle.compiler.specs.theorem.Entries.{IsEntryCall, Run}
 use Rattle.compiler.specs.theorem.GoodLayouts.{AreGoodLayouts}
 use Rattle.compiler.specs.parts.Framed.{ArePartsFacts}
@@ -43,16 +46,18 @@ AreMadeAnew l a = AreInStep (edged l) a.flags a.roots
 
 -- | Pass | from | to | costs | |
 -- | saves written out, edges with blocks, what is needed handed on | Source | Kept | 4 | stands |
--- | slots made anew, then frames built, by prices that fit | Kept | Framed | 4 * (1 + p + q), on average | the first stands by `slots`, the second is a premise |
+-- | slots made anew, then frames built, by prices that fit | Kept | Framed | 4 * (1 + p + q), on average | the first stands by `local` and `steady`, the second is a premise |
 -- | functions split | Framed | Plain | 4 | stands by facts of framed forms |
 -- | calls of coro.id gone, then names in order | Plain | Plain | 1 | stands |
 pub record Steps (Q W : Lowered → Anew → Run → State → State → Type 0) (a : Anew) (p : Prices)
     (l : Lowered) : Type 0 where
   -- such tables there are (`sources_have_tables`)
   pub anew : IsAnewOf (early l) a
-  -- waits for: local slots stay local where edges have blocks, and the rules that slots ask; by this the simulation of
-  -- slots made anew stands
-  pub slots : KeepsAllSlots (edged l) a.keep a.flags a.roots
+  -- waits for: a local slot stays local where edges have blocks
+  pub local : (func v : ℕ) → IsTrue (a.flags func v) → IsOf (function_at (edged l) func) v SlotClass.Local
+  -- waits for: a text has fewer than 2^31 fields. A structure index of 2^31 or more breaks no rule, and may be taken
+  -- for a negative number. By these two the simulation of slots made anew stands
+  pub steady : (func : ℕ) → HaveSteadyIndices (edged l) (function_at (edged l) func)
   -- waits for: the simulation of frames
   pub framing : IsAccepted l → AreGoodLayouts (early l) l.layouts.coroutines
       → IsFramedForm l.layouts (early l) l.framed → IsAnewOf (early l) a
