@@ -3,7 +3,7 @@ use Rattle.std.proofs.Common.{◌≡◌, inl, inr, ℕ, zero, suc, ◌+◌, Bool
 use Rattle.std.proofs.lemmas.Option.{slice_get-map}
 use Rattle.std.specs.Prelude.{Option, codes, map, option_map, slice_get, unwrap_or, if◌then◌else◌}
 use Rattle.compiler.specs.cleanup.accepted.Ready.{IsReady}
-use Rattle.compiler.specs.parts.Framed.{AreFramedFacts, AreLaidFacts, HaveFirstBlocks, IsLightBlock}
+use Rattle.compiler.specs.parts.Framed.{AreFramedFacts, AreLaidFacts, HaveFirstBlocks, HaveTokens, IsLightBlock}
 use Rattle.flow_solver.specs.Paths.{IsListed}
 use Rattle.frame_layout.specs.declared.layout.Layout.{Layout}
 use Rattle.frame_layout.specs.declared.layout.Layouts.{Layouts}
@@ -156,7 +156,7 @@ module _ (ls : Layouts) (m : Module) (ready : IsReady ls m) where
 
 module _ (ls : Layouts) (m : Module) (ready : IsReady ls m) (laid : AreLayoutsOf 0 m.functions ls.coroutines)
     (places : AreLaidFacts ls (exits_split m)) (contents : AreContents (exits_split m))
-    (blocks : HaveFirstBlocks (exits_split m)) (facts : AreFramedFacts ls (exits_split m)) where
+    (blocks : HaveFirstBlocks (exits_split m)) (tokens : HaveTokens (exits_split m)) (facts : AreFramedFacts ls (exits_split m)) where
   rules : (k : ℕ) (f : Function) → slice_get (exits_split m).functions k ≡ Some f
       → KeepsFunctionRules (exits_split m) k f
   rules = kept_there ls m ready
@@ -216,7 +216,7 @@ module _ (ls : Layouts) (m : Module) (ready : IsReady ls m) (laid : AreLayoutsOf
             begin = y.0;
             splittable = y.1;
             returns = return_blocks (exits_split m) k f y.0 y.1 z.returns;
-            saved = z.saved;
+            saved = (tokens k f there c).saved;
             layout = layouts_found ls.coroutines (exits_split m).functions layouts k f there c;
             laid = (places k f there c).laid;
           };
@@ -240,7 +240,7 @@ module _ (ls : Layouts) (m : Module) (ready : IsReady ls m) (laid : AreLayoutsOf
               (r.small (layout_of ls.coroutines k) given);
           promise = (places k f there c).promise;
           apart = z.apart;
-          named = z.named;
+          named = (tokens k f there c).named;
           leads = z.leads;
           untaken = ap (λ (n : Name). function_named (exits_split m) (part_name n (codes ".cleanup")))
               (ap (λ (g : Function). g.name) (sym x.is))

@@ -28,7 +28,7 @@ exits_same f e = ap (λ (b : Bool). if b then with_exit_blocks f else f) e
 early_same : (f : Function) → f.coroutine ≡ false → early_function f ≡ f
 early_same f e = ap (λ (b : Bool). if b then early_named (with_begin_name f) else f) e
 
-early_kind : (f : Function) → (early_function f).coroutine ≡ f.coroutine
+pub early_kind : (f : Function) → (early_function f).coroutine ≡ f.coroutine
 early_kind f = (turned_function f).coroutine
 
 -- a plain function that the first pass made is one of the source
