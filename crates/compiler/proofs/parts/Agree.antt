@@ -7,7 +7,7 @@ use Rattle.compiler.proofs.parts.FramedTokens.{framed_have_tokens}
 use Rattle.compiler.proofs.parts.Globals.{framed_contents}
 use Rattle.compiler.proofs.parts.Lengths.{laid_facts}
 use Rattle.compiler.proofs.parts.Ordered.{framed_in_order}
-use Rattle.compiler.proofs.parts.Plain.{plain_blocks}
+use Rattle.compiler.proofs.parts.Plain.{plain_blocks, plain_wide}
 use Rattle.compiler.proofs.whole.exit_sources.Accepted.{exits_kept, locals_kept}
 use Rattle.compiler.specs.cleanup.accepted.Ready.{IsReady}
 use Rattle.compiler.specs.parts.Framed.{ArePartsFacts, TakeBytes}
@@ -129,7 +129,7 @@ module _ (l : Lowered) (low : IsLowered l) (good : AreGoodLayouts (early l) l.la
       (followable l.layouts l.framed ready
       (framed_in_order l.layouts (early l) l.framed low.is_framed good)
       (laid_facts l.layouts (early l) l.framed low.is_framed good bytes) (framed_contents l low)
-      (plain_blocks l low) (framed_have_tokens l low ready) facts.exits)
+      (plain_blocks l low) (plain_wide l low) (framed_have_tokens l low ready) facts.exits)
       (gives_none l.layouts l.framed ready.items ready.short (kept_there l.layouts l.framed ready))
 
   kept : AreExitsKept l.framed

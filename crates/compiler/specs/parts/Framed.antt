@@ -71,12 +71,18 @@ abbrev pub HaveFirstBlocks : Module → Type 0
 HaveFirstBlocks m = (k : ℕ) (f : Function) → slice_get m.functions k ≡ Some f → f.coroutine ≡ false
     → (b : Block) × (slice_get f.blocks 0 ≡ Some b)
 
+-- Integer types of functions that are no coroutines have the widths of the grammar.
+abbrev pub HavePlainWidths : Module → Type 0
+HavePlainWidths m = (k : ℕ) (f : Function) → slice_get m.functions k ≡ Some f → f.coroutine ≡ false
+    → first_other_width k f ≡ None
+
 -- of the module
 pub record AreFramedFacts (ls : Layouts) (m : Module) : Type 0 where
   pub coroutines : (k : ℕ) (f : Function) → slice_get m.functions k ≡ Some f → f.coroutine ≡ true
       → IsFramedFact ls m k f
   -- waits for: what is woven in has the widths of the grammar
-  pub widths : (k : ℕ) (f : Function) → slice_get m.functions k ≡ Some f → first_other_width k f ≡ None
+  pub widths : (k : ℕ) (f : Function) → slice_get m.functions k ≡ Some f → f.coroutine ≡ true
+      → first_other_width k f ≡ None
   -- waits for: a text has fewer than 2^31 fields
   pub fields : (k : ℕ) (f : Function) → slice_get m.functions k ≡ Some f
       → (block at name : ℕ) (inbounds : Bool) (ty : Ty)
