@@ -1,9 +1,14 @@
 pub mod Agree
 pub mod Behind
 pub mod Followable
+pub mod EarlyTokens
 pub mod Found
+pub mod FramedTokens
 pub mod Globals
 pub mod Index
 pub mod Lengths
 pub mod Ordered
 pub mod Plain
+pub mod Saved
+pub mod TokenPasses
+pub mod Tokens

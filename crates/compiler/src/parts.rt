@@ -5,7 +5,7 @@
 
 ghost use Rattle.std.specs.Prelude.{◌≡◌, ℕ, List, [], Some, find, slice_get, true};
 ghost use Rattle.compiler.specs.cleanup.accepted.Ready.{IsReady};
-ghost use Rattle.compiler.specs.parts.Framed.{AreFramedFacts, AreLaidFacts, ArePartsFacts, HaveFirstBlocks, TakeBytes};
+ghost use Rattle.compiler.specs.parts.Framed.{AreFramedFacts, AreLaidFacts, ArePartsFacts, HaveFirstBlocks, HavePlainWidths, HaveTokens, TakeBytes};
 ghost use Rattle.compiler.specs.theorem.Entries.{IsEntry, IsEntryCall, Run};
 ghost use Rattle.compiler.specs.theorem.Lowered.{IsLowered, Lowered, early, framed_run, plain_run, split_from};
 ghost use Rattle.compiler.specs.theorem.GoodLayouts.{AreGoodLayouts};
@@ -48,7 +48,7 @@ pub fn good_layouts_keep_places()
 pub fn ready_modules_are_followable()
     ensures { (ls : Layouts) (m : Module) → IsReady ls m → AreLayoutsOf 0 m.functions ls.coroutines
         → AreLaidFacts ls (exits_split m) → AreContents (exits_split m) → HaveFirstBlocks (exits_split m)
-        → AreFramedFacts ls (exits_split m) → IsFollowable ls (exits_split m) }
+        → HavePlainWidths (exits_split m) → HaveTokens (exits_split m) → AreFramedFacts ls (exits_split m) → IsFollowable ls (exits_split m) }
 {}
 
 /// So the run of a framed form with such facts agrees within 4 with the run of its parts: the row of the theorem on

@@ -3,10 +3,11 @@ use Rattle.std.proofs.Common.{◌≡◌, ℕ, zero, suc, Bool, true, false, List
 use Rattle.std.specs.Prelude.{Some, map, slice_get, unwrap_or, if◌then◌else◌}
 use Rattle.compiler.proofs.parts.Behind.{named_behind}
 use Rattle.compiler.proofs.parts.Followable.{followable, kept_there}
+use Rattle.compiler.proofs.parts.FramedTokens.{framed_have_tokens}
 use Rattle.compiler.proofs.parts.Globals.{framed_contents}
 use Rattle.compiler.proofs.parts.Lengths.{laid_facts}
 use Rattle.compiler.proofs.parts.Ordered.{framed_in_order}
-use Rattle.compiler.proofs.parts.Plain.{plain_blocks}
+use Rattle.compiler.proofs.parts.Plain.{plain_blocks, plain_wide}
 use Rattle.compiler.proofs.theorem.Facts.{take_bytes}
 use Rattle.compiler.proofs.whole.exit_sources.Accepted.{exits_kept, locals_kept}
 use Rattle.compiler.specs.cleanup.accepted.Ready.{IsReady}
@@ -129,7 +130,7 @@ module _ (l : Lowered) (low : IsLowered l) (good : AreGoodLayouts (early l) l.la
       (followable l.layouts l.framed ready
       (framed_in_order l.layouts (early l) l.framed low.is_framed good)
       (laid_facts l.layouts (early l) l.framed low.is_framed good (take_bytes l low.source)) (framed_contents l low)
-      (plain_blocks l low) facts.exits)
+      (plain_blocks l low) (plain_wide l low) (framed_have_tokens l low ready) facts.exits)
       (gives_none l.layouts l.framed ready.items ready.short (kept_there l.layouts l.framed ready))
 
   kept : AreExitsKept l.framed

@@ -3,7 +3,7 @@ use Rattle.std.proofs.Common.{◌≡◌, inl, inr, ℕ, zero, suc, ◌+◌, Bool
 use Rattle.std.proofs.lemmas.Option.{slice_get-map}
 use Rattle.std.specs.Prelude.{Option, codes, map, option_map, slice_get, unwrap_or, if◌then◌else◌}
 use Rattle.compiler.specs.cleanup.accepted.Ready.{IsReady}
-use Rattle.compiler.specs.parts.Framed.{AreFramedFacts, AreLaidFacts, HaveFirstBlocks, IsLightBlock}
+use Rattle.compiler.specs.parts.Framed.{AreFramedFacts, AreLaidFacts, HaveFirstBlocks, HavePlainWidths, HaveTokens, IsLightBlock}
 use Rattle.flow_solver.specs.Paths.{IsListed}
 use Rattle.frame_layout.specs.declared.layout.Layout.{Layout}
 use Rattle.frame_layout.specs.declared.layout.Layouts.{Layouts}
@@ -40,6 +40,7 @@ use Rattle.pass_proofs.proofs.split.edges.Cuttable.{HasBlock}
 use Rattle.rule_laws.specs.frames.replaced.Parted.{IsSmall}
 use Rattle.rule_laws.specs.frames.replaced.Splittable.{HasOwnEdges, IsLedToBy}
 use Rattle.rule_laws.specs.frames.suspend_counts.Given.{IsGiven}
+use Rattle.rule_laws.specs.rules.counted.Widths.{first_other_width}
 use Rattle.rule_laws.specs.rules.function_rules.Kept.{KeepsFunctionRules}
 use Rattle.run_framed.specs.Framed.{layout_of, no_layout}
 use Rattle.run_laws.specs.changed.Changed.{Each}
@@ -156,7 +157,8 @@ module _ (ls : Layouts) (m : Module) (ready : IsReady ls m) where
 
 module _ (ls : Layouts) (m : Module) (ready : IsReady ls m) (laid : AreLayoutsOf 0 m.functions ls.coroutines)
     (places : AreLaidFacts ls (exits_split m)) (contents : AreContents (exits_split m))
-    (blocks : HaveFirstBlocks (exits_split m)) (facts : AreFramedFacts ls (exits_split m)) where
+    (blocks : HaveFirstBlocks (exits_split m)) (plain_widths : HavePlainWidths (exits_split m))
+    (tokens : HaveTokens (exits_split m)) (facts : AreFramedFacts ls (exits_split m)) where
   rules : (k : ℕ) (f : Function) → slice_get (exits_split m).functions k ≡ Some f
       → KeepsFunctionRules (exits_split m) k f
   rules = kept_there ls m ready
@@ -204,6 +206,11 @@ module _ (ls : Layouts) (m : Module) (ready : IsReady ls m) (laid : AreLayoutsOf
   first_blocks k f there false c = blocks k f there c
   first_blocks k f there true c = let y = splittable k f (coroutine_comes k f there c) in begun_first f y.0 y.1.named
 
+  all_widths : (k : ℕ) (f : Function) → slice_get (exits_split m).functions k ≡ Some f → (c : Bool) → f.coroutine ≡ c
+      → first_other_width k f ≡ None
+  all_widths k f there false c = plain_widths k f there c
+  all_widths k f there true c = facts.widths k f there c
+
   pub followable : IsFollowable ls (exits_split m)
   followable = record {
     partable = record {
@@ -216,7 +223,7 @@ module _ (ls : Layouts) (m : Module) (ready : IsReady ls m) (laid : AreLayoutsOf
             begin = y.0;
             splittable = y.1;
             returns = return_blocks (exits_split m) k f y.0 y.1 z.returns;
-            saved = z.saved;
+            saved = (tokens k f there c).saved;
             layout = layouts_found ls.coroutines (exits_split m).functions layouts k f there c;
             laid = (places k f there c).laid;
           };
@@ -227,7 +234,7 @@ module _ (ls : Layouts) (m : Module) (ready : IsReady ls m) (laid : AreLayoutsOf
     };
     names = names_moved ls m ready.items ready.short;
     fields = facts.fields;
-    widths = facts.widths;
+    widths = λ k f there. all_widths k f there f.coroutine refl;
     coroutines = λ k f there c.
         let x = coroutine_comes k f there c in
         let z = facts.coroutines k f there c in
@@ -240,7 +247,7 @@ module _ (ls : Layouts) (m : Module) (ready : IsReady ls m) (laid : AreLayoutsOf
               (r.small (layout_of ls.coroutines k) given);
           promise = (places k f there c).promise;
           apart = z.apart;
-          named = z.named;
+          named = (tokens k f there c).named;
           leads = z.leads;
           untaken = ap (λ (n : Name). function_named (exits_split m) (part_name n (codes ".cleanup")))
               (ap (λ (g : Function). g.name) (sym x.is))

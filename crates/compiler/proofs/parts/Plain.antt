@@ -1,7 +1,7 @@
 -- Functions of framed forms that are no coroutines are those of the source.
 use Rattle.std.proofs.Common.{◌≡◌, ℕ, Bool, true, false, List, [], ◌∷◌, refl, sym, ap, ◌∙◌, subst}
 use Rattle.std.proofs.lemmas.Bool.{false≢true}
-use Rattle.std.specs.Prelude.{Some, slice_get, if◌then◌else◌}
+use Rattle.std.specs.Prelude.{None, Some, slice_get, if◌then◌else◌}
 use Rattle.compiler.proofs.parts.Followable.{comes, same_kind}
 use Rattle.compiler.specs.theorem.Lowered.{IsLowered, Lowered, early}
 use Rattle.ir_base.specs.declared.name.Name.{Name}
@@ -17,6 +17,8 @@ use Rattle.pass_proofs.proofs.frames.headings.Headings.{framed_headed}
 use Rattle.pass_proofs.proofs.frames.unnamed.Positions.{Becomes, FramedBy, Unchanged, stands_as}
 use Rattle.pass_proofs.specs.exits.states.Exits.{exit_function, exits_split}
 use Rattle.rule_laws.proofs.texts.named_texts.Placed.{part_at}
+use Rattle.rule_laws.proofs.rules.widths.Written.{text_wide}
+use Rattle.rule_laws.specs.rules.counted.Widths.{first_other_width}
 use Rattle.text_canonical.proofs.order.Shaped.{text_is_shaped}
 use Rattle.text_canonical.specs.order.Shape.{IsBlock, IsFunction, Some_of}
 
@@ -28,7 +30,7 @@ exits_same f e = ap (λ (b : Bool). if b then with_exit_blocks f else f) e
 early_same : (f : Function) → f.coroutine ≡ false → early_function f ≡ f
 early_same f e = ap (λ (b : Bool). if b then early_named (with_begin_name f) else f) e
 
-early_kind : (f : Function) → (early_function f).coroutine ≡ f.coroutine
+pub early_kind : (f : Function) → (early_function f).coroutine ≡ f.coroutine
 early_kind f = (turned_function f).coroutine
 
 -- a plain function that the first pass made is one of the source
@@ -63,7 +65,7 @@ module _ (l : Lowered) (low : IsLowered l) where
       subst (λ (g : Function). slice_get l.source.functions k ≡ Some g) same
       (in_early k x.source y.source x.stands x.becomes own)
 
-  -- ---- a function of a text has a block
+  -- ---- a function of a text has a block, and integers of known widths
 
   first_of : (names : List Name) (bs : List Block) → Some_of (IsBlock names) bs
       → (b : Block) × (slice_get bs 0 ≡ Some b)
@@ -75,3 +77,7 @@ module _ (l : Lowered) (low : IsLowered l) where
   plain_blocks k h there plain =
       first_of h.names h.blocks (part_at IsFunction l.source.functions k h
       (text_is_shaped l.text l.source low.source.stands).functions (plain_source k h there plain)).2
+
+  pub plain_wide : (k : ℕ) (h : Function) → slice_get (exits_split l.framed).functions k ≡ Some h
+      → h.coroutine ≡ false → first_other_width k h ≡ None
+  plain_wide k h there plain = text_wide l.text l.source low.source.stands k h (plain_source k h there plain)

@@ -42,14 +42,19 @@ pub record IsFramedFact (ls : Layouts) (m : Module) (k : ℕ) (f : Function) : T
   -- waits for: what is woven in front of a block on a resume or destroy edge are loads, stores and additions
   pub returns : (p : SuspendPoint) → IsListed p (suspends_of f)
       → IsLightBlock f p.resume × IsLightBlock f p.destroy
-  -- waits for: the first pass writes saves out, and later ones leave suspends as they are
-  pub saved : (p : SuspendPoint) → IsListed p (suspends_of f) → is_some p.save ≡ true
   -- waits for: K5 and K6 of the framed form
   pub apart : (at : ℕ) (i : Instr)
       → fetch f (position_of f (shape_of f (layout_of ls.coroutines k)).end) at ≡ AtInstr i → is_suspend i ≡ true → ⊥
+  pub leads : (p s : Point) → IsCallAt Intrinsic.CoroSave f p → suspend_of f p ≡ Some s → Leads f [] p s
+
+-- Each suspend has a save, and each save a name.
+pub record HasSaves (f : Function) : Type 0 where
+  pub saved : (p : SuspendPoint) → IsListed p (suspends_of f) → is_some p.save ≡ true
   pub named : (block at : ℕ) (i : Instr) → fetch f block at ≡ AtInstr i → is_call_of Intrinsic.CoroSave i ≡ true
       → is_some (call_result i) ≡ true
-  pub leads : (p s : Point) → IsCallAt Intrinsic.CoroSave f p → suspend_of f p ≡ Some s → Leads f [] p s
+
+abbrev pub HaveTokens : Module → Type 0
+HaveTokens m = (k : ℕ) (f : Function) → slice_get m.functions k ≡ Some f → f.coroutine ≡ true → HasSaves f
 
 -- The fields of its frame are laid out, the promise first.
 pub record IsLaidFact (ls : Layouts) (m : Module) (k : ℕ) : Type 0 where
@@ -66,12 +71,18 @@ abbrev pub HaveFirstBlocks : Module → Type 0
 HaveFirstBlocks m = (k : ℕ) (f : Function) → slice_get m.functions k ≡ Some f → f.coroutine ≡ false
     → (b : Block) × (slice_get f.blocks 0 ≡ Some b)
 
+-- Integer types of functions that are no coroutines have the widths of the grammar.
+abbrev pub HavePlainWidths : Module → Type 0
+HavePlainWidths m = (k : ℕ) (f : Function) → slice_get m.functions k ≡ Some f → f.coroutine ≡ false
+    → first_other_width k f ≡ None
+
 -- of the module
 pub record AreFramedFacts (ls : Layouts) (m : Module) : Type 0 where
   pub coroutines : (k : ℕ) (f : Function) → slice_get m.functions k ≡ Some f → f.coroutine ≡ true
       → IsFramedFact ls m k f
   -- waits for: what is woven in has the widths of the grammar
-  pub widths : (k : ℕ) (f : Function) → slice_get m.functions k ≡ Some f → first_other_width k f ≡ None
+  pub widths : (k : ℕ) (f : Function) → slice_get m.functions k ≡ Some f → f.coroutine ≡ true
+      → first_other_width k f ≡ None
   -- waits for: a text has fewer than 2^31 fields
   pub fields : (k : ℕ) (f : Function) → slice_get m.functions k ≡ Some f
       → (block at name : ℕ) (inbounds : Bool) (ty : Ty)
