@@ -1,28 +1,29 @@
--- An accepted source with blocks on edges keeps what is asked of slots made anew, where its local slots stay local.
+-- An accepted source with blocks on edges keeps what is asked of slots made anew, where its local slots need no frame.
 use Rattle.std.proofs.Common.{◌≡◌, inl, inr, ℕ, Bool, true, false, List, Option, Some, None, refl, sym, ap, ◌∙◌, subst}
 use Rattle.std.proofs.lemmas.Option.{slice_get-map}
 use Rattle.std.specs.Prelude.{IsTrue, option_map, slice_get, unwrap_or, if◌then◌else◌}
 use Rattle.compiler.specs.theorem.Anew.{Anew, HaveSteadyIndices, IsAnewIn, IsAnewOf, IsSlotOf}
 use Rattle.compiler.specs.theorem.Lowered.{IsLowered, Lowered, early, edged}
-use Rattle.frame_classes.specs.Classes.{IsOf, suspends}
+use Rattle.frame_classes.specs.Classes.{NeedsFrame, suspends}
 use Rattle.frame_classes.specs.declared.class.SlotClass.{SlotClass}
 use Rattle.ir_model.specs.Names.{function_at, no_function}
 use Rattle.ir_model.specs.declared.module.Function.{Function}
 use Rattle.ir_paths.specs.Paths.{has_point}
-use Rattle.ir_paths.specs.Slots.{has_name}
+use Rattle.ir_paths.proofs.Right.{facts_of_right}
+use Rattle.ir_paths.specs.Slots.{IsRampSlot, allocas_of, has_name}
 use Rattle.ir_paths.specs.declared.point.Point.{Point}
 use Rattle.pass_edges.specs.EdgeBlocks.{with_edge_blocks}
 use Rattle.pass_kept_proof.specs.Handed.{HasPlainNames}
 use Rattle.pass_kept_proof.specs.SuspendRules.{KeepsSuspendRules}
-use Rattle.pass_proofs.proofs.edges.paths.Slots.{same_allocas}
-use Rattle.pass_proofs.proofs.kept.sources.Whole.{split_keeps, split_named}
-use Rattle.pass_proofs.specs.edges.states.MovedState.{edge_function}
+use Rattle.pass_proofs.proofs.edges.paths.Slots.{same_allocas, same_ramp_slots}
+use Rattle.pass_proofs.proofs.kept.sources.Whole.{edges_kept, split_keeps, split_named}
+use Rattle.pass_proofs.specs.edges.states.MovedState.{KeepsEdges, edge_function}
 use Rattle.pass_renewed_proof.specs.SlotRules.{KeepsAllSlots, KeepsSlots}
 use Rattle.run_accepted.proofs.Accepted.{edged_slots}
 use Rattle.run_accepted.proofs.Slots.{HasSlotTables, no_slots}
 
 module _ (l : Lowered) (low : IsLowered l) (a : Anew) (anew : IsAnewOf (early l) a)
-    (stay : (func v : ℕ) → IsTrue (a.flags func v) → IsOf (function_at (edged l) func) v SlotClass.Local)
+    (stay : (func v : ℕ) → IsTrue (a.flags func v) → NeedsFrame (function_at (edged l) func) v → ⊥)
     (steady : (func : ℕ) → HaveSteadyIndices (edged l) (function_at (edged l) func)) where
   -- what is flagged is a local slot of a coroutine
   flagged : (func v : ℕ) → a.flags func v ≡ true → IsSlotOf (function_at (early l) func) SlotClass.Local v
@@ -71,10 +72,24 @@ module _ (l : Lowered) (low : IsLowered l) (a : Anew) (anew : IsAnewOf (early l)
         own = subst (λ (z : Function). IsAnewIn z (with_edge_blocks z) (λ s v. IsTrue (a.keep func s v))
             (λ v. IsTrue (a.flags func v)) (λ v r. a.roots func v ≡ Some r)) early_is (anew func)
 
+        edges : KeepsEdges f
+        edges = edges_kept l.text l.source low.source.stands low.source.accepted func f there coroutine
+
+        ramp_before : (v : ℕ) → has_name (allocas_of f) v ≡ true → IsRampSlot (with_edge_blocks f) v → IsRampSlot f v
+        ramp_before v among ramp =
+            let now_named = ((facts_of_right (with_edge_blocks f)).ramp_slots v).1
+            (ap (λ (vs : List ℕ). has_name vs v) (same_allocas f) ∙ among, ramp) in
+            let before = ((facts_of_right f).ramp_slots v).0
+            (sym (same_ramp_slots f edges.labels edges.once edges.phis v) ∙ now_named) in
+            before.1
+
         tables : HasSlotTables (with_edge_blocks f) (a.flags func) (a.roots func)
         tables = record {
           slots = λ v e. ap (λ (vs : List ℕ). has_name vs v) (same_allocas f) ∙ ((own.flags_are v).0 e).is_alloca;
-          is_local = λ v e. subst (λ (z : Function). IsOf z v SlotClass.Local) (here ∙ same) (stay func v e);
+          is_local = λ v e. (
+            λ ramp. let x = (own.flags_are v).0 e in x.is_of.0 (ramp_before v x.is_alloca ramp),
+            λ needs. stay func v e (subst (λ (z : Function). NeedsFrame z v) (sym (here ∙ same)) needs),
+          );
           rooted = λ v r e. (own.roots_are v r).0 e;
           addresses = λ v r e named. (own.roots_are v r).1 (e, named);
         }

@@ -6,8 +6,7 @@ use Rattle.run_agreement.specs.Agreements.{Agrees, AgreesWithin}
 use Rattle.run_agreement.specs.Costs.{AgreesBy, Through, cost_at}
 use Rattle.run_agreement.specs.Factor.{size_factor, step_factor}
 use Rattle.run_agreement.specs.Machines.{IsFine, at, state_at}
-use Rattle.frame_classes.specs.Classes.{IsOf}
-use Rattle.frame_classes.specs.declared.class.SlotClass.{SlotClass}
+use Rattle.frame_classes.specs.Classes.{NeedsFrame}
 use Rattle.ir_model.specs.Names.{function_at}
 use Rattle.text_canonical.specs.canonical.Items.{module_text}
 use Rattle.run_source.specs.declared.state.State.{State}
@@ -53,8 +52,8 @@ pub record Steps (Q W : Lowered → Anew → Run → State → State → Type 0)
     (l : Lowered) : Type 0 where
   -- such tables there are (`sources_have_tables`)
   pub anew : IsAnewOf (early l) a
-  -- waits for: a local slot stays local where edges have blocks
-  pub local : (func v : ℕ) → IsTrue (a.flags func v) → IsOf (function_at (edged l) func) v SlotClass.Local
+  -- waits for: where edges have blocks no further slot needs the frame
+  pub local : (func v : ℕ) → IsTrue (a.flags func v) → NeedsFrame (function_at (edged l) func) v → ⊥
   -- waits for: a text has fewer than 2^31 fields. A structure index of 2^31 or more breaks no rule, and may be taken
   -- for a negative number. By these two the simulation of slots made anew stands
   pub steady : (func : ℕ) → HaveSteadyIndices (edged l) (function_at (edged l) func)
