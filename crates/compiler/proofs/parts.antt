@@ -1,5 +1,6 @@
 pub mod Agree
 pub mod Behind
+pub mod Fields
 pub mod Followable
 pub mod EarlyTokens
 pub mod Found

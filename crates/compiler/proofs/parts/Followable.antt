@@ -2,6 +2,7 @@
 use Rattle.std.proofs.Common.{◌≡◌, inl, inr, ℕ, zero, suc, ◌+◌, Bool, true, false, List, [], ◌∷◌, Some, None, refl, sym, ap, ◌∙◌, subst}
 use Rattle.std.proofs.lemmas.Option.{slice_get-map}
 use Rattle.std.specs.Prelude.{Option, codes, map, option_map, slice_get, unwrap_or, if◌then◌else◌}
+use Rattle.compiler.proofs.parts.Fields.{fields_found}
 use Rattle.compiler.specs.cleanup.accepted.Ready.{IsReady}
 use Rattle.compiler.specs.parts.Framed.{AreFramedFacts, AreLaidFacts, HaveFirstBlocks, HavePlainWidths, HaveTokens, IsLightBlock}
 use Rattle.flow_solver.specs.Paths.{IsListed}
@@ -233,7 +234,9 @@ module _ (ls : Layouts) (m : Module) (ready : IsReady ls m) (laid : AreLayoutsOf
       contents = contents;
     };
     names = names_moved ls m ready.items ready.short;
-    fields = facts.fields;
+    fields = λ k f there block at name inbounds ty base indices e.
+        fields_found (exits_split m) k f (rules k f there) block at name inbounds ty base indices e
+        (facts.fields k f there block at name inbounds ty base indices e);
     widths = λ k f there. all_widths k f there f.coroutine refl;
     coroutines = λ k f there c.
         let x = coroutine_comes k f there c in

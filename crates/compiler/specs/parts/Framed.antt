@@ -1,5 +1,5 @@
 -- What is asked of a framed form, with blocks on edges that leave windows, besides the rules that splitting asks.
-use Rattle.std.specs.Prelude.{◌≡◌, ◌<◌, ℕ, Bool, true, false, [], List, None, Some, find, is_some, slice_get}
+use Rattle.std.specs.Prelude.{◌≡◌, ◌<◌, ◌^◌, ℕ, Bool, true, false, [], ◌∷◌, pos, List, None, Some, find, is_some, slice_get}
 use Rattle.flow_solver.specs.Paths.{IsListed}
 use Rattle.frame_contents.specs.Frames.{AreContents as AreContentsOf}
 use Rattle.frame_contents.specs.Held.{fields_of}
@@ -8,7 +8,8 @@ use Rattle.frame_layout.specs.declared.layout.Field.{Field}
 use Rattle.frame_layout.specs.declared.layout.Layouts.{Layouts}
 use Rattle.frame_layout.specs.declared.layout.PlacedField.{PlacedField}
 use Rattle.ir_model.specs.Names.{position_of}
-use Rattle.ir_model.specs.Ty.{Ty}
+use Rattle.ir_model.specs.Layout.{unnamed}
+use Rattle.ir_model.specs.Ty.{Ty, structure}
 use Rattle.ir_model.specs.declared.instr.Instr.{Instr}
 use Rattle.ir_model.specs.declared.instr.Terminator.{Terminator}
 use Rattle.ir_model.specs.declared.module.Block.{Block}
@@ -24,7 +25,7 @@ use Rattle.pass_intrinsics.specs.Shapes.{is_end, shape_of, suspends_of}
 use Rattle.pass_intrinsics.specs.declared.shape.SuspendPoint.{SuspendPoint}
 use Rattle.pass_kept_proof.specs.SuspendRules.{IsCallAt}
 use Rattle.pass_proofs.specs.exits.states.Exits.{exits_split}
-use Rattle.pass_split_proof.specs.ready.Fields.{AreInnerIndices}
+use Rattle.pass_split_proof.specs.ready.Fields.{type_inside}
 use Rattle.pass_split_proof.specs.states.Instances.{IsLaidOut}
 use Rattle.pass_split_proof.specs.states.Related.{is_return_label, weight}
 use Rattle.rule_laws.specs.rules.counted.Widths.{first_other_width}
@@ -76,18 +77,32 @@ abbrev pub HavePlainWidths : Module → Type 0
 HavePlainWidths m = (k : ℕ) (f : Function) → slice_get m.functions k ≡ Some f → f.coroutine ≡ false
     → first_other_width k f ≡ None
 
+-- A literal index into a structure is below 2^31.
+abbrev pub IsSmallIndex : Ty → Arg → Type 0
+IsSmallIndex (structure ts) a = (n : ℕ) → a.value ≡ Operand.Number (pos n) → n < 2 ^ 31
+IsSmallIndex t a = Unit {0}
+
+abbrev pub AreSmallIndices : Module → Ty → List Arg → Type 0
+AreSmallIndices m t [] = Unit {0}
+AreSmallIndices m t (a ∷ args) = IsSmallIndex (unnamed m t) a × AreSmallIndices m (type_inside (unnamed m t) a) args
+
+-- all but the first, which counts whole types
+abbrev pub AreSmallInnerIndices : Module → Ty → List Arg → Type 0
+AreSmallInnerIndices m t [] = Unit {0}
+AreSmallInnerIndices m t (a ∷ args) = AreSmallIndices m t args
+
 -- of the module
 pub record AreFramedFacts (ls : Layouts) (m : Module) : Type 0 where
   pub coroutines : (k : ℕ) (f : Function) → slice_get m.functions k ≡ Some f → f.coroutine ≡ true
       → IsFramedFact ls m k f
-  -- waits for: what is woven in has the widths of the grammar
+  -- waits for: what is woven in has the widths of the grammar (`IsPutIn` asks kinds alone)
   pub widths : (k : ℕ) (f : Function) → slice_get m.functions k ≡ Some f → f.coroutine ≡ true
       → first_other_width k f ≡ None
-  -- waits for: a text has fewer than 2^31 fields
+  -- waits for: a text has structures of fewer than 2^31 fields
   pub fields : (k : ℕ) (f : Function) → slice_get m.functions k ≡ Some f
       → (block at name : ℕ) (inbounds : Bool) (ty : Ty)
       (base : Operand) (indices : List Arg)
-      → fetch f block at ≡ AtInstr (Instr.Gep name inbounds ty base indices) → AreInnerIndices m ty indices
+      → fetch f block at ≡ AtInstr (Instr.Gep name inbounds ty base indices) → AreSmallInnerIndices m ty indices
 
 -- of the framed form, and with blocks on the edges that leave windows
 pub record ArePartsFacts (ls : Layouts) (m : Module) : Type 0 where
