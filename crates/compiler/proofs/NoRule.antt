@@ -1,5 +1,5 @@
 -- What is lowered breaks no rule of modules without coroutines, and its framed form may be split.
-use Rattle.std.proofs.Common.{◌≡◌, ℕ, Bool, List, sym, subst, None}
+use Rattle.std.proofs.Common.{ℕ, Bool, List, sym, subst, None}
 use Rattle.std.specs.Prelude.{Result, IfOk}
 use Rattle.ir_base.specs.declared.status.Options.{Options}
 use Rattle.frame_layout.specs.declared.layout.Layouts.{Layouts}

@@ -1,5 +1,5 @@
 -- Good layouts are those of the coroutines in order, also of the framed form.
-use Rattle.std.proofs.Common.{◌≡◌, inl, inr, ℕ, ◌+◌, Bool, false, List, [], ◌∷◌, ap, ◌∙◌}
+use Rattle.std.proofs.Common.{◌≡◌, inl, inr, ℕ, ◌+◌, Bool, List, [], ◌∷◌, ap, ◌∙◌}
 use Rattle.std.specs.Prelude.{map}
 use Rattle.compiler.proofs.parts.Found.{found_in_order}
 use Rattle.compiler.specs.theorem.GoodLayouts.{AreGoodLayouts}

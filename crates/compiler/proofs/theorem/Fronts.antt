@@ -1,5 +1,5 @@
 -- The allocas of entries stand first in a framed form.
-use Rattle.std.proofs.Common.{◌≡◌, ⊎_elim, ℕ, ◌<◌, ◌+◌, zero, suc, Bool, true, false, List, [], ◌∷◌, ◌++◌, length, refl, sym, ap, ◌∙◌, subst, arith}
+use Rattle.std.proofs.Common.{◌≡◌, ⊎_elim, ℕ, ◌<◌, ◌+◌, zero, suc, Bool, true, false, List, [], ◌∷◌, length, refl, sym, ap, ◌∙◌, subst, arith}
 use Rattle.std.specs.Prelude.{Some, filter, slice_get, if◌then◌else◌}
 use Rattle.compiler.specs.theorem.Lowered.{AreAllocasFirst, HasAllocasFirst}
 use Rattle.frame_layout.specs.declared.layout.Layouts.{Layouts}

@@ -1,5 +1,5 @@
 -- The number of elided calls that a plain run counts goes on through the last passes.
-use Rattle.std.proofs.Common.{◌≡◌, ◌⊎◌, ⊎_elim, ℕ, ◌+◌, ◌-◌, ◌≤◌, ℤ, List, refl, sym, ap, ◌∙◌, arith}
+use Rattle.std.proofs.Common.{◌≡◌, ⊎_elim, ℕ, ◌+◌, ◌-◌, ◌≤◌, ℤ, List, refl, sym, ap, ◌∙◌, arith}
 use Rattle.std.proofs.lemmas.Bool.{cases_lt}
 use Rattle.run_agreement.proofs.Compose.{follows_returned, returned_fine}
 use Rattle.run_agreement.proofs.Runs.{iterate-add, over_stays, returned_over}

@@ -1,6 +1,6 @@
 -- The analyses' answers give tables of what a resume hands on and of the slots that its activation makes anew.
 use Rattle.std.proofs.Common.{◌≡◌, ◌⊎◌, inl, inr, ⊎_elim, ℕ, ◌+◌, ◌<◌, Bool, true, false, List, [], ◌∷◌, length}
-use Rattle.std.proofs.Common.{refl, sym, ap, ◌∙◌, subst, Option, Some, None, arith}
+use Rattle.std.proofs.Common.{refl, sym, ap, ◌∙◌, subst, Option, Some, None}
 use Rattle.std.specs.Prelude.{◌↔◌, IsTrue, map, slice_get, ◌==◌, ◌||◌}
 use Rattle.compiler.proofs.theorem.Facts.{good_layouts}
 use Rattle.compiler.proofs.theorem.Needed.{named_in, some_class, stands_at}

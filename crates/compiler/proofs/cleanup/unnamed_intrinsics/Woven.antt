@@ -1,6 +1,6 @@
 -- Instructions that are woven in name no intrinsic, and operands stand in each other's place alone.
 use Rattle.std.proofs.Common.{◌≡◌, ◌⊎◌, inl, inr, ℕ, true, refl, ap}
-use Rattle.std.specs.Prelude.{None, not}
+use Rattle.std.specs.Prelude.{not}
 use Rattle.compiler.specs.cleanup.rules.Clean.{calls_left, is_left_callee}
 use Rattle.ir_laws.proofs.facts.Truth.{and_second}
 use Rattle.ir_parts.specs.Contents.{instr_operands, part_operands}
@@ -10,7 +10,6 @@ use Rattle.ir_model.specs.declared.instr.Instr.{Instr}
 use Rattle.ir_model.specs.declared.module.Function.{Function}
 use Rattle.ir_model.specs.declared.module.Module.{Module}
 use Rattle.ir_model.specs.declared.operand.Callee.{Callee}
-use Rattle.ir_model.specs.declared.operand.Intrinsic.{Intrinsic}
 use Rattle.ir_model.specs.declared.operand.Operand.{Operand}
 use Rattle.compiler.proofs.cleanup.unnamed_intrinsics.Early.{calls_free, named_by, operands_free}
 use Rattle.compiler.specs.cleanup.unnamed_intrinsics.Unnamed.{NamesNoIntrinsic, is_no_intrinsic, names_intrinsic}

@@ -1,7 +1,7 @@
 -- Operands and callees that stay are no intrinsics where they weren't: where saves are written out, and where edges have blocks.
 use Rattle.std.proofs.Common.{◌≡◌, ℕ, Bool, true, false, List, ◌∷◌, refl, ap, ◌∙◌}
 use Rattle.std.specs.List.{list_all}
-use Rattle.std.specs.Prelude.{None, not, ◌&&◌}
+use Rattle.std.specs.Prelude.{not, ◌&&◌}
 use Rattle.compiler.specs.cleanup.rules.Clean.{calls_left, is_left_callee}
 use Rattle.ir_base.specs.declared.outcome.Place.{Place}
 use Rattle.pass_proofs.proofs.early.local_rules.Rules.{all_in_args, all_in_instr, all_in_phi, all_in_term}
