@@ -70,14 +70,14 @@ abbrev Passes : (ℕ → Bool) → (ℕ → Bool) → Type 0
 Passes t u = (v : ℕ) → t v ≡ true → u v ≡ true
 
 -- a getelementptr of a base that passes the test gives the name
-record IsPartIn (t : ℕ → Bool) (is : List Instr) (v : ℕ) : Type 0 where
-  at : ℕ
-  inbounds : Bool
-  ty : Ty
-  base : ℕ
-  indices : List Arg
-  stands : slice_get is at ≡ Some (Instr.Gep v inbounds ty (Operand.Local base) indices)
-  passes : t base ≡ true
+pub record IsPartIn (t : ℕ → Bool) (is : List Instr) (v : ℕ) : Type 0 where
+  pub at : ℕ
+  pub inbounds : Bool
+  pub ty : Ty
+  pub base : ℕ
+  pub indices : List Arg
+  pub stands : slice_get is at ≡ Some (Instr.Gep v inbounds ty (Operand.Local base) indices)
+  pub passes : t base ≡ true
 
 later_part : (t : ℕ → Bool) (i : Instr) (is : List Instr) (v : ℕ) → IsPartIn t is v → IsPartIn t (i ∷ is) v
 later_part t i is v x = record {
@@ -152,13 +152,13 @@ blocks_more t u more (b ∷ bs) v h = on (blocks_more t u more bs v)
     on rest (inr e) = has_right (geps_from u b.instrs) (geps_by u bs) v (rest e)
 
 -- the same in a block
-record IsPart (t : ℕ → Bool) (bs : List Block) (v : ℕ) : Type 0 where
-  block : ℕ
-  own : Block
-  got : slice_get bs block ≡ Some own
-  part : IsPartIn t own.instrs v
+pub record IsPart (t : ℕ → Bool) (bs : List Block) (v : ℕ) : Type 0 where
+  pub block : ℕ
+  pub own : Block
+  pub got : slice_get bs block ≡ Some own
+  pub part : IsPartIn t own.instrs v
 
-part_of : (t : ℕ → Bool) (bs : List Block) (v : ℕ) → has_name (geps_by t bs) v ≡ true → IsPart t bs v
+pub part_of : (t : ℕ → Bool) (bs : List Block) (v : ℕ) → has_name (geps_by t bs) v ≡ true → IsPart t bs v
 part_of t [] v h = absurd (cc)
 part_of t (b ∷ bs) v h = on (part_of t bs v) (has_either (geps_from t b.instrs) (geps_by t bs) v h)
   where

@@ -4,7 +4,7 @@ use Rattle.std.proofs.Common.{refl, sym, ap, ◌∙◌, subst, Option, Some, Non
 use Rattle.std.specs.Prelude.{◌↔◌, IsTrue, map, slice_get, ◌==◌, ◌||◌}
 use Rattle.compiler.proofs.theorem.Facts.{good_layouts}
 use Rattle.compiler.proofs.theorem.Needed.{named_in, some_class, stands_at}
-use Rattle.compiler.proofs.theorem.Roots.{alloca_of, one_root}
+use Rattle.compiler.proofs.theorem.Roots.{one_root}
 use Rattle.compiler.specs.theorem.Anew.{Anew, IsAnewIn, IsAnewOf, IsMemorySlot, IsSlotOf}
 use Rattle.compiler.specs.theorem.Lowered.{IsLowered, Lowered, early}
 use Rattle.flow_solver.specs.Paths.{IsListed}
@@ -39,6 +39,7 @@ use Rattle.pass_proofs.proofs.kept.sources.Modules.{at_function, early_has_shape
 use Rattle.pass_proofs.proofs.kept.sources.Names.{none_outside, suspend_inside}
 use Rattle.pass_proofs.specs.edges.paths.Spots.{moved}
 use Rattle.rule_laws.specs.rules.function_rules.Kept.{KeepsFunctionRules}
+use Rattle.rule_laws.proofs.rules.source_rules.Slots.{alloca_of}
 use Rattle.rule_shape.specs.Switches.{wrong_switch}
 use Rattle.run_framed.specs.Framed.{begin_name}
 
