@@ -93,7 +93,7 @@ module _ (f : Function) (keeps : KeepsEdges f) where
 
   -- ---- closed places
 
-  closed_home : (p : Point) → IsClosed g (moved f p) → IsClosed f p
+  pub closed_home : (p : Point) → IsClosed g (moved f p) → IsClosed f p
   closed_home p (inl a) = inl (after_home p a)
   closed_home p (inr w) =
       let x = some_window g (moved f p) w in

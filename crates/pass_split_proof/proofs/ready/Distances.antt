@@ -59,7 +59,7 @@ literal_index k lt =
     (lt-ltb (2 * k) (2 ^ 32) (omega arith))
     ∙ ap (λ (n : ℕ). Some n) (mod-eq_of_lt (omega arith))
 
-field_index : (m : Module) (env : Env) (a : Arg) (k : ℕ) → a.ty ≡ int 32 → a.value ≡ Operand.Number (pos k)
+pub field_index : (m : Module) (env : Env) (a : Arg) (k : ℕ) → a.ty ≡ int 32 → a.value ≡ Operand.Number (pos k)
     → k < 2 ^ 31 → index_of (number_at a.ty (arg_value m env a)) ≡ Some k
 field_index m env a k t v lt =
     (λ i. index_of (number_at (t i) (operand_value m env (t i) (v i))))

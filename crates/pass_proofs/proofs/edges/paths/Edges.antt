@@ -91,7 +91,7 @@ module _ (f : Function) where
   -- ---- the edges of a terminator
 
   -- an edge to t that leads to l then
-  record IsLeg (k : ℕ) (b : Block) (ts ls : List ℕ) (q y : Point) : Type 0 where
+  pub record IsLeg (k : ℕ) (b : Block) (ts ls : List ℕ) (q y : Point) : Type 0 where
     pub target : ℕ
     pub label : ℕ
     pub below : target < length f.names
@@ -129,11 +129,11 @@ module _ (f : Function) where
     pub point : Point
     pub leg : IsLeg k b ts ls q point
 
-  record LegTo (k : ℕ) (b : Block) (ts ls : List ℕ) (y : Point) : Type 0 where
+  pub record LegTo (k : ℕ) (b : Block) (ts ls : List ℕ) (y : Point) : Type 0 where
     pub point : Point
     pub leg : IsLeg k b ts ls point y
 
-  abbrev Legs : ℕ → Block → List ℕ → List ℕ → Type 0
+  abbrev pub Legs : ℕ → Block → List ℕ → List ℕ → Type 0
   Legs k b ts ls = AreSplit (phi_flags f) b.label (edges_of_block k b) ts ls
 
   leg_from : (k : ℕ) (b : Block) (ts ls : List ℕ) → Each (λ t. t < length f.names) ts → Legs k b ts ls → (q : Point) → Has (map (entry_point f) ts) q → LegFrom k b ts ls q
@@ -148,7 +148,7 @@ module _ (f : Function) where
           record { point = entry_point (with_edge_blocks f) l; leg = subst (λ (x : Point). IsLeg k b (t ∷ ts) (l ∷ ls) x (entry_point (with_edge_blocks f) l)) (sym s) (nearest k b t l ts ls low.0 split.0) }
       on again (inr m) = let i = again m in record { point = i.point; leg = further k b t l ts ls q i.point i.leg }
 
-  leg_to : (k : ℕ) (b : Block) (ts ls : List ℕ) → Each (λ t. t < length f.names) ts → Legs k b ts ls → (y : Point) → Has (map (entry_point (with_edge_blocks f)) ls) y → LegTo k b ts ls y
+  pub leg_to : (k : ℕ) (b : Block) (ts ls : List ℕ) → Each (λ t. t < length f.names) ts → Legs k b ts ls → (y : Point) → Has (map (entry_point (with_edge_blocks f)) ls) y → LegTo k b ts ls y
   leg_to k b [] [] low split y h = absurd (cc)
   leg_to k b [] (l ∷ ls) low split y h = absurd split
   leg_to k b (t ∷ ts) [] low split y h = absurd split
@@ -165,7 +165,7 @@ module _ (f : Function) where
   abbrev pub new_term : ℕ → Block → List ℕ
   new_term k b = targets (split_term (phi_flags f) (ends_in_suspend b.instrs) (own_number f k) b.term)
 
-  legs_of_block : (k : ℕ) (b : Block) → Legs k b (targets b.term) (new_term k b)
+  pub legs_of_block : (k : ℕ) (b : Block) → Legs k b (targets b.term) (new_term k b)
   legs_of_block k b = term_split (phi_flags f) b.label (ends_in_suspend b.instrs) (own_number f k) b.term
 
   abbrev pub nexts_by : Function → ℕ → ℕ → ℕ → List ℕ → List Point

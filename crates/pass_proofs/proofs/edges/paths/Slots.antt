@@ -137,7 +137,7 @@ module _ (f : Function) where
     any_same t u h [] = refl
     any_same t u h (v ∷ vs) = let rest = any_same t u h vs in λ i. h v i || rest i
 
-    same_escaped : (a : ℕ) → is_escaped g a ≡ is_escaped f a
+    pub same_escaped : (a : ℕ) → is_escaped g a ≡ is_escaped f a
     same_escaped a =
         ap (λ (vs : List ℕ). list_any (λ v. list_any (exposed_in_block v) (with_edge_blocks f).blocks) vs) (same_addresses a)
         ∙ any_same (λ v. list_any (exposed_in_block v) (with_edge_blocks f).blocks) (λ v. list_any (exposed_in_block v) f.blocks) exposed_anywhere (addresses_of f a)
