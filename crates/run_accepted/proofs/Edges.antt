@@ -78,7 +78,7 @@ module _ (f : Function) (keeps : KeepsEdges f) where
             (subst (λ (q : Point). Leads g (points_where (is_call_of other) g) q (moved f p)) x.is r.path);
       }
 
-  after_home : (p : Point) → IsAfterEnd g (moved f p) → IsAfterEnd f p
+  pub after_home : (p : Point) → IsAfterEnd g (moved f p) → IsAfterEnd f p
   after_home p a =
       let x = from_where f keeps.labels (is_call_of Intrinsic.CoroEnd) a.start a.is_start in
       record {

@@ -6,6 +6,8 @@ pub mod Alive
 pub mod Places
 pub mod Types
 pub mod Edges
+pub mod EdgeSpots
+pub mod EdgeFrames
 pub mod Sources
 pub mod Modules
 pub mod Steps

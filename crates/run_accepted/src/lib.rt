@@ -8,6 +8,7 @@
 #![tactic(auto)]
 
 ghost use Rattle.std.specs.Prelude.{◌≡◌, ℕ, ℤ, List, None, false, true};
+ghost use Rattle.frame_classes.specs.Classes.{NeedsFrame};
 ghost use Rattle.ir_base.specs.declared.outcome.Word.{Word};
 ghost use Rattle.ir_model.specs.Names.{function_at};
 ghost use Rattle.ir_model.specs.declared.module.Frame.{Frame};
@@ -15,7 +16,8 @@ ghost use Rattle.ir_model.specs.declared.module.Function.{Function};
 ghost use Rattle.ir_model.specs.declared.module.Module.{Module};
 ghost use Rattle.ir_paths.specs.Facts.{facts_of};
 ghost use Rattle.pass_early.specs.Early.{early_module};
-ghost use Rattle.pass_proofs.specs.edges.states.MovedState.{edges_split};
+ghost use Rattle.pass_edges.specs.EdgeBlocks.{with_edge_blocks};
+ghost use Rattle.pass_proofs.specs.edges.states.MovedState.{KeepsEdges, edges_split};
 ghost use Rattle.pass_renewed_meaning.specs.Rules.{KeepsStepRules};
 ghost use Rattle.pass_renewed_proof.specs.Ledger.{AreSmallGlobals};
 ghost use Rattle.rule_all.specs.Refused.{IsRefused};
@@ -91,6 +93,11 @@ pub fn accepted_edges_keep_rules_of_runs()
         → KeepsStepRules (edges_split (early_module m)) (function_at (edges_split (early_module m)) func) }
     ensures globals { (text : List ℕ) (m : Module) → StandsFor text m → IsRefused Stage.Source m None
         → AreSmallGlobals (edges_split (early_module m)) }
+{}
+
+/// Where edges of a coroutine have blocks no further slot needs the frame.
+pub fn frames_stay_where_edges_have_blocks()
+    ensures { (f : Function) → KeepsEdges f → (slot : ℕ) → NeedsFrame (with_edge_blocks f) slot → NeedsFrame f slot }
 {}
 
 /// In each state of a run of an accepted source two slots of one instance that live at once conflict. So do a live slot
