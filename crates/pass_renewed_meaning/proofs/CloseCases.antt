@@ -72,8 +72,9 @@ module _ (c : Setting) (x : Here c) (s t : State) (beside : IsBeside c.code c.fl
     ended none after done = record {
       other_one = record (returned t) { outcome = Outcome.Returned None };
       goes = ap (pop (returned t) None) none_there;
-      related = Ended (subst (λ z. HaveEnded c.code z (record (returned t) { outcome = Outcome.Returned None })) same (record {
+      related = Ended (subst (λ z. HaveEnded c.code c.flags c.roots z (record (returned t) { outcome = Outcome.Returned None })) same (record {
         alike = alike (Outcome.Returned None);
+        last = record { before = s; other = t; beside = beside; is = refl; other_is = refl };
         over = λ runs. runs;
         shown = λ i. record {
           events = map (seen_event c.code) (events i);

@@ -211,6 +211,13 @@ module _ (c : Setting) (x : Here c) where
             alike = subst (λ (z : State). AreAlike z r.1) (sym first.is) (subst (AreAlike (record (returned x.s) {
               outcome = first.outcome;
             })) (sym second.is) (alike first.outcome second.outcome));
+            last = record {
+              before = x.s;
+              other = other c x;
+              beside = x.beside;
+              is = first.is ∙ (λ i. record (returned x.s) { outcome = (sym first.is i).outcome });
+              other_is = second.is ∙ (λ i. record (returned (other c x)) { outcome = (sym second.is i).outcome });
+            };
             over = λ runs. first.over (subst (λ (z : State). IsRunning z.outcome) first.is runs);
             shown = r.4;
           });

@@ -13,7 +13,7 @@ use Rattle.pass_renewed_proof.specs.Renewed.{Flags, RenewedGiven, Roots, renewed
 use Rattle.run_agreement.specs.Costs.{AgreesBy, cost_from}
 use Rattle.run_agreement.specs.Machines.{IsFine, IsRunning, iterate, state_at}
 use Rattle.run_laws.specs.transfer.Shapes.{Pairwise}
-use Rattle.run_source.specs.Source.{given, step_by}
+use Rattle.run_source.specs.Source.{given, returned, step_by}
 use Rattle.run_source.specs.declared.state.State.{State}
 use Rattle.run_source_tables.specs.Given.{Given}
 use Rattle.run_step.specs.Runs.{seen_of}
@@ -25,16 +25,25 @@ pub record AreAlike (s t : State) : Type 0 where
   pub instances : Pairwise AreLikeInstances s.instances t.instances
   pub activations : Pairwise AreLikeActivations (s.top ∷ s.below) (t.top ∷ t.below)
 
+-- both behind the last return, before which they stood beside each other
+pub record HaveReturned (m : Module) (flags : Flags) (roots : Roots) (s t : State) : Type 0 where
+  pub before : State
+  pub other : State
+  pub beside : IsBeside m flags roots before other
+  pub is : s ≡ record (returned before) { outcome = s.outcome }
+  pub other_is : t ≡ record (returned other) { outcome = t.outcome }
+
 -- both runs are over, and have shown the same
-pub record HaveEnded (m : Module) (s t : State) : Type 0 where
+pub record HaveEnded (m : Module) (flags : Flags) (roots : Roots) (s t : State) : Type 0 where
   pub alike : AreAlike s t
+  pub last : HaveReturned m flags roots s t
   pub over : IsRunning s.outcome → ⊥
   pub shown : seen_of m t.world t.outcome ≡ seen_of m s.world s.outcome
 
 -- states at corresponding steps
 pub data AreInStep (m : Module) (flags : Flags) (roots : Roots) (s t : State) : Type 0 where
   Goes : IsBeside m flags roots s t → AreInStep m flags roots s t
-  Ended : HaveEnded m s t → AreInStep m flags roots s t
+  Ended : HaveEnded m flags roots s t → AreInStep m flags roots s t
 
 -- the second run is on its way to what stands beside the state
 pub record IsOnItsWay (s t : State) : Type 0 where
