@@ -1,5 +1,5 @@
 -- What is seen of an operand in the framed run, over loads and addresses, stands for what the source has.
-use Rattle.std.proofs.Common.{◌≡◌, ⊎_elim, ℕ, ◌+◌, ◌%◌, ◌^◌, ◌<◌, ◌≤◌, true, false, List, length, refl, sym, ap, ◌∙◌, subst, arith}
+use Rattle.std.proofs.Common.{◌≡◌, ⊎_elim, ℕ, ◌+◌, ◌%◌, ◌^◌, ◌<◌, ◌≤◌, true, false, List, [], length, refl, sym, ap, ◌∙◌, subst, arith}
 use Rattle.std.proofs.lemmas.Option.{slice_get-map}
 use Rattle.std.specs.List.{Contains}
 use Rattle.std.specs.Prelude.{ℤ, None, Option, Some, option_map, slice_get, unwrap_or, not}
@@ -90,8 +90,7 @@ is_by_names k None (Some g) d = refl
 is_by_names k None None (Some d) = refl
 is_by_names k None None None = refl
 
-module _ (homes : List Home) (m n : Module) (same : AreSameNames m n)
-    (stand : (k : ℕ) → k < length n.globals → home_of homes k ≡ whole_home k) where
+module _ (m n : Module) (same : AreSameNames m n) where
   same_global : (name : Name) → global_named n name ≡ global_named m name
   same_global name =
       ap (λ (gs : List GlobalItem). first_where (λ (x : GlobalItem). same_name x.name name) gs) same.globals
@@ -102,6 +101,19 @@ module _ (homes : List Home) (m n : Module) (same : AreSameNames m n)
       ∙ (λ i. address_by_names (same.count i) (same.functions name i) (same_global name i) (same.declarations name i))
       ∙ sym (is_by_names m (function_named m name) (global_named m name) (declaration_named m name))
 
+  -- a constant is the same in both
+  pub empty_same : (o : Operand) (ty : Ty) → operand_value n [] ty o ≡ operand_value m [] ty o
+  empty_same (Operand.Local v) ty = refl
+  empty_same (Operand.Global name) ty = same_address name
+  empty_same (Operand.Number z) ty = refl
+  empty_same Operand.True ty = refl
+  empty_same Operand.False ty = refl
+  empty_same Operand.Null ty = refl
+  empty_same Operand.None ty = refl
+  empty_same Operand.Poison ty = refl
+
+module _ (homes : List Home) (m n : Module) (same : AreSameNames m n)
+    (stand : (k : ℕ) → k < length n.globals → home_of homes k ≡ whole_home k) where
   address_stands_itself : (name : Name) → IsValue homes (address_of n name) (address_of n name)
   address_stands_itself name = on (function_named n name) (global_named n name) (declaration_named n name) refl
     where
@@ -117,7 +129,7 @@ module _ (homes : List Home) (m n : Module) (same : AreSameNames m n)
       → IsValue homes (operand_value m env ty o) (operand_value n other ty o)
   other_stands env other (Operand.Local v) none ty = absurd (none v refl)
   other_stands env other (Operand.Global name) none ty =
-      subst (λ (v : Value). IsValue homes v (address_of n name)) (same_address name) (address_stands_itself name)
+      subst (λ (v : Value). IsValue homes v (address_of n name)) (same_address m n same name) (address_stands_itself name)
   other_stands env other (Operand.Number z) none ty = literal_itself homes ty z
   other_stands env other Operand.True none ty = refl
   other_stands env other Operand.False none ty = refl

@@ -17,7 +17,7 @@ use Rattle.ir_paths.specs.Windows.{leaves}
 use Rattle.ir_paths.specs.declared.point.Point.{Point}
 use Rattle.ir_paths.specs.declared.point.Window.{Window}
 use Rattle.pass_frames_proof.proofs.lined.Lines.{framed_does}
-use Rattle.pass_frames_proof.proofs.stepping.Operands.{AreSameNames, other_stands, same_address}
+use Rattle.pass_frames_proof.proofs.stepping.Operands.{AreSameNames, empty_same, other_stands}
 use Rattle.pass_frames_proof.proofs.stepping.Rest.{LeavesRest, own_slots, rest_related}
 use Rattle.pass_frames_proof.proofs.stepping.Same.{rest_left}
 use Rattle.pass_frames_proof.proofs.stepping.Stands.{cost_is, renewed_does}
@@ -253,25 +253,14 @@ module _ (b : Building) (g : RenewedGiven) (given : AreGiven b g) (s t : State) 
   abbrev d2 : Context
   d2 = framed_context b.given t
 
-  empty_same : (o : Operand) (ty : Ty) → operand_value d2.code [] ty o ≡ operand_value c2.code [] ty o
-  empty_same (Operand.Local v) ty = refl
-  empty_same (Operand.Global name) ty =
-      same_address r.homes g.given.code b.given.given.code (same_names b g given s t r h.plain h.runs h.mode)
-      (λ k lt. r.globals k (subst (λ (z : Module). k < length z.globals) given.code lt)) name
-  empty_same (Operand.Number z) ty = refl
-  empty_same Operand.True ty = refl
-  empty_same Operand.False ty = refl
-  empty_same Operand.Null ty = refl
-  empty_same Operand.None ty = refl
-  empty_same Operand.Poison ty = refl
-
   transferred2 : IsTransferred (IsValue r.homes) same_maps c2 d2 s.top.values t.top.values (AtTerm e) (AtTerm e)
   transferred2 = record {
     shape = shape b g given s t r h.plain h.runs h.mode (AtTerm e);
     callee = tt;
     pointed = tt;
     distance = tt;
-    cases = each_all (IsSameCase c2 d2) (λ (k : Case). empty_same k.arg.value k.arg.ty) (cases_at (AtTerm e));
+    cases = each_all (IsSameCase c2 d2) (λ (k : Case). empty_same g.given.code b.given.given.code
+        (same_names b g given s t r h.plain h.runs h.mode) k.arg.value k.arg.ty) (cases_at (AtTerm e));
     no_slot = tt;
     bytes = tt;
   }
