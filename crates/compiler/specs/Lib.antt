@@ -4,6 +4,4 @@ pub mod NoRule
 pub mod Printed
 pub mod cleanup
 pub mod order
-pub mod parts
-pub mod theorem
 pub mod whole

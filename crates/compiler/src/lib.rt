@@ -11,17 +11,15 @@
 //! either (clause `printed`). `lower_module` does the same for a module, each function of which has fewer than 2^64
 //! names once it is lowered (clause `few`).
 //!
-//! `theorem` puts all passes in a row; `cleanup`, `order`, `fit` and `whole` have what it takes of the last passes, of
-//! good layouts and of what is lowered.
+//! `compiler_theorem` puts all passes in a row. `cleanup`, `order`, `fit` and `whole` have what it takes of the last
+//! passes, of good layouts and of what is lowered.
 #![tactic(auto)]
 
 pub mod cleanup;
 pub mod fit;
 mod lowered;
 pub mod order;
-pub mod parts;
 mod passes;
-pub mod theorem;
 pub mod whole;
 
 pub use lowered::{Lowered, Lowering, lower, lower_module};

@@ -1,5 +1,0 @@
-use Rattle.compiler.proofs.parts.Ordered.{framed_in_order}
-use Rattle.compiler.proofs.parts.framed_layouts_stand_in_order.Goals as goal
-
-pub returns : goal.returns
-returns c = framed_in_order

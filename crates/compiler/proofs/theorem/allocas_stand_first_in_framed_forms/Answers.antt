@@ -1,5 +1,0 @@
-use Rattle.compiler.proofs.theorem.Fronts.{allocas_stand_first}
-use Rattle.compiler.proofs.theorem.allocas_stand_first_in_framed_forms.Goals as goal
-
-pub returns : goal.returns
-returns c = allocas_stand_first

@@ -1,7 +1,0 @@
-pub mod Anew
-pub mod Elision
-pub mod Entries
-pub mod GoodLayouts
-pub mod Lowered
-pub mod SharedBytes
-pub mod Theorem

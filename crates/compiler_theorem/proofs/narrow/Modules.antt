@@ -1,0 +1,128 @@
+-- Getelementptrs of an accepted source lead through structures of fewer fields than 2^31, and so do those of its forms.
+use Rattle.std.proofs.Common.{◌≡◌, ◌<◌, ◌^◌, ℕ, Bool, true, false, List, length, refl, sym, ◌∙◌, subst, arith}
+use Rattle.std.proofs.lemmas.Option.{slice_get-map}
+use Rattle.std.specs.Prelude.{None, Option, Some, option_map, slice_get, unwrap_or, if◌then◌else◌}
+use Rattle.compiler.proofs.whole.lowered_sources.Sources.{comes_from}
+use Rattle.compiler_theorem.proofs.narrow.Early.{early_narrow}
+use Rattle.compiler_theorem.proofs.narrow.Indices.{fields_small, small_indices, steady_indices}
+use Rattle.compiler_theorem.proofs.narrow.Passes.{edges_narrow, exits_narrow, framed_narrow}
+use Rattle.compiler_theorem.proofs.narrow.Written.{text_narrow}
+use Rattle.compiler_theorem.proofs.parts.Followable.{comes}
+use Rattle.compiler_theorem.specs.narrow.Narrow.{IsNarrow, IsNarrowFunction, IsNarrowModule}
+use Rattle.compiler_theorem.specs.parts.Framed.{AreSmallInnerIndices}
+use Rattle.compiler_theorem.specs.theorem.Anew.{HaveSteadyIndices}
+use Rattle.compiler_theorem.specs.theorem.Lowered.{IsLowered, Lowered, early, edged}
+use Rattle.ir_laws.proofs.facts.Members.{at_each, each_by}
+use Rattle.ir_model.specs.Names.{function_at, no_function}
+use Rattle.ir_model.specs.Ty.{Ty}
+use Rattle.ir_model.specs.declared.instr.Instr.{Instr}
+use Rattle.ir_model.specs.declared.module.Function.{Function}
+use Rattle.ir_model.specs.declared.module.TypeItem.{TypeItem}
+use Rattle.ir_model.specs.declared.operand.Arg.{Arg}
+use Rattle.ir_model.specs.declared.operand.Operand.{Operand}
+use Rattle.pass_edges.specs.EdgeBlocks.{with_edge_blocks}
+use Rattle.pass_exits.specs.ExitBlocks.{with_exit_blocks}
+use Rattle.pass_frames.specs.Framed.{layout_at}
+use Rattle.pass_proofs.proofs.frames.unnamed.Positions.{Becomes, FramedBy, Unchanged, stands_as}
+use Rattle.pass_proofs.proofs.kept.sources.Whole.{split_rules}
+use Rattle.pass_proofs.specs.edges.states.MovedState.{edge_function}
+use Rattle.pass_proofs.specs.exits.states.Exits.{exits_split}
+use Rattle.rule_laws.specs.rules.function_rules.Kept.{KeepsFunctionRules}
+use Rattle.run_laws.specs.changed.Changed.{Each}
+use Rattle.run_step.specs.Step.{AtInstr, fetch}
+
+module _ (l : Lowered) (low : IsLowered l) where
+  abbrev bound : ℕ
+  bound = length l.text
+
+  small : length l.text < 2 ^ 31
+  small = omega (arith, low.source.short)
+
+  source : IsNarrowModule (length l.text) l.source
+  source = text_narrow l.text l.source low.source.stands
+
+  -- ---- the first pass, and blocks on edges
+
+  early_one : (k : ℕ) (f : Function) → slice_get (early l).functions k ≡ Some f → IsNarrowFunction (length l.text) f
+  early_one k f there =
+      let x = comes_from l.source k f there in
+      subst (IsNarrowFunction (length l.text)) (sym x.is)
+      (early_narrow (length l.text) x.source
+      (at_each (IsNarrowFunction (length l.text)) l.source.functions k x.source source.functions x.stands))
+
+  edged_by : (f : Function) (b : Bool) → IsNarrowFunction (length l.text) f
+      → IsNarrowFunction (length l.text) (if b then with_edge_blocks f else f)
+  edged_by f true h = edges_narrow (length l.text) f h
+  edged_by f false h = h
+
+  edged_one : (k : ℕ) (g : Function) → slice_get (edged l).functions k ≡ Some g → IsNarrowFunction (length l.text) g
+  edged_one k g there =
+      on (slice_get (early l).functions k) refl (sym (slice_get-map edge_function (early l).functions k) ∙ there)
+    where
+      on : (o : Option Function) → slice_get (early l).functions k ≡ o → option_map edge_function o ≡ Some g
+          → IsNarrowFunction (length l.text) g
+      on None e d = absurd (cc)
+      on (Some f) e d =
+          let same : edge_function f ≡ g = cc in
+          subst (IsNarrowFunction (length l.text)) same (edged_by f f.coroutine (early_one k f e))
+
+  edged_narrow : IsNarrowModule (length l.text) (edged l)
+  edged_narrow = record {
+    types = source.types;
+    functions = each_by (IsNarrowFunction (length l.text)) (edged l).functions edged_one;
+  }
+
+  -- indices into structures are literals there
+  pub edged_steady : (func : ℕ) → HaveSteadyIndices (edged l) (function_at (edged l) func)
+  edged_steady func = on (slice_get (edged l).functions func) refl
+    where
+      on : (o : Option Function) → slice_get (edged l).functions func ≡ o
+          → HaveSteadyIndices (edged l) (unwrap_or o no_function)
+      on None e name block at inbounds ty base indices there = absurd (cc)
+      on (Some f) e name block at inbounds ty base indices there =
+          steady_indices (edged l) ty indices
+          (fields_small (length l.text) small (edged l) edged_narrow func f
+          (split_rules l.text l.source low.source.stands low.source.accepted func f e) e block at name inbounds ty base
+          indices there)
+
+  -- ---- framed forms, with blocks on edges that leave windows
+
+  framed_by : (k : ℕ) (f g : Function) → slice_get (early l).functions k ≡ Some f
+      → Becomes (early l) l.layouts.coroutines f g → IsNarrowFunction (length l.text) g
+  framed_by k f _ there (Unchanged plain) = early_one k f there
+  framed_by k f g there (FramedBy taken _ marked framed) =
+      framed_narrow (length l.text) (early l) (layout_at l.layouts.coroutines taken) f g framed (early_one k f there)
+
+  framed_one : (k : ℕ) (g : Function) → slice_get l.framed.functions k ≡ Some g → IsNarrowFunction (length l.text) g
+  framed_one k g there =
+      let x = stands_as (early l) l.layouts.coroutines low.is_framed.functions.count (early l).functions
+      l.framed.functions low.is_framed.functions.framed k g there in
+      framed_by k x.source g x.stands x.becomes
+
+  exited_by : (f : Function) (b : Bool) → IsNarrowFunction (length l.text) f
+      → IsNarrowFunction (length l.text) (if b then with_exit_blocks f else f)
+  exited_by f true h = exits_narrow (length l.text) f h
+  exited_by f false h = h
+
+  exited_one : (k : ℕ) (h : Function) → slice_get (exits_split l.framed).functions k ≡ Some h
+      → IsNarrowFunction (length l.text) h
+  exited_one k h there =
+      let y = comes l.framed k h there in
+      subst (IsNarrowFunction (length l.text)) y.is
+      (exited_by y.source y.source.coroutine (framed_one k y.source y.stands))
+
+  exited_narrow : IsNarrowModule (length l.text) (exits_split l.framed)
+  exited_narrow = record {
+    types = subst (Each (λ (t : TypeItem). IsNarrow (length l.text) t.ty)) (sym low.is_framed.types) source.types;
+    functions = each_by (IsNarrowFunction (length l.text)) (exits_split l.framed).functions exited_one;
+  }
+
+  pub framed_small : ((k : ℕ) (f : Function) → slice_get (exits_split l.framed).functions k ≡ Some f
+      → KeepsFunctionRules (exits_split l.framed) k f) → (k : ℕ) (f : Function)
+      → slice_get (exits_split l.framed).functions k ≡ Some f → (block at name : ℕ) (inbounds : Bool) (ty : Ty)
+      (base : Operand) (indices : List Arg) → fetch f block at ≡ AtInstr (Instr.Gep name inbounds ty base indices)
+      → AreSmallInnerIndices (exits_split l.framed) ty indices
+  framed_small rules k f there block at name inbounds ty base indices e =
+      small_indices (exits_split l.framed) ty indices
+      (fields_small (length l.text) small (exits_split l.framed) exited_narrow k f (rules k f there) there block at name
+      inbounds ty base indices e)

@@ -1,0 +1,15 @@
+pub mod Built
+pub mod Elided
+pub mod Entries
+pub mod Facts
+pub mod Framing
+pub mod Fronts
+pub mod Needed
+pub mod Renewing
+pub mod Tables
+pub mod Numbered
+pub mod Roots
+pub mod Rows
+pub mod Slots
+pub mod Stack
+pub mod Whole

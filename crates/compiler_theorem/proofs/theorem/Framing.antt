@@ -1,0 +1,177 @@
+-- Where the steps of the simulation of frames are followed, the framed form of an accepted source agrees with the run
+-- that makes slots anew.
+use Rattle.std.proofs.Common.{◌≡◌, ℕ, zero, suc, arith, Bool, true, false, List, [], ◌∷◌, length, map, Option, Some, None, refl, sym, ap, ◌∙◌}
+use Rattle.std.proofs.lemmas.Bool.{false≢true}
+use Rattle.std.proofs.lemmas.List.{length-map}
+use Rattle.std.proofs.lemmas.Option.{slice_get-map}
+use Rattle.std.specs.Prelude.{if◌then◌else◌, option_map, slice_get, unwrap_or}
+use Rattle.compiler_theorem.proofs.parts.Globals.{contents_stand}
+use Rattle.compiler_theorem.proofs.parts.Ways.{first_mapped}
+use Rattle.compiler_theorem.proofs.theorem.Built.{framings, sources_built}
+use Rattle.compiler_theorem.proofs.theorem.Renewing.{early_entry, slots_kept}
+use Rattle.compiler_theorem.specs.theorem.Anew.{Anew, IsAnewOf}
+use Rattle.compiler_theorem.specs.theorem.Built.{building}
+use Rattle.compiler_theorem.specs.theorem.Entries.{IsEntryCall, Run}
+use Rattle.compiler_theorem.specs.theorem.Lowered.{IsLowered, Lowered, early, edged, framed_run, price_renewed, renewed_run, sizes_of}
+use Rattle.compiler_theorem.specs.theorem.Theorem.{renewing}
+use Rattle.ir_base.specs.declared.name.Name.{Name}
+use Rattle.ir_laws.proofs.facts.Lists.{map_same}
+use Rattle.ir_laws.specs.facts.same_names.Same.{naming}
+use Rattle.ir_model.specs.Names.{first_where, function_at, no_function, same_name}
+use Rattle.ir_model.specs.declared.module.Declaration.{Declaration}
+use Rattle.ir_model.specs.declared.module.Function.{Function}
+use Rattle.ir_model.specs.declared.module.GlobalItem.{GlobalItem}
+use Rattle.ir_model.specs.declared.module.Module.{Module}
+use Rattle.pass_edges.specs.EdgeBlocks.{with_edge_blocks}
+use Rattle.pass_frames_proof.proofs.followed.Assembly.{followed_keep}
+use Rattle.pass_frames_proof.proofs.start.States.{starts_built}
+use Rattle.pass_frames_proof.proofs.stepping.Operands.{AreSameNames, empty_same}
+use Rattle.pass_frames_proof.specs.Followed.{AreStepsFollowed}
+use Rattle.pass_frames_proof.specs.Meaning.{PaysForFrames}
+use Rattle.pass_frames_proof.specs.Related.{AreBuiltOf, AreShownAlike, Building}
+use Rattle.pass_frames_proof.specs.Stepping.{AreGiven}
+use Rattle.pass_proofs.proofs.edges.states.Parts.{named_moved}
+use Rattle.pass_proofs.proofs.frames.headings.Headings.{framed_names}
+use Rattle.pass_proofs.specs.edges.states.MovedState.{edge_function}
+use Rattle.pass_split_proof.specs.states.Memories.{AreContents}
+use Rattle.pass_renewed_proof.specs.Ledger.{AreSmallGlobals}
+use Rattle.pass_renewed_proof.specs.Prices.{Prices}
+use Rattle.run_accepted.proofs.Accepted.{edged_globals}
+use Rattle.run_agreement.specs.Costs.{AgreesBy}
+use Rattle.run_laws.proofs.memory.Itself.{stands_in_itself}
+use Rattle.run_laws.specs.memory.Standing.{Embeds, own_homes}
+use Rattle.run_memory.proofs.Digits.{length-encode}
+use Rattle.run_memory.specs.Whole.{AreWhole, IsWhole}
+use Rattle.run_memory.specs.Memory.{access_bytes, encode, owner_rights}
+use Rattle.run_memory.specs.declared.block.MemoryBlock.{MemoryBlock}
+use Rattle.run_memory.specs.declared.pointer.Value.{Value}
+use Rattle.run_source.specs.Source.{first_state}
+use Rattle.run_step.specs.Step.{first_world, global_block}
+use Rattle.run_step.specs.Values.{access_of, stored}
+
+-- ---- functions by their names
+
+named_by : (n : Name) (fs gs : List Function) → map naming gs ≡ map naming fs
+    → first_where (λ (f : Function). same_name f.name n) gs ≡ first_where (λ (f : Function). same_name f.name n) fs
+named_by n fs gs e =
+    first_mapped naming (λ (x : Name × Bool). same_name x.0 n) gs
+    ∙ ap (first_where (λ (x : Name × Bool). same_name x.0 n)) e
+    ∙ sym (first_mapped naming (λ (x : Name × Bool). same_name x.0 n) fs)
+
+all_whole : (f : GlobalItem → MemoryBlock) (gs : List GlobalItem) → ((g : GlobalItem) → IsWhole (f g)) → AreWhole (map f gs)
+all_whole f [] h k d lt = absurd (omega arith)
+all_whole f (g ∷ gs) h zero d lt = h g
+all_whole f (g ∷ gs) h (suc k) d lt = all_whole f gs h k d (omega arith)
+
+module _ (l : Lowered) (low : IsLowered l) where
+  abbrev e : Module
+  e = early l
+
+  names : map naming l.framed.functions ≡ map naming (early l).functions
+  names = (framed_names l.layouts (early l) l.framed low.is_framed).functions
+
+  same_names : AreSameNames (edged l) l.framed
+  same_names = record {
+    functions = λ n. named_by n e.functions l.framed.functions names ∙ sym (named_moved e n);
+    declarations = λ n.
+        ap (λ (ds : List Declaration). first_where (λ (d : Declaration). same_name d.name n) ds) low.is_framed.declarations;
+    globals = low.is_framed.globals;
+    count =
+        sym (length-map l.framed.functions naming) ∙ ap length names ∙ length-map e.functions naming
+        ∙ sym (length-map e.functions edge_function);
+  }
+
+  -- ---- what the runs are given
+
+  edged_at : (func : ℕ) → slice_get (edged l).functions func ≡ option_map edge_function (slice_get e.functions func)
+  edged_at func = slice_get-map edge_function e.functions func
+
+  others : (func : ℕ) → (function_at e func).coroutine ≡ false → function_at (edged l) func ≡ function_at e func
+  others func plain =
+      ap (λ (o : Option Function). unwrap_or o no_function) (edged_at func) ∙ on (slice_get e.functions func) plain
+    where
+      on : (o : Option Function) → (unwrap_or o no_function).coroutine ≡ false
+          → unwrap_or (option_map edge_function o) no_function ≡ unwrap_or o no_function
+      on None p = refl
+      on (Some f) p = ap (λ (b : Bool). if b then with_edge_blocks f else f) p
+
+  coroutines : (func : ℕ) → (function_at e func).coroutine ≡ true
+      → function_at (edged l) func ≡ with_edge_blocks (function_at e func)
+  coroutines func is =
+      ap (λ (o : Option Function). unwrap_or o no_function) (edged_at func) ∙ on (slice_get e.functions func) is
+    where
+      on : (o : Option Function) → (unwrap_or o no_function).coroutine ≡ true
+          → unwrap_or (option_map edge_function o) no_function ≡ with_edge_blocks (unwrap_or o no_function)
+      on None p = absurd (false≢true p)
+      on (Some f) p = ap (λ (b : Bool). if b then with_edge_blocks f else f) p
+
+  module _ (a : Anew) (r : Run) where
+    abbrev built : Building
+    built = building l low.is_framed r.answers
+
+    pub sources_given : AreGiven (building l low.is_framed r.answers) (renewing l a r)
+    sources_given = record {
+      code = refl;
+      answers = refl;
+      built = sources_built l low r.answers;
+      framings = framings l low r.answers;
+      coroutines = λ func is.
+          coroutines func is
+          ∙ ap with_edge_blocks (sym ((sources_built l low r.answers).coroutines func is).function);
+      others = others;
+      functions = same_names.functions;
+      declarations = same_names.declarations;
+      globals = same_names.globals;
+      count = same_names.count;
+    }
+
+    -- ---- the start
+
+    worlds : first_world l.framed ≡ first_world (edged l)
+    worlds = ap (λ (blocks : List MemoryBlock). record { memory = blocks; events = []; answers_used = 0; allocs = 0 })
+        (ap (map (global_block l.framed)) low.is_framed.globals
+        ∙ map_same (global_block l.framed) (global_block (edged l)) block_same (edged l).globals)
+      where
+        block_same : (x : GlobalItem) → global_block l.framed x ≡ global_block (edged l) x
+        block_same x = ap (λ (v : Value). record (global_block (edged l) x) {
+          bytes = encode (access_bytes (access_of x.ty)) (stored (access_of x.ty) v);
+        }) (empty_same (edged l) l.framed same_names x.init x.ty)
+
+    small : AreSmallGlobals (edged l)
+    small = edged_globals l.text l.source low.source.stands low.source.accepted
+
+    contents : AreContents (edged l)
+    contents = contents_stand (edged l) small
+
+    embeds : Embeds owner_rights owner_rights (own_homes 0 (length (first_world (edged l)).memory))
+        (first_world (edged l)).memory (first_world (edged l)).memory
+    embeds = stands_in_itself (first_world (edged l)).memory
+        (all_whole (global_block (edged l)) (edged l).globals
+        (λ g. record { full = length-encode (access_bytes (access_of g.ty)) _ })) contents.small contents.known
+
+    module _ (anew : IsAnewOf (early l) a) (call : IsEntryCall l.source r) where
+      plain : (function_at e r.entry).coroutine ≡ false
+      plain =
+          ap (λ (o : Option Function). (unwrap_or o no_function).coroutine) (early_entry l low a anew r call)
+          ∙ call.callable.plain
+
+      starts : AreBuiltOf (building l low.is_framed r.answers) (first_state (edged l) r.entry r.args)
+          (first_state l.framed r.entry r.args)
+      starts = starts_built built (edged l) r.entry r.args (sources_built l low r.answers) plain (others r.entry plain) worlds
+          embeds contents.small
+
+      pub framing_by : (p : Prices) → AreStepsFollowed (building l low.is_framed r.answers) (renewing l a r) r.entry r.args
+          → PaysForFrames (building l low.is_framed r.answers) (renewing l a r) (price_renewed l a r p)
+          → AgreesBy (AreBuiltOf (building l low.is_framed r.answers)) (AreShownAlike (building l low.is_framed r.answers))
+          (renewed_run l a r) (price_renewed l a r p) (framed_run l l.framed r) (λ t. 1)
+      framing_by p followed pays =
+          followed_keep built l.layouts a.keep a.flags a.roots (sizes_of l) r.entry r.args r.answers (price_renewed l a r p) refl
+          low.is_framed.declarations starts followed (sources_built l low r.answers) refl (slots_kept l low a anew r call)
+          plain pays
+
+pub framing : (l : Lowered) (low : IsLowered l) (a : Anew) → IsAnewOf (early l) a → (p : Prices) (r : Run)
+    → IsEntryCall l.source r → AreStepsFollowed (building l low.is_framed r.answers) (renewing l a r) r.entry r.args
+    → PaysForFrames (building l low.is_framed r.answers) (renewing l a r) (price_renewed l a r p)
+    → AgreesBy (AreBuiltOf (building l low.is_framed r.answers)) (AreShownAlike (building l low.is_framed r.answers))
+    (renewed_run l a r) (price_renewed l a r p) (framed_run l l.framed r) (λ t. 1)
+framing l low a anew p r call followed pays = framing_by l low a r anew call p followed pays

@@ -1,0 +1,82 @@
+-- The rows of the theorem: what each pass costs, up to the framed form and from there on.
+use Rattle.std.proofs.Common.{ℕ, ◌*◌, ◌≤◌, arith}
+use Rattle.run_agreement.proofs.Compose.{compose_within}
+use Rattle.run_agreement.proofs.Costs.{agrees_within, agrees_within_by_steps, compose_by, cost_above}
+use Rattle.run_agreement.specs.Agreements.{AgreesWithin}
+use Rattle.run_agreement.specs.Costs.{AgreesBy, Through, cost_at}
+use Rattle.run_agreement.specs.Factor.{size_factor}
+use Rattle.run_agreement.specs.Machines.{IsFine, Machine, at, state_at}
+use Rattle.run_source.specs.declared.state.State.{State}
+use Rattle.compiler_theorem.proofs.theorem.Framing.{framing}
+use Rattle.compiler_theorem.proofs.theorem.Needed.{split_needed}
+use Rattle.compiler_theorem.proofs.theorem.Renewing.{all_kept}
+use Rattle.compiler_theorem.specs.theorem.Anew.{Anew}
+use Rattle.compiler_theorem.specs.theorem.Built.{building}
+use Rattle.compiler_theorem.specs.theorem.Entries.{IsEntryCall, Run}
+use Rattle.compiler_theorem.specs.theorem.Lowered.{IsLowered, Lowered, framed_run, kept_run, price_kept, price_renewed, renewed_run, sizes_of, source_run}
+use Rattle.pass_renewed_proof.specs.Prices.{Prices}
+use Rattle.compiler_theorem.specs.theorem.Theorem.{AreMadeAnew, IsSomewhereShown, Steps, setting}
+use Rattle.pass_frames_proof.specs.Related.{AreBuiltOf, AreShownAlike}
+use Rattle.pass_renewed_meaning.proofs.Dispatch.{made_anew}
+use Rattle.pass_renewed_meaning.specs.Followed.{AreAlike}
+use Rattle.pass_proofs.proofs.kept.sources.States.{split_corresponds}
+use Rattle.pass_proofs.specs.kept.sources.Beside.{IsKeptOf, IsNearlyKeptOf}
+
+-- each step costs 1 or more
+pub at_least : {T : Type 0} (b : Machine T) (n : ℕ) → n ≤ cost_at b (λ t. 1) n
+at_least b n = least n (cost_at b (λ t. 1) n) (cost_above b.step (λ t. 1) 1 (λ t. omega arith) n b.start)
+  where
+    least : (n x : ℕ) → 1 * n ≤ x → n ≤ x
+    least n x h = omega arith
+
+module _ (a : Anew) (p : Prices) (l : Lowered) (low : IsLowered l) (h : Steps a p l low) (r : Run)
+    (call : IsEntryCall l.source r) where
+  -- what frames are built of
+  abbrev Framed : State → State → Type 0
+  Framed = AreBuiltOf (building l low.is_framed r.answers)
+
+  abbrev NearlyFramed : State → State → Type 0
+  NearlyFramed = AreShownAlike (building l low.is_framed r.answers)
+
+  abbrev Handed : State → State → Type 0
+  Handed = IsKeptOf l.source (sizes_of l) r.answers
+
+  abbrev NearlyHanded : State → State → Type 0
+  NearlyHanded = IsNearlyKeptOf l.source (sizes_of l) r.entry r.args r.answers
+
+  -- Source to Kept
+  pub to_kept : AgreesBy Handed NearlyHanded (source_run l r) (λ s. 4) (kept_run l a r) (λ t. 1)
+  to_kept = split_corresponds l.text l.source low.source.stands low.source.accepted a.keep
+      (split_needed l low a h.anew) (sizes_of l) r.entry r.args r.answers
+
+  -- Kept to Framed
+  pub to_framed : AgreesBy (Through (AreMadeAnew l a) Framed) (Through AreAlike NearlyFramed) (kept_run l a r)
+      (price_kept l a r p) (framed_run l l.framed r) (λ t. 1)
+  to_framed =
+      compose_by (AreMadeAnew l a) AreAlike Framed NearlyFramed (kept_run l a r) (price_kept l a r p) (renewed_run l a r)
+      (price_renewed l a r p) (framed_run l l.framed r) (λ t. 1)
+      (made_anew (setting l a r) p (all_kept l low a h.anew r call))
+      (framing l low a h.anew p r call (h.followed r call) (h.pays r call))
+
+  -- Source to Framed
+  pub framed_within : AgreesWithin (4 * (4 * size_factor l.source)) (at (source_run l r))
+      (at (framed_run l l.framed r))
+  framed_within =
+      compose_within 4 (4 * size_factor l.source) (at (source_run l r)) (at (kept_run l a r))
+      (at (framed_run l l.framed r))
+      (agrees_within_by_steps Handed NearlyHanded (source_run l r) (λ s. 4) (kept_run l a r) (λ t. 1) 4
+      (λ s. omega arith) (λ t. omega arith) to_kept)
+      (agrees_within (Through (AreMadeAnew l a) Framed) (Through AreAlike NearlyFramed) (kept_run l a r) (price_kept l a r p)
+      (framed_run l l.framed r) (λ t. 1) (4 * size_factor l.source)
+      (λ n fine. h.paid r n call fine) (at_least (framed_run l l.framed r)) to_framed)
+
+  -- what is shown in frames
+  pub somewhere_shown : (n : ℕ) → IsFine (at (source_run l r) n).outcome → IsSomewhereShown l r n
+  somewhere_shown n fine =
+      let x = to_kept.forward n fine in
+      let y = to_framed.forward x.steps (x.unstuck x.steps (omega arith)) in
+      record {
+        steps = y.steps;
+        shown = h.shown r (state_at (source_run l r) n)
+            (state_at (framed_run l l.framed r) y.steps) (state_at (kept_run l a r) x.steps, x.related, y.related);
+      }

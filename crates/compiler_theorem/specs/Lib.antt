@@ -1,0 +1,3 @@
+pub mod narrow
+pub mod parts
+pub mod theorem

@@ -1,0 +1,82 @@
+-- Where the slots and values of suspended coroutines stand in frames.
+use Rattle.std.specs.Prelude.{◌≡◌, ℕ, ◌+◌, false, true, List, Some, drop, take, length, slice_get, slice_index_or, IsTrue}
+use Rattle.run_memory.specs.Memory.{digits, encode, is_live}
+use Rattle.run_memory.specs.declared.block.Byte.{Byte}
+use Rattle.run_memory.specs.declared.block.MemoryBlock.{MemoryBlock}
+use Rattle.run_memory.specs.declared.pointer.Offset.{Offset}
+use Rattle.run_memory.specs.declared.pointer.Pointer.{Pointer}
+use Rattle.run_memory.specs.declared.pointer.Value.{Value}
+use Rattle.run_source.specs.declared.state.Instance.{Instance}
+use Rattle.run_source.specs.declared.state.State.{State}
+use Rattle.run_source.specs.declared.state.Status.{Status}
+use Rattle.frame_contents.specs.Frames.{AreContents}
+use Rattle.frame_contents.specs.Held.{position_of}
+use Rattle.frame_contents.specs.declared.contents.Contents.{Contents}
+use Rattle.frame_contents.specs.declared.held.Holding.{Holding}
+use Rattle.compiler_theorem.specs.theorem.Anew.{IsSlotOf}
+use Rattle.frame_layout.specs.declared.layout.Layout.{Layout}
+use Rattle.run_framed.specs.Framed.{layout_of}
+use Rattle.ir_model.specs.Names.{function_at}
+use Rattle.ir_model.specs.declared.module.Function.{Function}
+use Rattle.ir_model.specs.declared.module.Module.{Module}
+use Rattle.ir_paths.specs.Slots.{addresses_of, has_name}
+use Rattle.ir_paths.specs.declared.point.Point.{Point}
+use Rattle.run_laws.specs.memory.Pointers.{AreBytes, Home}
+use Rattle.run_step.specs.Values.{Env, value_in}
+use Rattle.run_step.specs.declared.world.Slot.{Slot}
+use Rattle.frame_classes.specs.Classes.{IsOf}
+use Rattle.frame_classes.specs.declared.class.SlotClass.{SlotClass}
+use Rattle.std.specs.List.{Contains}
+use Rattle.frame_crossing.specs.Crossing.{Crosses}
+
+-- a value or a slot of a coroutine has a field of so many bytes at an offset of the frame
+pub record HasField (m : Module) (f : Function) (l : Layout) (v offset size : ℕ) : Type 0 where
+  pub contents : Contents
+  pub contents_are : AreContents m f contents
+  pub position : ℕ
+  pub position_is : position_of contents.held v ≡ Some position
+  pub holding : Holding
+  pub holding_is : slice_get contents.held position ≡ Some holding
+  pub offset_is : slice_index_or l.offsets position 0 ≡ offset
+  pub size_is : holding.size ≡ size
+
+-- in a block from an offset on bytes stand for others: numbers for themselves, parts of pointers for parts of the
+-- pointers moved, anything for an undefined byte
+abbrev pub StandAt : List Home → List Byte → MemoryBlock → ℕ → Type 0
+StandAt homes bytes block offset = AreBytes homes bytes (take (length bytes) (drop offset block.bytes))
+
+-- a name has an address in a local slot
+pub record IsInLocalSlot (f : Function) (v : ℕ) : Type 0 where
+  pub slot : ℕ
+  pub is_local : IsSlotOf f SlotClass.Local slot
+  pub is_address : IsTrue (has_name (addresses_of f slot) v)
+
+-- the instance of a framed run, and the block in which its frame begins
+pub record Frame (t : State) (i : ℕ) : Type 0 where
+  pub instance : Instance
+  pub there : slice_get t.instances i ≡ Some instance
+  pub block : MemoryBlock
+  pub held : slice_get t.world.memory instance.block ≡ Some block
+
+-- the frame of an instance has what the source's instance has: its live frame slots, and where it is suspended the
+-- values that cross its suspend, of an address in a local slot its distance
+pub record IsShown (m : Module) (l : Layout) (homes : List Home) (s : State) (x : Instance) (start : ℕ)
+    (block : MemoryBlock) : Type 0 where
+  pub slots : (slot : Slot) (y : MemoryBlock) (offset : ℕ) → Contains x.slots slot
+      → IsOf (function_at m x.coroutine) slot.alloca SlotClass.Frame → slice_get s.world.memory slot.block ≡ Some y
+      → is_live y.life ≡ true → HasField m (function_at m x.coroutine) l slot.alloca offset y.size
+      → StandAt homes y.bytes block (start + offset)
+  pub values : (suspend : Point) (values : Env) (v offset size : ℕ) → x.status ≡ Status.Suspended suspend values
+      → Crosses (function_at m x.coroutine) v suspend → HasField m (function_at m x.coroutine) l v offset size
+      → (IsInLocalSlot (function_at m x.coroutine) v → ⊥)
+      → StandAt homes (encode size (value_in values v)) block (start + offset)
+  pub distances : (suspend : Point) (values : Env) (v offset size b : ℕ) (o : Offset)
+      → x.status ≡ Status.Suspended suspend values → Crosses (function_at m x.coroutine) v suspend
+      → HasField m (function_at m x.coroutine) l v offset size → IsInLocalSlot (function_at m x.coroutine) v
+      → value_in values v ≡ Value.Ptr (Pointer.At b o) → StandAt homes (digits size o.bits) block (start + offset)
+
+-- each instance of the source whose block isn't freed is shown
+pub record AreShown (m : Module) (layouts : List Layout) (s t : State) : Type 0 where
+  pub homes : List Home
+  pub each : (i : ℕ) (x : Instance) → slice_get s.instances i ≡ Some x → x.freed ≡ false
+      → (y : Frame t i) × IsShown m (layout_of layouts x.coroutine) homes s x y.instance.start y.block

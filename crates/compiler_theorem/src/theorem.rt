@@ -1,0 +1,64 @@
+//! What is lowered of a source agrees with it, within the source's step factor: the passes that are proved, in a row
+//! with those that are premises yet.
+
+ghost use Rattle.run_source.specs.declared.state.State.{State};
+ghost use Rattle.compiler_theorem.specs.theorem.Anew.{Anew, IsAnewOf};
+ghost use Rattle.compiler_theorem.specs.theorem.Built.{building};
+ghost use Rattle.compiler_theorem.specs.theorem.Entries.{Run, IsEntry};
+ghost use Rattle.compiler_theorem.specs.theorem.Lowered.{AreAllocasFirst, Lowered, IsLowered, early, printed_from};
+ghost use Rattle.ir_model.specs.declared.module.Module.{Module};
+ghost use Rattle.frame_layout.specs.declared.layout.Layouts.{Layouts};
+ghost use Rattle.pass_frames.specs.Framed.{IsFramedForm};
+ghost use Rattle.std.specs.Prelude.{ℕ, ℤ, List};
+ghost use Rattle.run_types.specs.States.{AreArguments};
+ghost use Rattle.pass_frames_proof.specs.Related.{AreBuilt};
+ghost use Rattle.pass_frames_proof.specs.Stepping.{AreGiven};
+ghost use Rattle.pass_renewed_proof.specs.Prices.{Prices};
+ghost use Rattle.compiler_theorem.specs.theorem.Theorem.{KeepsMeaning, Steps, renewing};
+ghost use Rattle.compiler_theorem.specs.theorem.Elision.{ElidedSteps, ElidesCalls};
+
+/// Relations between states of the framed run and of that where calls are elided.
+pub trait RelatesElided {
+    ghost elided: { Lowered → Module → Run → State → State → Type 0 };
+
+    ghost eliding: { Lowered → Module → Run → State → State → Type 0 };
+}
+
+/// In a framed form the entry of each coroutine begins with its allocas.
+pub fn allocas_stand_first_in_framed_forms()
+    ensures { (layouts : Layouts) (m n : Module) → IsFramedForm layouts m n → AreAllocasFirst n }
+{}
+
+/// An accepted source has tables of what a resume hands on and of the slots that its activation makes anew: those of its
+/// frames' contents.
+pub fn sources_have_tables()
+    ensures { (l : Lowered) → IsLowered l → (a : Anew) × IsAnewOf (early l) a }
+{}
+
+/// The framed form of an accepted source is built by what its coroutines were framed by.
+pub fn sources_are_built()
+    ensures { (l : Lowered) (low : IsLowered l) (answers : List ℤ) → AreBuilt (building l low.is_framed answers) }
+{}
+
+/// What the steps of frames ask of what the two runs are given holds of it.
+pub fn sources_give_frames()
+    ensures { (l : Lowered) (low : IsLowered l) (a : Anew) (r : Run)
+        → AreGiven (building l low.is_framed r.answers) (renewing l a r) }
+{}
+
+/// What is printed of a source that breaks no rule agrees with it within its step factor, with frames that share
+/// bytes and with plain ones, where no call is elided.
+pub fn lowering_keeps_meaning()
+    ensures { (a : Anew) (p : Prices) (l : Lowered) (low : IsLowered l) → Steps a p l low → (r : Run) (other : ℕ)
+        → IsEntry l.source (printed_from l l.framed) r.entry other → AreArguments l.source r.entry r.args
+        → KeepsMeaning l r other }
+{}
+
+/// So it does where calls are elided, with the most sites of one function in the step factor; it makes as many
+/// allocator calls less.
+pub fn elision_keeps_meaning<Q: RelatesElided>()
+    ensures { (a : Anew) (p : Prices) (l : Lowered) (low : IsLowered l) → Steps a p l low → (n : Module) (sites : ℕ)
+        → ElidedSteps Q.elided Q.eliding l n sites → (r : Run) (other : ℕ)
+        → IsEntry l.source (printed_from l n) r.entry other → AreArguments l.source r.entry r.args
+        → ElidesCalls l n sites r other }
+{}
