@@ -17,6 +17,7 @@ pub mod Lines
 pub mod Loaded
 pub mod Meaning
 pub mod Measured
+pub mod Moved
 pub mod Offsets
 pub mod Ordinary
 pub mod Passes

@@ -15,6 +15,7 @@ pub mod layers;
 pub mod led;
 pub mod lined;
 pub mod lines;
+pub mod moved;
 pub mod offsets;
 pub mod ordinary;
 pub mod phis;
