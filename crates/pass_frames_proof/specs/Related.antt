@@ -280,14 +280,15 @@ pub record IsWholeSlot (homes : List Home) (c : Activation) (slot : Slot) : Type
   pub home : home_of homes slot.block ≡ whole_home block
   pub own : Contains c.slots (record { alloca = slot.alloca; block = block })
 
--- before begin a frame slot is hidden; if it is used there, it stands in its temporary, and no pointer into it is
--- about
+-- before begin a frame slot is hidden; if it is used there, it stands in its temporary instead, and no pointer into it
+-- is about
 abbrev pub IsUnplacedSlot : Framing → List Home → (ℕ → Bool) → Activation → Slot → Type 0
 IsUnplacedSlot x homes hides c slot =
-    (hides slot.block ≡ true)
+    ((hides slot.block ≡ true) × ((s : EarlySlot) → Contains (copies x).slots s → s.slot ≢ slot.alloca))
     ⊎ ((s : EarlySlot) × (block : ℕ) × Contains (copies x).slots s × (s.slot ≡ slot.alloca)
     × Contains c.slots (record { alloca = s.temporary; block = block })
-    × (home_of homes slot.block ≡ record { block = block; offset = 0; is_seen = false }))
+    × (home_of homes slot.block ≡ record { block = block; offset = 0; is_seen = false })
+    × (hides slot.block ≡ false))
 
 abbrev pub IsSlotBy : Building → List Home → (ℕ → Bool) → Activation → Activation → Slot → Bool → Type 0
 IsSlotBy b homes hides a c slot true = IsUnplacedSlot (b.framing a.func) homes hides c slot

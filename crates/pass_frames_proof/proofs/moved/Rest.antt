@@ -205,8 +205,8 @@ module _ (b : Building) (s t : State) (r : AreBuiltOf b s t) (ups cs : List Acti
   slot_on : (a c : Activation) (slot : Slot) → home_of homes slot.block ≡ home_of r.homes slot.block
       → hides slot.block ≡ r.hides slot.block → (f : Bool) → IsSlotBy b r.homes r.hides a c slot f
       → IsSlotBy b homes hides a c slot f
-  slot_on a c slot home hide true (inl h) = inl (hide ∙ h)
-  slot_on a c slot home hide true (inr h) = inr (h.0, h.1, h.2, h.3, h.4, home ∙ h.5)
+  slot_on a c slot home hide true (inl h) = inl (hide ∙ h.0, h.1)
+  slot_on a c slot home hide true (inr h) = inr (h.0, h.1, h.2, h.3, h.4, home ∙ h.5, hide ∙ h.6)
   slot_on a c slot home hide false h = record { block = h.block; home = home ∙ h.home; own = h.own }
 
   values_on : (p q : Activation) → IsListed p ups → IsListed q cs → q.func ≡ p.func → (f : Bool)
