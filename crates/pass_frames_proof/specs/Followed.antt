@@ -8,7 +8,7 @@ use Rattle.pass_frames_proof.specs.Meaning.{step_cost}
 use Rattle.pass_frames_proof.specs.Related.{AreBuiltOf, AreShownAlike, Building}
 use Rattle.pass_renewed_proof.specs.Renewed.{RenewedGiven, renewed_step}
 use Rattle.run_agreement.specs.Machines.{IsFine, iterate}
-use Rattle.run_framed.specs.Framed.{framed_given, framed_step}
+use Rattle.run_framed.specs.Framed.{framed_given, framed_state_at, framed_step}
 use Rattle.run_source.specs.Source.{first_state}
 use Rattle.run_source.specs.State.{function_of}
 use Rattle.run_source.specs.declared.state.State.{State}
@@ -39,12 +39,13 @@ pub record IsFollowed (b : Building) (g : RenewedGiven) (s t : State) : Type 0 w
 abbrev pub renewed_state_at : RenewedGiven → ℕ → List Word → ℕ → State
 renewed_state_at g entry args n = iterate (renewed_step g) n (first_state g.given.code entry args)
 
--- so it is with each step of a run that isn't undefined
+-- so it is with each step of a run that isn't undefined, from each state of the framed run that is related
 abbrev pub AreStepsFollowed : Building → RenewedGiven → ℕ → List Word → Type 0
-AreStepsFollowed b g entry args = (n : ℕ) (t : State) → AreBuiltOf b (renewed_state_at g entry args n) t
+AreStepsFollowed b g entry args = (n m : ℕ)
+    → AreBuiltOf b (renewed_state_at g entry args n) (framed_state_at b.given entry args m)
     → (renewed_state_at g entry args n).outcome ≡ Outcome.Running
     → IsFine (renewed_step g (renewed_state_at g entry args n)).outcome
-    → IsFollowed b g (renewed_state_at g entry args n) t
+    → IsFollowed b g (renewed_state_at g entry args n) (framed_state_at b.given entry args m)
 
 -- the framed run is given the framed module, the layouts and the answers
 abbrev pub IsGiven : Building → Layouts → List ℤ → Type 0

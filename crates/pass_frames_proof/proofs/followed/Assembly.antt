@@ -22,7 +22,7 @@ use Rattle.run_agreement.proofs.Runs.{iterate-add}
 use Rattle.run_agreement.proofs.Shows.{ShowsSame}
 use Rattle.run_agreement.specs.Costs.{AgreesBy, cost_from}
 use Rattle.run_agreement.specs.Machines.{IsFine, IsRunning, Machine, SeenEvent, iterate}
-use Rattle.run_framed.specs.Framed.{FramedGiven, framed_advance, framed_given, framed_step}
+use Rattle.run_framed.specs.Framed.{FramedGiven, framed_advance, framed_given, framed_state_at, framed_step}
 use Rattle.run_laws.specs.embedded.Related.{moved_event}
 use Rattle.run_source.specs.Source.{first_state}
 use Rattle.run_source.specs.declared.state.Instance.{Instance}
@@ -124,11 +124,13 @@ module _ (b : Building) (layouts : Layouts) (keep : Keep) (flags : Flags) (roots
   abbrev theirs : Machine State
   theirs = framed_machine b.framed_code layouts entry args answers
 
-  -- a related state that the run comes to
+  -- related states that the two runs come to
   record IsKept (c : ℕ) (s t : State) : Type 0 where
     related : AreBuiltOf b s t
     index : ℕ
     reached : s ≡ renewed_state_at g entry args index
+    place : ℕ
+    there : t ≡ framed_state_at b.given entry args place
 
   abbrev V : State → State → Type 0
   V = AreShownAlike b
@@ -161,14 +163,20 @@ module _ (b : Building) (layouts : Layouts) (keep : Keep) (flags : Flags) (roots
       index = k.index + 1;
       reached = ap (renewed_step g) k.reached
           ∙ sym (iterate-add (renewed_step g) k.index 1 (first_state (edges_split b.code) entry args));
+      place = k.place + f.steps;
+      there = sym (same_step f.steps t)
+          ∙ ap (iterate (framed_step b.given) f.steps) k.there
+          ∙ sym (iterate-add (framed_step b.given) k.place f.steps (first_state b.given.given.code entry args));
     };
   }
 
-  followed : (s t : State) (index : ℕ) → s ≡ renewed_state_at g entry args index → AreBuiltOf b s t
+  followed : (s t : State) (index place : ℕ) → s ≡ renewed_state_at g entry args index
+      → t ≡ framed_state_at b.given entry args place → AreBuiltOf b s t
       → s.outcome ≡ Outcome.Running → IsFine (renewed_step g s).outcome → IsFollowed b g s t
-  followed s t index reached =
-      subst (λ (x : State). AreBuiltOf b x t → x.outcome ≡ Outcome.Running → IsFine (renewed_step g x).outcome
-      → IsFollowed b g x t) (sym reached) (all index t)
+  followed s t index place reached there =
+      subst (λ (p : State × State). AreBuiltOf b p.0 p.1 → p.0.outcome ≡ Outcome.Running
+      → IsFine (renewed_step g p.0).outcome → IsFollowed b g p.0 p.1) (λ j. (sym reached j, sym there j))
+      (all index place)
 
   shows : (s t : State) → AreBuiltOf b s t → ShowsSame (theirs.seen t) (ours.seen s)
   shows s t r = record {
@@ -178,12 +186,18 @@ module _ (b : Building) (layouts : Layouts) (keep : Keep) (flags : Flags) (roots
 
   simulates : SimulatesBy ours price theirs (λ t. 1) IsKept V (measure g)
   simulates = record {
-    begin = record { related = start; index = 0; reached = refl };
+    begin = record {
+      related = start;
+      index = 0;
+      reached = refl;
+      place = 0;
+      there = ap (λ (k : FramedGiven). first_state k.given.code entry args) (sym is);
+    };
     same = λ c s t k. shows s t k.related;
     counts = λ c s t k. sym k.related.world.allocs;
     holds = λ c s t k. shown_alike b s t k.related;
     advance = λ c s t k runs fine. advances c s t k
-        (followed s t k.index k.reached k.related (running_is s.outcome runs) fine);
+        (followed s t k.index k.place k.reached k.there k.related (running_is s.outcome runs) fine);
     stays_a = renewed_stays g;
     stays_b = framed_stays h;
   }
