@@ -1,4 +1,5 @@
 pub mod Agains
+pub mod Asking
 pub mod Code
 pub mod Costs
 pub mod Distances
@@ -9,6 +10,7 @@ pub mod Fetched
 pub mod Followed
 pub mod Framings
 pub mod Geps
+pub mod Here
 pub mod Jumps
 pub mod Layers
 pub mod Led

@@ -3,6 +3,7 @@
 #![tactic(auto)]
 
 pub mod agains;
+pub mod asking;
 pub mod code;
 pub mod distances;
 pub mod entry;

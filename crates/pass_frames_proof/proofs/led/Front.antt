@@ -21,6 +21,7 @@ use Rattle.pass_proofs.specs.fetch.rules.Fetches.{base_of}
 use Rattle.run_laws.proofs.access.Lines.{runs_append}
 use Rattle.run_laws.specs.changed.Changed.{Each}
 use Rattle.run_laws.specs.memory.Pointers.{Home, IsValue}
+use Rattle.run_laws.specs.transfer.Shapes.{InstrStays}
 use Rattle.run_laws.specs.transfer.Transfer.{StandsFor, looks_at}
 use Rattle.run_memory.specs.declared.pointer.Value.{Value}
 use Rattle.run_step.specs.Step.{AtInstr, Context, Work, value_at}
@@ -128,6 +129,12 @@ module _ (t u : List (Option Fetch)) (given more : ℕ → Value) (homes : List 
       on false = tt
       on true = λ ty. subst (IsValue homes (operand_value c.code w.values ty a)) (sym (seen ty)) (h ty)
 
+-- what an intrinsic asks for is looked at too
+pub record IsShownLed (homes : List Home) (c d : Context) (w y : Work) (n : ℕ) (i j : Instr) (front : List Instr)
+    : Type 0 where
+  pub led : IsLed homes c d w y n i j front
+  pub shown : InstrStays (StandsFor true (IsValue homes) c d w.values led.work.values) i j
+
 module _ (homes : List Home) (t u : List (Option Fetch)) (given more : ℕ → Value) (c d : Context) (w y : Work)
     (n m : ℕ) (i : Instr) (h : MayBeLed homes t u given more c d w y n m i) where
   abbrev xs : List Operand
@@ -180,4 +187,13 @@ module _ (homes : List Home) (t u : List (Option Fetch)) (given more : ℕ → V
         (all_turned t u given more homes c d w y (looks_at (AtInstr i))
         (StandsFor (looks_at (AtInstr i)) (IsValue homes) c d w.values second.work.values) second.work
         (stands t u given more homes c d w y (looks_at (AtInstr i)) second.work) xs n m h.seen seen);
+  }
+
+  pub led_shown : IsShownLed homes c d w y n i (with_fetched u m (with_fetched t n i)) (twice_front t u n m i)
+  unfolding led_twice
+  led_shown = record {
+    led = led_twice;
+    shown = instr_twice t u (StandsFor true (IsValue homes) c d w.values second.work.values) n m i
+        (all_turned t u given more homes c d w y true (StandsFor true (IsValue homes) c d w.values second.work.values)
+        second.work (stands t u given more homes c d w y true second.work) xs n m h.seen seen);
   }
