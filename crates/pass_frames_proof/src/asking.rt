@@ -68,3 +68,17 @@ pub fn asking_is_followed()
         → (i : Intrinsic) (result : Option ℕ) (must_tail : Bool) (ty : Option Ty) (args : List Arg) (after : State)
         → IsAtOtherAsking b g s i result must_tail ty args after → IsFollowed b g s t }
 {}
+
+/// So is coro.free in a coroutine: the instance is released in both runs, and its address is given.
+pub fn frees_are_followed()
+    ensures { (b : Building) (g : RenewedGiven) → AreGiven b g → (s t : State) → AreBuiltOf b s t
+        → (result : Option ℕ) (must_tail : Bool) (ty : Option Ty) (args : List Arg)
+        → IsAtFreeing b g s result must_tail ty args → IsFollowed b g s t }
+{}
+
+/// So is coro.id in a coroutine: it names no promise in the framed form, and gives nothing.
+pub fn ids_are_followed()
+    ensures { (b : Building) (g : RenewedGiven) → AreGiven b g → (s t : State) → AreBuiltOf b s t
+        → (result : Option ℕ) (must_tail : Bool) (ty : Option Ty) (args : List Arg)
+        → IsAtId b s result must_tail ty args → IsFollowed b g s t }
+{}
