@@ -1,6 +1,7 @@
 pub mod Agains
 pub mod Asking
 pub mod Code
+pub mod Copying
 pub mod Costs
 pub mod Distances
 pub mod Edges

@@ -5,6 +5,7 @@
 pub mod agains;
 pub mod asking;
 pub mod code;
+pub mod copying;
 pub mod distances;
 pub mod entry;
 pub mod fetched;

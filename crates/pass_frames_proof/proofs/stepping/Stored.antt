@@ -83,7 +83,7 @@ same_life : (h : Bool) (x : MemoryBlock) (bytes : List Byte)
 same_life true x bytes = refl
 same_life false x bytes = refl
 
-free_on : (homes : List Home) (hides : ℕ → Bool) (m k : List MemoryBlock) → AreRefilled m k → (block : ℕ)
+pub free_on : (homes : List Home) (hides : ℕ → Bool) (m k : List MemoryBlock) → AreRefilled m k → (block : ℕ)
     → IsFreeOf homes hides m block → IsFreeOf homes hides k block
 free_on homes hides m k h block free n x e about = on (slice_get k n) refl (sym (muted_is hides k n) ∙ e)
   where
@@ -107,7 +107,7 @@ free_on homes hides m k h block free n x e about = on (slice_get k n) refl (sym 
 
 -- ---- the rest
 
-free_below : (b : Building) (homes : List Home) (hides : ℕ → Bool) (m : List MemoryBlock) (cs : List Activation)
+pub free_below : (b : Building) (homes : List Home) (hides : ℕ → Bool) (m : List MemoryBlock) (cs : List Activation)
     → AreFreeCells b homes hides m cs → (c : Activation) → IsListed c cs → is_coroutine b c.func ≡ true → (slot : Slot)
     → Contains c.slots slot → IsCellName (b.framing c.func) slot.alloca → IsFreeOf homes hides m slot.block
 free_below b homes hides m [] h c l = absurd l

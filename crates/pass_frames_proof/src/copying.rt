@@ -1,0 +1,24 @@
+//! memcpy.
+
+ghost use Rattle.std.specs.Prelude.{Bool, List, Option};
+ghost use Rattle.ir_model.specs.Ty.{Ty};
+ghost use Rattle.ir_model.specs.declared.operand.Arg.{Arg};
+ghost use Rattle.ir_model.specs.declared.operand.Intrinsic.{Intrinsic};
+ghost use Rattle.pass_frames_proof.specs.Copying.{IsAtCopying, IsAtOtherCopying};
+ghost use Rattle.pass_frames_proof.specs.Followed.{IsFollowed};
+ghost use Rattle.pass_frames_proof.specs.Related.{AreBuiltOf, Building};
+ghost use Rattle.pass_frames_proof.specs.Stepping.{AreFieldsSpared, AreGiven};
+ghost use Rattle.pass_renewed_proof.specs.Renewed.{RenewedGiven};
+ghost use Rattle.run_source.specs.declared.state.State.{State};
+ghost use Rattle.run_step.specs.Step.{Work};
+
+/// A memcpy is followed, in a coroutine and in a function that is none, where no live slot lies in the fields of
+/// suspended instances.
+pub fn copies_are_followed()
+    ensures coroutine { (b : Building) (g : RenewedGiven) → AreGiven b g → (s t : State) (r : AreBuiltOf b s t)
+        (i : Intrinsic) (must_tail : Bool) (ty : Option Ty) (args : List Arg) (v : Work)
+        → IsAtCopying b g s i must_tail ty args v → AreFieldsSpared b s t r → IsFollowed b g s t }
+    ensures other { (b : Building) (g : RenewedGiven) → AreGiven b g → (s t : State) (r : AreBuiltOf b s t)
+        (i : Intrinsic) (must_tail : Bool) (ty : Option Ty) (args : List Arg) (v : Work)
+        → IsAtOtherCopying b g s i must_tail ty args v → AreFieldsSpared b s t r → IsFollowed b g s t }
+{}
