@@ -11,6 +11,7 @@ pub mod Fetched
 pub mod Followed
 pub mod Framings
 pub mod Geps
+pub mod Heaps
 pub mod Here
 pub mod Jumps
 pub mod Layers

@@ -12,6 +12,7 @@ pub mod fetched;
 pub mod followed;
 pub mod framings;
 pub mod geps;
+pub mod heaps;
 pub mod jumping;
 pub mod layers;
 pub mod led;

@@ -1,0 +1,34 @@
+//! Deallocations: a block of an allocator dies in both runs, and with its frame an instance is let go.
+
+ghost use Rattle.std.specs.Prelude.{◌≡◌, Bool, List, Ok, Option};
+ghost use Rattle.ir_model.specs.Ty.{Ty};
+ghost use Rattle.ir_model.specs.declared.operand.Allocator.{Allocator};
+ghost use Rattle.ir_model.specs.declared.operand.Arg.{Arg};
+ghost use Rattle.pass_frames_proof.specs.Followed.{IsFollowed};
+ghost use Rattle.pass_frames_proof.specs.Heaps.{IsAtFree, IsAtOtherFree, IsGivenBack, IsGivingBack};
+ghost use Rattle.pass_frames_proof.specs.Related.{AreBuiltOf, Building};
+ghost use Rattle.pass_frames_proof.specs.Stepping.{AreGiven};
+ghost use Rattle.pass_renewed_proof.specs.Renewed.{RenewedGiven};
+ghost use Rattle.run_laws.specs.memory.Pointers.{IsValue};
+ghost use Rattle.run_memory.specs.declared.pointer.Value.{Value};
+ghost use Rattle.run_source.specs.Source.{deallocate};
+ghost use Rattle.run_source.specs.declared.state.State.{State};
+
+/// A block that the first run gives back is given back by the framed run too, wherever it is on a line. Where an
+/// instance is let go with it, so is the one beside it.
+pub fn blocks_are_given_back()
+    ensures { (b : Building) (g : RenewedGiven) → AreGiven b g → (s t : State) (r : AreBuiltOf b s t) (p q : Value)
+        → IsValue r.homes p q → IsGivingBack b s t r p → (after : State) → deallocate s p ≡ Ok after
+        → IsGivenBack b s t after q }
+{}
+
+/// So a call that gives a block back is followed: in a coroutine, where its operands are fetched, and in a function that
+/// is no coroutine.
+pub fn deallocations_are_followed()
+    ensures coroutine { (b : Building) (g : RenewedGiven) → AreGiven b g → (s t : State) (r : AreBuiltOf b s t)
+        (a : Allocator) (must_tail : Bool) (ty : Option Ty) (args : List Arg) (after : State)
+        → IsAtFree b g s t r a must_tail ty args after → IsFollowed b g s t }
+    ensures other { (b : Building) (g : RenewedGiven) → AreGiven b g → (s t : State) (r : AreBuiltOf b s t)
+        (a : Allocator) (must_tail : Bool) (ty : Option Ty) (args : List Arg) (after : State)
+        → IsAtOtherFree b g s t r a must_tail ty args after → IsFollowed b g s t }
+{}
