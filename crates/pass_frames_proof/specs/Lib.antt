@@ -3,6 +3,7 @@ pub mod Asking
 pub mod Code
 pub mod Copying
 pub mod Costs
+pub mod Distanced
 pub mod Distances
 pub mod Edges
 pub mod Ends
@@ -15,6 +16,7 @@ pub mod Heaps
 pub mod Here
 pub mod Jumps
 pub mod Layers
+pub mod Landing
 pub mod Led
 pub mod Lined
 pub mod Lines
@@ -23,6 +25,7 @@ pub mod Meaning
 pub mod Measured
 pub mod Moved
 pub mod Offsets
+pub mod Operands
 pub mod Ordinary
 pub mod Passes
 pub mod Phis

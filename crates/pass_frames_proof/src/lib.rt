@@ -6,6 +6,7 @@ pub mod agains;
 pub mod asking;
 pub mod code;
 pub mod copying;
+pub mod distanced;
 pub mod distances;
 pub mod entry;
 pub mod fetched;

@@ -1,6 +1,8 @@
 -- A getelementptr whose distance is kept is an ordinary step, behind which its distance is right too.
 use Rattle.std.proofs.Common.{◌≡◌, inl, inr, ⊎_elim, ℕ, ◌<◌, ◌≤◌, Bool, List, ◌∷◌, ◌++◌, length, refl, sym, ap, ◌∙◌, subst, arith}
-use Rattle.std.specs.Prelude.{None, Option, Some, ◌≢◌}
+use Rattle.std.specs.List.{Contains}
+use Rattle.std.specs.Prelude.{None, Option, Some, slice_get, ◌≢◌}
+use Rattle.ir_laws.proofs.facts.Members.{each_turns}
 use Rattle.ir_model.specs.Ty.{Ty, ptr}
 use Rattle.ir_model.specs.declared.instr.Instr.{Instr}
 use Rattle.ir_model.specs.declared.operand.Arg.{Arg}
@@ -16,6 +18,7 @@ use Rattle.pass_fetch.specs.declared.fetch.Fetch.{Fetch}
 use Rattle.pass_frames_proof.proofs.distances.Indices.{same_distance}
 use Rattle.pass_frames_proof.proofs.distances.Measured.{distance_measured}
 use Rattle.pass_frames_proof.proofs.geps.Moved.{IsAddress, IsElement, args_stand, args_still_stand, is_element}
+use Rattle.pass_frames_proof.proofs.led.Steps.{fills_elsewhere}
 use Rattle.pass_frames_proof.proofs.lines.Names.{names_are}
 use Rattle.pass_frames_proof.proofs.lines.Stored.{set_or_none}
 use Rattle.pass_frames_proof.proofs.ordinary.Behind.{GoesBehind, done_is, done_over, done_work, over_line, result_behind, values_set}
@@ -24,24 +27,52 @@ use Rattle.pass_frames_proof.proofs.ordinary.Operands.{may_make, seen_all}
 use Rattle.pass_frames_proof.specs.Fetched.{AreFetched, AreSeenAs}
 use Rattle.pass_frames_proof.specs.Framings.{IsFraming}
 use Rattle.pass_frames_proof.specs.Geps.{GoesOnFrom, MayMove, Moves, loaded_indices}
-use Rattle.pass_frames_proof.specs.Lines.{LeavesCellsBut}
+use Rattle.pass_frames_proof.specs.Led.{SparesBlocks}
+use Rattle.pass_frames_proof.specs.Lines.{AreInCells, Fills, IsCellOf, LeavesCellsBut}
 use Rattle.pass_frames_proof.specs.Loaded.{loaded_value}
 use Rattle.pass_frames_proof.specs.Measured.{AreArgsStanding, IsBase, IsMoved, Measures}
 use Rattle.pass_frames_proof.specs.Ordinary.{IsResultName, MayBeMade}
 use Rattle.pass_frames_proof.specs.Places.{Framing, edged, named, plan}
 use Rattle.run_laws.proofs.access.Lines.{runs_append}
+use Rattle.run_laws.specs.access.Accessed.{Span}
 use Rattle.run_laws.specs.access.Lines.{Runs}
 use Rattle.run_laws.specs.embedded.Related.{IsSameDistance}
 use Rattle.run_laws.specs.memory.Pointers.{Home, IsValue}
 use Rattle.run_laws.specs.memory.Standing.{AreByteRights}
 use Rattle.run_laws.specs.transfer.Transfer.{AreSet, same_maps}
 use Rattle.run_memory.specs.Pointers.{moved, offset_of}
+use Rattle.run_memory.specs.declared.block.MemoryBlock.{MemoryBlock}
 use Rattle.run_memory.specs.declared.pointer.Offset.{Offset}
 use Rattle.run_memory.specs.declared.pointer.Pointer.{Pointer}
 use Rattle.run_memory.specs.declared.pointer.Value.{Value}
 use Rattle.run_source.specs.declared.state.Activation.{Activation}
 use Rattle.run_step.specs.Step.{Context, Done, Work, instr_action, set_value, value_at}
+use Rattle.run_step.specs.declared.world.World.{World}
 use Rattle.run_step.specs.Values.{Env, distance, element, indices_of, value_in}
+
+-- the works on the way: behind the loads, the address itself, the store of its result, and all
+pub record MovesOn (x : Framing) (d : Context) (w y v : Work) (a : Activation) (n m r : ℕ) (inbounds : Bool) (ty : Ty)
+    (base : ℕ) (indices : List Arg) (cell : ℕ) : Type 0 where
+  pub first : Work
+  pub second : Work
+  pub third : Work
+  pub work : Work
+  pub loads : Runs d (fetches_of_all (fetches_of (plan x)) n
+      (instr_operands (Instr.Gep r inbounds ty (Operand.Local base) indices))) y first
+  pub first_world : first.world ≡ y.world
+  pub is_done : instr_action d first (with_fetched (fetches_of (plan x)) n
+      (Instr.Gep r inbounds ty (Operand.Local base) indices)) ≡ Done second
+  pub second_world : second.world ≡ y.world
+  pub stores : Runs d (stored (plan x) r) second third
+  pub third_events : third.world.events ≡ y.world.events
+  pub third_spares : SparesBlocks x a y.world.memory third.world.memory
+  pub measures : Runs d (distance_instrs m (distance_from (plan x) r) cell
+      (ways_of x.code ty (loaded_indices x n base indices))) third work
+  pub events : work.world.events ≡ y.world.events
+  pub spares : SparesBlocks x a y.world.memory work.world.memory
+  pub source : (u : ℕ) → u ≢ r → value_in v.values u ≡ value_in w.values u
+  pub source_room : length v.values ≡ length w.values
+  pub source_world : v.world ≡ w.world
 
 module _ (x : Framing) (is : IsFraming x) (homes : List Home) (hides : ℕ → Bool) (c d : Context)
     (law : AreByteRights c.rights) (law' : AreByteRights d.rights) (w y v : Work) (a : Activation) (n m r : ℕ)
@@ -248,6 +279,76 @@ module _ (x : Framing) (is : IsFraming x) (homes : List Home) (hides : ℕ → B
     others = λ u lt differ. behind_same u lt ∙ set.target u differ ∙ fetched.sets.others u lt;
     room = measured.over.room ∙ behind.over.room ∙ set.length_target ∙ fetched.sets.room;
   }
+
+  -- ---- the works on the way
+
+  gep_world : (e : Context) (b u : Work) (p : Operand) (args : List Arg)
+      → instr_action e b (Instr.Gep r inbounds ty p args) ≡ Done u → u.world ≡ b.world
+  gep_world e b u p args h =
+      let one : set_value b r
+      (element b.world.memory inbounds (value_at e b ptr p) (distance e.code ty (indices_of e.code b.values args))) ≡ u =
+      cc in
+      ap (λ (s : Work). s.world) (sym one)
+
+  second_same : z.world ≡ y.world
+  second_same =
+      gep_world d fetched.work z (fetched_operand T n (Operand.Local base)) now
+      (done_is x is homes hides c d law law' w y v a n i may.operands goes)
+      ∙ fetched.sets.world
+
+  spared : (spans : List Span) (k l : List MemoryBlock) → Fills d.rights spans k l → AreInCells x a spans
+      → SparesBlocks x a k l
+  spared spans k l fills inside = record {
+    same = λ e none.
+        fills_elsewhere d.rights spans k l e fills
+        (each_turns
+        (λ (t : Span). (name : ℕ) × IsCellOf x name × Contains a.slots (record { alloca = name; block = t.block }))
+        (λ (t : Span). t.block ≡ e → ⊥)
+        (λ t q. none (record { alloca = q.0; block = t.block }) q.2 q.1) spans inside);
+  }
+
+  third_spared : SparesBlocks x a y.world.memory behind.work.world.memory
+  third_spared = record {
+    same = λ e none.
+        (spared behind.spans z.world.memory behind.work.world.memory behind.over.fills behind.inside).same e none
+        ∙ ap (λ (k : World). slice_get k.memory e) second_same;
+  }
+
+  last_spared : SparesBlocks x a y.world.memory measured.work.world.memory
+  last_spared = record {
+    same = λ e none.
+        (spared measured.spans behind.work.world.memory measured.work.world.memory measured.over.fills
+        measured.inside).same e none
+        ∙ third_spared.same e none;
+  }
+
+  third_seen : behind.work.world.events ≡ y.world.events
+  third_seen = ap (λ (k : World). k.events) behind.over.world ∙ ap (λ (k : World). k.events) second_same
+
+  pub moves_on : MovesOn x d w y v a n m r inbounds ty base indices cell
+  moves_on = record {
+    first = fetched.work;
+    second = z;
+    third = behind.work;
+    work = measured.work;
+    loads = fetched.runs;
+    first_world = fetched.sets.world;
+    is_done = done_is x is homes hides c d law law' w y v a n i may.operands goes;
+    second_world = second_same;
+    stores = behind.over.runs;
+    third_events = third_seen;
+    third_spares = third_spared;
+    measures = measured.over.runs;
+    events = ap (λ (k : World). k.events) measured.over.world ∙ third_seen;
+    spares = last_spared;
+    source = λ u differ. set.source u (other_name u differ);
+    source_room = set.length_source;
+    source_world = gep_world c w v (Operand.Local base) indices is_done;
+  }
+
+  pub moves_work : moves.work ≡ moves_on.work
+  unfolding moves moves_on
+  moves_work = refl
 
 pub moves_made : (x : Framing) → IsFraming x → (homes : List Home) (hides : ℕ → Bool) (c d : Context)
     → AreByteRights c.rights → AreByteRights d.rights → (w y v : Work) (a : Activation) (n m r : ℕ)

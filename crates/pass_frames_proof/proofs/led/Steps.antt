@@ -46,15 +46,15 @@ use Rattle.run_step.specs.declared.world.World.{World}
 
 -- ---- what leaves the world as it is
 
-done_world : (u x z : Work) → x.world ≡ u.world → Done x ≡ Done z → z.world ≡ u.world
+pub done_world : (u x z : Work) → x.world ≡ u.world → Done x ≡ Done z → z.world ≡ u.world
 done_world u x z same e = let one : x ≡ z = cc in ap (λ (k : Work). k.world) (sym one) ∙ same
 
-result_world : (f : Value → Work) (r : Result Value Cause) (u z : Work) → ((k : Value) → (f k).world ≡ u.world)
+pub result_world : (f : Value → Work) (r : Result Value Cause) (u z : Work) → ((k : Value) → (f k).world ≡ u.world)
     → done f r ≡ Done z → z.world ≡ u.world
 result_world f (Err cause) u z same e = absurd (cc)
 result_world f (Ok k) u z same e = done_world u (f k) z (same k) e
 
-still_world : (c : Context) (u z : Work) (i : Instr) → IsStill i → instr_action c u i ≡ Done z → z.world ≡ u.world
+pub still_world : (c : Context) (u z : Work) (i : Instr) → IsStill i → instr_action c u i ≡ Done z → z.world ≡ u.world
 still_world c u z (Instr.Load r ty p align) s e = on (is_alignment align) e
   where
     on : (b : Bool)
@@ -75,11 +75,11 @@ still_world c u z (Instr.Gep r inbounds ty p indices) s e =
 still_world c u z _ s e = absurd s
 
 -- and sets no name but its own
-done_value : (u x z : Work) (k : ℕ) → value_in x.values k ≡ value_in u.values k → Done x ≡ Done z
+pub done_value : (u x z : Work) (k : ℕ) → value_in x.values k ≡ value_in u.values k → Done x ≡ Done z
     → value_in z.values k ≡ value_in u.values k
 done_value u x z k same e = let one : x ≡ z = cc in ap (λ (y : Work). value_in y.values k) (sym one) ∙ same
 
-set_value_other : (u : Work) (r k : ℕ) (v : Value) → (Some r ≡ Some k → ⊥)
+pub set_value_other : (u : Work) (r k : ℕ) (v : Value) → (Some r ≡ Some k → ⊥)
     → value_in (set_value u r v).values k ≡ value_in u.values k
 set_value_other u r k v n = set_elsewhere u.values r k v (λ e. n (ap Some e))
 

@@ -52,7 +52,7 @@ params_standing homes env other (p ∷ ps) (x ∷ vs) (u ∷ us) v h =
     params_standing homes (with_value env p.name x) (with_value other p.name u) ps vs us v.1
     (one_standing homes env other p.name x u h v.0)
 
-no_value : (n v : ℕ) → value_in (replicate n None) v ≡ Value.Poison
+pub no_value : (n v : ℕ) → value_in (replicate n None) v ≡ Value.Poison
 no_value zero v = refl
 no_value (suc n) zero = refl
 no_value (suc n) (suc v) = no_value n v
@@ -63,7 +63,7 @@ none_standing homes n = record {
   room = refl;
 }
 
-entry_standing : (homes : List Home) (f : Function) (vs us : List Value) → AreValues homes vs us
+pub entry_standing : (homes : List Home) (f : Function) (vs us : List Value) → AreValues homes vs us
     → AreStanding homes (entry_values f vs) (entry_values f us)
 entry_standing homes f vs us v =
     params_standing homes (replicate (length f.names) None) (replicate (length f.names) None) f.params vs us v

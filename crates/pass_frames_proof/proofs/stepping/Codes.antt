@@ -48,19 +48,20 @@ pub stay_all : (is : List Instr) → Each (λ (j : Instr). is_no_alloca j ≡ tr
 stay_all [] h = tt
 stay_all (i ∷ is) h = (only_idle is_no_alloca i h.0, stay_all is h.1)
 
-module _ {S : Type 0} (L : Layer S) (is : List Instr) (at : ℕ) (i : Instr) (code : List Instr)
-    (code_is : becomes L (state_at L is at) i ≡ code) (none : Each (λ (j : Instr). is_no_alloca j ≡ true) code) where
-  abbrev M : Layer (S × Unit {0})
+module _ {S : Type 0} (L : Layer S) (is : List Instr) (at : ℕ) where
+  abbrev pub M : Layer (S × Unit {0})
   M = allocas_led L is
 
-  state_is : state_at M is at ≡ (state_at L is at, passed (only is_no_alloca) tt (grown L L.start (take at is)))
+  pub state_is : state_at M is at ≡ (state_at L is at, passed (only is_no_alloca) tt (grown L L.start (take at is)))
   state_is =
       led_passed (filter is_alloca (woven L is)) (both L (only is_no_alloca)) M.start (take at is)
       ∙ both_passed L (only is_no_alloca) L.start M.start.1 (take at is)
 
-  led_becomes : becomes M (state_at M is at) i ≡ code
+module _ {S : Type 0} (L : Layer S) (is : List Instr) (at : ℕ) (i : Instr) (code : List Instr)
+    (code_is : becomes L (state_at L is at) i ≡ code) (none : Each (λ (j : Instr). is_no_alloca j ≡ true) code) where
+  led_becomes : becomes (M L is at) (state_at (M L is at) is at) i ≡ code
   led_becomes =
-      ap (λ (s : S × Unit {0}). becomes M s i) state_is
+      ap (λ (s : S × Unit {0}). becomes (M L is at) s i) (state_is L is at)
       ∙ both_becomes L (only is_no_alloca) (state_at L is at)
       (passed (only is_no_alloca) tt (grown L L.start (take at is))) i
       ∙ ap (grown (only is_no_alloca) (passed (only is_no_alloca) tt (grown L L.start (take at is)))) code_is

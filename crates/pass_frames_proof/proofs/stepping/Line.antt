@@ -1,5 +1,5 @@
 -- What an ordinary instruction becomes: its operands are fetched twice, and its result is stored.
-use Rattle.std.proofs.Common.{◌≡◌, ℕ, Bool, true, false, List, [], ◌∷◌, ◌++◌, refl, sym, ap, ◌∙◌, append_assoc, append-nil}
+use Rattle.std.proofs.Common.{◌≡◌, ℕ, Bool, true, false, List, [], ◌∷◌, ◌++◌, refl, sym, ap, ◌∙◌, subst, append-nil}
 use Rattle.std.specs.Prelude.{None, Option, Some, slice_get}
 use Rattle.ir_laws.proofs.facts.Members.{each_joined, each_turns}
 use Rattle.ir_model.specs.declared.instr.Instr.{Instr}
@@ -8,26 +8,21 @@ use Rattle.ir_model.specs.declared.operand.Callee.{Callee}
 use Rattle.ir_parts.specs.Contents.{instr_operands, result_of}
 use Rattle.pass_cells.specs.Cells.{fetches_of}
 use Rattle.pass_cells.specs.Kept.{entry}
-use Rattle.pass_cells.specs.Moves.{after_saved, saved_values}
+use Rattle.pass_cells.specs.Moves.{after_saved}
 use Rattle.pass_cells.specs.Written.{distance_behind, distance_from, distance_into, save_row, stored_at, stored_one, stored_result}
 use Rattle.pass_cells.specs.declared.plan.KeptValue.{KeptValue}
-use Rattle.pass_copies.specs.BeginCopies.{behind}
 use Rattle.pass_fetch.specs.Fetching.{fetches_of_all}
 use Rattle.pass_fetch.specs.Instrs.{with_fetched}
 use Rattle.pass_fetch.specs.declared.fetch.Fetch.{Fetch}
-use Rattle.pass_frames_proof.proofs.code.Idle.{each_idle, only_idle}
-use Rattle.pass_frames_proof.proofs.layers.Grown.{both_becomes, grown_one}
-use Rattle.pass_frames_proof.proofs.layers.Idle.{all_stay, both_idle}
 use Rattle.pass_frames_proof.proofs.led.Front.{all_still}
-use Rattle.pass_frames_proof.specs.Code.{address_state, addressed, code_of, load_name, loaded, loads, located, past_addressed, saved, slot_table, stores, unmarked_one, write_name}
-use Rattle.pass_frames_proof.specs.Layers.{IsIdle, Layer, each, only}
+use Rattle.pass_frames_proof.proofs.stepping.Alone.{alone_is, alone_no_alloca}
+use Rattle.pass_frames_proof.specs.Code.{address_state, code_of, load_name, loaded, loads, slot_table, stores, write_name}
 use Rattle.pass_frames_proof.specs.Led.{IsStill, LeavesMemory}
+use Rattle.pass_frames_proof.specs.Operands.{IsLeftAlone}
 use Rattle.pass_frames_proof.specs.Lined.{GivesNone, gives_frame}
-use Rattle.pass_frames_proof.specs.Passes.{fetching_at, unmarked_at}
-use Rattle.pass_frames_proof.specs.Places.{Framing, Placed, addressing_layer, copies, marked, offsets, plan, unmarked}
+use Rattle.pass_frames_proof.specs.Places.{Framing, Placed, plan}
 use Rattle.pass_frames_proof.specs.Stepping.{IsCommon, IsUnlocated, placed_front, placed_instr, placed_line}
 use Rattle.pass_front.specs.Front.{is_no_alloca}
-use Rattle.pass_addresses.specs.Placing.{lies_outside, stays, without_promise_of}
 use Rattle.pass_proofs.proofs.fetch.rules.Times.{with_result}
 use Rattle.pass_renewed_proof.specs.Renewed.{is_idle}
 use Rattle.run_laws.specs.changed.Changed.{Each}
@@ -49,7 +44,7 @@ common c (Instr.Call r must_tail ty (Callee.Allocator n) args) q = absurd q
 common c (Instr.Call r must_tail ty (Callee.Intrinsic n) args) q = absurd q
 common c (Instr.Call r must_tail ty (Callee.Local n) args) q = absurd q
 
-common_fetched : (t : List (Option Fetch)) (n : ℕ) (i : Instr) → IsCommon i → IsCommon (with_fetched t n i)
+pub common_fetched : (t : List (Option Fetch)) (n : ℕ) (i : Instr) → IsCommon i → IsCommon (with_fetched t n i)
 common_fetched t n (Instr.Binary r op flags ty a b) q = tt
 common_fetched t n (Instr.Icmp r pred ty a b) q = tt
 common_fetched t n (Instr.Select r k a b) q = tt
@@ -64,15 +59,7 @@ common_fetched t n (Instr.Call r must_tail ty (Callee.Intrinsic name) args) q = 
 common_fetched t n (Instr.Call r must_tail ty (Callee.Local name) args) q = absurd q
 
 -- a call of an intrinsic alone is put aside
-record IsLeft (x : Framing) (i : Instr) : Type 0 where
-  row : save_row (plan x) i ≡ []
-  behind_it : behind (copies x) i ≡ []
-  stays_it : stays (marked x) i ≡ true
-  same : without_promise_of i ≡ i
-  outside : lies_outside (offsets x) i ≡ true
-  no_alloca : is_no_alloca i ≡ true
-
-left : (x : Framing) (i : Instr) → IsCommon i → IsLeft x i
+pub left : (x : Framing) (i : Instr) → IsCommon i → IsLeftAlone x i
 left x (Instr.Binary r op flags ty a b) q =
     record { row = refl; behind_it = refl; stays_it = refl; same = refl; outside = refl; no_alloca = refl }
 left x (Instr.Icmp r pred ty a b) q =
@@ -98,12 +85,7 @@ left x (Instr.Call r must_tail ty (Callee.Local n) args) q = absurd q
 
 -- ---- stores
 
-still_no_alloca : (i : Instr) → IsStill i → is_no_alloca i ≡ true
-still_no_alloca (Instr.Load r ty p align) s = refl
-still_no_alloca (Instr.Gep r inbounds ty p indices) s = refl
-still_no_alloca _ s = absurd s
-
-stored_no_alloca : (x : Framing) (o : Option ℕ) → Each (λ (j : Instr). is_no_alloca j
+pub stored_no_alloca : (x : Framing) (o : Option ℕ) → Each (λ (j : Instr). is_no_alloca j
     ≡ true) (stored_result (plan x) o)
 stored_no_alloca x None = tt
 stored_no_alloca x (Some v) = by_place (entry (plan x).places v)
@@ -117,7 +99,7 @@ stored_no_alloca x (Some v) = by_place (entry (plan x).places v)
     by_place (Some at) = by_kept (slice_get (plan x).kept at)
 
 -- no distance is summed
-unmeasured : (x : Framing) (n : ℕ) (i : Instr) → ((r : ℕ) → result_of i ≡ Some r → entry (plan x).cells r ≡ None)
+pub unmeasured : (x : Framing) (n : ℕ) (i : Instr) → ((r : ℕ) → result_of i ≡ Some r → entry (plan x).cells r ≡ None)
     → distance_behind x.code (plan x) n i ≡ []
 unmeasured x n (Instr.Gep r inbounds ty base indices) h =
     ap (λ (o : Option ℕ). distance_into x.code (distance_from (plan x) r) n o ty indices) (h r refl)
@@ -137,17 +119,20 @@ module _ (x : Framing) (k : ℕ) (n : Placed) (i : Instr) (q : IsCommon i) (u : 
   abbrev one : Instr
   one = loaded x n i
 
+  abbrev last : Instr
+  last = placed_instr x n i
+
   one_common : IsCommon one
   one_common = common_fetched (fetches_of (plan x)) (load_name n) i q
 
-  one_left : IsLeft x one
+  one_left : IsLeftAlone x one
   one_left = left x one one_common
+
+  last_left : IsLeftAlone x last
+  last_left = left x last (common_fetched (slot_table x) (address_state n).0 one one_common)
 
   result_same : result_of one ≡ result_of i
   result_same = with_result (fetches_of (plan x)) (load_name n) i
-
-  saved_none : saved x n i ≡ []
-  saved_none = ap (λ (row : List ℕ). saved_values (plan x).kept (write_name n) row) one_left.row
 
   stores_are : stores x n i ≡ stored_result (plan x) (result_of i)
   stores_are =
@@ -156,77 +141,17 @@ module _ (x : Framing) (k : ℕ) (n : Placed) (i : Instr) (q : IsCommon i) (u : 
       (λ r e. plain r (sym result_same ∙ e)) j)
       ∙ append-nil (stored_result (plan x) (result_of i))
 
-  unmarked_is : unmarked_one x (located x n i) ≡ one ∷ []
-  unmarked_is =
-      ap (unmarked_one x) u.located
-      ∙ all_stay (unmarked_at (marked x)) (one ∷ []) (
-        both_idle (only (stays (marked x))) (each without_promise_of) one
-            (only_idle (stays (marked x)) one one_left.stays_it) (each_idle without_promise_of one one_left.same),
-        tt,
-      )
-      (tt, tt)
-
-  abbrev M : ℕ
-  M = (address_state n).0
-
-  abbrev A : Layer ℕ
-  A = fetching_at (unmarked x) (slot_table x) k
-
-  abbrev B : Layer (Unit {0})
-  B = only (lies_outside (offsets x))
-
-  abbrev last : Instr
-  last = placed_instr x n i
-
-  front_stays : (j : Instr) → IsStill j → IsIdle (only (lies_outside (offsets x))) j
-  front_stays (Instr.Load r ty p align) s = only_idle (lies_outside (offsets x)) (Instr.Load r ty p align) refl
-  front_stays (Instr.Gep r inbounds ty p indices) s =
-      only_idle (lies_outside (offsets x)) (Instr.Gep r inbounds ty p indices) refl
-  front_stays _ s = absurd s
-
-  last_left : IsLeft x last
-  last_left = left x last (common_fetched (slot_table x) M one one_common)
-
-  addressed_is : addressed x k (address_state n) (one ∷ [])
-      ≡ fetches_of_all (slot_table x) M (instr_operands one) ++ (last ∷ [])
-  addressed_is =
-      grown_one (addressing_layer x k) (address_state n) one
-      ∙ both_becomes A B M (address_state n).1 one
-      ∙ all_stay B (fetches_of_all (slot_table x) M (instr_operands one) ++ (last ∷ []))
-      (each_joined (IsIdle B) (fetches_of_all (slot_table x) M (instr_operands one)) (last ∷ [])
-      (each_turns IsStill (IsIdle B) front_stays (fetches_of_all (slot_table x) M (instr_operands one))
-      (all_still (slot_table x) M (instr_operands one)))
-      (only_idle (lies_outside (offsets x)) last last_left.outside, tt))
-      (address_state n).1
-
-  -- nothing else stands there
-  shaped : (a b c e : List Instr) → a ++ ([] ++ ([] ++ ((b ++ c) ++ ([] ++ e)))) ≡ (a ++ b) ++ (c ++ e)
-  shaped a b c e = simp append_assoc
-
   pub line_is : code_of x k n i ≡ placed_line x n i
   line_is =
-      (λ j. loads x n i
-      ++ (addressed x k (address_state n) (saved_none j)
-      ++ (u.wheres j
-      ++ (addressed x k (past_addressed x k (address_state n) (saved_none j)) (unmarked_is j)
-      ++ (addressed x k
-      (past_addressed x k (past_addressed x k (address_state n) (saved_none j)) (unmarked_is j))
-      (one_left.behind_it j) ++ stores_are j)))))
-      ∙ ap (λ (xs : List Instr). loads x n i ++ ([] ++ ([] ++ (xs ++ ([] ++ stored_result (plan x) (result_of i))))))
-      addressed_is
-      ∙ shaped (loads x n i) (fetches_of_all (slot_table x) M (instr_operands one)) (last ∷ [])
-      (stored_result (plan x) (result_of i))
+      alone_is x k n i one_left last_left u ∙ ap (λ (xs : List Instr). placed_front x n i ++ (last ∷ xs)) stores_are
 
   -- and no alloca
   pub line_no_alloca : Each (λ (j : Instr). is_no_alloca j ≡ true) (placed_line x n i)
   line_no_alloca =
-      each_joined (λ (j : Instr). is_no_alloca j ≡ true) (placed_front x n i) (last ∷ stored_result (plan x)
-      (result_of i))
-      (each_turns IsStill (λ (j : Instr). is_no_alloca j ≡ true) still_no_alloca (placed_front x n i)
-      (each_joined IsStill (loads x n i) (fetches_of_all (slot_table x) M (instr_operands one))
-      (all_still (fetches_of (plan x)) (load_name n) (instr_operands i))
-      (all_still (slot_table x) M (instr_operands one))))
-      (last_left.no_alloca, stored_no_alloca x (result_of i))
+      subst (λ (xs : List Instr). Each (λ (j : Instr). is_no_alloca j ≡ true) (placed_front x n i ++ (last ∷ xs)))
+      stores_are
+      (alone_no_alloca x k n i one_left last_left u
+      (subst (Each (λ (j : Instr). is_no_alloca j ≡ true)) (sym stores_are) (stored_no_alloca x (result_of i))))
 
 -- ---- calls which give a frame, and markers
 
@@ -250,7 +175,7 @@ still_gives m (Instr.Load r ty p align) s = refl
 still_gives m (Instr.Gep r inbounds ty p indices) s = refl
 still_gives m _ s = absurd s
 
-stored_gives : (m : Module) (x : Framing) (o : Option ℕ) → Each (GivesNone m) (stored_result (plan x) o)
+pub stored_gives : (m : Module) (x : Framing) (o : Option ℕ) → Each (GivesNone m) (stored_result (plan x) o)
 stored_gives m x None = tt
 stored_gives m x (Some v) = by_place (entry (plan x).places v)
   where

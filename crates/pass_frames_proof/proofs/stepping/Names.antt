@@ -70,7 +70,7 @@ module _ (x : Framing) where
       let two : length (fetched x).names ≤ length (written x).names = longer (fetched x).names _ in
       omega (arith, one, two)
 
-  edged_named : length (edged x).names ≤ length (named x).names
+  pub edged_named : length (edged x).names ≤ length (named x).names
   edged_named =
       let k : ℕ = length (plan x).kept in
       let one : List Name = (edged x).names ++ numbered_names (codes "$c.cell.") k in

@@ -143,12 +143,12 @@ joined_or : (o : Option (Option ℕ)) → unwrap_or o None ≡ joined o
 joined_or None = refl
 joined_or (Some o) = refl
 
-outside_not : (x : Framing) (v : ℕ) → entry (offsets x) v ≡ None → lies_in_frame (offsets x) v ≡ false
+pub outside_not : (x : Framing) (v : ℕ) → entry (offsets x) v ≡ None → lies_in_frame (offsets x) v ≡ false
 outside_not x v e =
     ap (λ (o : Option ℕ). not (is_none o)) (joined_or (slice_get (offsets x) v) ∙ e)
 
 -- an address is made of what lies in the frame
-slot_fetch : (x : Framing) (v : ℕ)
+pub slot_fetch : (x : Framing) (v : ℕ)
     → fetch_of (slot_table x) (Operand.Local v) ≡ option_map (Fetch.Address (begin_of x.function)) (entry
     (offsets x) v)
 slot_fetch x v =

@@ -96,7 +96,7 @@ more_below c cs n l =
 module _ (rights : Rights) (m k : List MemoryBlock) (x : Framing) (is : IsFraming x) (c : Activation)
     (kept : (slot : Slot) → Contains c.slots slot → IsCellName x slot.alloca → (o most : ℕ) (bytes : List Byte)
     → Holds rights m slot.block o most bytes → Holds rights k slot.block o most bytes) where
-  cell_on : (cell : ℕ) (ty : Ty) (Has : Value → Type 0) → IsCellName x cell → IsCell rights m c cell ty Has
+  pub cell_on : (cell : ℕ) (ty : Ty) (Has : Value → Type 0) → IsCellName x cell → IsCell rights m c cell ty Has
       → IsCell rights k c cell ty Has
   cell_on cell ty Has name h = record {
     block = h.block;
@@ -114,14 +114,14 @@ module _ (rights : Rights) (m k : List MemoryBlock) (x : Framing) (is : IsFramin
   distance_cell : (v cell : ℕ) → entry (plan x).cells v ≡ Some cell → IsCellName x cell
   distance_cell v cell e = cell_is_name x cell (distance_of x is v cell e)
 
-  rights_kept : (homes : List Home) (env : Env) → AreCellsRight x homes rights m env c
+  pub rights_kept : (homes : List Home) (env : Env) → AreCellsRight x homes rights m env c
       → AreCellsRight x homes rights k env c
   rights_kept homes env h = record {
     values = λ v kv e. cell_on kv.cell kv.ty _ (value_cell v kv e) (h.values v kv e);
     distances = λ v cell slot e root. cell_on cell _ _ (distance_cell v cell e) (h.distances v cell slot e root);
   }
 
-  there_kept : AreCellsThere x rights m c → AreCellsThere x rights k c
+  pub there_kept : AreCellsThere x rights m c → AreCellsThere x rights k c
   there_kept h = record {
     values = λ v kv e. cell_on kv.cell kv.ty Anything (value_cell v kv e) (h.values v kv e);
     distances = λ v cell e. cell_on cell _ Anything (distance_cell v cell e) (h.distances v cell e);
@@ -130,17 +130,17 @@ module _ (rights : Rights) (m k : List MemoryBlock) (x : Framing) (is : IsFramin
   pub wheres_kept : (own : Option Instance) → AreWheresRight x rights m own c → AreWheresRight x rights k own c
   wheres_kept own h = record { each = λ s e. cell_on s.cell _ _ (where_is_name x s e) (h.each s e) }
 
-  where_there_kept : AreWheresThere x rights m c → AreWheresThere x rights k c
+  pub where_there_kept : AreWheresThere x rights m c → AreWheresThere x rights k c
   where_there_kept h = record { each = λ s e. cell_on s.cell ptr Anything (where_is_name x s e) (h.each s e) }
 
-  made_kept : (mode : Mode) → AreMade x rights m c mode → AreMade x rights k c mode
+  pub made_kept : (mode : Mode) → AreMade x rights m c mode → AreMade x rights k c mode
   made_kept Mode.Plain h = (there_kept h.0, where_there_kept h.1)
   made_kept Mode.Ramp h = (there_kept h.0, where_there_kept h.1)
   made_kept (Mode.GivenRamp frame) h = (there_kept h.0, where_there_kept h.1)
   made_kept Mode.Resumed h = (there_kept h.0, where_there_kept h.1)
   made_kept (Mode.Entering from label) h = tt
 
-  has_kept : (homes : List Home) (own : Option Instance) (a : Activation) (from : Option ℕ)
+  pub has_kept : (homes : List Home) (own : Option Instance) (a : Activation) (from : Option ℕ)
       → ((y : Instance) (j : ℕ) → own ≡ Some y → from ≡ Some j
       → HasFields x homes rights m j a.values y.block y.start a.mode
       → HasFields x homes rights k j a.values y.block y.start a.mode) → HasCells x homes rights m own a c from
@@ -253,7 +253,7 @@ module _ (b : Building) (s t : State) (r : AreBuiltOf b s t) (w u : World) (l : 
 
   -- ---- cells stay free, and so does what is made ahead
 
-  free_kept : (cs : List Activation) → AreFreeCells b r.homes r.hides s.world.memory cs
+  pub free_kept : (cs : List Activation) → AreFreeCells b r.homes r.hides s.world.memory cs
       → AreFreeCells b r.homes r.hides w.memory cs
   free_kept [] h = tt
   free_kept (c ∷ cs) h = ((λ is slot e name. l.free slot.block (h.0 is slot e name)), free_kept cs h.1)
@@ -320,6 +320,15 @@ module _ (b : Building) (s t : State) (r : AreBuiltOf b s t) (w u : World) (l : 
       ahead = (ahead, all_ahead_kept s.below t.below (λ z k. k) r.ahead.1);
       outcome = r.outcome;
     }
+
+    -- blocks stand where they stood
+    pub rest_homes : (over : AreOver owner_rights R r.homes r.hides (λ d. d) w u)
+        (ahead : is_coroutine b s.top.func ≡ true → is_first s.top.mode ≡ true → sb ≡ 0
+        → AreAhead (b.framing s.top.func) r.homes r.hides w.memory u.memory on_s on_t)
+        (top : AreActivations b r.homes r.hides (record t { world = u; top = on_t }) (top_place b) on_s on_t)
+        → (rest_related over ahead top).homes ≡ r.homes
+    unfolding rest_related
+    rest_homes over ahead top = refl
 
 -- ---- blocks of cells are no others
 

@@ -30,7 +30,7 @@ use Rattle.run_step.specs.declared.world.World.{World}
 module _ (rights : Rights) (m k : List MemoryBlock) (block : ℕ)
     (kept : (o most : ℕ) (bytes : List Byte) → Holds rights m block o most bytes → Holds rights k block o most bytes)
     (x : Framing) (homes : List Home) (suspend : ℕ) (env : Env) (start : ℕ) where
-  right_kept : AreFieldsRight x homes rights m suspend env block start
+  pub right_kept : AreFieldsRight x homes rights m suspend env block start
       → AreFieldsRight x homes rights k suspend env block start
   right_kept h = record {
     each = λ v position kv is crosses at. let f = h.each v position kv is crosses at in (
@@ -52,7 +52,7 @@ module _ (rights : Rights) (m k : List MemoryBlock) (block : ℕ)
     );
   }
 
-  fields_kept : (mode : Mode) → HasFields x homes rights m suspend env block start mode
+  pub fields_kept : (mode : Mode) → HasFields x homes rights m suspend env block start mode
       → HasFields x homes rights k suspend env block start mode
   fields_kept Mode.Plain h = right_kept h
   fields_kept Mode.Ramp h = right_kept h
@@ -62,7 +62,7 @@ module _ (rights : Rights) (m k : List MemoryBlock) (block : ℕ)
 
 -- ---- slots of one of the activations below
 
-slot_listed : (cs : List Activation) (c : Activation) (slot : Slot) → IsListed c cs → Contains c.slots slot
+pub slot_listed : (cs : List Activation) (c : Activation) (slot : Slot) → IsListed c cs → Contains c.slots slot
     → IsListed slot.block (map (λ (z : Slot). z.block) (slots_below cs))
 slot_listed [] c slot l e = absurd l
 slot_listed (q ∷ cs) c slot (inl same) e =
@@ -94,7 +94,7 @@ module _ (b : Building) (s t : State) (r : AreBuiltOf b s t) (w u : World) (Touc
   }
 
   -- a frame lies in a block of the source's
-  frames : (x y : Instance) → AreInstances b r.homes t x y → Touched y.block → ⊥
+  pub frames : (x y : Instance) → AreInstances b r.homes t x y → Touched y.block → ⊥
   frames x y h touched =
       let seen : (home_of r.homes x.block).is_seen ≡ true = ap (λ (q : Home). q.is_seen) h.block in
       let lt : x.block < length r.homes = seen_known r.homes x.block seen in
@@ -102,7 +102,7 @@ module _ (b : Building) (s t : State) (r : AreBuiltOf b s t) (w u : World) (Touc
       stood x.block (omega (arith, lt, known)) seen
       (subst Touched (sym (ap (λ (q : Home). q.block) h.block)) touched)
 
-  own_frame : (i : Option ℕ) (y : Instance) → instance_in t.instances i ≡ Some y → Touched y.block → ⊥
+  pub own_frame : (i : Option ℕ) (y : Instance) → instance_in t.instances i ≡ Some y → Touched y.block → ⊥
   own_frame None y e = absurd (cc)
   own_frame (Some i) y e =
       let lt : i < length t.instances = get_within t.instances i y e in

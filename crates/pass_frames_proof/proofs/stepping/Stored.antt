@@ -72,7 +72,7 @@ is_block m k h n x e = on (slice_get m n) (slice_get k n) e refl (h.each n)
         }
 
 -- where blocks count as dead they do so then too
-muted_is : (hides : ℕ → Bool) (m : List MemoryBlock) (n : ℕ)
+pub muted_is : (hides : ℕ → Bool) (m : List MemoryBlock) (n : ℕ)
     → slice_get (muted hides m) n ≡ option_map (ended_if (hides n)) (slice_get m n)
 muted_is hides [] n = refl
 muted_is hides (x ∷ m) zero = refl
