@@ -32,6 +32,7 @@ pub mod Phis
 pub mod Places
 pub mod Reached
 pub mod Related
+pub mod Returning
 pub mod Saves
 pub mod Stepping
 pub mod Stores

@@ -24,6 +24,7 @@ pub mod offsets;
 pub mod ordinary;
 pub mod phis;
 pub mod reached;
+pub mod returning;
 pub mod start;
 pub mod stepping;
 pub mod tests;

@@ -48,7 +48,7 @@ use Rattle.run_step.specs.Values.{operand_value}
 
 -- ---- what stands at the end is fetched
 
-end_each : (P : Instr → Type 0) → ((n : ℕ) (y : Fetch) → P (fetch_into n y)) → (t u : List (Option Fetch))
+pub end_each : (P : Instr → Type 0) → ((n : ℕ) (y : Fetch) → P (fetch_into n y)) → (t u : List (Option Fetch))
     (f h : Function) (label n m : ℕ) (xs ys : List Operand) → Each P (end_line t u f h label n m xs ys)
 end_each P one t u f h label n m xs ys =
     each_joined P (end_at (phi_ends f t) label ++ fetches_of_all t n xs)
@@ -62,11 +62,11 @@ end_each P one t u f h label n m xs ys =
     (no_rows u P (length h.names)) label)
     (all_by u P 0 (λ k y z low e. one k z) m ys (omega arith)))
 
-into_still : (n : ℕ) (y : Fetch) → IsStill (fetch_into n y)
+pub into_still : (n : ℕ) (y : Fetch) → IsStill (fetch_into n y)
 into_still n (Fetch.Load ty cell) = tt
 into_still n (Fetch.Address base distance) = tt
 
-into_gives : (m : Module) (n : ℕ) (y : Fetch) → GivesNone m (fetch_into n y)
+pub into_gives : (m : Module) (n : ℕ) (y : Fetch) → GivesNone m (fetch_into n y)
 into_gives m n (Fetch.Load ty cell) = refl
 into_gives m n (Fetch.Address base distance) = refl
 

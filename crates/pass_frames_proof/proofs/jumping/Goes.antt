@@ -50,7 +50,7 @@ module _ (t u : List (Option Fetch)) (given reached : ℕ → Value) (d : Contex
     (along : SetsFrom first y one) (along_three : SetsFrom first y three) (on : SetsFrom far two three) (n m : ℕ)
     (low : first ≤ n) where
   -- what is seen of an operand behind both
-  one_at_end : (a : Operand) (ty : Ty) → IsBelow first a → next_after t n a ≤ far
+  pub one_at_end : (a : Operand) (ty : Ty) → IsBelow first a → next_after t n a ≤ far
       → IsSeenAs t given d one two a (fetched_operand t n a)
       → IsSeenAs u reached d three z (fetched_operand t n a) (fetched_operand u m (fetched_operand t n a))
       → value_at d z ty (fetched_operand u m (fetched_operand t n a)) ≡ seen_twice t u given reached d y ty a

@@ -1,0 +1,12 @@
+pub mod Back
+pub mod Behind
+pub mod Deaths
+pub mod Dying
+pub mod Given
+pub mod Last
+pub mod Owned
+pub mod Popped
+pub mod Ramps
+pub mod Results
+pub mod Returns
+pub mod Turned

@@ -1,0 +1,107 @@
+-- An activation that stands at another place is related as it was.
+use Rattle.std.proofs.Common.{ℕ, Bool, true, false, List, refl}
+use Rattle.std.specs.Prelude.{None, Option, Some, ◌&&◌}
+use Rattle.ir_model.specs.Ty.{Ty, int, ptr}
+use Rattle.ir_paths.specs.declared.point.Point.{Point}
+use Rattle.pass_frames_proof.proofs.stepping.After.{cell_turned, cells_turned, wheres_turned}
+use Rattle.pass_frames_proof.specs.Places.{Framing, offsets}
+use Rattle.pass_frames_proof.specs.Related.{Anything, AreActivations, AreAhead, AreCoroutines, AreMade, AreCellsThere, AreWheresThere, Building, HasCells, HasValues, IsAhead, IsSlotBy, instance_in, is_coroutine, returned_from}
+use Rattle.pass_proofs.specs.addresses.rules.Addresses.{lies_in_frame}
+use Rattle.run_framed.specs.Framed.{frame_rights}
+use Rattle.run_laws.specs.memory.Pointers.{Home}
+use Rattle.run_memory.specs.Memory.{Rights}
+use Rattle.run_memory.specs.declared.block.MemoryBlock.{MemoryBlock}
+use Rattle.run_source.specs.declared.state.Activation.{Activation}
+use Rattle.run_source.specs.declared.state.Instance.{Instance}
+use Rattle.run_source.specs.declared.state.Mode.{Mode}
+use Rattle.run_source.specs.declared.state.State.{State}
+use Rattle.run_step.specs.declared.world.Slot.{Slot}
+
+-- the activation at a place
+abbrev pub placed_at : Activation → Point → Activation
+placed_at c p = record c { block = p.block; at = p.at }
+
+module _ (x : Framing) (homes : List Home) (rights : Rights) (m : List MemoryBlock) (a c : Activation) (p : Point) where
+  there_turned : AreCellsThere x rights m c → AreCellsThere x rights m (placed_at c p)
+  there_turned h = record {
+    values = λ v k kept. cell_turned rights m c (placed_at c p) k.cell k.ty Anything refl refl (h.values v k kept);
+    distances = λ v cell e. cell_turned rights m c (placed_at c p) cell (int 64) Anything refl refl (h.distances v cell e);
+  }
+
+  wheres_there_turned : AreWheresThere x rights m c → AreWheresThere x rights m (placed_at c p)
+  wheres_there_turned h = record {
+    each = λ s e. cell_turned rights m c (placed_at c p) s.cell ptr Anything refl refl (h.each s e);
+  }
+
+  made_turned : (mode : Mode) → AreMade x rights m c mode → AreMade x rights m (placed_at c p) mode
+  made_turned Mode.Plain h = (there_turned h.0, wheres_there_turned h.1)
+  made_turned Mode.Ramp h = (there_turned h.0, wheres_there_turned h.1)
+  made_turned (Mode.GivenRamp frame) h = (there_turned h.0, wheres_there_turned h.1)
+  made_turned Mode.Resumed h = (there_turned h.0, wheres_there_turned h.1)
+  made_turned (Mode.Entering from label) h = tt
+
+  has_turned : (own : Option Instance) (from : Option ℕ) → HasCells x homes rights m own a c from
+      → HasCells x homes rights m own a (placed_at c p) from
+  has_turned own None h = (
+    cells_turned rights m c (placed_at c p) x homes a.values refl refl h.0,
+    wheres_turned rights m c (placed_at c p) x own refl (λ s listed. (refl, refl)) h.1,
+  )
+  has_turned None (Some suspend) h = absurd h
+  has_turned (Some y) (Some suspend) h = h
+
+pub coroutines_turned : (x : Framing) (homes : List Home) (rights : Rights) (t : State) (a c : Activation) (p : Point)
+    → AreCoroutines x homes rights t a c → AreCoroutines x homes rights t a (placed_at c p)
+coroutines_turned x homes rights t a c p h = record {
+  names = record { each = h.names.each; room = h.names.room };
+  cells = has_turned x homes rights t.world.memory a c p (instance_in t.instances c.instance)
+      (returned_from x a a.mode) h.cells;
+  made = made_turned x homes rights t.world.memory a c p a.mode h.made;
+}
+
+values_turned : (b : Building) (homes : List Home) (rights : Rights) (t : State) (a c : Activation) (p : Point)
+    (k : Bool) → HasValues b homes rights t a c k → HasValues b homes rights t a (placed_at c p) k
+values_turned b homes rights t a c p true h = coroutines_turned (b.framing a.func) homes rights t a c p h
+values_turned b homes rights t a c p false h = record { each = h.each; room = h.room }
+
+slot_turned : (b : Building) (homes : List Home) (hides : ℕ → Bool) (a c : Activation) (p : Point) (slot : Slot)
+    (f : Bool) → IsSlotBy b homes hides a c slot f → IsSlotBy b homes hides a (placed_at c p) slot f
+slot_turned b homes hides a c p slot true h = h
+slot_turned b homes hides a c p slot false h = record { block = h.block; home = h.home; own = h.own }
+
+pub activation_turned : (b : Building) (homes : List Home) (hides : ℕ → Bool) (t : State)
+    (at to : Activation → Point) (a c : Activation) → AreActivations b homes hides t at a c
+    → AreActivations b homes hides t to a (placed_at c (to a))
+activation_turned b homes hides t at to a c h = record {
+  func = h.func;
+  place = refl;
+  result = h.result;
+  mode = h.mode;
+  instance = h.instance;
+  has_left = h.has_left;
+  values = values_turned b homes (frame_rights b.given t.instances) t a c (to a) (is_coroutine b a.func) h.values;
+  slots = λ slot e.
+      slot_turned b homes hides a c (to a) slot
+      (is_coroutine b a.func && lies_in_frame (offsets (b.framing a.func)) slot.alloca) (h.slots slot e);
+}
+
+pub one_ahead_turned : (x : Framing) (homes : List Home) (hides : ℕ → Bool) (m k : List MemoryBlock) (c : Activation)
+    (p : Point) (v align : ℕ) (ty : Ty) → IsAhead x homes hides m k c v ty align
+    → IsAhead x homes hides m k (placed_at c p) v ty align
+one_ahead_turned x homes hides m k c p v align ty h = record {
+  block = h.block;
+  address = h.address;
+  own = h.own;
+  free = h.free;
+  bytes = h.bytes;
+  sized = h.sized;
+  there = h.there;
+}
+
+pub ahead_turned : (x : Framing) (homes : List Home) (hides : ℕ → Bool) (m k : List MemoryBlock) (a c : Activation)
+    (p : Point) → AreAhead x homes hides m k a c → AreAhead x homes hides m k a (placed_at c p)
+ahead_turned x homes hides m k a c p h = record {
+  slots = λ at v align ty e le outside.
+      one_ahead_turned x homes hides m k c p v align ty (h.slots at v align ty e le outside);
+  temporaries = λ s at align ty listed e le.
+      one_ahead_turned x homes hides m k c p s.temporary s.align s.ty (h.temporaries s at align ty listed e le);
+}
