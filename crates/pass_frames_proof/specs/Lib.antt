@@ -1,5 +1,6 @@
 pub mod Agains
 pub mod Asking
+pub mod Calling
 pub mod Code
 pub mod Copying
 pub mod Costs

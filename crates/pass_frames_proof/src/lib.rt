@@ -4,6 +4,7 @@
 
 pub mod agains;
 pub mod asking;
+pub mod calling;
 pub mod code;
 pub mod copying;
 pub mod distanced;
