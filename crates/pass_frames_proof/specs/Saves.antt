@@ -6,11 +6,13 @@ use Rattle.pass_cells.specs.declared.plan.KeptValue.{KeptValue}
 use Rattle.pass_fetch.specs.Fetching.{value_bytes}
 use Rattle.pass_frames.specs.Framed.{begin_of}
 use Rattle.pass_frames_proof.specs.Code.{addressed}
+use Rattle.pass_frames_proof.specs.Led.{RunsThrough}
 use Rattle.pass_frames_proof.specs.Lines.{AreInBlock, HasOwnBlocks, IsCellOf, IsStorable, RunsOver, at_work}
 use Rattle.pass_frames_proof.specs.Places.{Framing, offsets, plan}
 use Rattle.pass_frames_proof.specs.Related.{AreCellsRight, Anything, IsKeptAs, IsKeptValue}
 use Rattle.run_laws.specs.access.Accessed.{Span}
 use Rattle.run_laws.specs.access.Lines.{AreDisjoint, Holds, pointer_at}
+use Rattle.run_laws.specs.changed.Changed.{Each}
 use Rattle.run_laws.specs.memory.Pointers.{Home}
 use Rattle.run_memory.specs.Memory.{Rights, decode}
 use Rattle.run_memory.specs.declared.block.Byte.{Byte}
@@ -56,12 +58,30 @@ AreCellsElsewhere x block a =
 
 -- ---- the line before a save: new names are from n on for values, and from m on for addresses
 
+-- the range is the field of a value of the row, in the frame that starts in a block
+pub record IsFieldSpan (x : Framing) (block start : ℕ) (row : List ℕ) (s : Span) : Type 0 where
+  pub value : ℕ
+  pub kept : KeptValue
+  pub is_kept : IsKeptValue x value kept
+  pub listed : IsListed is_kept.number row
+  pub offset : ℕ
+  pub told : slice_get (offsets x) kept.field ≡ Some (Some offset)
+  pub is : s ≡ record { block = block; offset = start + offset; len = value_bytes kept.field_ty }
+
+-- of the world nothing is another but what a block has
+pub record IsButBlock (block : ℕ) (w u : Work) : Type 0 where
+  pub world : u.world ≡ record w.world { memory = u.world.memory }
+  pub others : (e : ℕ) → e ≢ block → slice_get u.world.memory e ≡ slice_get w.world.memory e
+
 pub record SavesValues (x : Framing) (homes : List Home) (c : Context) (w : Work) (a : Activation) (env : Env)
     (block start k n m : ℕ) (row : List ℕ) : Type 0 where
   pub work : Work
   pub spans : List Span
   pub over : RunsOver c (addressed x k (m, tt) (saved_values (plan x).kept n row)) n spans w work
+  pub through : RunsThrough c (IsButBlock block w) (addressed x k (m, tt) (saved_values (plan x).kept n row)) w work
   pub inside : AreInBlock block spans
+  pub in_fields : Each (IsFieldSpan x block start row) spans
+  pub between : (u : ℕ) → n + length row ≤ u → u < m → value_in work.values u ≡ value_in w.values u
   pub cells : AreCellsRight x homes c.rights work.world.memory env (at_work a work)
   pub fields : (v : ℕ) (j : KeptValue) → (kept : IsKeptValue x v j) → IsListed kept.number row
       → HoldsField x c.rights work.world.memory block start j (IsKeptAs homes env v j j.slot)

@@ -88,7 +88,8 @@ result_value : (r : ℕ) (o : Result Value Cause) (u z : Work) (k : ℕ) → (So
 result_value r (Err cause) u z k n e = absurd (cc)
 result_value r (Ok v) u z k n e = done_value u (set_value u r v) z k (set_value_other u r k v n) e
 
-still_value : (c : Context) (k : ℕ) (u z : Work) (i : Instr) → IsStill i → IsNotSet k i → instr_action c u i ≡ Done z
+pub still_value : (c : Context) (k : ℕ) (u z : Work) (i : Instr) → IsStill i → IsNotSet k i → instr_action c u i
+    ≡ Done z
     → value_in z.values k ≡ value_in u.values k
 still_value c k u z (Instr.Load r ty p align) s n e = on (is_alignment align) e
   where

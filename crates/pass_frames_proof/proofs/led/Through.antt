@@ -34,3 +34,10 @@ module _ (c : Context) (P : Work → Type 0) where
   at_each (i ∷ is) w x r (suc k) lt =
       let more = at_each is r.1.0 x r.1.1.1 k (omega (arith, lt)) in
       (more.0, ((r.1.0, (r.1.1.0, more.1.0)), more.1.1))
+
+-- what holds at each instruction may be weakened
+pub through_turns : (c : Context) (P Q : Work → Type 0) → ((u : Work) → P u → Q u) → (line : List Instr) (w x : Work)
+    → RunsThrough c P line w x → RunsThrough c Q line w x
+through_turns c P Q turns [] w x r = r
+through_turns c P Q turns (i ∷ is) w x r =
+    (turns w r.0, (r.1.0, (r.1.1.0, through_turns c P Q turns is r.1.0 x r.1.1.1)))

@@ -13,6 +13,8 @@ use Rattle.pass_frames.specs.Framed.{begin_of}
 use Rattle.pass_frames_proof.proofs.code.Left.{Far, far_named}
 use Rattle.pass_frames_proof.proofs.code.Names.{Count, F, First, Kept, keeping, local}
 use Rattle.pass_frames_proof.proofs.layers.Grown.{grown_append}
+use Rattle.pass_frames_proof.proofs.led.Steps.{fills_elsewhere}
+use Rattle.pass_frames_proof.proofs.led.Through.{through_joined, through_turns}
 use Rattle.pass_frames_proof.proofs.lines.Filled.{over_fewer, over_joined, over_none}
 use Rattle.pass_frames_proof.proofs.lines.Fillers.{filler_left, saved_code, stored_there}
 use Rattle.pass_frames_proof.proofs.lines.Results.{same_kept}
@@ -20,13 +22,15 @@ use Rattle.pass_frames_proof.proofs.lines.Saves.{IsSavedOne, one_saved, other_st
 use Rattle.pass_frames_proof.specs.Code.{addressed}
 use Rattle.pass_frames_proof.specs.Framings.{IsFraming}
 use Rattle.pass_frames_proof.specs.Layers.{grown}
+use Rattle.pass_frames_proof.specs.Led.{RunsThrough}
 use Rattle.pass_frames_proof.specs.Lines.{AreInBlock, RunsOver, at_work}
 use Rattle.pass_frames_proof.specs.Places.{Framing, addressing_layer, edged, named, offsets, plan}
 use Rattle.pass_frames_proof.specs.Related.{Anything, AreCellsRight, IsKeptAs, IsKeptValue}
-use Rattle.pass_frames_proof.specs.Saves.{AreCellsElsewhere, AreStorable, HoldsField, MaySave, SavesValues}
+use Rattle.pass_frames_proof.specs.Saves.{AreCellsElsewhere, AreStorable, HoldsField, IsButBlock, IsFieldSpan, MaySave, SavesValues}
 use Rattle.pass_proofs.proofs.cells.rules.Plans.{kept_of}
 use Rattle.run_laws.specs.access.Accessed.{Span}
 use Rattle.run_laws.specs.access.Lines.{AreDisjoint, pointer_at}
+use Rattle.run_laws.specs.changed.Changed.{Each}
 use Rattle.run_laws.specs.memory.Pointers.{Home}
 use Rattle.run_laws.specs.memory.Standing.{AreByteRights}
 use Rattle.run_memory.specs.declared.block.MemoryBlock.{MemoryBlock}
@@ -34,6 +38,7 @@ use Rattle.run_memory.specs.declared.pointer.Value.{Value}
 use Rattle.run_source.specs.declared.state.Activation.{Activation}
 use Rattle.run_step.specs.Step.{Context, Work}
 use Rattle.run_step.specs.Values.{Env, value_in}
+use Rattle.run_step.specs.declared.world.World.{World}
 use Rattle.std.proofs.Common.{◌≡◌, inl, inr, ⊎_elim, ℕ, ◌+◌, ◌<◌, ◌≤◌, List, [], ◌∷◌, ◌++◌, length, refl, sym, ap, ◌∙◌, subst, arith}
 use Rattle.std.specs.Prelude.{None, Option, Some, slice_get, ◌≢◌}
 
@@ -77,11 +82,14 @@ module _ (x : Framing) (is : IsFraming x) (homes : List Home) (c : Context) (law
       listed : (at : ℕ) → IsListed at row → IsListed at whole
       known : (at : ℕ) → IsListed at seen → IsListed at whole
 
-    record IsSavedAll (w : Work) (n : ℕ) (line : List Instr) (all : List ℕ) : Type 0 where
+    record IsSavedAll (w : Work) (n m : ℕ) (line : List Instr) (row all : List ℕ) : Type 0 where
       work : Work
       spans : List Span
       over : RunsOver c line n spans w work
+      through : RunsThrough c (IsButBlock block w) line w work
       inside : AreInBlock block spans
+      in_fields : Each (IsFieldSpan x block start whole) spans
+      between : (u : ℕ) → n + length row ≤ u → u < m → value_in work.values u ≡ value_in w.values u
       right : AreRight work
       fields : Fields work all
 
@@ -112,10 +120,10 @@ module _ (x : Framing) (is : IsFraming x) (homes : List Home) (c : Context) (law
     -- one more
     module _ (at : ℕ) (row seen : List ℕ) (w : Work) (n m : ℕ) (go : MayGoOn w n m (at ∷ row) seen)
         (more : (seen : List ℕ) (w : Work) (n m : ℕ) → MayGoOn w n m row seen
-        → IsSavedAll w n (row_code n m row) (row ++ seen)) where
+        → IsSavedAll w n m (row_code n m row) row (row ++ seen)) where
       abbrev Goes : Option KeptValue → Type 0
       Goes o =
-          IsSavedAll w n (addressed x k (m, tt) (saved_one n o ++ saved_values (plan x).kept (n + 1) row))
+          IsSavedAll w n m (addressed x k (m, tt) (saved_one n o ++ saved_values (plan x).kept (n + 1) row)) (at ∷ row)
           (at ∷ (row ++ seen))
 
       none_goes : slice_get (plan x).kept at ≡ None → Goes None
@@ -140,7 +148,10 @@ module _ (x : Framing) (is : IsFraming x) (homes : List Home) (c : Context) (law
             work = r.work;
             spans = r.spans;
             over = over_fewer c (row_code (n + 1) m row) n (n + 1) r.spans w r.work (omega arith) r.over;
+            through = r.through;
             inside = r.inside;
+            in_fields = r.in_fields;
+            between = λ u le lt. r.between u (omega (arith, le)) lt;
             right = r.right;
             fields = λ v j kept l. ⊎_elim
                 (λ (same : kept.number ≡ at).
@@ -165,7 +176,8 @@ module _ (x : Framing) (is : IsFraming x) (homes : List Home) (c : Context) (law
         one =
             let room : n + length (at ∷ row) ≤ m = go.room in
             let long : m + length (at ∷ row) ≤ length w.values = go.long in
-            one_saved x is homes c law env a block start k elsewhere storable w n m v j kept go.low go.old (omega (arith, room)) (omega (arith, long)) go.begun go.right f
+            one_saved x is homes c law env a block start k elsewhere storable w n m v j kept go.low go.old
+            (omega (arith, room)) (omega (arith, long)) go.begun go.right f
 
         away : (u : ℕ) (i : KeptValue) (Has : Value → Type 0) (other : IsKeptValue x u i)
             → IsListed other.number whole → (u ≡ v → ⊥) → HasField w.world.memory i Has
@@ -214,6 +226,17 @@ module _ (x : Framing) (is : IsFraming x) (homes : List Home) (c : Context) (law
                   (λ l. go.known u l) l;
             }
 
+        -- what is but a block from there on is so from the start
+        on_from : (u : Work) → IsButBlock block one.work u → IsButBlock block w u
+        on_from u but = record {
+          world = but.world ∙ ap (λ (z : World). record z { memory = u.world.memory }) one.over.world;
+          others = λ e d.
+              but.others e d
+              ∙ fills_elsewhere c.rights
+              (record { block = block; offset = start + f.offset; len = value_bytes j.field_ty } ∷ []) w.world.memory
+              one.work.world.memory e one.over.fills ((λ same. d (sym same)), tt);
+        }
+
         some_goes : Goes (Some j)
         some_goes =
             let r = more (at ∷ seen) one.work (n + 1) (m + 1) next in
@@ -229,14 +252,41 @@ module _ (x : Framing) (is : IsFraming x) (homes : List Home) (c : Context) (law
               spans = spans;
               over = subst (λ (js : List Instr). RunsOver c js n spans w r.work)
                   (sym
-                  (grown_append (addressing_layer x k) (m, tt) (saved_one n (Some j)) (saved_values (plan x).kept (n + 1) row)
-                  ∙ (λ i. code.0 i ++ grown (addressing_layer x k) (code.1 i) (saved_values (plan x).kept (n + 1) row))))
+                  (grown_append (addressing_layer x k) (m, tt) (saved_one n (Some j))
+                  (saved_values (plan x).kept (n + 1) row)
+                  ∙ (λ i. code.0 i ++ grown (addressing_layer x k) (code.1 i)
+                  (saved_values (plan x).kept (n + 1) row))))
                   (over_joined c line (row_code (n + 1) (m + 1) row) n
                   (record { block = block; offset = start + f.offset; len = value_bytes j.field_ty } ∷ []) r.spans w
                   one.work r.work one.over
                   (over_fewer c (row_code (n + 1) (m + 1) row) n (n + 1) r.spans one.work r.work (omega arith)
                   r.over));
+              through = subst (λ (js : List Instr). RunsThrough c (IsButBlock block w) js w r.work)
+                  (sym
+                  (grown_append (addressing_layer x k) (m, tt) (saved_one n (Some j))
+                  (saved_values (plan x).kept (n + 1) row)
+                  ∙ (λ i. code.0 i ++ grown (addressing_layer x k) (code.1 i)
+                  (saved_values (plan x).kept (n + 1) row))))
+                  (through_joined c (IsButBlock block w) line
+                  (row_code (n + 1) (m + 1) row) w one.work r.work one.through
+                  (through_turns c (IsButBlock block one.work) (IsButBlock block w) on_from
+                  (row_code (n + 1) (m + 1) row) one.work r.work r.through));
               inside = (refl, r.inside);
+              in_fields = (
+                record {
+                  value = v;
+                  kept = j;
+                  is_kept = kept;
+                  listed = here;
+                  offset = f.offset;
+                  told = f.told;
+                  is = refl;
+                },
+                r.in_fields,
+              );
+              between = λ u le lt.
+                  r.between u (omega (arith, le)) (omega (arith, lt))
+                  ∙ one.between u (omega (arith, le)) lt;
               right = r.right;
               fields = λ u i other l. r.fields u i other
                   (⊎_elim (λ e. listed_right other.number row (at ∷ seen) (inl e))
@@ -254,12 +304,15 @@ module _ (x : Framing) (is : IsFraming x) (homes : List Home) (c : Context) (law
           some_goes y.0 j ((keeping x is).back y.0 at y.1) e
 
     all_saved : (row seen : List ℕ) (w : Work) (n m : ℕ) → MayGoOn w n m row seen
-        → IsSavedAll w n (row_code n m row) (row ++ seen)
+        → IsSavedAll w n m (row_code n m row) row (row ++ seen)
     all_saved [] seen w n m go = record {
       work = w;
       spans = [];
       over = over_none c n w;
+      through = refl;
       inside = tt;
+      in_fields = tt;
+      between = λ u le lt. refl;
       right = go.right;
       fields = go.fields;
     }
@@ -290,7 +343,10 @@ values_saved x is homes c law env a w block start k n m row low may =
       work = r.work;
       spans = r.spans;
       over = r.over;
+      through = r.through;
       inside = r.inside;
+      in_fields = r.in_fields;
+      between = r.between;
       cells = r.right;
       fields = λ v j kept l. r.fields v j kept (listed_left kept.number row [] l);
     }

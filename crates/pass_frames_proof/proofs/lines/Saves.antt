@@ -18,10 +18,11 @@ use Rattle.pass_frames_proof.proofs.lines.Fillers.{distance_stored, filled_from,
 use Rattle.pass_frames_proof.proofs.lines.Names.{distance_low, distance_of, kept_low}
 use Rattle.pass_frames_proof.proofs.lines.Results.{kept_is_cell, storable_stands}
 use Rattle.pass_frames_proof.specs.Framings.{IsFraming}
+use Rattle.pass_frames_proof.specs.Led.{RunsThrough}
 use Rattle.pass_frames_proof.specs.Lines.{Fills, IsKeptType, IsStorable, LoadsCell, NoneFilled, OneFilled, RunsOver, at_work}
 use Rattle.pass_frames_proof.specs.Places.{Framing, edged, named, plan}
 use Rattle.pass_frames_proof.specs.Related.{Anything, AreCellsRight, IsDistanceOf, IsKeptAs, IsKeptValue}
-use Rattle.pass_frames_proof.specs.Saves.{AreCellsElsewhere, AreStorable, HoldsField}
+use Rattle.pass_frames_proof.specs.Saves.{AreCellsElsewhere, AreStorable, HoldsField, IsButBlock}
 use Rattle.pass_proofs.proofs.addresses.numbers.Done.{address_done}
 use Rattle.pass_proofs.proofs.cells.rules.Links.{distance_there, marks_have}
 use Rattle.pass_proofs.proofs.cells.rules.Plans.{kept_of}
@@ -96,6 +97,9 @@ module _ (x : Framing) (is : IsFraming x) (homes : List Home) (c : Context) (law
     pub work : Work
     pub over : RunsOver c (load_from n j.field_ty j.field_cell ∷ stored_there x k n m d j.field_ty) n
         (record { block = block; offset = start + d; len = value_bytes j.field_ty } ∷ []) w work
+    pub through : RunsThrough c (IsButBlock block w) (load_from n j.field_ty j.field_cell
+        ∷ stored_there x k n m d j.field_ty) w work
+    pub between : (u : ℕ) → n < u → u < m → value_in work.values u ≡ value_in w.values u
     pub cells : AreRight work
     pub field : HasField work.world.memory j (IsKept v j)
 
@@ -166,6 +170,39 @@ module _ (x : Framing) (is : IsFraming x) (homes : List Home) (c : Context) (law
               others = others;
               room = long2 ∙ long1;
             });
+        through = (
+          record { world = refl; others = λ e d. refl },
+          (
+            w1,
+            (
+              l.is,
+              (
+                record { world = refl; others = λ e d. refl },
+                (
+                  w2,
+                  (
+                    address_done c w1 m block start f.offset (Operand.Local begin) begun1 f.near,
+                    (
+                      record { world = refl; others = λ e d. refl },
+                      (
+                        y,
+                        (
+                          store_done c w2 (value_bytes ty) block (start + f.offset) (value_bytes ty)
+                              (record { ty = ty; value = Operand.Local n }) (Operand.Local m) f.bytes leads f.holds
+                              (f.sized ∙ t.bytes) t.alignment (omega arith),
+                          refl,
+                        ),
+                      ),
+                    ),
+                  ),
+                ),
+              ),
+            ),
+          ),
+        );
+        between = λ u more less.
+            set_elsewhere w1.values m u there (λ e. absurd (omega (arith, e, less)))
+            ∙ set_elsewhere w.values n u l.value (λ e. absurd (omega (arith, e, more)));
         cells = record {
           values = λ u other known.
               let h = right.values u other known in
