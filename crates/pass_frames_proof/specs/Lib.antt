@@ -35,6 +35,7 @@ pub mod Reached
 pub mod Related
 pub mod Returning
 pub mod Saves
+pub mod Saving
 pub mod Stepping
 pub mod Stores
 pub mod Tests

@@ -26,6 +26,7 @@ pub mod ordinary;
 pub mod phis;
 pub mod reached;
 pub mod returning;
+pub mod saving;
 pub mod start;
 pub mod stepping;
 pub mod tests;

@@ -59,7 +59,7 @@ module _ {S : Type 0} (L : Layer S) (is : List Instr) (at : ℕ) where
 
 module _ {S : Type 0} (L : Layer S) (is : List Instr) (at : ℕ) (i : Instr) (code : List Instr)
     (code_is : becomes L (state_at L is at) i ≡ code) (none : Each (λ (j : Instr). is_no_alloca j ≡ true) code) where
-  led_becomes : becomes (M L is at) (state_at (M L is at) is at) i ≡ code
+  pub led_becomes : becomes (M L is at) (state_at (M L is at) is at) i ≡ code
   led_becomes =
       ap (λ (s : S × Unit {0}). becomes (M L is at) s i) (state_is L is at)
       ∙ both_becomes L (only is_no_alloca) (state_at L is at)

@@ -77,7 +77,7 @@ module _ (test : Instr → Bool) where
     own_place_of i None e = sym (ap (λ (b : Bool). if b then 0 ∷ [] else []) e)
     own_place_of i (Some j) e = ap (λ (b : Bool). if b then 0 ∷ [] else []) e
 
-    one_place : (s : S) (i : Instr)
+    pub one_place : (s : S) (i : Instr)
         → places test (becomes L s i) ≡ (if test i then length (L.before s i) ∷ [] else [])
     one_place s i =
         places_behind (L.before s i) (option_to_list (L.here s i) ++ L.behind s i) (keeps.before s i)

@@ -145,7 +145,7 @@ module _ (x : Framing) where
     abbrev test : Instr → Bool
     test = is_call_of intrinsic
 
-    placed_keeps : (k : ℕ) → KeepsTest test (placed_layer x k)
+    pub placed_keeps : (k : ℕ) → KeepsTest test (placed_layer x k)
     placed_keeps k =
         let cells = both_keep test (fetching_at (named x) (fetches_of (plan x)) k)
         (writing_at x.code (plan x) (cells_front (plan x) (edged x).params) (fetched x) k)
