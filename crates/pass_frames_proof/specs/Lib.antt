@@ -38,5 +38,6 @@ pub mod Saves
 pub mod Saving
 pub mod Stepping
 pub mod Stores
+pub mod Suspending
 pub mod Tests
 pub mod Worked

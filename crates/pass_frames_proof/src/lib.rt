@@ -29,5 +29,6 @@ pub mod returning;
 pub mod saving;
 pub mod start;
 pub mod stepping;
+pub mod suspending;
 pub mod tests;
 pub mod worked;

@@ -1,0 +1,14 @@
+//! Suspends of a coroutine are followed.
+
+ghost use Rattle.pass_frames_proof.specs.Followed.{IsFollowed};
+ghost use Rattle.pass_frames_proof.specs.Related.{AreBuiltOf, Building};
+ghost use Rattle.pass_frames_proof.specs.Stepping.{AreGiven};
+ghost use Rattle.pass_frames_proof.specs.Suspending.{IsAtSuspend};
+ghost use Rattle.pass_renewed_proof.specs.Renewed.{RenewedGiven};
+ghost use Rattle.run_source.specs.declared.state.State.{State};
+
+/// A suspend with its save's token gives -1 in both runs, in one step. Its switch then takes the stop edge.
+pub fn suspends_are_followed()
+    ensures { (b : Building) (g : RenewedGiven) → AreGiven b g → (s t : State) → AreBuiltOf b s t → IsAtSuspend b s
+        → IsFollowed b g s t }
+{}
