@@ -8,6 +8,7 @@ pub mod Distanced
 pub mod Distances
 pub mod Edges
 pub mod Ends
+pub mod Entering
 pub mod Entry
 pub mod Fetched
 pub mod Followed

@@ -9,6 +9,7 @@ pub mod code;
 pub mod copying;
 pub mod distanced;
 pub mod distances;
+pub mod entering;
 pub mod entry;
 pub mod fetched;
 pub mod followed;

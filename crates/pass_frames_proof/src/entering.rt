@@ -1,0 +1,41 @@
+//! Allocas that a resumed activation of the framed run makes again before it enters a label.
+
+ghost use Rattle.std.specs.Prelude.{◌≡◌, ◌≤◌, ◌+◌, ◌++◌, ◌∷◌, [], ℕ, List, None, Some, length, slice_get, suc, take};
+ghost use Rattle.ir_model.specs.declared.instr.Instr.{Instr};
+ghost use Rattle.pass_frames_proof.specs.Costs.{allocas_before};
+ghost use Rattle.pass_frames_proof.specs.Entering.{AreAllocasBetween, IsGoodAlloca, IsMaking, behind_alloca, behind_allocas, entered, front_allocas};
+ghost use Rattle.pass_frames_proof.specs.Places.{Framing, framed, instrs_at};
+ghost use Rattle.run_framed.specs.Framed.{FramedGiven, alloca_from, framed_step};
+ghost use Rattle.run_laws.specs.access.Lines.{StandAt};
+ghost use Rattle.run_laws.specs.changed.Changed.{Each};
+ghost use Rattle.run_source.specs.State.{function_of};
+ghost use Rattle.run_source.specs.declared.state.State.{State};
+ghost use Rattle.run_step.specs.Runs.{iterate};
+
+/// Each alloca up to another one is a step of the framed run, and makes its block and its slot. Behind the last alloca
+/// of all the label is entered.
+pub fn allocas_are_made_again()
+    ensures next { (g : FramedGiven) (from label : ℕ) (u : State) → IsMaking u from label → (is : List Instr)
+        (k : Instr) → Each IsGoodAlloca is → IsGoodAlloca k
+        → StandAt (function_of g.given u) 0 u.top.at (is ++ k ∷ []) → (n : ℕ) → n ≤ length is
+        → iterate (framed_step g) n u ≡ behind_allocas g u (take n is) }
+    ensures last { (g : FramedGiven) (from label : ℕ) (u : State) → IsMaking u from label → (is : List Instr)
+        (k : Instr) → Each IsGoodAlloca is → IsGoodAlloca k
+        → StandAt (function_of g.given u) 0 u.top.at (is ++ k ∷ [])
+        → alloca_from (function_of g.given u) (u.top.at + length is + 1) ≡ None
+        → iterate (framed_step g) (suc (length is)) u
+        ≡ entered g (behind_alloca g (behind_allocas g u is) k) from label }
+{}
+
+/// All allocas of a framed form stand in front of its entry, those between two of the coroutine's in between, and no
+/// alloca stands behind them.
+pub fn allocas_stand_in_front()
+    ensures stand { (x : Framing) (at : ℕ) (i : Instr) → slice_get (instrs_at x 0) at ≡ Some i
+        → StandAt (framed x) 0 0 (front_allocas x) }
+    ensures none { (x : Framing) (at : ℕ) (i : Instr) → slice_get (instrs_at x 0) at ≡ Some i
+        → alloca_from (framed x) (length (front_allocas x)) ≡ None }
+    ensures many { (x : Framing) (at : ℕ) (i : Instr) → slice_get (instrs_at x 0) at ≡ Some i
+        → allocas_before x None ≡ length (front_allocas x) }
+    ensures between { (x : Framing) (at : ℕ) (i : Instr) → slice_get (instrs_at x 0) at ≡ Some i → (k n : ℕ) → k ≤ n
+        → AreAllocasBetween x k n }
+{}
