@@ -41,4 +41,5 @@ pub mod Stepping
 pub mod Stores
 pub mod Suspending
 pub mod Tests
+pub mod Waking
 pub mod Worked

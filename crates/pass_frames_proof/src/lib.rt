@@ -32,4 +32,5 @@ pub mod start;
 pub mod stepping;
 pub mod suspending;
 pub mod tests;
+pub mod waking;
 pub mod worked;

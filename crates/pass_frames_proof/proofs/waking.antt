@@ -1,0 +1,4 @@
+pub mod Grown
+pub mod Others
+pub mod Restated
+pub mod Woken

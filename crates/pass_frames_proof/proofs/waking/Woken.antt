@@ -1,0 +1,579 @@
+-- A woken coroutine comes to its first alloca that is made anew, and the framed run makes those before it.
+use Rattle.std.proofs.Common.{◌≡◌, ◌+◌, ◌-◌, ◌<◌, ◌≤◌, ◌^◌, ◌%◌, ◌&&◌, ◌∷◌, ◌++◌, ◌∙◌, [], if◌then◌else◌, Bool, List, None, Option, Some, ap, arith, false, inl, inr, length, refl, replicate, subst, suc, sym, take, true, zero, ℕ, ⊎_elim}
+use Rattle.std.proofs.lemmas.List.{length-replicate}
+use Rattle.std.specs.List.{Contains}
+use Rattle.std.specs.Prelude.{option_map, slice_get, slice_set}
+use Rattle.flow_solver.specs.Paths.{IsListed}
+use Rattle.ir_base.specs.declared.outcome.Outcome.{Outcome}
+use Rattle.ir_laws.proofs.facts.Lists.{get_within, set_here, set_length}
+use Rattle.ir_model.specs.Names.{function_at}
+use Rattle.ir_model.specs.declared.instr.Instr.{Instr}
+use Rattle.ir_model.specs.declared.module.Function.{Function}
+use Rattle.ir_model.specs.declared.module.Module.{Module}
+use Rattle.ir_paths.specs.Slots.{allocas_in}
+use Rattle.ir_paths.specs.declared.point.Point.{Point}
+use Rattle.pass_cells.specs.Kept.{entry}
+use Rattle.pass_cells.specs.declared.plan.KeptValue.{KeptValue}
+use Rattle.pass_frames.specs.Framed.{begin_of}
+use Rattle.pass_frames_proof.proofs.distances.Sums.{value_set}
+use Rattle.pass_frames_proof.proofs.entering.Allocas.{alloca_there, up_to_next}
+use Rattle.pass_frames_proof.proofs.entering.Behind.{AreBehind, are_behind}
+use Rattle.pass_frames_proof.proofs.layers.Standing.{take_whole}
+use Rattle.pass_frames_proof.proofs.entering.Stand.{front_stands}
+use Rattle.pass_frames_proof.proofs.moved.Rest.{activation_on, ahead_on, below_on, free_on}
+use Rattle.pass_frames_proof.proofs.saving.Sets.{set_instances, set_places}
+use Rattle.pass_frames_proof.proofs.stepping.Rest.{got}
+use Rattle.pass_frames_proof.proofs.stepping.Stands.{values_of}
+use Rattle.pass_frames_proof.proofs.waking.Grown.{free_new, instance_grown, mates_grown, moves_grown, over_grown, right_grown}
+use Rattle.pass_frames_proof.proofs.waking.Restated.{activation_same, below_same, instance_same}
+use Rattle.pass_frames_proof.specs.Entering.{IsGoodAlloca, IsMaking, allocas_up_to, behind_allocas, made_blocks}
+use Rattle.pass_frames_proof.specs.Followed.{IsFollowed, IsOn}
+use Rattle.pass_frames_proof.specs.Framings.{IsFraming}
+use Rattle.pass_frames_proof.specs.Places.{Framing, alloca_place, framed, offsets, own_place, plan}
+use Rattle.pass_frames_proof.specs.Related.{AreActivations, AreAhead, AreBuiltOf, AreFieldsHeld, AreFieldsRight, AreInstances, AreNamed, Building, HasCells, HasValues, IsFreeOf, IsHeldAs, IsKeptAs, IsKeptValue, IsOffsetOf, IsSlotBy, IsStatus, behind_place, below_place, instance_in, is_coroutine, is_first, place_by, point_of, slots_below, top_place}
+use Rattle.pass_frames_proof.specs.Stepping.{AreGiven}
+use Rattle.pass_frames_proof.specs.Waking.{IsSleeping, AreWoken, framed_start, renewed_start}
+use Rattle.pass_proofs.specs.addresses.rules.Addresses.{lies_in_frame}
+use Rattle.pass_renewed_proof.specs.Renewed.{renew_after, RenewedGiven, renewed_step}
+use Rattle.run_access_worked.specs.Frames.{IsSameFrame}
+use Rattle.run_agreement.specs.Machines.{iterate}
+use Rattle.run_framed.specs.Framed.{alloca_from, begin_name, enter_after, frame_rights, framed_step, reentry_values}
+use Rattle.run_laws.specs.access.Lines.{StandAt}
+use Rattle.run_laws.specs.changed.Changed.{Each}
+use Rattle.run_laws.specs.memory.Pointers.{Home, IsValue, home_of}
+use Rattle.run_memory.specs.Memory.{Rights, decode}
+use Rattle.run_memory.specs.Pointers.{moved, offset_of}
+use Rattle.run_memory.specs.declared.block.MemoryBlock.{MemoryBlock}
+use Rattle.run_memory.specs.declared.pointer.Pointer.{Pointer}
+use Rattle.run_memory.specs.declared.pointer.Value.{Value}
+use Rattle.run_source.specs.Source.{push, resumed}
+use Rattle.run_source.specs.State.{address_in, frame_address_of, function_of, with_status}
+use Rattle.run_source.specs.declared.state.Activation.{Activation}
+use Rattle.run_source.specs.declared.state.Instance.{Instance}
+use Rattle.run_source.specs.declared.state.State.{State}
+use Rattle.run_source.specs.declared.state.Status.{Status}
+use Rattle.run_step.specs.Step.{AtInstr, fetch}
+use Rattle.run_step.specs.Values.{Env, access_of, value_in, with_result}
+use Rattle.run_step.specs.declared.world.Slot.{Slot}
+use Rattle.run_step.specs.declared.world.World.{World}
+use Rattle.pass_kept_proof.specs.Kept.{kept}
+use Rattle.run_laws.proofs.transfer.Sets.{set_length as value_length}
+use Rattle.pass_frames_proof.specs.Moved.{IsSamePlace}
+use Rattle.run_access_worked.proofs.Ended.{rights_same as frames_same, set_frames}
+use Rattle.pass_frames_proof.proofs.followed.Assembly.{events_same}
+
+module _ (b : Building) (g : RenewedGiven) (given : AreGiven b g) (s t : State) (r : AreBuiltOf b s t)
+    (runs : s.outcome ≡ Outcome.Running) (plain : is_coroutine b s.top.func ≡ false) (label : ℕ)
+    (z : IsSleeping b g s label) (k : AreWoken b g s t label z) where
+  abbrev func : ℕ
+  func = z.instance.coroutine
+
+  abbrev x : Framing
+  x = b.framing func
+
+  abbrev p : Instance
+  p = z.instance
+
+  abbrev y : Instance
+  y = k.beside
+
+  h : AreInstances b r.homes t p y
+  h = r.instances z.number p y z.there k.there
+
+  is : IsFraming x
+  is = given.framings func h.is_coroutine
+
+  abbrev p' : Instance
+  p' = record p { status = Status.Running }
+
+  abbrev y' : Instance
+  y' = record y { status = Status.Running }
+
+  abbrev xs : List Instance
+  xs = slice_set s.instances z.number p'
+
+  abbrev ys : List Instance
+  ys = slice_set t.instances z.number y'
+
+  abbrev env : Env
+  env = kept (g.keep func z.suspend) z.env
+
+  abbrev suspend' : Point
+  suspend' = own_place x z.suspend
+
+  abbrev a' : Activation
+  a' = renewed_start g z.number p z.suspend z.env label k.anew.first
+
+  abbrev caller : Activation
+  caller = record s.top { at = s.top.at + 1 }
+
+  abbrev caller' : Activation
+  caller' = record t.top { at = t.top.at + 1 }
+
+  abbrev s' : State
+  s' = record s { instances = xs; top = a'; below = caller ∷ s.below }
+
+  -- where the framed run begins to make allocas
+  abbrev u0 : State
+  u0 = record t {
+    instances = ys;
+    top = framed_start b z.number y suspend' label;
+    below = caller' ∷ t.below;
+  }
+
+  source_is : renewed_step g s ≡ s'
+  source_is =
+      k.source
+      ∙ ap (renew_after g (push (with_status s z.number p Status.Running) (resumed z.number p z.suspend env))
+      z.suspend.block label) k.anew.is
+
+  -- ---- the allocas
+
+  abbrev line : List Instr
+  line = allocas_up_to x k.anew.first
+
+  abbrev next : Instr
+  next = Instr.Alloca k.anew.name k.anew.ty k.anew.align
+
+  framed_is : function_at b.given.given.code func ≡ framed x
+  framed_is = ap (λ (m : Module). function_at m func) given.code ∙ (given.built.coroutines func h.is_coroutine).is
+
+  own_framed : function_of b.given.given u0 ≡ framed x
+  own_framed = ap (function_at b.given.given.code) h.coroutine ∙ framed_is
+
+  all_stand : StandAt (framed x) 0 0 (line ++ (next ∷ k.anew.rest))
+  all_stand =
+      subst (StandAt (framed x) 0 0) k.anew.stands (front_stands x k.anew.first next k.anew.there)
+
+  good : Each IsGoodAlloca (line ++ (next ∷ k.anew.rest))
+  good = subst (Each IsGoodAlloca) k.anew.stands k.anew.good
+
+  line_good : (ks js : List Instr) → Each IsGoodAlloca (ks ++ js) → Each IsGoodAlloca ks × Each IsGoodAlloca js
+  line_good [] js e = (tt, e)
+  line_good (i ∷ ks) js e = let m = line_good ks js e.1 in ((e.0, m.0), m.1)
+
+  stand_next : (f : Function) (at : ℕ) (ks js : List Instr) → StandAt f 0 at (ks ++ (next ∷ js))
+      → StandAt f 0 at (ks ++ (next ∷ []))
+  stand_next f at [] js e = (e.0, tt)
+  stand_next f at (i ∷ ks) js e = (e.0, stand_next f (at + 1) ks js e.1)
+
+  stand : StandAt (function_of b.given.given u0) 0 0 (line ++ (next ∷ []))
+  stand = subst (λ (f : Function). StandAt f 0 0 (line ++ (next ∷ []))) (sym own_framed)
+      (stand_next (framed x) 0 line k.anew.rest all_stand)
+
+  makes : IsMaking u0 suspend'.block label
+  makes = record { runs = r.outcome ∙ runs; mode = refl; entry_block = refl }
+
+  target_is : framed_step b.given t ≡ u0
+  target_is =
+      k.target
+      ∙ ap (enter_after b.given (push (with_status t z.number y Status.Running)
+      (resumed z.number y suspend' (reentry_values (function_at b.given.given.code y.coroutine) (frame_address_of y))))
+      suspend'.block label) first_is
+      ∙ ap (λ (f : Function). record u0 {
+        top = record u0.top {
+          values = reentry_values f (frame_address_of y);
+        };
+      }) (own_framed ∙ ap (λ (n : ℕ). framed (b.framing n)) (sym h.coroutine))
+    where
+      head : (ks js : List Instr) → StandAt (framed x) 0 0 (ks ++ (next ∷ js))
+          → Each IsGoodAlloca (ks ++ (next ∷ js))
+          → (i : Instr) × (IsGoodAlloca i × (fetch (framed x) 0 0 ≡ AtInstr i))
+      head [] js e q = (next, (q.0, e.0))
+      head (i ∷ ks) js e q = (i, (q.0, e.0))
+
+      first_is : alloca_from (function_at b.given.given.code y.coroutine) 0 ≡ Some (record { block = 0; at = 0 })
+      first_is =
+          let i = head line k.anew.rest all_stand good in
+          ap (λ (f : Function). alloca_from f 0) own_framed
+          ∙ ap (option_map (λ (n : ℕ). record { block = 0; at = n }))
+          (alloca_there (slice_get (framed x).blocks 0) 0 i.0 i.1.0 i.1.1)
+
+  reached : (n : ℕ) → n ≤ length line → iterate (framed_step b.given) (suc n) t ≡ behind_allocas b.given u0
+      (take n line)
+  reached n le =
+      ap (iterate (framed_step b.given) n) target_is
+      ∙ up_to_next b.given suspend'.block label u0 makes line next
+      (line_good line (next ∷ k.anew.rest) good).0 refl' stand n le
+    where
+      refl' : IsGoodAlloca next
+      refl' = (line_good line (next ∷ k.anew.rest) good).1.0
+
+  -- ---- instances and memory, when some are made
+
+  same_frame : IsSameFrame y y'
+  same_frame = record { coroutine = refl; block = refl; start = refl }
+
+  rights_are : frame_rights b.given ys ≡ frame_rights b.given t.instances
+  rights_are = frames_same b.given t.instances ys (set_frames t.instances z.number y y' k.there same_frame)
+
+  places_are : (o : Option ℕ) → IsSamePlace (instance_in t.instances o) (instance_in ys o)
+  places_are = set_places t.instances z.number y y' k.there (refl, refl)
+
+  module _ (news : List MemoryBlock) where
+    abbrev u : World
+    u = record t.world { memory = t.world.memory ++ news }
+
+    running_beside : (top : Activation) → AreInstances b r.homes
+        (record t { world = u; instances = ys; top = top }) p' y'
+    running_beside top = record {
+      coroutine = h.coroutine;
+      is_coroutine = h.is_coroutine;
+      block = h.block;
+      start = h.start;
+      status = refl;
+      last_save = h.last_save;
+      released = h.released;
+      freed = h.freed;
+      slots = λ slot e. let q = h.slots slot e in record {
+        position = q.position;
+        position_is = q.position_is;
+        home = q.home;
+      };
+      no_slots = h.no_slots;
+    }
+
+    instances_beside : (top : Activation) (below : List Activation) (j : ℕ) (v w : Instance) → slice_get xs j ≡ Some v
+        → slice_get ys j ≡ Some w
+        → AreInstances b r.homes (record t { world = u; instances = ys; top = top; below = below }) v w
+    instances_beside top below j v w e e' =
+        instance_same b r.homes r.hides (record t { world = u; instances = ys; top = top }) top below v w
+        (set_instances s.instances t.instances z.number p p' y y' z.there k.there
+        (AreInstances b r.homes (record t { world = u; instances = ys; top = top })) (running_beside top)
+        (λ n v' w' d d' apart.
+        instance_grown b s t r given.framings ys rights_are places_are news xs top v' w'
+        (r.instances n v' w' d d')) j v w e e')
+
+    many : length ys ≡ length xs
+    many = set_length t.instances z.number y' ∙ r.count ∙ sym (set_length s.instances z.number p')
+
+  -- ---- what is shown on the way
+
+  part_good : (js : List Instr) (q : ℕ) → Each IsGoodAlloca js → Each IsGoodAlloca (take q js)
+  part_good js zero e = tt
+  part_good [] (suc q) e = tt
+  part_good (i ∷ js) (suc q) e = (e.0, part_good js q e.1)
+
+  module _ (n : ℕ) (le : n ≤ length line) where
+    abbrev w' : State
+    w' = behind_allocas b.given u0 (take n line)
+
+    m : AreBehind b.given u0 w' (take n line)
+    m = are_behind b.given u0 (take n line) (part_good line n (line_good line (next ∷ k.anew.rest) good).0)
+
+    abbrev news : List MemoryBlock
+    news = made_blocks b.given.given.code (function_of b.given.given u0) (take n line)
+
+    abbrev top' : Activation
+    top' = record u0.top { at = w'.top.at; values = w'.top.values; slots = w'.top.slots }
+
+    beside_now : (j : ℕ) (v w : Instance) → slice_get xs j ≡ Some v → slice_get ys j ≡ Some w
+        → AreInstances b r.homes (record u0 {
+          world = record u0.world { memory = w'.world.memory };
+          top = top';
+        }) v w
+    beside_now j v w e e' =
+        subst (λ (mem : List MemoryBlock). AreInstances b r.homes (record u0 {
+          world = record u0.world { memory = mem };
+          top = top';
+        }) v w) (sym m.memory) (instances_beside news top' (caller' ∷ t.below) j v w e e')
+
+    shown : IsOn b s' w'
+    shown = subst (IsOn b s') (sym m.state) (record {
+      running = r.outcome ∙ runs;
+      shown = record {
+        homes = r.homes;
+        events = events_same b s t r;
+        outcome = r.outcome;
+        instances = λ j v e suspended.
+            let lt : j < length xs = get_within xs j v e in
+            let same : length ys ≡ length xs = many news in
+            let w = got ys j (omega (arith, lt, same)) in (w.0, w.1, beside_now j v w.0 e w.1);
+      };
+    })
+
+  -- ---- the relation at the first alloca that is made anew
+
+  all_behind : AreBehind b.given u0 (behind_allocas b.given u0 line) line
+  all_behind = are_behind b.given u0 line (line_good line (next ∷ k.anew.rest) good).0
+
+  abbrev v : State
+  v = behind_allocas b.given u0 line
+
+  abbrev all_news : List MemoryBlock
+  all_news = made_blocks b.given.given.code (function_of b.given.given u0) line
+
+  abbrev c' : Activation
+  c' = record u0.top { at = v.top.at; values = v.top.values; slots = v.top.slots }
+
+  abbrev t' : State
+  t' = record u0 { world = u all_news; top = c' }
+
+  v_is : v ≡ t'
+  v_is = all_behind.state ∙ ap (λ (mem : List MemoryBlock). record u0 {
+    world = record u0.world { memory = mem };
+    top = c';
+  }) all_behind.memory
+
+  abbrev Q : Rights
+  Q = frame_rights b.given ys
+
+  abbrev x' : Framing
+  x' = b.framing y.coroutine
+
+  -- the values: begin's is the frame's address, and nothing is known of allocas before
+  start_values : value_in u0.top.values (begin_of x.function) ≡ frame_address_of y
+  start_values =
+      ap (λ (o : Option ℕ). value_in (with_result (replicate (length (framed x').names) None) o (frame_address_of y))
+      (begin_of x.function))
+      (ap (λ (n : ℕ). begin_name (framed (b.framing n))) h.coroutine ∙ z.begins)
+      ∙ value_set (record { world = t.world; values = replicate (length (framed x').names) None }) 0
+      (begin_of x.function)
+      (frame_address_of y)
+      (subst (λ (n : ℕ). begin_of x.function < n)
+      (sym (length-replicate (length (framed x').names) None
+      ∙ ap (λ (n : ℕ). length (framed (b.framing n)).names) h.coroutine)) z.begin_low)
+
+  begin_value : value_in c'.values (begin_of x.function) ≡ frame_address_of y
+  begin_value =
+      all_behind.others (begin_of x.function)
+      (λ l. k.anew.no_begin (subst (λ (is : List Instr). IsListed (begin_of x.function) (allocas_in is))
+      (sym k.anew.stands)
+      (listed_more line (next ∷ k.anew.rest) l)))
+      ∙ start_values
+    where
+      listed_more : (ks js : List Instr) → IsListed (begin_of x.function) (allocas_in ks)
+          → IsListed (begin_of x.function) (allocas_in (ks ++ js))
+      listed_more [] js l = absurd l
+      listed_more (Instr.Alloca n ty a ∷ ks) js (inl e) = inl e
+      listed_more (Instr.Alloca n ty a ∷ ks) js (inr l) = inr (listed_more ks js l)
+      listed_more (Instr.Binary r op flags ty a b ∷ ks) js l = listed_more ks js l
+      listed_more (Instr.Icmp r pred ty a b ∷ ks) js l = listed_more ks js l
+      listed_more (Instr.Select r k a b ∷ ks) js l = listed_more ks js l
+      listed_more (Instr.Cast r op nneg a to ∷ ks) js l = listed_more ks js l
+      listed_more (Instr.Load r ty p align ∷ ks) js l = listed_more ks js l
+      listed_more (Instr.Store a p align ∷ ks) js l = listed_more ks js l
+      listed_more (Instr.Gep r inbounds ty p indices ∷ ks) js l = listed_more ks js l
+      listed_more (Instr.Call r must_tail ty callee args ∷ ks) js l = listed_more ks js l
+
+  address_stands : IsValue r.homes (frame_address_of p) (frame_address_of y)
+  address_stands =
+      subst (IsValue r.homes (address_in p.block p.start)) moved_is
+      (ap (λ (q : Home). q.is_seen) h.block, refl)
+    where
+      small_start : (o : ℕ) → o < 2 ^ 64 → (o + 0) % 2 ^ 64 ≡ o
+      small_start o lt = omega (arith, lt)
+
+      moved_is : Value.Ptr (Pointer.At (home_of r.homes p.block).block (moved (offset_of p.start)
+          (home_of r.homes p.block).offset)) ≡ frame_address_of y
+      moved_is =
+          ap (λ (q : Home). Value.Ptr (Pointer.At q.block (moved (offset_of p.start) q.offset))) h.block
+          ∙ ap (address_in y.block) (small_start p.start z.small ∙ sym h.start)
+
+  names : AreNamed x r.homes a' c'
+  names = record {
+    each = λ n asks unkept outside. ⊎_elim
+        (λ e. subst (λ (q : ℕ). IsValue r.homes (value_in env q) (value_in c'.values q)) (sym e)
+        (subst (IsValue r.homes (value_in env (begin_of x.function))) (sym begin_value)
+        (⊎_elim
+        (λ none. subst (λ (w : Value). IsValue r.homes w (frame_address_of y)) (sym none) tt)
+        (λ same. subst (λ (w : Value). IsValue r.homes w (frame_address_of y)) (sym same) address_stands) z.begun)))
+        (λ l. subst (λ (w : Value). IsValue r.homes w (value_in c'.values n)) (sym (k.anew.unhanded n l)) tt) asks;
+    room = all_behind.room ∙ start_room;
+  }
+    where
+      result_room : (o : Option ℕ) (e : Env) (w : Value) → length (with_result e o w) ≡ length e
+      result_room None e w = refl
+      result_room (Some n) e w = value_length e n w
+
+      start_room : length u0.top.values ≡ length (framed x).names
+      start_room =
+          result_room (begin_name (framed (b.framing y.coroutine)))
+          (replicate (length (framed (b.framing y.coroutine)).names) None) (frame_address_of y)
+          ∙ length-replicate (length (framed (b.framing y.coroutine)).names) None
+          ∙ ap (λ (n : ℕ). length (framed (b.framing n)).names) h.coroutine
+
+  -- what the fields hold of what is handed on
+  fields_right_now : AreFieldsRight x r.homes
+      (frame_rights b.given t.instances) t.world.memory z.order z.env y.block y.start
+  fields_right_now =
+      let q = subst (λ (e : Status). IsStatus b r.homes t p y e y.status) z.status h.status in
+      subst (λ (j : ℕ). AreFieldsRight x r.homes (frame_rights b.given t.instances) t.world.memory j z.env y.block
+      y.start) (z.numbered q.1 q.3) (q.4 z.unfreed)
+
+  held_now : AreFieldsHeld x r.homes Q t'.world.memory z.order env y.block y.start
+  held_now =
+      let f = right_grown b s t r given.framings ys rights_are places_are all_news x z.order z.env y.block y.start
+      fields_right_now in
+      record {
+        each = λ n position kv is_kept crosses at.
+            let q = f.each n position kv is_kept crosses at in (
+              q.0,
+              q.1,
+              q.2,
+              turned n kv is_kept crosses kv.slot (decode (access_of kv.field_ty) q.0) q.3,
+            );
+      }
+    where
+      turned : (n : ℕ) (kv : KeptValue) → IsKeptValue x n kv → Contains x.contents.crossing (n, z.order)
+          → (o : Option ℕ) (w : Value) → IsKeptAs r.homes z.env n kv o w → IsHeldAs r.homes env n o w
+      turned n kv is_kept crosses None w q =
+          subst (λ (e : Value). IsValue r.homes e w) (sym (z.handed n kv is_kept crosses)) q
+      turned n kv is_kept crosses (Some slot) w q =
+          subst (λ (e : Value). IsOffsetOf e w) (sym (z.handed n kv is_kept crosses))
+          (⊎_elim (λ none. inl none) (λ o. inr (o.0, o.1, o.3, o.4, o.5)) q)
+
+  own_there : instance_in ys (Some z.number) ≡ Some y'
+  own_there = set_here t.instances z.number y' (get_within t.instances z.number y k.there)
+
+  top_now : AreActivations b r.homes r.hides t' (top_place b) a' c'
+  top_now = record {
+    func = h.coroutine;
+    place =
+        (λ j. record { block = 0; at = all_behind.at j })
+        ∙ ap (λ (n : ℕ). record { block = 0; at = n }) (none_before (length line))
+        ∙ ap (λ (f : Bool). if f then alloca_place x k.anew.first else point_of a') (sym h.is_coroutine);
+    result = refl;
+    mode = refl;
+    instance = refl;
+    has_left = refl;
+    values = values_of b r.homes Q t' a' c' (is_coroutine b func) h.is_coroutine (record {
+      names = names;
+      cells =
+          subst (λ (o : Option Instance). HasCells x r.homes Q t'.world.memory o a' c'
+          (entry (plan x).returns label)) (sym own_there)
+          (subst (λ (o : Option ℕ). HasCells x r.homes Q t'.world.memory (Some y') a' c' o) (sym z.returns)
+          (held_now, z.gone));
+      made = tt;
+    });
+    slots = λ slot e. absurd (no_slot slot e);
+  }
+    where
+      no_slot : (slot : Slot) → Contains [] slot → ⊥
+      no_slot slot (n, lt, e) = omega (arith, lt)
+
+      none_before : (n : ℕ) → 0 + n ≡ n
+      none_before n = omega arith
+
+  -- the caller goes on right behind its call
+  caller_now : AreActivations b r.homes r.hides t' (below_place b) caller caller'
+  caller_now =
+      let old = activation_on b s t r (s.top ∷ s.below) (t.top ∷ t.below) r.homes r.hides xs ys s.world (u all_news)
+      (moves_grown b s t r given.framings ys rights_are places_are all_news) c' (top_place b) s.top t.top
+      (inl refl) (inl refl) r.top in
+      activation_same b r.homes r.hides (record t { world = u all_news; instances = ys; top = c' }) c'
+      (caller' ∷ t.below)
+      (below_place b) caller caller' (record {
+        func = old.func;
+        place = place_now;
+        result = old.result;
+        mode = old.mode;
+        instance = old.instance;
+        has_left = old.has_left;
+        values = others_now (is_coroutine b s.top.func) plain old.values;
+        slots = λ slot e. slot_now slot (is_coroutine b s.top.func && lies_in_frame (offsets (b.framing s.top.func))
+            slot.alloca) (old.slots slot e);
+      })
+    where
+      others_now : (f : Bool) → f ≡ false
+          → HasValues b r.homes Q (record t { world = u all_news; instances = ys; top = c' }) s.top t.top f
+          → HasValues b r.homes Q (record t { world = u all_news; instances = ys; top = c' }) caller caller' f
+      others_now true e q = absurd (cc)
+      others_now false e q = record { each = q.each; room = q.room }
+
+      slot_now : (slot : Slot) (f : Bool) → IsSlotBy b r.homes r.hides s.top t.top slot f
+          → IsSlotBy b r.homes r.hides caller caller' slot f
+      slot_now slot true q = q
+      slot_now slot false q = record { block = q.block; home = q.home; own = q.own }
+
+      at_place : point_of t.top ≡ point_of s.top
+      at_place =
+          r.top.place
+          ∙ ap (λ (f : Bool). if f then place_by (b.framing s.top.func) s.top s.top.mode else point_of s.top) plain
+
+      place_now : point_of caller' ≡ below_place b caller
+      place_now =
+          (λ j. record { block = (at_place j).block; at = (at_place j).at + 1 })
+          ∙ ap (λ (f : Bool). if f then record {
+            block = s.top.block;
+            at = behind_place (b.framing s.top.func) s.top.block (s.top.at + 1);
+          } else point_of caller) (sym plain)
+
+  related : AreBuiltOf b s' t'
+  related = record {
+    homes = r.homes;
+    hides = r.hides;
+    world = over_grown b s t r given.framings ys rights_are places_are all_news;
+    known = r.known;
+    globals = r.globals;
+    mates = mates_grown b s t r given.framings ys rights_are places_are all_news;
+    hidden = r.hidden;
+    count = many all_news;
+    instances = instances_beside all_news c' (caller' ∷ t.below);
+    top = top_now;
+    below = (
+      caller_now,
+      below_same b r.homes r.hides (record t { world = u all_news; instances = ys; top = c' }) c' (caller' ∷ t.below)
+          s.below t.below
+          (below_on b s t r (s.top ∷ s.below) (t.top ∷ t.below) r.homes r.hides xs ys s.world (u all_news)
+          (moves_grown b s t r given.framings ys rights_are places_are all_news) c' s.below t.below
+          (λ q l. inr l) (λ q l. inr l) r.below),
+    );
+    once = all_behind.once (t.top.slots ++ slots_below t.below) (λ slot e. k.slots slot e) r.once;
+    cells = (
+      λ q slot e name. ⊎_elim (λ none. absurd (no_slot slot none))
+          (λ new. free_grown slot.block new.0) (all_behind.new slot e),
+      free_on b s t r (s.top ∷ s.below) (t.top ∷ t.below) r.homes r.hides xs ys s.world (u all_news)
+          (moves_grown b s t r given.framings ys rights_are places_are all_news) c' (t.top ∷ t.below)
+          (λ q l. l) r.cells,
+    );
+    ahead = (
+      (λ q first at_entry. absurd (cc)),
+      (
+        caller_ahead,
+        (ahead_on b s t r (s.top ∷ s.below) (t.top ∷ t.below) r.homes r.hides xs ys s.world (u all_news)
+            (moves_grown b s t r given.framings ys rights_are places_are all_news) c' (s.top ∷ s.below)
+            (t.top ∷ t.below) (λ q l. l) r.ahead).1,
+      ),
+    );
+    outcome = r.outcome;
+  }
+    where
+      no_slot : (slot : Slot) → Contains [] slot → ⊥
+      no_slot slot (n, lt, e) = omega (arith, lt)
+
+      free_grown : (e : ℕ) → length t.world.memory ≤ e → IsFreeOf r.homes r.hides s.world.memory e
+      free_grown = free_new b s t r given.framings ys rights_are places_are all_news
+
+      caller_ahead : is_coroutine b s.top.func ≡ true → is_first s.top.mode ≡ true → s.top.block ≡ 0
+          → AreAhead (b.framing s.top.func) r.homes r.hides s.world.memory (t.world.memory ++ all_news) caller caller'
+      caller_ahead e first at_entry = let no : true ≡ false = sym e ∙ plain in absurd (cc)
+
+  -- ---- the account
+
+  pub woken_followed : IsFollowed b g s t
+  woken_followed = record {
+    steps = suc (length line);
+    few = subst (λ (n : ℕ). suc (length line) ≤ n) (sym k.cost) (enough (length line));
+    goes_on = inl (omega arith);
+    passes = λ n pos lt. inr (on_way n pos lt);
+    related = subst (λ (q : State × State). AreBuiltOf b q.0 q.1)
+        (λ j. (
+          sym source_is j,
+          sym (reached (length line) (itself_le (length line)) ∙ ap (behind_allocas b.given u0)
+              (take_whole line) ∙ v_is) j,
+        ))
+        related;
+  }
+    where
+      enough : (n : ℕ) → suc n ≤ 1 + (1 + n - 1)
+      enough n = omega arith
+
+      itself_le : (n : ℕ) → n ≤ n
+      itself_le n = omega arith
+
+      on_way : (n : ℕ) → 0 < n → n < suc (length line) → IsOn b (renewed_step g s) (iterate (framed_step b.given) n t)
+      on_way zero pos lt = absurd (omega (arith, pos))
+      on_way (suc n) pos lt =
+          subst (λ (q : State × State). IsOn b q.0 q.1)
+          (λ j. (sym source_is j, sym (reached n (omega (arith, lt))) j)) (shown n (omega (arith, lt)))

@@ -1,0 +1,157 @@
+-- What is asked where a suspended coroutine is woken by a function that is no coroutine, and makes slots anew then.
+use Rattle.std.specs.List.{Contains}
+use Rattle.std.specs.Prelude.{◌≡◌, ◌⊎◌, ◌+◌, ◌-◌, ◌<◌, ◌^◌, ◌∷◌, ◌++◌, Bool, List, Ok, Option, Some, false, length, slice_get, take, ℕ}
+use Rattle.flow_solver.specs.Paths.{IsListed}
+use Rattle.ir_base.specs.declared.outcome.Outcome.{Outcome}
+use Rattle.ir_model.specs.Names.{function_at}
+use Rattle.ir_model.specs.Ty.{Ty}
+use Rattle.ir_model.specs.declared.instr.Instr.{Instr}
+use Rattle.ir_model.specs.declared.module.Function.{Function}
+use Rattle.ir_model.specs.declared.operand.Arg.{Arg}
+use Rattle.ir_model.specs.declared.operand.Callee.{Callee}
+use Rattle.ir_model.specs.declared.operand.Intrinsic.{Intrinsic}
+use Rattle.ir_paths.specs.Slots.{allocas_in}
+use Rattle.ir_paths.specs.declared.point.Point.{Point}
+use Rattle.pass_cells.specs.Kept.{entry}
+use Rattle.pass_cells.specs.declared.plan.KeptValue.{KeptValue}
+use Rattle.pass_frames.specs.Framed.{begin_of}
+use Rattle.pass_frames_proof.specs.Costs.{resume_cost}
+use Rattle.pass_frames_proof.specs.Entering.{IsGoodAlloca, allocas_up_to, front_allocas}
+use Rattle.pass_frames_proof.specs.Meaning.{step_cost}
+use Rattle.pass_frames_proof.specs.Places.{Framing, edged, framed, instrs_at, own_place, plan}
+use Rattle.pass_frames_proof.specs.Related.{AreGone, Building, IsKeptValue, IsSuspendNumber, all_slots, is_coroutine}
+use Rattle.pass_frames_proof.specs.Stepping.{IsNotEntering}
+use Rattle.pass_kept_proof.specs.Kept.{kept}
+use Rattle.pass_renewed_proof.specs.Renewed.{RenewedGiven, continue_renewed, renewed_from, renewed_step}
+use Rattle.run_framed.specs.Framed.{begin_name, continue_framed, framed_step, reentry_values}
+use Rattle.run_laws.specs.changed.Changed.{Each}
+use Rattle.run_memory.specs.declared.pointer.Value.{Value}
+use Rattle.run_source.specs.Source.{resumed, sleeper_at}
+use Rattle.run_source.specs.State.{frame_address_of, function_of}
+use Rattle.run_source.specs.declared.state.Activation.{Activation}
+use Rattle.run_source.specs.declared.state.Instance.{Instance}
+use Rattle.run_source.specs.declared.state.Mode.{Mode}
+use Rattle.run_source.specs.declared.state.State.{State}
+use Rattle.run_source.specs.declared.state.Status.{Status}
+use Rattle.run_source_tables.specs.Given.{is_final}
+use Rattle.run_step.specs.Step.{AtInstr, fetch}
+use Rattle.run_step.specs.Values.{Env, arg_values, nth, value_in}
+use Rattle.run_step.specs.declared.world.Slot.{Slot}
+
+-- what the framed run begins a woken activation with
+abbrev pub framed_start : Building → ℕ → Instance → Point → ℕ → Activation
+framed_start b i y suspend label =
+    record (resumed i y suspend (reentry_values (framed (b.framing y.coroutine)) (frame_address_of y))) {
+      block = 0;
+      at = 0;
+      mode = Mode.Entering suspend.block label;
+    }
+
+-- and the other one, at the first alloca that is made anew
+abbrev pub renewed_start : RenewedGiven → ℕ → Instance → Point → Env → (label first : ℕ) → Activation
+renewed_start g i x suspend env label first =
+    record (resumed i x suspend (kept (g.keep x.coroutine suspend) env)) {
+      block = 0;
+      at = first;
+      mode = Mode.Entering suspend.block label;
+    }
+
+-- A suspended instance that isn't freed, with what is handed on of its values: what crosses the suspend (K8), of begin
+-- its own address, and nothing of allocas that aren't made anew (`AreTablesRight`).
+pub record IsSleeping (b : Building) (g : RenewedGiven) (s : State) (label : ℕ) : Type 0 where
+  pub number : ℕ
+  pub instance : Instance
+  pub suspend : Point
+  pub env : Env
+  pub there : slice_get s.instances number ≡ Some instance
+  pub status : instance.status ≡ Status.Suspended suspend env
+  pub unfreed : instance.freed ≡ false
+  pub small : instance.start < 2 ^ 64
+  pub order : ℕ
+  pub returns : entry (plan (b.framing instance.coroutine)).returns label ≡ Some order
+  pub numbered : (j : ℕ) → IsSuspendNumber (b.framing instance.coroutine) j suspend → j ≡ order
+  pub handed : (v : ℕ) (k : KeptValue) → IsKeptValue (b.framing instance.coroutine) v k
+      → Contains (b.framing instance.coroutine).contents.crossing (v, order)
+      → value_in (kept (g.keep instance.coroutine suspend) env) v ≡ value_in env v
+  pub gone : AreGone (b.framing instance.coroutine) order (kept (g.keep instance.coroutine suspend) env)
+  pub begun : (value_in (kept (g.keep instance.coroutine suspend) env)
+      (begin_of (b.framing instance.coroutine).function) ≡ Value.Poison)
+      ⊎ (value_in (kept (g.keep instance.coroutine suspend) env)
+      (begin_of (b.framing instance.coroutine).function) ≡ frame_address_of instance)
+  pub begins : begin_name (framed (b.framing instance.coroutine))
+      ≡ Some (begin_of (b.framing instance.coroutine).function)
+  pub begin_low : begin_of (b.framing instance.coroutine).function
+      < length (framed (b.framing instance.coroutine)).names
+
+-- The first of its allocas that is made anew. Those of the framed form have alignments that there are, and names of
+-- their own, of which begin's is none.
+pub record HasFirstAnew (b : Building) (g : RenewedGiven) (func : ℕ) (env : Env) : Type 0 where
+  pub first : ℕ
+  pub name : ℕ
+  pub ty : Ty
+  pub align : ℕ
+  pub is : renewed_from (g.flags func) (function_at g.given.code func) 0
+      ≡ Some (record { block = 0; at = first })
+  pub there : slice_get (instrs_at (b.framing func) 0) first ≡ Some (Instr.Alloca name ty align)
+  pub rest : List Instr
+  pub stands : front_allocas (b.framing func)
+      ≡ allocas_up_to (b.framing func) first ++ (Instr.Alloca name ty align ∷ rest)
+  pub good : Each IsGoodAlloca (front_allocas (b.framing func))
+  pub no_begin : IsListed (begin_of (b.framing func).function) (allocas_in (front_allocas (b.framing func))) → ⊥
+  pub unhanded : (v : ℕ) → IsListed v (allocas_in (take first (instrs_at (b.framing func) 0)))
+      → value_in env v ≡ Value.Poison
+
+-- Both runs wake it: the step of the first run comes to the first alloca that is made anew, and that of the second to
+-- the first of all.
+pub record AreWoken (b : Building) (g : RenewedGiven) (s t : State) (label : ℕ) (z : IsSleeping b g s label) : Type 0
+  where
+    pub anew : HasFirstAnew b g z.instance.coroutine (kept (g.keep z.instance.coroutine z.suspend) z.env)
+    pub beside : Instance
+    pub there : slice_get t.instances z.number ≡ Some beside
+    pub source : renewed_step g s
+        ≡ continue_renewed g s z.number z.instance z.suspend z.env label
+    pub other : Env
+    pub target : framed_step b.given t
+        ≡ continue_framed b.given t z.number beside (own_place (b.framing z.instance.coroutine) z.suspend) other label
+    pub slots : (slot : Slot) → Contains (all_slots t) slot → slot.block < length t.world.memory
+    pub cost : step_cost b g s s.top.mode
+        ≡ 1 + (resume_cost (b.framing z.instance.coroutine) (Some anew.first) - 1)
+
+abbrev pub wake_call : Intrinsic → Option ℕ → Bool → Option Ty → List Arg → Instr
+wake_call intrinsic result must_tail ty args = Instr.Call result must_tail ty (Callee.Intrinsic intrinsic) args
+
+-- The next step is a resume or destroy by a function that is no coroutine. Both runs find the sleeper, since pointers
+-- stand for each other. Its suspend leads to the same label in both modules, as what it switches by has its cases still.
+pub record IsAtWaking (b : Building) (g : RenewedGiven) (s t : State) (label : ℕ) (z : IsSleeping b g s label)
+    (intrinsic : Intrinsic) (leads : Function → Point → ℕ) : Type 0 where
+  pub result : Option ℕ
+  pub must_tail : Bool
+  pub ty : Option Ty
+  pub args : List Arg
+  pub runs : s.outcome ≡ Outcome.Running
+  pub plain : is_coroutine b s.top.func ≡ false
+  pub mode : IsNotEntering s.top.mode
+  pub there : fetch (function_of g.given s) s.top.block s.top.at
+      ≡ AtInstr (wake_call intrinsic result must_tail ty args)
+  pub finds : sleeper_at s (nth (arg_values g.given.code s.top.values args) 0)
+      ≡ Ok (record { number = z.number; instance = z.instance; suspend = z.suspend; values = z.env })
+  pub beside : Instance
+  pub other : Env
+  pub finds_too : sleeper_at t (nth (arg_values b.given.given.code t.top.values args) 0)
+      ≡ Ok (record {
+        number = z.number;
+        instance = beside;
+        suspend = own_place (b.framing z.instance.coroutine) z.suspend;
+        values = other;
+      })
+  pub there_too : slice_get t.instances z.number ≡ Some beside
+  pub leads_to : leads (edged (b.framing z.instance.coroutine)) z.suspend ≡ label
+  pub leads_too : leads (framed (b.framing z.instance.coroutine))
+      (own_place (b.framing z.instance.coroutine) z.suspend) ≡ label
+  pub anew : HasFirstAnew b g z.instance.coroutine (kept (g.keep z.instance.coroutine z.suspend) z.env)
+  pub slots : (slot : Slot) → Contains (all_slots t) slot → slot.block < length t.world.memory
+
+-- a resume finds no final suspend
+pub record IsUnfinal (x : Framing) (suspend : Point) : Type 0 where
+  pub source : is_final (edged x) suspend ≡ false
+  pub target : is_final (framed x) (own_place x suspend) ≡ false
