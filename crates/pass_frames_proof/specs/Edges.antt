@@ -1,5 +1,5 @@
 -- Jumps of a coroutine: what stands at the end of a block and in front of one, and what is executed there.
-use Rattle.std.specs.Prelude.{◌≡◌, ◌≢◌, ◌<◌, ◌≤◌, ◌+◌, ℕ, true, false, List, [], ◌∷◌, length, filter, slice_get}
+use Rattle.std.specs.Prelude.{◌≡◌, ◌≢◌, ◌<◌, ◌≤◌, ◌+◌, ℕ, true, false, List, [], ◌∷◌, length, filter, slice_get, Bool}
 use Rattle.std.specs.List.{Contains}
 use Rattle.ir_base.specs.declared.outcome.Outcome.{Outcome}
 use Rattle.ir_model.specs.Names.{position_of}
@@ -12,12 +12,12 @@ use Rattle.pass_copies.specs.declared.slot.EarlySlot.{EarlySlot}
 use Rattle.pass_frames_proof.specs.Costs.{whole}
 use Rattle.pass_frames_proof.specs.Led.{RunsThrough, SparesBlocks}
 use Rattle.pass_frames_proof.specs.Lined.{GivesNone}
-use Rattle.pass_frames_proof.specs.Lines.{at_work}
+use Rattle.pass_frames_proof.specs.Lines.{HasOwnBlocks, at_work}
 use Rattle.pass_frames_proof.specs.Passes.{block_at}
 use Rattle.pass_frames_proof.specs.Phis.{given_phis}
 use Rattle.pass_frames_proof.specs.Stores.{IsNameGiven}
 use Rattle.pass_frames_proof.specs.Places.{Framing, copies, edged, fetched, framed, instrs_at, is_return, named, place}
-use Rattle.pass_frames_proof.specs.Related.{AreBuiltOf, AreCellsRight, Building, is_coroutine}
+use Rattle.pass_frames_proof.specs.Related.{AreBuiltOf, AreCellsRight, Building, IsCellName, IsFreeOf, is_coroutine}
 use Rattle.pass_frames_proof.specs.Stepping.{IsNotEntering}
 use Rattle.pass_renewed_proof.specs.Renewed.{RenewedGiven}
 use Rattle.run_framed.specs.Framed.{frame_rights, framed_context}
@@ -32,6 +32,7 @@ use Rattle.run_source.specs.State.{function_of, own_facts, point_of as state_poi
 use Rattle.run_source.specs.declared.state.State.{State}
 use Rattle.run_step.specs.Step.{AtTerm, GoTo, Work, fetch, label_of, phi_values, phis_of, term_action, with_all}
 use Rattle.run_step.specs.Values.{value_in}
+use Rattle.run_step.specs.declared.world.Slot.{Slot}
 
 -- ---- code
 
@@ -87,7 +88,7 @@ ArePairs homes bound (p ∷ ps) (q ∷ qs) =
 
 -- behind a line at the end of the block the framed terminator goes to the same block, whose phis get what stands for
 -- the source's
-pub record AreEndsLed (b : Building) (g : RenewedGiven) (s t : State) (r : AreBuiltOf b s t) (label : ℕ)
+pub record EndsLed (b : Building) (g : RenewedGiven) (s t : State) (homes : List Home) (label : ℕ)
     (line : List Instr) (e : Terminator) : Type 0 where
   pub work : Work
   pub runs : RunsThrough (framed_context b.given t) (λ (u : Work). u.world ≡ t.world) line (work_of t) work
@@ -103,11 +104,16 @@ pub record AreEndsLed (b : Building) (g : RenewedGiven) (s t : State) (r : AreBu
   pub block : position_of (framed (b.framing s.top.func)) label ≡ block_to (b.framing s.top.func) label
   pub stays : filter (leaves (state_point (record t { top = record t.top { at = t.top.at + length line } }))
       (entry_point (function_of b.given.given t) label)) (own_facts b.given.given t).windows ≡ []
-  pub phis : ArePairs r.homes (length (edged (b.framing s.top.func)).names)
+  pub phis : ArePairs homes (length (edged (b.framing s.top.func)).names)
       (entered_phis g s (b.framing s.top.func) label)
       (phi_values b.given.given.code work.values
       (label_of (slice_get (framed (b.framing s.top.func)).blocks s.top.block))
       (phis_of (slice_get (framed (b.framing s.top.func)).blocks (block_to (b.framing s.top.func) label))))
+
+-- where the states are related, by their homes
+abbrev pub AreEndsLed : (b : Building) (g : RenewedGiven) (s t : State) → AreBuiltOf b s t → ℕ → List Instr
+    → Terminator → Type 0
+AreEndsLed b g s t r label line e = EndsLed b g s t r.homes label line e
 
 -- the world and values where the block is entered
 abbrev pub entered_work : Building → State → Framing → (block label : ℕ) → Work → Work
@@ -125,24 +131,44 @@ pub record IsOnFront (x : Framing) (t : State) (u : Work) : Type 0 where
   pub spares : SparesBlocks x t.top t.world.memory u.world.memory
 
 -- a line in front of the block stores the phis
-pub record AreFrontsLed (b : Building) (g : RenewedGiven) (s t : State) (r : AreBuiltOf b s t) (label : ℕ) (w : Work)
-    (line : List Instr) : Type 0 where
+pub record FrontsLed (b : Building) (g : RenewedGiven) (s t : State) (homes : List Home) (hides : ℕ → Bool) (label : ℕ)
+    (w : Work) (line : List Instr) : Type 0 where
   pub work : Work
   pub runs : RunsThrough (framed_context b.given t) (IsOnFront (b.framing s.top.func) t) line
       (entered_work b t (b.framing s.top.func) s.top.block label w) work
   pub last : IsOnFront (b.framing s.top.func) t work
   pub values : work.values ≡ (entered_work b t (b.framing s.top.func) s.top.block label w).values
-  pub over : AreOver owner_rights (frame_rights b.given t.instances) r.homes r.hides (λ d. d) s.world work.world
+  pub over : AreOver owner_rights (frame_rights b.given t.instances) homes hides (λ d. d) s.world work.world
   pub gives : Each (GivesNone b.given.given.code) line
-  pub right : AreCellsRight (b.framing s.top.func) r.homes (frame_rights b.given t.instances) work.world.memory
+  pub right : AreCellsRight (b.framing s.top.func) homes (frame_rights b.given t.instances) work.world.memory
       (with_all s.top.values (entered_phis g s (b.framing s.top.func) label)) (at_work t.top work)
 
+abbrev pub AreFrontsLed : (b : Building) (g : RenewedGiven) (s t : State) → AreBuiltOf b s t → ℕ → Work → List Instr
+    → Type 0
+AreFrontsLed b g s t r label w line = FrontsLed b g s t r.homes r.hides label w line
+
 -- what the phis of the block get may be stored, and has a name in the target
-pub record ArePhisGiven (b : Building) (g : RenewedGiven) (s t : State) (r : AreBuiltOf b s t) (label : ℕ) (w : Work)
+pub record PhisGiven (b : Building) (g : RenewedGiven) (s t : State) (homes : List Home) (label : ℕ) (w : Work)
     : Type 0 where
   pub value : Phi → Value
   pub same : given_phis value (block_at (fetched (b.framing s.top.func)) (block_to (b.framing s.top.func) label)).phis
       ≡ entered_phis g s (b.framing s.top.func) label
   pub each : Each
-      (IsNameGiven (b.framing s.top.func) r.homes (entered_work b t (b.framing s.top.func) s.top.block label w))
+      (IsNameGiven (b.framing s.top.func) homes (entered_work b t (b.framing s.top.func) s.top.block label w))
       (given_phis value (block_at (fetched (b.framing s.top.func)) (block_to (b.framing s.top.func) label)).phis)
+
+abbrev pub ArePhisGiven : (b : Building) (g : RenewedGiven) (s t : State) → AreBuiltOf b s t → ℕ → Work → Type 0
+ArePhisGiven b g s t r label w = PhisGiven b g s t r.homes label w
+
+-- ---- cells where a line begins
+
+-- what a front asks of the state in which its block is left: cells are right, stand free of the source, and each has a
+-- block of its own
+pub record AreCellsFit (b : Building) (s t : State) (homes : List Home) (hides : ℕ → Bool) : Type 0 where
+  pub right : AreCellsRight (b.framing s.top.func) homes (frame_rights b.given t.instances) t.world.memory s.top.values
+      t.top
+  pub own : HasOwnBlocks t.top
+  pub free : (slot : Slot) → Contains t.top.slots slot → IsCellName (b.framing s.top.func) slot.alloca
+      → IsFreeOf homes hides s.world.memory slot.block
+  pub world : AreOver owner_rights (frame_rights b.given t.instances) homes hides (λ d. d) s.world t.world
+  pub enough : length s.top.values ≤ length t.top.values

@@ -1,5 +1,5 @@
 -- What is asked of the end of a block where a coroutine jumps from it, by the code of the framed form.
-use Rattle.std.specs.Prelude.{◌≡◌, ◌≤◌, ◌+◌, ℕ, [], length, codes, filter, slice_get, Some}
+use Rattle.std.specs.Prelude.{◌≡◌, ◌≤◌, ◌+◌, ℕ, List, [], length, codes, filter, slice_get, Some}
 use Rattle.std.specs.List.{Contains}
 use Rattle.ir_model.specs.Names.{block_labelled, position_of}
 use Rattle.ir_model.specs.declared.instr.Phi.{Phi}
@@ -23,6 +23,7 @@ use Rattle.pass_frames_proof.specs.Related.{AreBuiltOf, Building}
 use Rattle.pass_renewed_proof.specs.Renewed.{RenewedGiven}
 use Rattle.run_framed.specs.Framed.{framed_context}
 use Rattle.run_laws.specs.changed.Changed.{Each}
+use Rattle.run_laws.specs.memory.Pointers.{Home}
 use Rattle.run_laws.specs.transfer.Transfer.{IsSameCase, cases_at}
 use Rattle.run_memory.specs.declared.pointer.Value.{Value}
 use Rattle.run_source.specs.Source.{context_of}
@@ -82,14 +83,14 @@ abbrev pub ended_at : Framing → ℕ → State → State
 ended_at x k t = record t { top = record t.top { at = t.top.at + length (end_code x k (last_state x k)) } }
 
 -- what is fetched at the end may be, phis get what stands for the source's, and the terminator goes to the same label
-pub record MayJump (b : Building) (g : RenewedGiven) (s t : State) (r : AreBuiltOf b s t) (label : ℕ) : Type 0 where
+pub record MayJumpBy (b : Building) (g : RenewedGiven) (s t : State) (homes : List Home) (label : ℕ) : Type 0 where
   pub given : ℕ → Value
   pub reached : ℕ → Value
   pub ends : MayEndAt (b.framing s.top.func) given reached (framed_context b.given t) s.top.block (work_of t)
   pub label_same : (block_at (unmarked (b.framing s.top.func)) s.top.block).label
       ≡ label_at (b.framing s.top.func) s.top.block
   pub phis : PhisInPlace (b.framing s.top.func) (block_to (b.framing s.top.func) label)
-  pub seen : Each (IsPhiTwice r.homes (fetches_of (plan (b.framing s.top.func))) (slot_table
+  pub seen : Each (IsPhiTwice homes (fetches_of (plan (b.framing s.top.func))) (slot_table
       (b.framing s.top.func)) given
       reached (context_of g.given s) (framed_context b.given t) (work_of s) (work_of t)
       (label_at (b.framing s.top.func) s.top.block) (length (edged (b.framing s.top.func)).names)) phis.before.phis
@@ -113,6 +114,10 @@ pub record MayJump (b : Building) (g : RenewedGiven) (s t : State) (r : AreBuilt
       → term_action (framed_context b.given t) e.work
       (end_term (b.framing s.top.func) (last_state (b.framing s.top.func) s.top.block)
       (block_at (edged (b.framing s.top.func)) s.top.block).term) ≡ GoTo label
+
+-- where the states are related, by their homes
+abbrev pub MayJump : (b : Building) (g : RenewedGiven) (s t : State) → AreBuiltOf b s t → ℕ → Type 0
+MayJump b g s t r label = MayJumpBy b g s t r.homes label
 
 -- the same by the code of the coroutine
 pub record CanJump (b : Building) (g : RenewedGiven) (s t : State) (r : AreBuiltOf b s t) (e : Terminator) (label : ℕ)

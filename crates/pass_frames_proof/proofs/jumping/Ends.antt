@@ -22,10 +22,10 @@ use Rattle.pass_frames_proof.proofs.phis.Rows.{ends as ends_run}
 use Rattle.pass_frames_proof.proofs.phis.Twice.{pairs_twice, phis_get_twice}
 use Rattle.pass_frames_proof.specs.Code.{address_state, end_code, end_loads, end_term, last_state, load_name, slot_table}
 use Rattle.pass_frames_proof.specs.Distances.{IsBelow, SetsFrom}
-use Rattle.pass_frames_proof.specs.Edges.{AreEndsLed, ArePairs, IsAtJump, block_to, entered_phis}
+use Rattle.pass_frames_proof.specs.Edges.{AreEndsLed, ArePairs, EndsLed, IsAtJump, block_to, entered_phis}
 use Rattle.pass_frames_proof.specs.Ends.{IsPhiTwice, end_line, phis_twice}
 use Rattle.pass_frames_proof.specs.Framings.{IsFraming}
-use Rattle.pass_frames_proof.specs.Jumps.{EndsAt, MayJump, label_at}
+use Rattle.pass_frames_proof.specs.Jumps.{EndsAt, MayJump, MayJumpBy, label_at}
 use Rattle.pass_frames_proof.specs.Led.{IsStill, twice_by}
 use Rattle.pass_frames_proof.specs.Fetched.{seen_by}
 use Rattle.pass_frames_proof.specs.Lined.{GivesNone}
@@ -102,8 +102,8 @@ module _ (homes : List Home) (t u : List (Option Fetch)) (given reached : ℕ �
 
 -- ---- the end
 
-module _ (b : Building) (g : RenewedGiven) (given : AreGiven b g) (s t : State) (r : AreBuiltOf b s t) (e : Terminator)
-    (label : ℕ) (h : IsAtJump b g s e label) (q : MayJump b g s t r label) where
+module _ (b : Building) (g : RenewedGiven) (s t : State) (homes : List Home) (is : IsFraming (b.framing s.top.func))
+    (label : ℕ) (q : MayJumpBy b g s t homes label) where
   abbrev x : Framing
   x = b.framing s.top.func
 
@@ -121,9 +121,6 @@ module _ (b : Building) (g : RenewedGiven) (given : AreGiven b g) (s t : State) 
 
   abbrev from : ℕ
   from = label_at x s.top.block
-
-  is : IsFraming x
-  is = given.framings s.top.func h.coroutine
 
   run : EndsAt x q.given q.reached d s.top.block (work_of t)
   run =
@@ -167,19 +164,19 @@ module _ (b : Building) (g : RenewedGiven) (given : AreGiven b g) (s t : State) 
   abbrev bound : ℕ
   bound = length (edged x).names
 
-  pairs_there : ArePairs r.homes bound (phi_values c.code s.top.values from q.phis.before.phis)
+  pairs_there : ArePairs homes bound (phi_values c.code s.top.values from q.phis.before.phis)
       (phi_values d.code run.work.values from q.phis.behind.phis)
   pairs_there =
-      subst (ArePairs r.homes bound (phi_values c.code s.top.values from q.phis.before.phis)) (sym phis_there)
-      (pairs_twice r.homes T U q.given q.reached c d (work_of s) run.loaded from bound q.phis.before.phis
-      (phis_stay r.homes T U q.given q.reached c d (work_of s) (work_of t) run.loaded (length (named x).names)
+      subst (ArePairs homes bound (phi_values c.code s.top.values from q.phis.before.phis)) (sym phis_there)
+      (pairs_twice homes T U q.given q.reached c d (work_of s) run.loaded from bound q.phis.before.phis
+      (phis_stay homes T U q.given q.reached c d (work_of s) (work_of t) run.loaded (length (named x).names)
       run.along_loaded from bound q.phis.before.phis q.below q.seen))
 
   abbrev Pairs : ℕ → List Phi → ℕ → List Phi → Type 0
   Pairs l ps m qs =
-      ArePairs r.homes bound (phi_values c.code s.top.values l ps) (phi_values d.code run.work.values m qs)
+      ArePairs homes bound (phi_values c.code s.top.values l ps) (phi_values d.code run.work.values m qs)
 
-  phis : ArePairs r.homes bound (entered_phis g s x label)
+  phis : ArePairs homes bound (entered_phis g s x label)
       (phi_values b.given.given.code run.work.values (label_of (slice_get (framed x).blocks s.top.block))
       (phis_of (slice_get (framed x).blocks (block_to x label))))
   phis =
@@ -190,9 +187,9 @@ module _ (b : Building) (g : RenewedGiven) (given : AreGiven b g) (s t : State) 
         (sym q.target_label i, sym q.phis.target i),
       )) pairs_there
 
-  pub ends_led : AreEndsLed b g s t r label line
+  pub ends_led_by : EndsLed b g s t homes label line
       (end_term x (last_state x s.top.block) (block_at (edged x) s.top.block).term)
-  ends_led = record {
+  ends_led_by = record {
     work = run.work;
     runs = still_through d (λ (u : Work). u.world ≡ t.world) (work_of t) (λ u same. same) line (work_of t) run.work
         still refl runs_line;
@@ -209,3 +206,12 @@ module _ (b : Building) (g : RenewedGiven) (given : AreGiven b g) (s t : State) 
     stays = q.stays;
     phis = phis;
   }
+
+pub ends_led : (b : Building) (g : RenewedGiven) → AreGiven b g → (s t : State) (r : AreBuiltOf b s t) (e : Terminator)
+    (label : ℕ) → IsAtJump b g s e label → MayJump b g s t r label
+    → AreEndsLed b g s t r label
+    (end_code (b.framing s.top.func) s.top.block (last_state (b.framing s.top.func) s.top.block))
+    (end_term (b.framing s.top.func) (last_state (b.framing s.top.func) s.top.block)
+    (block_at (edged (b.framing s.top.func)) s.top.block).term)
+ends_led b g given s t r e label h q =
+    ends_led_by b g s t r.homes (given.framings s.top.func h.coroutine) label q

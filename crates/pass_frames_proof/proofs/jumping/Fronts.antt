@@ -1,5 +1,5 @@
 -- In front of an ordinary block its phis are stored.
-use Rattle.std.proofs.Common.{◌≡◌, inr, ℕ, Bool, true, false, List, [], ◌∷◌, refl, sym, ap, ◌∙◌, subst}
+use Rattle.std.proofs.Common.{◌≡◌, inr, ℕ, Bool, true, false, List, [], ◌∷◌, length, refl, sym, ap, ◌∙◌, subst, arith}
 use Rattle.std.specs.List.{Contains}
 use Rattle.std.specs.Prelude.{Err, None, Ok, Option, Result, Some, slice_get, if◌then◌else◌}
 use Rattle.ir_base.specs.declared.cause.Cause.{Cause}
@@ -16,7 +16,8 @@ use Rattle.pass_cells.specs.Moves.{store_to}
 use Rattle.pass_cells.specs.Written.{stored, stored_at, stored_one, stored_phis}
 use Rattle.pass_cells.specs.declared.plan.KeptValue.{KeptValue}
 use Rattle.pass_fetch.specs.Fetching.{value_bytes}
-use Rattle.pass_frames_proof.proofs.jumping.Before.{all_before, cells_before, free_before}
+use Rattle.pass_frames_proof.proofs.jumping.Before.{cells_before, enough, free_before}
+use Rattle.pass_frames_proof.proofs.jumping.Pairs.{AreAllSet, all_set}
 use Rattle.pass_frames_proof.proofs.led.Steps.{fills_elsewhere}
 use Rattle.pass_frames_proof.proofs.lines.Filled.{worlds_stand}
 use Rattle.pass_frames_proof.proofs.lines.Names.{distance_of}
@@ -25,14 +26,14 @@ use Rattle.pass_frames_proof.proofs.phis.Stored.{phis_stored}
 use Rattle.pass_frames_proof.proofs.stepping.After.{cell_turned}
 use Rattle.pass_frames_proof.proofs.stepping.May.{own_blocks}
 use Rattle.pass_frames_proof.proofs.stepping.Names.{cell_is_name}
-use Rattle.pass_frames_proof.specs.Edges.{AreEndsLed, AreFrontsLed, ArePhisGiven, IsAtJump, IsOnFront, block_to, entered_work}
+use Rattle.pass_frames_proof.specs.Edges.{AreCellsFit, AreEndsLed, AreFrontsLed, ArePhisGiven, EndsLed, FrontsLed, IsAtJump, IsOnFront, PhisGiven, block_to, entered_phis, entered_work}
 use Rattle.pass_frames_proof.specs.Framings.{IsFraming}
 use Rattle.pass_frames_proof.specs.Led.{IsNoCell, RunsThrough}
 use Rattle.pass_frames_proof.specs.Lined.{GivesNone}
 use Rattle.pass_frames_proof.specs.Lines.{AreAway, IsCellOf, at_work}
 use Rattle.pass_frames_proof.specs.Passes.{block_at}
 use Rattle.pass_frames_proof.specs.Phis.{given_phis}
-use Rattle.pass_frames_proof.specs.Places.{Framing, fetched, plan}
+use Rattle.pass_frames_proof.specs.Places.{Framing, edged, fetched, framed, plan}
 use Rattle.pass_frames_proof.specs.Related.{AreBuiltOf, AreCellsRight, Building, IsCell, IsDistanceOf, IsKeptValue}
 use Rattle.pass_frames_proof.specs.Stepping.{AreGiven}
 use Rattle.pass_frames_proof.specs.Stores.{AreNamesStored}
@@ -44,7 +45,7 @@ use Rattle.run_laws.specs.access.Accessed.{Span, accessed, led_into}
 use Rattle.run_laws.specs.access.Changed.{ChangesOnly, IsNoneOf, LeavesOthers}
 use Rattle.run_laws.specs.access.Lines.{Runs}
 use Rattle.run_laws.specs.changed.Changed.{Each}
-use Rattle.run_laws.specs.memory.Pointers.{IsValue}
+use Rattle.run_laws.specs.memory.Pointers.{Home, IsValue}
 use Rattle.run_laws.specs.memory.Standing.{IsAway}
 use Rattle.run_laws.specs.transfer.Muted.{muted}
 use Rattle.run_laws.specs.transfer.Transfer.{AreOver, muted_world}
@@ -53,15 +54,15 @@ use Rattle.run_memory.specs.Memory.{Rights, is_live, owner_rights, store}
 use Rattle.run_memory.specs.declared.block.MemoryBlock.{MemoryBlock}
 use Rattle.run_memory.specs.declared.pointer.Value.{Value}
 use Rattle.run_source.specs.declared.state.State.{State}
-use Rattle.run_step.specs.Step.{AtInstr, Context, Done, Stuck, Work, done, instr_action, is_alignment, set_memory, value_at, with_all}
+use Rattle.run_step.specs.Step.{AtInstr, Context, Done, Stuck, Work, done, instr_action, is_alignment, label_of, phi_values, phis_of, set_memory, value_at, with_all}
 use Rattle.run_step.specs.Values.{Env, access_of, address, arg_value, pointer_to, stored as stored_value, value_in}
 use Rattle.run_step.specs.declared.world.World.{World}
 
 -- ---- a store changes memory alone
 
-record ChangesMemory (u z : Work) : Type 0 where
-  values : z.values ≡ u.values
-  events : z.world.events ≡ u.world.events
+pub record ChangesMemory (u z : Work) : Type 0 where
+  pub values : z.values ≡ u.values
+  pub events : z.world.events ≡ u.world.events
 
 memory_changed : (u z : Work) (o : Result (List MemoryBlock) Cause) → done (set_memory u) o ≡ Done z
     → ChangesMemory u z
@@ -72,7 +73,7 @@ memory_changed u z (Ok m) e =
       events = sym (ap (λ (q : Work). q.world.events) same);
     }
 
-store_changes : (c : Context) (u z : Work) (arg : Arg) (p : Operand) (align : ℕ)
+pub store_changes : (c : Context) (u z : Work) (arg : Arg) (p : Operand) (align : ℕ)
     → instr_action c u (Instr.Store arg p align) ≡ Done z → ChangesMemory u z
 store_changes c u z arg p align e = on (is_alignment align) e
   where
@@ -117,9 +118,10 @@ gives_each x m =
 
 -- ---- the front
 
-module _ (b : Building) (g : RenewedGiven) (given : AreGiven b g) (s t : State) (r : AreBuiltOf b s t)
-    (e other : Terminator) (label : ℕ) (line : List Instr) (h : IsAtJump b g s e label)
-    (ends : AreEndsLed b g s t r label line other) (phis : ArePhisGiven b g s t r label ends.work) where
+module _ (b : Building) (g : RenewedGiven) (s t : State) (homes : List Home) (hides : ℕ → Bool)
+    (is : IsFraming (b.framing s.top.func)) (fit : AreCellsFit b s t homes hides) (label : ℕ) (line : List Instr)
+    (other : Terminator) (ends : EndsLed b g s t homes label line other)
+    (phis : PhisGiven b g s t homes label ends.work) where
   abbrev x : Framing
   x = b.framing s.top.func
 
@@ -128,9 +130,6 @@ module _ (b : Building) (g : RenewedGiven) (given : AreGiven b g) (s t : State) 
 
   abbrev d : Context
   d = framed_context b.given t
-
-  is : IsFraming x
-  is = given.framings s.top.func h.coroutine
 
   abbrev w : Work
   w = entered_work b t x s.top.block label ends.work
@@ -146,16 +145,24 @@ module _ (b : Building) (g : RenewedGiven) (given : AreGiven b g) (s t : State) 
 
   -- ---- cells where the block is entered
 
-  old : AreCellsRight x r.homes R t.world.memory s.top.values t.top
-  old = (cells_before b g given s t r e other label line h ends).0
+  old : AreCellsRight x homes R t.world.memory s.top.values t.top
+  old = fit.right
+
+  all : AreAllSet homes (length (edged x).names) s.top.values ends.work.values
+      (with_all s.top.values (entered_phis g s x label)) w.values
+  all =
+      all_set homes (length (edged x).names) s.top.values ends.work.values (entered_phis g s x label)
+      (phi_values b.given.given.code ends.work.values (label_of (slice_get (framed x).blocks s.top.block))
+      (phis_of (slice_get (framed x).blocks (block_to x label))))
+      (let p = fit.enough in let q = ends.room in omega (arith, p, q)) ends.phis
 
   cell_value : (u : ℕ) → IsCellOf x u → value_in w.values u ≡ value_in t.top.values u
-  cell_value u of = (all_before b g given s t r e other label line h ends).high u of.0 ∙ ends.low u of.1
+  cell_value u of = all.high u of.0 ∙ ends.low u of.1
 
-  right_there : AreCellsRight x r.homes R t.world.memory s.top.values (at_work t.top w)
+  right_there : AreCellsRight x homes R t.world.memory s.top.values (at_work t.top w)
   right_there = record {
     values = λ v q kept.
-        cell_turned R t.world.memory t.top (at_work t.top w) q.cell q.ty (IsValue r.homes
+        cell_turned R t.world.memory t.top (at_work t.top w) q.cell q.ty (IsValue homes
         (value_in s.top.values v)) refl
         (cell_value q.cell (kept_is_cell x is v q kept)) (old.values v q kept);
     distances = λ v cell slot told root.
@@ -164,15 +171,15 @@ module _ (b : Building) (g : RenewedGiven) (given : AreGiven b g) (s t : State) 
         (cell_value cell (distance_of x is v cell told)) (old.distances v cell slot told root);
   }
 
-  right : AreCellsRight x r.homes R w.world.memory s.top.values (at_work t.top w)
+  right : AreCellsRight x homes R w.world.memory s.top.values (at_work t.top w)
   right =
-      subst (λ (u : World). AreCellsRight x r.homes R u.memory s.top.values (at_work t.top w)) (sym ends.world)
+      subst (λ (u : World). AreCellsRight x homes R u.memory s.top.values (at_work t.top w)) (sym ends.world)
       right_there
 
-  stored_there : AreNamesStored x r.homes d w t.top (with_all s.top.values before) 0 front
+  stored_there : AreNamesStored x homes d w t.top (with_all s.top.values before) 0 front
   stored_there =
-      phis_stored x is r.homes d (frame_rights_fit b.given t.instances) s.top.values t.top w phis.value 0 ps
-      (own_blocks t r.once) phis.each right
+      phis_stored x is homes d (frame_rights_fit b.given t.instances) s.top.values t.top w phis.value 0 ps
+      fit.own phis.each right
 
   abbrev z : Work
   z = stored_there.work
@@ -200,7 +207,7 @@ module _ (b : Building) (g : RenewedGiven) (given : AreGiven b g) (s t : State) 
       only =
           subst (LeavesOthers (accessed d u (AtInstr j)) u.world.memory) is_done (others_left d u (AtInstr j))
 
-      cell : IsCell R t.world.memory t.top at.1.cell at.1.ty (IsValue r.homes (value_in s.top.values at.0))
+      cell : IsCell R t.world.memory t.top at.1.cell at.1.ty (IsValue homes (value_in s.top.values at.0))
       cell = old.values at.0 at.1 at.2
 
       leads : value_in u.values at.1.cell ≡ pointer_to cell.block
@@ -257,31 +264,47 @@ module _ (b : Building) (g : RenewedGiven) (given : AreGiven b g) (s t : State) 
 
   -- ---- the memories
 
-  away : AreAway owner_rights r.homes (muted r.hides s.world.memory) stored_there.spans
+  away : AreAway owner_rights homes (muted hides s.world.memory) stored_there.spans
   away =
       each_turns
       (λ (q : Span). (cell : ℕ) × IsCellOf x cell × Contains t.top.slots (record { alloca = cell; block = q.block }))
-      (λ (q : Span). (n : ℕ) (k : MemoryBlock) → slice_get (muted r.hides s.world.memory) n ≡ Some k
-      → is_live k.life ≡ true → IsAway owner_rights r.homes n k q.block q.offset q.len)
-      (λ q at n k there live same. absurd (free_before b g given s t r e other label line h ends
+      (λ (q : Span). (n : ℕ) (k : MemoryBlock) → slice_get (muted hides s.world.memory) n ≡ Some k
+      → is_live k.life ≡ true → IsAway owner_rights homes n k q.block q.offset q.len)
+      (λ q at n k there live same. absurd (fit.free
       (record { alloca = at.0; block = q.block }) at.2 (cell_is_name x at.0 at.1) n k there (inr live) same))
       stored_there.spans stored_there.inside
 
-  over : AreOver owner_rights R r.homes r.hides (λ n. n) s.world z.world
+  over : AreOver owner_rights R homes hides (λ n. n) s.world z.world
   over =
-      subst (λ (u : World). AreOver owner_rights R r.homes r.hides (λ n. n) s.world u) (sym stored_there.over.world)
-      (worlds_stand owner_rights R owner_rights_fit (frame_rights_fit b.given t.instances) r.homes (λ n. n)
-      (muted_world r.hides s.world) w.world stored_there.spans z.world.memory stored_there.over.fills away
-      (subst (λ (u : World). AreOver owner_rights R r.homes r.hides (λ n. n) s.world u) (sym ends.world) r.world))
+      subst (λ (u : World). AreOver owner_rights R homes hides (λ n. n) s.world u) (sym stored_there.over.world)
+      (worlds_stand owner_rights R owner_rights_fit (frame_rights_fit b.given t.instances) homes (λ n. n)
+      (muted_world hides s.world) w.world stored_there.spans z.world.memory stored_there.over.fills away
+      (subst (λ (u : World). AreOver owner_rights R homes hides (λ n. n) s.world u) (sym ends.world) fit.world))
 
-  pub front_led : AreFrontsLed b g s t r label ends.work front
-  front_led = record {
+  pub front_led_by : FrontsLed b g s t homes hides label ends.work front
+  front_led_by = record {
     work = z;
     runs = all_on front (phis_each x ps) w z refl first stored_there.over.runs;
     last = last;
     values = stored_there.values;
     over = over;
     gives = gives_each x b.given.given.code front (phis_each x ps);
-    right = subst (λ (q : List (ℕ × Value)). AreCellsRight x r.homes R z.world.memory (with_all s.top.values q)
+    right = subst (λ (q : List (ℕ × Value)). AreCellsRight x homes R z.world.memory (with_all s.top.values q)
         (at_work t.top z)) phis.same stored_there.right;
   }
+
+module _ (b : Building) (g : RenewedGiven) (given : AreGiven b g) (s t : State) (r : AreBuiltOf b s t)
+    (e other : Terminator) (label : ℕ) (line : List Instr) (h : IsAtJump b g s e label)
+    (ends : AreEndsLed b g s t r label line other) (phis : ArePhisGiven b g s t r label ends.work) where
+  pub front_led : AreFrontsLed b g s t r label ends.work
+      (stored_phis (plan (b.framing s.top.func))
+      (block_at (fetched (b.framing s.top.func)) (block_to (b.framing s.top.func) label)).phis)
+  front_led =
+      front_led_by b g s t r.homes r.hides (given.framings s.top.func h.coroutine) (record {
+        right = (cells_before b g given s t r e other label line h ends).0;
+        own = own_blocks t r.once;
+        free = free_before b g given s t r e other label line h ends;
+        world = r.world;
+        enough =
+            let p = enough b g given s t r e other label line h ends in let q = ends.room in omega (arith, p, q);
+      }) label line other ends phis
