@@ -13,6 +13,7 @@ pub mod Entry
 pub mod Fetched
 pub mod Followed
 pub mod Framings
+pub mod FromEdges
 pub mod Geps
 pub mod Heaps
 pub mod Here

@@ -14,6 +14,7 @@ pub mod entry;
 pub mod fetched;
 pub mod followed;
 pub mod framings;
+pub mod from_edges;
 pub mod geps;
 pub mod heaps;
 pub mod jumping;

@@ -104,7 +104,7 @@ module _ (x : Framing) (is : IsFraming x) where
       kept.number (contained x.contents.crossing (v, suspend) c) kept.told (omega (arith, long, lt))
 
   -- the field of a kept value lies where its place is
-  field_placed : (v position : ℕ) (k : KeptValue) → (kept : IsKeptValue x v k)
+  pub field_placed : (v position : ℕ) (k : KeptValue) → (kept : IsKeptValue x v k)
       → position_of x.contents.held v ≡ Some position
       → slice_get (offsets x) k.field ≡ Some (Some (offset_at x.layout position))
   field_placed v position k kept e =

@@ -1,0 +1,41 @@
+//! Jumps of a coroutine from blocks on resume and destroy edges are followed.
+
+ghost use Rattle.pass_frames_proof.specs.Code.{end_code, end_term, front_code, last_state};
+ghost use Rattle.pass_frames_proof.specs.Edges.{EndsLed, PhisGiven};
+ghost use Rattle.pass_frames_proof.specs.Followed.{IsFollowed};
+ghost use Rattle.pass_frames_proof.specs.FromEdges.{IsAtReturn, IsFrontDone, IsOutOfEdge};
+ghost use Rattle.pass_frames_proof.specs.Jumps.{MayJumpBy};
+ghost use Rattle.pass_frames_proof.specs.Lined.{lined};
+ghost use Rattle.pass_frames_proof.specs.Passes.{block_at};
+ghost use Rattle.pass_frames_proof.specs.Places.{edged};
+ghost use Rattle.pass_frames_proof.specs.Related.{AreBuiltOf, Building};
+ghost use Rattle.pass_frames_proof.specs.Stepping.{AreGiven};
+ghost use Rattle.pass_renewed_proof.specs.Renewed.{RenewedGiven};
+ghost use Rattle.run_source.specs.declared.state.State.{State};
+ghost use Rattle.std.specs.Prelude.{ℕ, length};
+
+/// In front of a block on a resume or destroy edge addresses of slots go to their cells, and what crosses comes from
+/// its fields. Then all cells are right.
+pub fn fronts_of_edges_are_executed()
+    ensures { (b : Building) (g : RenewedGiven) → AreGiven b g → (s t : State) (r : AreBuiltOf b s t) (label order : ℕ)
+        → IsAtReturn b s label order
+        → IsFrontDone b s t r.homes r.hides (front_code (b.framing s.top.func) s.top.block) }
+{}
+
+/// That front is executed with the block's jump. So the jump is followed, where what is fetched behind the front may be
+/// and phis may be stored.
+pub fn jumps_from_edges_are_followed()
+    ensures { (b : Building) (g : RenewedGiven) → AreGiven b g → (s t : State) (r : AreBuiltOf b s t) (label order : ℕ)
+        → IsAtReturn b s label order → IsOutOfEdge b g s label
+        → ((done : IsFrontDone b s t r.homes r.hides (front_code (b.framing s.top.func) s.top.block))
+        → MayJumpBy b g s (lined t (length (front_code (b.framing s.top.func) s.top.block)) done.work) r.homes label)
+        → ((done : IsFrontDone b s t r.homes r.hides (front_code (b.framing s.top.func) s.top.block))
+        → (ends : EndsLed b g s (lined t (length (front_code (b.framing s.top.func) s.top.block)) done.work) r.homes
+        label
+        (end_code (b.framing s.top.func) s.top.block (last_state (b.framing s.top.func) s.top.block))
+        (end_term (b.framing s.top.func) (last_state (b.framing s.top.func) s.top.block)
+        (block_at (edged (b.framing s.top.func)) s.top.block).term))
+        → PhisGiven b g s (lined t (length (front_code (b.framing s.top.func) s.top.block)) done.work) r.homes label
+        ends.work)
+        → IsFollowed b g s t }
+{}
