@@ -1,3 +1,4 @@
 pub mod Allocas
 pub mod Behind
+pub mod Cells
 pub mod Stand

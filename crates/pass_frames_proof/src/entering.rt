@@ -1,16 +1,25 @@
 //! Allocas that a resumed activation of the framed run makes again before it enters a label.
 
-ghost use Rattle.std.specs.Prelude.{◌≡◌, ◌≤◌, ◌+◌, ◌++◌, ◌∷◌, [], ℕ, List, None, Some, length, slice_get, suc, take};
+ghost use Rattle.std.specs.Prelude.{◌≡◌, ◌<◌, ◌≤◌, ◌+◌, ◌++◌, ◌∷◌, [], ℕ, List, None, Some, false, length, slice_get, suc, take};
+ghost use Rattle.flow_solver.specs.Paths.{IsListed};
+ghost use Rattle.ir_laws.specs.paths.woven_rules.Pairs.{AreDifferent};
+ghost use Rattle.ir_model.specs.Layout.{size_of};
+ghost use Rattle.ir_model.specs.Ty.{Ty};
 ghost use Rattle.ir_model.specs.declared.instr.Instr.{Instr};
+ghost use Rattle.ir_paths.specs.Slots.{allocas_in};
+ghost use Rattle.pass_fetch.specs.Fetching.{value_bytes};
 ghost use Rattle.pass_frames_proof.specs.Costs.{allocas_before};
 ghost use Rattle.pass_frames_proof.specs.Entering.{AreAllocasBetween, IsGoodAlloca, IsMaking, behind_alloca, behind_allocas, entered, front_allocas};
 ghost use Rattle.pass_frames_proof.specs.Places.{Framing, framed, instrs_at};
-ghost use Rattle.run_framed.specs.Framed.{FramedGiven, alloca_from, framed_step};
+ghost use Rattle.pass_frames_proof.specs.Related.{Anything, IsCell};
+ghost use Rattle.run_framed.specs.Framed.{FramedGiven, alloca_from, frame_rights, framed_step};
 ghost use Rattle.run_laws.specs.access.Lines.{StandAt};
 ghost use Rattle.run_laws.specs.changed.Changed.{Each};
 ghost use Rattle.run_source.specs.State.{function_of};
+ghost use Rattle.run_source.specs.declared.state.Instance.{Instance};
 ghost use Rattle.run_source.specs.declared.state.State.{State};
 ghost use Rattle.run_step.specs.Runs.{iterate};
+ghost use Rattle.run_step.specs.Step.{has_markers};
 
 /// Each alloca up to another one is a step of the framed run, and makes its block and its slot. Behind the last alloca
 /// of all the label is entered.
@@ -38,4 +47,17 @@ pub fn allocas_stand_in_front()
         → allocas_before x None ≡ length (front_allocas x) }
     ensures between { (x : Framing) (at : ℕ) (i : Instr) → slice_get (instrs_at x 0) at ≡ Some i → (k n : ℕ) → k ≤ n
         → AreAllocasBetween x k n }
+{}
+
+/// An alloca that is made again without markers gives a cell of its type, where it is as aligned. No frame lies in a
+/// block that is still to come.
+pub fn made_allocas_are_cells()
+    ensures { (g : FramedGiven) (u : State) (line : List Instr) → Each IsGoodAlloca line
+        → AreDifferent (allocas_in line) → ((v : ℕ) → IsListed v (allocas_in line) → v < length u.top.values)
+        → ((i : ℕ) (y : Instance) → slice_get u.instances i ≡ Some y → y.block < length u.world.memory)
+        → (p name align : ℕ) (ty : Ty) → slice_get line p ≡ Some (Instr.Alloca name ty align)
+        → has_markers (function_of g.given u) name ≡ false → size_of g.given.code ty ≡ value_bytes ty
+        → value_bytes ty ≤ align
+        → IsCell (frame_rights g u.instances) (behind_allocas g u line).world.memory
+        (behind_allocas g u line).top name ty Anything }
 {}
