@@ -1,3 +1,4 @@
+pub mod Entered
 pub mod Grown
 pub mod Others
 pub mod Restated

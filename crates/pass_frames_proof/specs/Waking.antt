@@ -1,10 +1,12 @@
 -- What is asked where a suspended coroutine is woken by a function that is no coroutine, and makes slots anew then.
 use Rattle.std.specs.List.{Contains}
-use Rattle.std.specs.Prelude.{◌≡◌, ◌⊎◌, ◌+◌, ◌-◌, ◌<◌, ◌^◌, ◌∷◌, ◌++◌, Bool, List, Ok, Option, Some, false, length, slice_get, take, ℕ}
+use Rattle.std.specs.Prelude.{◌≡◌, ◌⊎◌, ◌+◌, ◌-◌, ◌<◌, ◌≤◌, ◌^◌, ◌∷◌, ◌++◌, [], Bool, List, None, Ok, Option, Some, false, length, slice_get, take, true, ℕ}
 use Rattle.flow_solver.specs.Paths.{IsListed}
 use Rattle.ir_base.specs.declared.outcome.Outcome.{Outcome}
-use Rattle.ir_model.specs.Names.{function_at}
-use Rattle.ir_model.specs.Ty.{Ty}
+use Rattle.ir_laws.specs.paths.woven_rules.Pairs.{AreDifferent}
+use Rattle.ir_model.specs.Layout.{size_of}
+use Rattle.ir_model.specs.Names.{function_at, position_of}
+use Rattle.ir_model.specs.Ty.{Ty, int, ptr}
 use Rattle.ir_model.specs.declared.instr.Instr.{Instr}
 use Rattle.ir_model.specs.declared.module.Function.{Function}
 use Rattle.ir_model.specs.declared.operand.Arg.{Arg}
@@ -14,11 +16,14 @@ use Rattle.ir_paths.specs.Slots.{allocas_in}
 use Rattle.ir_paths.specs.declared.point.Point.{Point}
 use Rattle.pass_cells.specs.Kept.{entry}
 use Rattle.pass_cells.specs.declared.plan.KeptValue.{KeptValue}
+use Rattle.pass_copies.specs.declared.slot.EarlySlot.{EarlySlot}
+use Rattle.pass_fetch.specs.Fetching.{value_bytes}
 use Rattle.pass_frames.specs.Framed.{begin_of}
 use Rattle.pass_frames_proof.specs.Costs.{resume_cost}
 use Rattle.pass_frames_proof.specs.Entering.{IsGoodAlloca, allocas_up_to, front_allocas}
 use Rattle.pass_frames_proof.specs.Meaning.{step_cost}
-use Rattle.pass_frames_proof.specs.Places.{Framing, edged, framed, instrs_at, own_place, plan}
+use Rattle.pass_frames_proof.specs.Passes.{block_at}
+use Rattle.pass_frames_proof.specs.Places.{Framing, copies, edged, framed, instrs_at, is_return, own_place, plan}
 use Rattle.pass_frames_proof.specs.Related.{AreGone, Building, IsKeptValue, IsSuspendNumber, all_slots, is_coroutine}
 use Rattle.pass_frames_proof.specs.Stepping.{IsNotEntering}
 use Rattle.pass_kept_proof.specs.Kept.{kept}
@@ -34,7 +39,7 @@ use Rattle.run_source.specs.declared.state.Mode.{Mode}
 use Rattle.run_source.specs.declared.state.State.{State}
 use Rattle.run_source.specs.declared.state.Status.{Status}
 use Rattle.run_source_tables.specs.Given.{is_final}
-use Rattle.run_step.specs.Step.{AtInstr, fetch}
+use Rattle.run_step.specs.Step.{AtInstr, fetch, has_markers, phis_of}
 use Rattle.run_step.specs.Values.{Env, arg_values, nth, value_in}
 use Rattle.run_step.specs.declared.world.Slot.{Slot}
 
@@ -121,7 +126,8 @@ abbrev pub wake_call : Intrinsic → Option ℕ → Bool → Option Ty → List 
 wake_call intrinsic result must_tail ty args = Instr.Call result must_tail ty (Callee.Intrinsic intrinsic) args
 
 -- The next step is a resume or destroy by a function that is no coroutine. Both runs find the sleeper, since pointers
--- stand for each other. Its suspend leads to the same label in both modules, as what it switches by has its cases still.
+-- stand for each other. Its suspend leads to the same label in both modules, since what it switches by has its cases
+-- still.
 pub record IsAtWaking (b : Building) (g : RenewedGiven) (s t : State) (label : ℕ) (z : IsSleeping b g s label)
     (intrinsic : Intrinsic) (leads : Function → Point → ℕ) : Type 0 where
   pub result : Option ℕ
@@ -148,10 +154,68 @@ pub record IsAtWaking (b : Building) (g : RenewedGiven) (s t : State) (label : �
   pub leads_to : leads (edged (b.framing z.instance.coroutine)) z.suspend ≡ label
   pub leads_too : leads (framed (b.framing z.instance.coroutine))
       (own_place (b.framing z.instance.coroutine) z.suspend) ≡ label
-  pub anew : HasFirstAnew b g z.instance.coroutine (kept (g.keep z.instance.coroutine z.suspend) z.env)
   pub slots : (slot : Slot) → Contains (all_slots t) slot → slot.block < length t.world.memory
 
 -- a resume finds no final suspend
 pub record IsUnfinal (x : Framing) (suspend : Point) : Type 0 where
   pub source : is_final (edged x) suspend ≡ false
   pub target : is_final (framed x) (own_place x suspend) ≡ false
+
+-- ---- where no slot is made anew
+
+-- an alloca of the framed form gives a cell of a type
+pub record IsCellMade (x : Framing) (cell : ℕ) (ty : Ty) : Type 0 where
+  pub position : ℕ
+  pub align : ℕ
+  pub there : slice_get (front_allocas x) position ≡ Some (Instr.Alloca cell ty align)
+  pub unmarked : has_markers (framed x) cell ≡ false
+  pub aligned : value_bytes ty ≤ align
+
+-- No alloca is made anew, and so no address is moved, nor is the distance of one kept. The label leads to a block on
+-- the edge, which has no phis. Of names that are kept nowhere but begin's nothing is handed on.
+pub record HasNoneAnew (b : Building) (g : RenewedGiven) (func : ℕ) (env : Env) (label order : ℕ) : Type 0 where
+  pub none : renewed_from (g.flags func) (function_at g.given.code func) 0 ≡ None
+  pub unrooted : (v : ℕ) → g.roots func v ≡ None
+  pub at : ℕ
+  pub instr : Instr
+  pub there : slice_get (instrs_at (b.framing func) 0) at ≡ Some instr
+  pub line : List Instr
+  pub last : Instr
+  pub stands : front_allocas (b.framing func) ≡ line ++ (last ∷ [])
+  pub good : Each IsGoodAlloca (front_allocas (b.framing func))
+  pub different : AreDifferent (allocas_in (front_allocas (b.framing func)))
+  pub low : (v : ℕ) → IsListed v (allocas_in (front_allocas (b.framing func)))
+      → v < length (framed (b.framing func)).names
+  pub no_begin : IsListed (begin_of (b.framing func).function) (allocas_in (front_allocas (b.framing func))) → ⊥
+  pub unhanded : (v : ℕ) → entry (plan (b.framing func)).places v ≡ None
+      → (v ≡ begin_of (b.framing func).function) ⊎ (value_in env v ≡ Value.Poison)
+  pub unslotted : (v : ℕ) (k : KeptValue) → IsKeptValue (b.framing func) v k → k.slot ≡ None
+  pub block : ℕ
+  pub block_is : position_of (edged (b.framing func)) label ≡ block
+  pub block_too : position_of (framed (b.framing func)) label ≡ block
+  pub no_phis : phis_of (slice_get (edged (b.framing func)).blocks block) ≡ []
+  pub no_phis_too : phis_of (slice_get (framed (b.framing func)).blocks block) ≡ []
+  pub returned : is_return (b.framing func) block ≡ true
+  pub behind : entry (plan (b.framing func)).returns (block_at (edged (b.framing func)) block).label ≡ Some order
+  pub sizes : (v : ℕ) (k : KeptValue) → IsKeptValue (b.framing func) v k
+      → size_of b.framed_code k.ty ≡ value_bytes k.ty
+  pub sized_words : (size_of b.framed_code (int 64) ≡ value_bytes (int 64))
+      × (size_of b.framed_code ptr ≡ value_bytes ptr)
+  pub values : (v : ℕ) (k : KeptValue) → IsKeptValue (b.framing func) v k → IsCellMade (b.framing func) k.cell k.ty
+  pub distances : (v cell : ℕ) → entry (plan (b.framing func)).cells v ≡ Some cell
+      → IsCellMade (b.framing func) cell (int 64)
+  pub wheres : (s : EarlySlot) → Contains (copies (b.framing func)).slots s → IsCellMade (b.framing func) s.cell ptr
+
+-- both runs wake it: the first comes to the block on the edge at once
+pub record AreWokenAtOnce (b : Building) (g : RenewedGiven) (s t : State) (label : ℕ) (z : IsSleeping b g s label)
+    : Type 0 where
+  pub anew : HasNoneAnew b g z.instance.coroutine (kept (g.keep z.instance.coroutine z.suspend) z.env) label z.order
+  pub beside : Instance
+  pub there : slice_get t.instances z.number ≡ Some beside
+  pub source : renewed_step g s
+      ≡ continue_renewed g s z.number z.instance z.suspend z.env label
+  pub other : Env
+  pub target : framed_step b.given t
+      ≡ continue_framed b.given t z.number beside (own_place (b.framing z.instance.coroutine) z.suspend) other label
+  pub slots : (slot : Slot) → Contains (all_slots t) slot → slot.block < length t.world.memory
+  pub cost : step_cost b g s s.top.mode ≡ 1 + (resume_cost (b.framing z.instance.coroutine) None - 1)

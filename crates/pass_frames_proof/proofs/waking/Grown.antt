@@ -49,7 +49,7 @@ module _ (b : Building) (s t : State) (r : AreBuiltOf b s t)
       subst (λ (q : Rights). Holds q u.memory e o most bytes) (sym rights_are)
       (grown_held R t.world.memory news e o most bytes h)
 
-  seen_there : AreThere r.homes t.world.memory
+  pub seen_there : AreThere r.homes t.world.memory
   seen_there n seen =
       let lt : n < length r.homes = seen_known r.homes n seen in
       let known : length r.homes ≡ length s.world.memory = r.known in

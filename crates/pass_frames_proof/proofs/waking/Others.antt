@@ -1,5 +1,5 @@
 -- A function that is no coroutine resumes or destroys a coroutine: both runs wake it.
-use Rattle.std.proofs.Common.{◌≡◌, ◌+◌, ◌-◌, ◌∙◌, if◌then◌else◌, Bool, Ok, Option, Result, ap, not, refl, sym, ℕ}
+use Rattle.std.proofs.Common.{◌≡◌, ◌+◌, ◌-◌, ◌∙◌, if◌then◌else◌, Bool, None, Ok, Option, Result, Some, ap, not, refl, sym, ℕ}
 use Rattle.std.specs.Prelude.{option_map}
 use Rattle.ir_base.specs.declared.cause.Cause.{Cause}
 use Rattle.ir_base.specs.declared.outcome.Outcome.{Outcome}
@@ -10,6 +10,7 @@ use Rattle.ir_paths.specs.Windows.{destroy_label, resume_label}
 use Rattle.ir_paths.specs.declared.point.Point.{Point}
 use Rattle.pass_frames_proof.proofs.lined.Lines.{framed_does}
 use Rattle.pass_frames_proof.proofs.stepping.Stands.{cost_is, renewed_does}
+use Rattle.pass_frames_proof.proofs.waking.Entered.{entered_followed}
 use Rattle.pass_frames_proof.proofs.waking.Woken.{woken_followed}
 use Rattle.pass_frames_proof.specs.Costs.{resume_cost}
 use Rattle.pass_frames_proof.specs.Followed.{IsFollowed}
@@ -17,16 +18,18 @@ use Rattle.pass_frames_proof.specs.Meaning.{action_at, coroutine_cost, other_cos
 use Rattle.pass_frames_proof.specs.Places.{Framing, edged, framed, own_place}
 use Rattle.pass_frames_proof.specs.Related.{AreBuiltOf, AreInstances, Building, place_by, point_of}
 use Rattle.pass_frames_proof.specs.Stepping.{AreGiven}
-use Rattle.pass_frames_proof.specs.Waking.{AreWoken, IsAtWaking, IsSleeping, IsUnfinal, wake_call}
-use Rattle.pass_renewed_proof.specs.Renewed.{RenewedGiven, continue_renewed, renewed_step}
+use Rattle.pass_frames_proof.specs.Waking.{AreWoken, AreWokenAtOnce, HasFirstAnew, HasNoneAnew, IsAtWaking, IsSleeping, IsUnfinal, wake_call}
+use Rattle.pass_renewed_proof.specs.Renewed.{RenewedGiven, continue_renewed, renewed_from, renewed_step}
 use Rattle.run_framed.specs.Framed.{continue_framed, framed_step}
+use Rattle.run_laws.specs.embedded.Marks.{anew}
 use Rattle.run_source.specs.Source.{Sleeper, context_of, sleeper_at}
 use Rattle.run_source.specs.State.{function_of, or_undefined, work_of}
 use Rattle.run_source.specs.declared.state.State.{State}
 use Rattle.run_source_tables.specs.Given.{is_final}
 use Rattle.run_step.specs.Results.{and_then, ok_if}
-use Rattle.run_step.specs.Step.{Action, AtInstr, Coro, Fetched, action_of, fetch}
+use Rattle.run_step.specs.Step.{AtInstr, Coro, Fetched, action_of, fetch}
 use Rattle.run_step.specs.Values.{arg_values, nth}
+use Rattle.pass_kept_proof.specs.Kept.{kept}
 
 module _ (b : Building) (g : RenewedGiven) (given : AreGiven b g) (s t : State) (r : AreBuiltOf b s t) (label : ℕ)
     (z : IsSleeping b g s label) where
@@ -63,25 +66,44 @@ module _ (b : Building) (g : RenewedGiven) (given : AreGiven b g) (s t : State) 
           ∙ h.there
 
       -- what it costs: the allocas before the first one that is made anew
-      pub woken_by : (act : Action) → act ≡ Coro intrinsic h.args h.result
-          → renewed_step g s
-          ≡ continue_renewed g s z.number z.instance z.suspend z.env label
-          → framed_step b.given t ≡ continue_framed b.given t z.number h.beside (own_place x z.suspend) h.other label
-          → step_cost b g s s.top.mode ≡ 1 + woken_cost b g
-          (sleeper_at s (nth (arg_values g.given.code s.top.values h.args) 0))
-          → AreWoken b g s t label z
-      woken_by act is source target cost = record {
-        anew = h.anew;
-        beside = h.beside;
-        there = h.there_too;
-        source = source;
-        other = h.other;
-        target = target;
-        slots = h.slots;
-        cost =
-            cost ∙ ap (λ (o : Result Sleeper Cause). 1 + woken_cost b g o) h.finds
-            ∙ ap (λ (o : Option Point). 1 + (resume_cost x (option_map (λ (p : Point). p.at) o) - 1)) h.anew.is;
-      }
+      module _ (source : renewed_step g s ≡ continue_renewed g s z.number z.instance z.suspend z.env label)
+          (target : framed_step b.given t
+          ≡ continue_framed b.given t z.number h.beside (own_place x z.suspend) h.other label)
+          (cost : step_cost b g s s.top.mode
+          ≡ 1 + woken_cost b g (sleeper_at s (nth (arg_values g.given.code s.top.values h.args) 0))) where
+        priced_by : (o : Option Point)
+            → renewed_from (g.flags z.instance.coroutine) (function_at g.given.code z.instance.coroutine) 0 ≡ o
+            → step_cost b g s s.top.mode ≡ 1 + (resume_cost x (option_map (λ (p : Point). p.at) o) - 1)
+        priced_by o e =
+            cost ∙ ap (λ (q : Result Sleeper Cause). 1 + woken_cost b g q) h.finds
+            ∙ ap (λ (q : Option Point). 1 + (resume_cost x (option_map (λ (p : Point). p.at) q) - 1)) e
+
+        pub woken_by : HasFirstAnew b g z.instance.coroutine (kept (g.keep z.instance.coroutine z.suspend) z.env)
+            → AreWoken b g s t label z
+        woken_by anew = record {
+          anew = anew;
+          beside = h.beside;
+          there = h.there_too;
+          source = source;
+          other = h.other;
+          target = target;
+          slots = h.slots;
+          cost = priced_by (Some (record { block = 0; at = anew.first })) anew.is;
+        }
+
+        pub entered_by : HasNoneAnew b g z.instance.coroutine (kept (g.keep z.instance.coroutine z.suspend) z.env) label
+            z.order
+            → AreWokenAtOnce b g s t label z
+        entered_by anew = record {
+          anew = anew;
+          beside = h.beside;
+          there = h.there_too;
+          source = source;
+          other = h.other;
+          target = target;
+          slots = h.slots;
+          cost = priced_by None anew.none;
+        }
 
       priced : (k : ℕ) → other_cost b g s (Coro intrinsic h.args h.result) ≡ k
           → action_of (context_of g.given s) (work_of s)
@@ -131,12 +153,20 @@ module _ (b : Building) (g : RenewedGiven) (given : AreGiven b g) (s t : State) 
         (resume_label (framed x) (own_place x z.suspend))))) unfinal.target
         ∙ ap (continue_framed b.given t z.number h.beside (own_place x z.suspend) h.other) h.leads_too
 
-    pub resume_followed : IsFollowed b g s t
-    resume_followed =
+    pub resume_followed : HasFirstAnew b g z.instance.coroutine (kept (g.keep z.instance.coroutine z.suspend) z.env)
+        → IsFollowed b g s t
+    resume_followed anew =
         woken_followed b g given s t r h.runs h.plain label z
-        (woken_by Intrinsic.CoroResume resume_label h (Coro Intrinsic.CoroResume h.args h.result) refl resumed_source
-        resumed_target
-        (priced Intrinsic.CoroResume resume_label h _ refl refl))
+        (woken_by Intrinsic.CoroResume resume_label h resumed_source resumed_target
+        (priced Intrinsic.CoroResume resume_label h _ refl refl) anew)
+
+    pub resume_entered : HasNoneAnew b g z.instance.coroutine (kept (g.keep z.instance.coroutine z.suspend) z.env)
+        label z.order
+        → IsFollowed b g s t
+    resume_entered anew =
+        entered_followed b g given s t r h.runs h.plain label z
+        (entered_by Intrinsic.CoroResume resume_label h resumed_source resumed_target
+        (priced Intrinsic.CoroResume resume_label h _ refl refl) anew)
 
   -- ---- destroys
 
@@ -165,9 +195,17 @@ module _ (b : Building) (g : RenewedGiven) (given : AreGiven b g) (s t : State) 
         (destroy_label f (own_place x z.suspend))) (target_code Intrinsic.CoroDestroy destroy_label h)
         ∙ ap (continue_framed b.given t z.number h.beside (own_place x z.suspend) h.other) h.leads_too
 
-    pub destroy_followed : IsFollowed b g s t
-    destroy_followed =
+    pub destroy_followed : HasFirstAnew b g z.instance.coroutine (kept (g.keep z.instance.coroutine z.suspend) z.env)
+        → IsFollowed b g s t
+    destroy_followed anew =
         woken_followed b g given s t r h.runs h.plain label z
-        (woken_by Intrinsic.CoroDestroy destroy_label h (Coro Intrinsic.CoroDestroy h.args h.result) refl
-        destroyed_source destroyed_target
-        (priced Intrinsic.CoroDestroy destroy_label h _ refl refl))
+        (woken_by Intrinsic.CoroDestroy destroy_label h destroyed_source destroyed_target
+        (priced Intrinsic.CoroDestroy destroy_label h _ refl refl) anew)
+
+    pub destroy_entered : HasNoneAnew b g z.instance.coroutine (kept (g.keep z.instance.coroutine z.suspend) z.env)
+        label z.order
+        → IsFollowed b g s t
+    destroy_entered anew =
+        entered_followed b g given s t r h.runs h.plain label z
+        (entered_by Intrinsic.CoroDestroy destroy_label h destroyed_source destroyed_target
+        (priced Intrinsic.CoroDestroy destroy_label h _ refl refl) anew)
