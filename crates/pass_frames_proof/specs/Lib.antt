@@ -9,6 +9,7 @@ pub mod Distances
 pub mod Edges
 pub mod Ends
 pub mod Entering
+pub mod Entered
 pub mod Entry
 pub mod Fetched
 pub mod Followed

@@ -1,0 +1,83 @@
+-- Allocas in front of the entry of a ramp: what is there when they have been executed.
+use Rattle.std.specs.Prelude.{List, None, Some, [], if◌then◌else◌, length, map, replicate, slice_get, true, ℕ, ◌++◌, ◌+◌, ◌<◌, ◌∷◌, ◌≡◌, ◌≤◌}
+use Rattle.flow_solver.specs.Paths.{IsListed}
+use Rattle.ir_model.specs.Layout.{size_of}
+use Rattle.ir_model.specs.Ty.{Ty}
+use Rattle.ir_model.specs.declared.instr.Instr.{Instr}
+use Rattle.ir_model.specs.declared.module.Function.{Function}
+use Rattle.ir_model.specs.declared.module.Module.{Module}
+use Rattle.run_laws.specs.changed.Changed.{Each}
+use Rattle.run_memory.specs.declared.block.Byte.{Byte}
+use Rattle.run_memory.specs.declared.block.Life.{Life}
+use Rattle.run_memory.specs.declared.block.MemoryBlock.{MemoryBlock}
+use Rattle.run_source.specs.declared.state.State.{State}
+use Rattle.run_step.specs.Step.{alloca_kind, has_markers, is_alignment}
+use Rattle.run_step.specs.Values.{Env, pointer_to, value_in, with_value}
+use Rattle.run_step.specs.declared.world.Slot.{Slot}
+
+-- an alloca whose alignment is one
+pub record IsAlloca (j : Instr) : Type 0 where
+  pub name : ℕ
+  pub ty : Ty
+  pub align : ℕ
+  pub is : j ≡ Instr.Alloca name ty align
+  pub alignment : is_alignment align ≡ true
+
+abbrev pub names_in : (js : List Instr) → Each IsAlloca js → List ℕ
+names_in [] h = []
+names_in (j ∷ js) h = h.0.name ∷ names_in js h.1
+
+-- the block that it makes
+abbrev pub alloca_block : Module → Function → ℕ → Ty → ℕ → MemoryBlock
+alloca_block m f name ty align =
+    record {
+      size = size_of m ty;
+      align = align;
+      kind = alloca_kind f;
+      life = if has_markers f name then Life.Ended else Life.Live;
+      owned = None;
+      bytes = replicate (size_of m ty) Byte.Undefined;
+    }
+
+-- what is there behind some of them
+pub record Made : Type 0 where
+  pub memory : List MemoryBlock
+  pub values : Env
+  pub slots : List Slot
+
+abbrev pub made_one : Module → Function → Made → (name : ℕ) → Ty → (align : ℕ) → Made
+made_one m f k name ty align =
+    record {
+      memory = k.memory ++ alloca_block m f name ty align ∷ [];
+      values = with_value k.values name (pointer_to (length k.memory));
+      slots = record { alloca = name; block = length k.memory } ∷ k.slots;
+    }
+
+abbrev pub made_all : (m : Module) (f : Function) (k : Made) (js : List Instr) → Each IsAlloca js → Made
+made_all m f k [] h = k
+made_all m f k (j ∷ js) h = made_all m f (made_one m f k h.0.name h.0.ty h.0.align) js h.1
+
+-- a memory that grows keeps its blocks
+pub record Grows (m k : List MemoryBlock) : Type 0 where
+  pub same : (e : ℕ) → e < length m → slice_get k e ≡ slice_get m e
+  pub longer : length m ≤ length k
+
+-- the state behind allocas of the entry of a ramp
+abbrev pub made_state : State → Made → ℕ → State
+made_state t k n =
+    record t {
+      world = record t.world { memory = k.memory };
+      top = record t.top { at = t.top.at + n; values = k.values; slots = k.slots };
+    }
+
+-- the block of an alloca, behind so many blocks
+pub record IsThere (m : Module) (f : Function) (base : ℕ) (k : Made) (name : ℕ) (ty : Ty) (align : ℕ) : Type 0 where
+  pub block : ℕ
+  pub address : value_in k.values name ≡ pointer_to block
+  pub own : IsListed (record { alloca = name; block = block }) k.slots
+  pub there : slice_get k.memory block ≡ Some (alloca_block m f name ty align)
+  pub new : base ≤ block
+
+-- the blocks of these and of further slots are there
+abbrev pub AreBelow : Made → List Slot → Type 0
+AreBelow k rest = (n : ℕ) → IsListed n (map (λ (slot : Slot). slot.block) (k.slots ++ rest)) → n < length k.memory
