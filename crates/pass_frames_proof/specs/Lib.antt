@@ -7,6 +7,7 @@ pub mod Costs
 pub mod Distanced
 pub mod Distances
 pub mod Edges
+pub mod Ending
 pub mod Ends
 pub mod Entering
 pub mod Entered

@@ -10,6 +10,7 @@ pub mod copying;
 pub mod distanced;
 pub mod distances;
 pub mod entering;
+pub mod ending;
 pub mod entered;
 pub mod entry;
 pub mod fetched;
