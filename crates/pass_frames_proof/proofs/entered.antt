@@ -1,1 +1,4 @@
 pub mod Allocas
+pub mod Cells
+pub mod Front
+pub mod Ways

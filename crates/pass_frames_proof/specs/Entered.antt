@@ -1,17 +1,31 @@
 -- Allocas in front of the entry of a ramp: what is there when they have been executed.
-use Rattle.std.specs.Prelude.{List, None, Some, [], if◌then◌else◌, length, map, replicate, slice_get, true, ℕ, ◌++◌, ◌+◌, ◌<◌, ◌∷◌, ◌≡◌, ◌≤◌}
+use Rattle.std.specs.Prelude.{List, None, Some, [], if◌then◌else◌, length, map, replicate, slice_get, true, ℕ, ◌++◌, ◌+◌, ◌<◌, ◌∷◌, ◌≡◌, ◌≤◌, ◌⊎◌}
+use Rattle.std.specs.List.{Contains}
+use Rattle.pass_cells.specs.Written.{stored_params}
+use Rattle.pass_copies.specs.declared.slot.EarlySlot.{EarlySlot}
+use Rattle.pass_frames_proof.specs.Entry.{cells_of, puts_of}
+use Rattle.pass_frames_proof.specs.Lines.{IsCellOf, RunsOver, at_work}
+use Rattle.pass_frames_proof.specs.Places.{Framing, copies, edged, plan}
+use Rattle.pass_frames_proof.specs.Related.{AreCellsRight, AreWheresRight}
+use Rattle.run_laws.specs.access.Accessed.{Span}
+use Rattle.run_laws.specs.memory.Pointers.{Home}
+use Rattle.run_memory.specs.declared.pointer.Value.{Value}
+use Rattle.run_source.specs.declared.state.Activation.{Activation}
 use Rattle.flow_solver.specs.Paths.{IsListed}
 use Rattle.ir_model.specs.Layout.{size_of}
 use Rattle.ir_model.specs.Ty.{Ty}
 use Rattle.ir_model.specs.declared.instr.Instr.{Instr}
 use Rattle.ir_model.specs.declared.module.Function.{Function}
 use Rattle.ir_model.specs.declared.module.Module.{Module}
+use Rattle.ir_model.specs.declared.operand.Arg.{Arg}
+use Rattle.ir_model.specs.declared.operand.Operand.{Operand}
 use Rattle.run_laws.specs.changed.Changed.{Each}
 use Rattle.run_memory.specs.declared.block.Byte.{Byte}
 use Rattle.run_memory.specs.declared.block.Life.{Life}
 use Rattle.run_memory.specs.declared.block.MemoryBlock.{MemoryBlock}
 use Rattle.run_source.specs.declared.state.State.{State}
-use Rattle.run_step.specs.Step.{alloca_kind, has_markers, is_alignment}
+use Rattle.run_step.specs.declared.world.World.{World}
+use Rattle.run_step.specs.Step.{Context, Work, alloca_kind, entry_values, has_markers, is_alignment}
 use Rattle.run_step.specs.Values.{Env, pointer_to, value_in, with_value}
 use Rattle.run_step.specs.declared.world.Slot.{Slot}
 
@@ -81,3 +95,40 @@ pub record IsThere (m : Module) (f : Function) (base : ℕ) (k : Made) (name : �
 -- the blocks of these and of further slots are there
 abbrev pub AreBelow : Made → List Slot → Type 0
 AreBelow k rest = (n : ℕ) → IsListed n (map (λ (slot : Slot). slot.block) (k.slots ++ rest)) → n < length k.memory
+
+-- a store through the address of a new block
+pub record IsNewStore (env : Env) (base : ℕ) (j : Instr) : Type 0 where
+  pub arg : Arg
+  pub name : ℕ
+  pub align : ℕ
+  pub is : j ≡ Instr.Store arg (Operand.Local name) align
+  pub block : ℕ
+  pub leads : value_in env name ≡ pointer_to block
+  pub new : base ≤ block
+
+-- new blocks alone are touched, and nothing is seen
+pub record IsOnEntry (env : Env) (w : World) (base : ℕ) (u : Work) : Type 0 where
+  pub values : u.values ≡ env
+  pub events : u.world.events ≡ w.events
+  pub same : (e : ℕ) → e < base → slice_get u.world.memory e ≡ slice_get w.memory e
+
+-- ---- what is stored there
+
+abbrev pub temporary_of : EarlySlot → ℕ
+temporary_of s = s.temporary
+
+-- the name of a cell of a kept value or a distance, or of an address
+abbrev pub IsEntryName : Framing → ℕ → Type 0
+IsEntryName x v = IsCellOf x v ⊎ IsListed v (cells_of (copies x).slots)
+
+-- Addresses of temporaries and parameters are stored, and nothing else. Then cells are right by the values at the entry.
+pub record IsEntryStored (x : Framing) (homes : List Home) (c : Context) (w : Work) (a : Activation) (args : List Value)
+    (n : ℕ) : Type 0 where
+  pub work : Work
+  pub spans : List Span
+  pub over : RunsOver c (puts_of temporary_of (copies x).slots ++ stored_params (plan x) (edged x).params) n spans w work
+  pub values : work.values ≡ w.values
+  pub inside : Each
+      (λ (p : Span). (q : ℕ) × IsEntryName x q × Contains a.slots (record { alloca = q; block = p.block })) spans
+  pub right : AreCellsRight x homes c.rights work.world.memory (entry_values (edged x) args) (at_work a work)
+  pub wheres : AreWheresRight x c.rights work.world.memory None (at_work a work)

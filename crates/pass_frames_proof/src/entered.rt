@@ -1,22 +1,39 @@
 //! What a call of a ramp executes in front of its entry: all allocas first.
 
-ghost use Rattle.std.specs.Prelude.{◌≡◌, ◌+◌, ◌<◌, ◌≤◌, ◌++◌, ℕ, List, length, map};
+ghost use Rattle.std.specs.Prelude.{◌≡◌, ◌+◌, ◌<◌, ◌≤◌, ◌++◌, ℕ, List, Some, false, length, map, slice_get};
 ghost use Rattle.flow_solver.specs.Paths.{IsListed};
 ghost use Rattle.ir_base.specs.declared.outcome.Outcome.{Outcome};
 ghost use Rattle.ir_laws.specs.paths.woven_rules.Pairs.{AreDifferent};
+ghost use Rattle.ir_model.specs.Layout.{size_of};
 ghost use Rattle.ir_model.specs.Ty.{Ty};
 ghost use Rattle.ir_model.specs.declared.instr.Instr.{Instr};
 ghost use Rattle.ir_model.specs.declared.module.Function.{Function};
 ghost use Rattle.ir_model.specs.declared.module.Module.{Module};
-ghost use Rattle.pass_frames_proof.specs.Entered.{AreBelow, Grows, IsAlloca, IsThere, Made, made_all, made_state, names_in};
+ghost use Rattle.pass_fetch.specs.Fetching.{value_bytes};
+ghost use Rattle.pass_frames_proof.specs.Entered.{AreBelow, Grows, IsAlloca, IsEntryStored, IsNewStore, IsOnEntry, IsThere, Made, made_all, made_state, names_in, temporary_of};
+ghost use Rattle.pass_frames_proof.specs.Entry.{MayPut, cells_of};
+ghost use Rattle.pass_frames_proof.specs.Framings.{IsFraming};
+ghost use Rattle.pass_frames_proof.specs.Led.{RunsThrough};
+ghost use Rattle.pass_frames_proof.specs.Lines.{HasOwnBlocks, at_work};
+ghost use Rattle.pass_frames_proof.specs.Places.{Framing, copies, edged};
+ghost use Rattle.pass_frames_proof.specs.Related.{Anything, AreCellsThere, IsCell};
+ghost use Rattle.pass_frames_proof.specs.Stores.{IsNameGiven, given_params};
 ghost use Rattle.run_agreement.specs.Machines.{iterate};
-ghost use Rattle.run_framed.specs.Framed.{FramedGiven, framed_step};
-ghost use Rattle.run_laws.specs.access.Lines.{StandAt};
+ghost use Rattle.run_framed.specs.Framed.{FramedGiven, frame_rights, framed_step};
+ghost use Rattle.run_laws.specs.access.Lines.{Runs, StandAt};
 ghost use Rattle.run_laws.specs.changed.Changed.{Each};
+ghost use Rattle.run_laws.specs.memory.Pointers.{Home};
+ghost use Rattle.run_laws.specs.memory.Standing.{AreByteRights};
+ghost use Rattle.run_memory.specs.declared.pointer.Value.{Value};
 ghost use Rattle.run_source.specs.State.{function_of};
+ghost use Rattle.run_source.specs.declared.state.Activation.{Activation};
+ghost use Rattle.run_source.specs.declared.state.Instance.{Instance};
 ghost use Rattle.run_source.specs.declared.state.Mode.{Mode};
 ghost use Rattle.run_source.specs.declared.state.State.{State};
+ghost use Rattle.run_step.specs.Step.{Context, Work, has_markers};
+ghost use Rattle.run_step.specs.Values.{Env};
 ghost use Rattle.run_step.specs.declared.world.Slot.{Slot};
+ghost use Rattle.run_step.specs.declared.world.World.{World};
 
 /// Allocas in front of a ramp's entry are executed one after another. Meanwhile memory just grows. Behind them each
 /// alloca has a new block of its own.
@@ -41,4 +58,30 @@ pub fn allocas_of_entries_are_executed()
     ensures new { (m : Module) (f : Function) (base : ℕ) (k : Made) (js : List Instr) (each : Each IsAlloca js)
         → base ≤ length k.memory → ((slot : Slot) → IsListed slot k.slots → base ≤ slot.block) → (slot : Slot)
         → IsListed slot (made_all m f k js each).slots → base ≤ slot.block }
+{}
+
+/// Where no frame lies in a new block a cell is there, whatever it has: its alloca has the size and alignment of its
+/// type, and no marker.
+pub fn cells_of_entries_are_there()
+    ensures { (g : FramedGiven) (ys : List Instance) (m : Module) (f : Function) (base : ℕ) (k : Made) (a : Activation)
+        (cell : ℕ) (ty : Ty) → ((i : ℕ) (y : Instance) → slice_get ys i ≡ Some y → y.block < base)
+        → IsThere m f base k cell ty (value_bytes ty) → size_of m ty ≡ value_bytes ty → has_markers f cell ≡ false
+        → a.values ≡ k.values → a.slots ≡ k.slots → IsCell (frame_rights g ys) k.memory a cell ty Anything }
+{}
+
+/// Stores into new blocks pass through works that differ from the first in these blocks alone.
+pub fn stores_of_entries_pass()
+    ensures { (d : Context) (env : Env) (w : World) (base : ℕ) (line : List Instr) → Each (IsNewStore env base) line
+        → (u v : Work) → IsOnEntry env w base u → Runs d line u v
+        → RunsThrough d (IsOnEntry env w base) line u v × IsOnEntry env w base v }
+{}
+
+/// Where its cells are there the front of an entry stores addresses of temporaries and parameters into theirs.
+pub fn fronts_of_entries_are_stored()
+    ensures { (x : Framing) → IsFraming x → (homes : List Home) (c : Context) → AreByteRights c.rights
+        → (a : Activation) → HasOwnBlocks a → (w : Work) (args : List Value) (n : ℕ)
+        → length args ≡ length (edged x).params → Each (IsNameGiven x homes w) (given_params (edged x).params args)
+        → AreCellsThere x c.rights w.world.memory (at_work a w) → AreDifferent (cells_of (copies x).slots)
+        → Each (MayPut c.rights w.world.memory (at_work a w) temporary_of n) (copies x).slots
+        → IsEntryStored x homes c w a args n }
 {}
