@@ -1,6 +1,7 @@
 pub mod Agains
 pub mod Asking
 pub mod Calling
+pub mod Allocating
 pub mod Code
 pub mod Copying
 pub mod Costs
@@ -26,6 +27,7 @@ pub mod Led
 pub mod Lined
 pub mod Lines
 pub mod Loaded
+pub mod Marking
 pub mod Meaning
 pub mod Measured
 pub mod Moved
@@ -40,6 +42,7 @@ pub mod Related
 pub mod Returning
 pub mod Saves
 pub mod Saving
+pub mod Slotted
 pub mod Stepping
 pub mod Stores
 pub mod Suspending

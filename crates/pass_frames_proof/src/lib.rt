@@ -5,6 +5,7 @@
 pub mod agains;
 pub mod asking;
 pub mod calling;
+pub mod allocating;
 pub mod code;
 pub mod copying;
 pub mod distanced;
@@ -24,6 +25,7 @@ pub mod layers;
 pub mod led;
 pub mod lined;
 pub mod lines;
+pub mod marking;
 pub mod moved;
 pub mod offsets;
 pub mod ordinary;

@@ -76,11 +76,11 @@ fetches_idle t ends first b i h = record {
 -- ---- values that aren't kept
 
 module _ (m : Module) (p : Plan) where
-  not_stored : (o : Option ℕ) → ((v : ℕ) → o ≡ Some v → entry p.places v ≡ None) → stored_result p o ≡ []
+  pub not_stored : (o : Option ℕ) → ((v : ℕ) → o ≡ Some v → entry p.places v ≡ None) → stored_result p o ≡ []
   not_stored None h = refl
   not_stored (Some v) h = ap (stored_at p.kept v) (h v refl)
 
-  not_measured : (n : ℕ) (i : Instr) → IsUnmeasured p i
+  pub not_measured : (n : ℕ) (i : Instr) → IsUnmeasured p i
       → (distance_behind m p n i ≡ []) × (after_distance m p n i ≡ n)
   not_measured n (Instr.Gep r inbounds ty base indices) h = (
     ap (λ (o : Option ℕ). distance_into m (distance_from p r) n o ty indices) h,

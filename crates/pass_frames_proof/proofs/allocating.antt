@@ -1,0 +1,14 @@
+pub mod Before
+pub mod Both
+pub mod Framed
+pub mod Grown
+pub mod Lined
+pub mod Lives
+pub mod Made
+pub mod Plain
+pub mod Ramp
+pub mod Rights
+pub mod Room
+pub mod Steps
+pub mod Unseen
+pub mod Whole

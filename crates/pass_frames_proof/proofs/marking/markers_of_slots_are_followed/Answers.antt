@@ -1,0 +1,14 @@
+use Rattle.pass_frames_proof.proofs.marking.Gone.{before_followed, behind_followed, idle_followed, poison_followed}
+use Rattle.pass_frames_proof.proofs.marking.markers_of_slots_are_followed.Goals as goal
+
+pub returns-clause-anew : goal.returns-clause-anew
+returns-clause-anew c = idle_followed
+
+pub returns-clause-none : goal.returns-clause-none
+returns-clause-none c = poison_followed
+
+pub returns-clause-before : goal.returns-clause-before
+returns-clause-before c = before_followed
+
+pub returns-clause-behind : goal.returns-clause-behind
+returns-clause-behind c = behind_followed
