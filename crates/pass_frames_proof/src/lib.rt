@@ -6,6 +6,7 @@ pub mod agains;
 pub mod asking;
 pub mod calling;
 pub mod allocating;
+pub mod beginning;
 pub mod code;
 pub mod copying;
 pub mod distanced;

@@ -50,7 +50,7 @@ use Rattle.pass_frames_proof.proofs.stepping.Names.{cell_is_name}
 use Rattle.pass_frames_proof.specs.Led.{IsDoneLed}
 
 -- whether a name is the result
-is_result : (o : Option ℕ) (u : ℕ) → (o ≡ Some u) ⊎ (o ≡ Some u → ⊥)
+pub is_result : (o : Option ℕ) (u : ℕ) → (o ≡ Some u) ⊎ (o ≡ Some u → ⊥)
 is_result None u = inr (λ e. absurd (cc))
 is_result (Some q) u = ⊎_elim (λ e. inl (ap Some (sym e))) (λ n. inr (λ e. n (sym (same e)))) (is_number u q)
   where

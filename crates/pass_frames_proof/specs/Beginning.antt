@@ -1,0 +1,111 @@
+-- What is asked of a state whose next step is begin.
+use Rattle.std.specs.List.{Contains}
+use Rattle.std.specs.Prelude.{◌≡◌, ◌≢◌, ◌<◌, ◌∷◌, [], Bool, None, Option, Some, false, length, map, not, slice_get, true, ℕ}
+use Rattle.flow_solver.specs.Paths.{IsListed}
+use Rattle.frame_contents.specs.Held.{position_of}
+use Rattle.ir_base.specs.declared.outcome.Outcome.{Outcome}
+use Rattle.ir_laws.specs.paths.woven_rules.Pairs.{AreDifferent}
+use Rattle.ir_model.specs.Ty.{Ty}
+use Rattle.ir_model.specs.declared.instr.Instr.{Instr}
+use Rattle.ir_model.specs.declared.operand.Arg.{Arg}
+use Rattle.ir_model.specs.declared.operand.Callee.{Callee}
+use Rattle.ir_model.specs.declared.operand.Intrinsic.{Intrinsic}
+use Rattle.ir_model.specs.declared.operand.Operand.{Operand}
+use Rattle.pass_cells.specs.Cells.{fetches_of}
+use Rattle.pass_cells.specs.Kept.{entry}
+use Rattle.pass_fetch.specs.Fetching.{fetch_of}
+use Rattle.pass_frames.specs.Tables.{offset_at}
+use Rattle.pass_frames_proof.specs.Code.{slot_table}
+use Rattle.pass_frames_proof.specs.Ordinary.{IsPlainName}
+use Rattle.pass_frames_proof.specs.Places.{Framing, copies, edged, framed, instrs_at, is_return, offsets, plan}
+use Rattle.pass_frames_proof.specs.Related.{Building, all_slots, is_coroutine}
+use Rattle.pass_frames_proof.specs.Slotted.{AreRangesApart, IsSlotField}
+use Rattle.pass_proofs.specs.addresses.rules.Addresses.{lies_in_frame}
+use Rattle.pass_renewed_proof.specs.Renewed.{RenewedGiven}
+use Rattle.run_framed.specs.Framed.{layout_of}
+use Rattle.run_laws.specs.transfer.Places.{IsBlank}
+use Rattle.run_memory.specs.Memory.{is_live, may_be_owned, same_kind}
+use Rattle.run_memory.specs.declared.block.Kind.{Kind}
+use Rattle.run_memory.specs.declared.block.MemoryBlock.{MemoryBlock}
+use Rattle.run_source.specs.Source.{is_among}
+use Rattle.run_source.specs.State.{own_facts, own_frame}
+use Rattle.run_source.specs.declared.state.Activation.{Activation}
+use Rattle.run_source.specs.declared.state.Instance.{Instance}
+use Rattle.run_source.specs.declared.state.Mode.{Mode}
+use Rattle.run_source.specs.declared.state.State.{State}
+use Rattle.run_source_tables.specs.Given.{frame_of}
+use Rattle.run_step.specs.Values.{pointer_to, value_in}
+use Rattle.run_step.specs.declared.world.Slot.{Slot}
+
+abbrev pub begin_call : Option ℕ → Bool → Option Ty → Arg → Ty → ℕ → Instr
+begin_call result must_tail ty id t memory =
+    Instr.Call result must_tail ty (Callee.Intrinsic Intrinsic.CoroBegin)
+    (id ∷ record { ty = t; value = Operand.Local memory } ∷ [])
+
+-- an operand that neither is kept in a cell nor lies in the frame
+pub record IsPlainOperand (x : Framing) (o : Operand) : Type 0 where
+  pub loaded : fetch_of (fetches_of (plan x)) o ≡ None
+  pub placed : fetch_of (slot_table x) o ≡ None
+
+-- A slot that will lie in the frame has its field, and holds nothing: no access uses it before begin.
+pub record IsSlotAtBegin (b : Building) (s : State) (slot : Slot) : Type 0 where
+  pub position : ℕ
+  pub held : position_of (b.framing s.top.func).contents.held slot.alloca ≡ Some position
+  pub field : (x : MemoryBlock) → slice_get s.world.memory slot.block ≡ Some x
+      → IsSlotField (layout_of b.given.layouts s.top.func) (offset_at (b.framing s.top.func).layout position) x.size
+      x.align
+  pub blank : (x : MemoryBlock) → slice_get s.world.memory slot.block ≡ Some x → is_live x.life ≡ true → IsBlank x
+
+abbrev pub is_in_frame : Framing → Slot → Bool
+is_in_frame x slot = lies_in_frame (offsets x) slot.alloca
+
+-- The next step is begin, in the block of an allocator. No slot is used before it. Slots of a ramp and those that are
+-- made anew are the activation's, and all others lie in the frame.
+pub record IsAtBegin (b : Building) (g : RenewedGiven) (s : State) (result : Option ℕ) (must_tail : Bool)
+    (ty : Option Ty) (id : Arg) (t : Ty) (memory block : ℕ) : Type 0 where
+  pub runs : s.outcome ≡ Outcome.Running
+  pub coroutine : is_coroutine b s.top.func ≡ true
+  pub ramp : s.top.mode ≡ Mode.Ramp
+  pub there : slice_get (instrs_at (b.framing s.top.func) s.top.block) s.top.at
+      ≡ Some (begin_call result must_tail ty id t memory)
+  pub unreturned : is_return (b.framing s.top.func) s.top.block ≡ false
+  pub token : IsPlainOperand (b.framing s.top.func) id.value
+  pub unkept : entry (plan (b.framing s.top.func)).places memory ≡ None
+  pub outside : lies_in_frame (offsets (b.framing s.top.func)) memory ≡ false
+  pub named : (v : ℕ) → result ≡ Some v
+      → IsPlainName (b.framing s.top.func) v × (entry (plan (b.framing s.top.func)).places v ≡ None)
+      × (v < length (framed (b.framing s.top.func)).names)
+  pub room : length s.top.values ≡ length (edged (b.framing s.top.func)).names
+  pub names : (at u align : ℕ) (ty' : Ty)
+      → slice_get (instrs_at (b.framing s.top.func) 0) at ≡ Some (Instr.Alloca u ty' align)
+      → (u < length (edged (b.framing s.top.func)).names) × (result ≡ Some u → ⊥)
+  pub no_early : (copies (b.framing s.top.func)).slots ≡ []
+  -- the block, which nobody has begun in
+  pub none : s.top.instance ≡ None
+  pub value : value_in s.top.values memory ≡ pointer_to block
+  pub may : may_be_owned Kind.Allocator (own_frame g.given s).size (slice_get s.world.memory block) ≡ true
+  pub fresh : (j : ℕ) (x : Instance) → slice_get s.instances j ≡ Some x → x.block ≢ block
+  -- what both runs are given says the same size
+  pub sizes : frame_of b.given.given.sizes s.top.func ≡ frame_of g.given.sizes s.top.func
+  pub laid : (layout_of b.given.layouts s.top.func).size ≡ (own_frame g.given s).size
+  -- slots
+  pub classes : (slot : Slot) → Contains s.top.slots slot
+      → is_among (own_facts g.given s).ramp_slots slot ≡ not (is_in_frame (b.framing s.top.func) slot)
+  pub slots : (slot : Slot) → Contains s.top.slots slot → is_in_frame (b.framing s.top.func) slot ≡ true
+      → IsSlotAtBegin b s slot
+  pub apart : (one other : Slot) → Contains s.top.slots one → Contains s.top.slots other
+      → is_in_frame (b.framing s.top.func) one ≡ true → is_in_frame (b.framing s.top.func) other ≡ true
+      → one.block ≢ other.block → (x y : MemoryBlock) → slice_get s.world.memory one.block ≡ Some x
+      → slice_get s.world.memory other.block ≡ Some y → is_live x.life ≡ true → is_live y.life ≡ true → (p q : ℕ)
+      → position_of (b.framing s.top.func).contents.held one.alloca ≡ Some p
+      → position_of (b.framing s.top.func).contents.held other.alloca ≡ Some q
+      → AreRangesApart (offset_at (b.framing s.top.func).layout p) x.size
+      (offset_at (b.framing s.top.func).layout q) y.size
+  pub once : AreDifferent (map (λ (slot : Slot). slot.block) (all_slots s))
+  pub others : (a : Activation) → IsListed a s.below → (j : ℕ) → a.instance ≡ Some j → j < length s.instances
+
+-- In the framed run no slot is an instance's, and none has the block of an allocator.
+pub record HasPlainSlots (b : Building) (t : State) : Type 0 where
+  pub own : (slot : Slot) → Contains t.top.slots slot → is_among (own_facts b.given.given t).ramp_slots slot ≡ true
+  pub heaps : (a : Activation) → IsListed a (t.top ∷ t.below) → (slot : Slot) → Contains a.slots slot
+      → (x : MemoryBlock) → slice_get t.world.memory slot.block ≡ Some x → same_kind x.kind Kind.Allocator ≡ false

@@ -1,0 +1,21 @@
+//! Begin in the framed run: the frame comes to lie in its block, and the slots of the coroutine in the frame.
+
+ghost use Rattle.std.specs.Prelude.{ℕ, Bool, Option};
+ghost use Rattle.ir_model.specs.Ty.{Ty};
+ghost use Rattle.ir_model.specs.declared.operand.Arg.{Arg};
+ghost use Rattle.pass_frames_proof.specs.Beginning.{HasPlainSlots, IsAtBegin};
+ghost use Rattle.pass_frames_proof.specs.Followed.{IsFollowed};
+ghost use Rattle.pass_frames_proof.specs.Related.{AreBuiltOf, Building};
+ghost use Rattle.pass_frames_proof.specs.Slotted.{HasListedSlots, HasSlotsThere};
+ghost use Rattle.pass_frames_proof.specs.Stepping.{AreGiven};
+ghost use Rattle.pass_renewed_proof.specs.Renewed.{RenewedGiven};
+ghost use Rattle.run_source.specs.declared.state.State.{State};
+
+/// Both runs begin at the start of one block. What the target may reach of it becomes less, and the source owns it.
+/// Slots of the frame were hidden, and stand behind begin in their fields.
+pub fn begins_are_followed()
+    ensures { (b : Building) (g : RenewedGiven) → AreGiven b g → (s t : State) → AreBuiltOf b s t
+        → (result : Option ℕ) (must_tail : Bool) (ty : Option Ty) (id : Arg) (u : Ty) (memory block : ℕ)
+        → IsAtBegin b g s result must_tail ty id u memory block → HasListedSlots s → HasSlotsThere s
+        → HasPlainSlots b t → IsFollowed b g s t }
+{}
