@@ -1,5 +1,5 @@
 -- An alloca of a ramp before begin whose slot is used there: its block stands in the temporary, and isn't seen.
-use Rattle.std.proofs.Common.{◌≡◌, ◌≢◌, ◌⊎◌, ◌+◌, ◌<◌, ◌≤◌, ◌&&◌, ◌∷◌, ◌++◌, ◌∙◌, [], if◌then◌else◌, Bool, List, None, Some, ap, arith, false, inl, inr, length, map, refl, subst, sym, true, ℕ}
+use Rattle.std.proofs.Common.{◌≡◌, ◌≢◌, ◌⊎◌, ◌+◌, ◌<◌, ◌≤◌, ◌&&◌, ◌∷◌, ◌++◌, ◌∙◌, [], if◌then◌else◌, Bool, List, None, Some, ap, arith, false, inl, inr, length, refl, subst, sym, true, ℕ}
 use Rattle.std.specs.List.{Contains}
 use Rattle.std.specs.Prelude.{slice_get}
 use Rattle.flow_solver.specs.Paths.{IsListed}
@@ -9,45 +9,41 @@ use Rattle.ir_model.specs.Ty.{Ty}
 use Rattle.ir_model.specs.declared.instr.Instr.{Instr}
 use Rattle.pass_copies.specs.declared.slot.EarlySlot.{EarlySlot}
 use Rattle.pass_frames_proof.proofs.allocating.Both.{each_index, new_block}
-use Rattle.pass_frames_proof.proofs.allocating.Grown.{first_or_more, home_new, home_old, in_all, in_below, in_these, listed_in, mates_more, more_length}
+use Rattle.pass_frames_proof.proofs.allocating.Grown.{first_or_more, home_new, in_all, in_below, mates_more, more_length}
 use Rattle.pass_frames_proof.proofs.allocating.Made.{instance_made}
 use Rattle.pass_frames_proof.proofs.allocating.Ramp.{first_not_entering, ramp_related}
-use Rattle.pass_frames_proof.proofs.allocating.Rights.{frames_compare, outside_rights}
-use Rattle.pass_frames_proof.proofs.allocating.Steps.{early_step, ends_first, own_step}
+use Rattle.pass_frames_proof.proofs.allocating.Rights.{outside_rights}
+use Rattle.pass_frames_proof.proofs.allocating.Steps.{early_step, ends_first}
 use Rattle.pass_frames_proof.proofs.allocating.Whole.{below_other, old_slot}
 use Rattle.pass_frames_proof.proofs.code.Left.{Far, far_written}
 use Rattle.pass_frames_proof.proofs.lines.Cells.{other_block}
 use Rattle.pass_frames_proof.proofs.marking.Still.{none_followed}
 use Rattle.pass_frames_proof.proofs.stepping.May.{own_blocks}
 use Rattle.pass_frames_proof.proofs.stepping.Names.{slots_new}
-use Rattle.pass_frames_proof.proofs.stepping.Rest.{below_apart, got, seen_known, slot_block, stood_apart}
+use Rattle.pass_frames_proof.proofs.stepping.Rest.{got, seen_known, stood_apart}
 use Rattle.pass_frames_proof.specs.Allocating.{IsAtRampAlloca, IsEarlyAlloca}
 use Rattle.pass_frames_proof.specs.Followed.{IsFollowed}
 use Rattle.pass_frames_proof.specs.Framings.{IsFraming}
 use Rattle.pass_frames_proof.specs.Places.{Framing, copies, edged, instrs_at, offsets, written}
-use Rattle.pass_frames_proof.specs.Related.{AreBuiltOf, AreMates, Building, IsAhead, IsCellName, IsFreeOf, IsOwnSlot, IsSlotBy, is_coroutine, slots_below}
+use Rattle.pass_frames_proof.specs.Related.{AreBuiltOf, AreMates, Building, IsAhead, IsCellName, IsFreeOf, IsOwnSlot, IsSlotBy}
 use Rattle.pass_frames_proof.specs.Slotted.{HasSlotsThere}
 use Rattle.pass_frames_proof.specs.Stepping.{AreGiven}
 use Rattle.pass_proofs.specs.addresses.rules.Addresses.{lies_in_frame}
-use Rattle.pass_renewed_proof.specs.Renewed.{RenewedGiven, renewed_step}
+use Rattle.pass_renewed_proof.specs.Renewed.{RenewedGiven}
 use Rattle.run_framed.specs.Framed.{frame_rights}
-use Rattle.run_laws.proofs.memory.Written.{same_some}
 use Rattle.run_laws.proofs.transfer.Grown.{new_stands}
 use Rattle.run_laws.proofs.transfer.Muted.{muted_length}
 use Rattle.run_laws.proofs.transfer.Places.{blank_room, showing_it, showing_others}
 use Rattle.run_laws.specs.changed.Changed.{Each}
 use Rattle.run_laws.specs.embedded.Making.{whole_home}
 use Rattle.run_laws.specs.memory.Pointers.{Home, IsValue, home_of}
-use Rattle.run_laws.specs.memory.Standing.{HasBounds, Stands}
+use Rattle.run_laws.specs.memory.Standing.{Stands}
 use Rattle.run_laws.specs.transfer.Muted.{ended_if, muted}
 use Rattle.run_laws.specs.transfer.Places.{AreStanding, HasRoom, IsNewIn, showing}
 use Rattle.run_memory.specs.Memory.{Rights, is_live, owner_rights}
-use Rattle.run_memory.specs.Pointers.{moved, offset_of}
 use Rattle.run_memory.specs.declared.block.Kind.{Kind}
 use Rattle.run_memory.specs.declared.block.Life.{Life}
 use Rattle.run_memory.specs.declared.block.MemoryBlock.{MemoryBlock}
-use Rattle.run_memory.specs.declared.pointer.Pointer.{Pointer}
-use Rattle.run_memory.specs.declared.pointer.Value.{Value}
 use Rattle.run_source.specs.declared.state.Activation.{Activation}
 use Rattle.run_source.specs.declared.state.Instance.{Instance}
 use Rattle.run_source.specs.declared.state.State.{State}

@@ -1,5 +1,5 @@
 -- A slot of an instance has room in the frame, apart from all that lives there.
-use Rattle.std.proofs.Common.{◌≡◌, ◌≢◌, ◌+◌, ◌<◌, ◌≤◌, ◌||◌, ◌==◌, ◌∙◌, Bool, Some, ap, arith, false, length, not, refl, subst, sym, true, zero, ℕ}
+use Rattle.std.proofs.Common.{◌≡◌, ◌≢◌, ◌+◌, ◌<◌, ◌≤◌, ◌||◌, ◌==◌, ◌∙◌, Bool, Some, ap, arith, false, length, not, refl, subst, sym, true, ℕ}
 use Rattle.std.specs.List.{Contains}
 use Rattle.std.specs.Prelude.{slice_get}
 use Rattle.ir_laws.proofs.facts.Lists.{get_within}
