@@ -1,6 +1,6 @@
 -- Lifetime markers, as they stand in a function: what is asked of a state whose next step is one.
 use Rattle.std.specs.List.{Contains}
-use Rattle.std.specs.Prelude.{◌≡◌, ◌≢◌, ◌<◌, ◌≤◌, ◌∷◌, [], Bool, None, Option, Some, false, length, slice_get, true, ℕ}
+use Rattle.std.specs.Prelude.{◌≡◌, ◌≢◌, ◌+◌, ◌<◌, ◌≤◌, ◌^◌, ◌∷◌, [], Bool, None, Option, Some, false, length, slice_get, true, ℕ}
 use Rattle.ir_base.specs.declared.outcome.Outcome.{Outcome}
 use Rattle.ir_model.specs.Ty.{Ty}
 use Rattle.ir_model.specs.declared.instr.Instr.{Instr}
@@ -12,12 +12,14 @@ use Rattle.pass_addresses.specs.Placing.{stays}
 use Rattle.pass_cells.specs.Kept.{entry}
 use Rattle.pass_copies.specs.declared.slot.EarlySlot.{EarlySlot}
 use Rattle.pass_frames_proof.specs.Places.{copies, edged, instrs_at, is_return, marked, offsets, plan}
-use Rattle.pass_frames_proof.specs.Related.{Building, is_coroutine}
+use Rattle.pass_frames_proof.specs.Related.{AreBuiltOf, Building, is_coroutine}
 use Rattle.pass_frames_proof.specs.Slotted.{IsSlotInFrame}
 use Rattle.pass_frames_proof.specs.Stepping.{IsNotEntering}
 use Rattle.pass_proofs.specs.addresses.rules.Addresses.{lies_in_frame}
 use Rattle.pass_renewed_proof.specs.Renewed.{RenewedGiven}
-use Rattle.run_memory.specs.Memory.{same_kind}
+use Rattle.run_laws.specs.memory.Pointers.{home_of}
+use Rattle.run_laws.specs.transfer.Muted.{muted}
+use Rattle.run_memory.specs.Memory.{is_live, same_kind}
 use Rattle.run_memory.specs.declared.block.Kind.{Kind}
 use Rattle.run_memory.specs.declared.block.MemoryBlock.{MemoryBlock}
 use Rattle.run_source.specs.State.{function_of}
@@ -108,3 +110,41 @@ pub record IsKeptMarker (b : Building) (s : State) (i : Instr) (name : ℕ) : Ty
   pub low : name < length (edged (b.framing s.top.func)).names
   pub made : (at u align : ℕ) (ty : Ty) → slice_get (instrs_at (b.framing s.top.func) 0) at ≡ Some (Instr.Alloca u ty align)
       → s.top.block ≡ 0 → s.top.at ≤ at → u ≢ name
+
+-- ---- a marker of a slot that is used before begin, executed there
+
+-- The temporary's block is a live slot, as large as that of the slot and of its alignment, in which no frame begins. No
+-- other live block of the source stands there: temporaries are allocas of the framed activation's own.
+pub record IsTemporaryThere (b : Building) (s t : State) (r : AreBuiltOf b s t) (n q : ℕ) : Type 0 where
+  pub block : MemoryBlock
+  pub there : slice_get t.world.memory q ≡ Some block
+  pub live : is_live block.life ≡ true
+  pub whole : length block.bytes ≡ block.size
+  pub small : block.size < 2 ^ 64
+  pub writable : same_kind block.kind Kind.Constant ≡ false
+  pub sized : (y : MemoryBlock) → slice_get s.world.memory n ≡ Some y
+      → (0 + y.size ≤ block.size) × (block.align ≡ y.align)
+  pub frames : (j : ℕ) (y : Instance) → slice_get t.instances j ≡ Some y → y.block ≢ q
+  pub lonely : (c : ℕ) (y : MemoryBlock) → c ≢ n → slice_get (muted r.hides s.world.memory) c ≡ Some y
+      → is_live y.life ≡ true → (home_of r.homes c).block ≢ q
+
+-- The name has the address of such a slot of the activation. Its alloca is behind, names of allocas are of the
+-- coroutine's table, and no two slots have one temporary.
+pub record IsEarlyMarked (b : Building) (s t : State) (r : AreBuiltOf b s t) (name : ℕ) : Type 0 where
+  pub slot : Slot
+  pub own : Contains s.top.slots slot
+  pub alloca : slot.alloca ≡ name
+  pub address : value_in s.top.values name ≡ pointer_to slot.block
+  pub low : slot.block < length s.world.memory
+  pub frame : lies_in_frame (offsets (b.framing s.top.func)) name ≡ true
+  pub early : EarlySlot
+  pub listed : Contains (copies (b.framing s.top.func)).slots early
+  pub slot_is : early.slot ≡ name
+  pub alone : (e f : EarlySlot) → Contains (copies (b.framing s.top.func)).slots e
+      → Contains (copies (b.framing s.top.func)).slots f → e.temporary ≡ f.temporary → e.slot ≡ f.slot
+  pub names : (at u align : ℕ) (ty : Ty) → slice_get (instrs_at (b.framing s.top.func) 0) at ≡ Some (Instr.Alloca u ty align)
+      → u < length (edged (b.framing s.top.func)).names
+  pub made : (at u align : ℕ) (ty : Ty) → slice_get (instrs_at (b.framing s.top.func) 0) at ≡ Some (Instr.Alloca u ty align)
+      → s.top.block ≡ 0 → s.top.at ≤ at → u ≢ name
+  pub there : (q : ℕ) (e : EarlySlot) → Contains (copies (b.framing s.top.func)).slots e → e.slot ≡ name
+      → Contains t.top.slots (record { alloca = e.temporary; block = q }) → IsTemporaryThere b s t r slot.block q

@@ -9,6 +9,7 @@ ghost use Rattle.pass_frames_proof.specs.Marking.{
   IsAtOtherMarker,
   IsBeforeBegin,
   IsBehindBegin,
+  IsEarlyMarked,
   IsKeptMarker,
   IsUnmarked,
   IsWholeMarked,
@@ -24,7 +25,8 @@ ghost use Rattle.run_step.specs.Values.{value_in};
 ghost use Rattle.run_step.specs.declared.world.Slot.{Slot};
 
 /// A marker of a slot that is made anew does nothing in the source either. Any other one starts or ends a block that is
-/// hidden before begin, and that stands in the frame behind it, apart from all others that live there.
+/// hidden before begin, or stands in its temporary, and that stands in the frame behind it, apart from all others that
+/// live there.
 pub fn markers_of_slots_are_followed()
     ensures anew { (b : Building) (g : RenewedGiven) → AreGiven b g → (s t : State) → AreBuiltOf b s t
         → (starts must_tail : Bool) (ty : Option Ty) (size : Arg) (u : Ty) (slot : ℕ)
@@ -38,6 +40,10 @@ pub fn markers_of_slots_are_followed()
         → (starts must_tail : Bool) (ty : Option Ty) (size : Arg) (u : Ty) (slot : ℕ)
         → IsAtMarker b s starts must_tail ty size u slot → IsUnmarked b s (marking starts must_tail ty size u slot)
         → g.flags s.top.func slot ≡ false → IsBeforeBegin b s slot → IsFollowed b g s t }
+    ensures early { (b : Building) (g : RenewedGiven) → AreGiven b g → (s t : State) → (r : AreBuiltOf b s t)
+        → (starts must_tail : Bool) (ty : Option Ty) (size : Arg) (u : Ty) (slot : ℕ)
+        → IsAtMarker b s starts must_tail ty size u slot → IsUnmarked b s (marking starts must_tail ty size u slot)
+        → g.flags s.top.func slot ≡ false → IsEarlyMarked b s t r slot → IsFollowed b g s t }
     ensures behind { (b : Building) (g : RenewedGiven) → AreGiven b g → (s t : State) → AreBuiltOf b s t
         → (starts must_tail : Bool) (ty : Option Ty) (size : Arg) (u : Ty) (slot : ℕ)
         → IsAtMarker b s starts must_tail ty size u slot → IsUnmarked b s (marking starts must_tail ty size u slot)

@@ -1,5 +1,5 @@
 -- Markers of slots that lie in the frame, and of slots that are made anew: the framed form hasn't them.
-use Rattle.std.proofs.Common.{◌≡◌, ◌+◌, ◌<◌, ◌&&◌, ◌∙◌, [], if◌then◌else◌, Bool, List, None, Ok, Option, ap, arith, false, inl, inr, length, refl, subst, sym, true, zero, ℕ}
+use Rattle.std.proofs.Common.{◌≡◌, ◌+◌, ◌<◌, ◌&&◌, ◌∙◌, [], if◌then◌else◌, Bool, List, None, Ok, Option, ap, arith, false, inl, inr, length, refl, subst, sym, true, ℕ}
 use Rattle.ir_base.specs.declared.outcome.Outcome.{Outcome}
 use Rattle.ir_model.specs.Ty.{Ty}
 use Rattle.ir_model.specs.declared.instr.Instr.{Instr}
@@ -128,7 +128,7 @@ module _ (b : Building) (g : RenewedGiven) (given : AreGiven b g) (s t : State) 
   slot_plain : fetch_of (fetches_of (plan x)) (Operand.Local slot) ≡ None
   slot_plain = unkept_plain x slot h.unkept
 
-  stays : (place x (record { block = s.top.block; at = s.top.at + 1 })).at
+  pub stays : (place x (record { block = s.top.block; at = s.top.at + 1 })).at
       ≡ (place x (record { block = s.top.block; at = s.top.at })).at
   stays =
       (code_stands x s.top.block s.top.at i [] h.there
@@ -158,13 +158,13 @@ module _ (b : Building) (g : RenewedGiven) (given : AreGiven b g) (s t : State) 
 
   -- ---- another slot
 
-  abbrev memory : List MemoryBlock
+  abbrev pub memory : List MemoryBlock
   memory = marked_by starts s.world.memory (value_in s.top.values slot)
 
-  abbrev w : World
+  abbrev pub w : World
   w = record s.world { memory = memory }
 
-  steps : g.flags s.top.func slot ≡ false
+  pub steps : g.flags s.top.func slot ≡ false
       → renewed_step g s ≡ record s { world = w; top = record s.top { at = s.top.at + 1 } }
   steps off =
       renewed_does g s (AtInstr i) (Done (set_memory (work_of s) memory)) h.runs fetched

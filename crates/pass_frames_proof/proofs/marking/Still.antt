@@ -84,7 +84,7 @@ module _ (b : Building) (g : RenewedGiven) (given : AreGiven b g) (s t : State) 
       (instance_in t.instances t.top.instance) s.top t.top o)
       (not_returned x s.top s.top.mode mode unreturned) values.cells
 
-  abbrev a' : Activation
+  abbrev pub a' : Activation
   a' = record s.top { at = s.top.at + 1 }
 
   pub place_still : point_of t.top ≡ top_place b a'
@@ -94,7 +94,7 @@ module _ (b : Building) (g : RenewedGiven) (given : AreGiven b g) (s t : State) 
       ∙ ap (λ (k : ℕ). record { block = s.top.block; at = k }) (sym stays)
       ∙ sym (top_is b a' coroutine mode)
 
-  after : AreCoroutines x r.homes R t a' t.top
+  pub after : AreCoroutines x r.homes R t a' t.top
   after = record {
     names = record {
       each = λ v asks. values.names.each v (asked x s.top s.top.mode v mode);

@@ -1,4 +1,5 @@
 use Rattle.pass_frames_proof.proofs.marking.Gone.{before_followed, behind_followed, idle_followed, poison_followed}
+use Rattle.pass_frames_proof.proofs.marking.Sooner.{early_marker_followed}
 use Rattle.pass_frames_proof.proofs.marking.markers_of_slots_are_followed.Goals as goal
 
 pub returns-clause-anew : goal.returns-clause-anew
@@ -12,3 +13,6 @@ returns-clause-before c = before_followed
 
 pub returns-clause-behind : goal.returns-clause-behind
 returns-clause-behind c = behind_followed
+
+pub returns-clause-early : goal.returns-clause-early
+returns-clause-early c = early_marker_followed
