@@ -1,15 +1,20 @@
--- Deallocations: a block of an allocator dies in both runs, and with its frame an instance is let go.
+-- Allocations and deallocations: a block of an allocator is made in both runs, or dies in both, and with its frame an
+-- instance is let go.
 use Rattle.std.specs.List.{Contains}
-use Rattle.std.specs.Prelude.{◌≡◌, ◌≢◌, ◌∷◌, [], if◌then◌else◌, Bool, List, None, Ok, Option, Some, false, slice_get, true, ℕ}
+use Rattle.std.specs.Prelude.{◌≡◌, ◌≢◌, ◌<◌, ◌^◌, ◌∷◌, [], if◌then◌else◌, Bool, List, None, Ok, Option, Some, false, length, slice_get, true, ℕ}
 use Rattle.flow_solver.specs.Paths.{IsListed}
 use Rattle.ir_base.specs.declared.outcome.Outcome.{Outcome}
+use Rattle.ir_base.specs.declared.outcome.Word.{Word}
 use Rattle.ir_model.specs.Ty.{Ty}
 use Rattle.ir_model.specs.declared.instr.Instr.{Instr}
 use Rattle.ir_model.specs.declared.operand.Allocator.{Allocator}
 use Rattle.ir_model.specs.declared.operand.Arg.{Arg}
 use Rattle.ir_model.specs.declared.operand.Callee.{Callee}
+use Rattle.pass_cells.specs.declared.plan.KeptValue.{KeptValue}
 use Rattle.pass_frames_proof.specs.Here.{IsHere}
-use Rattle.pass_frames_proof.specs.Related.{AreBuiltOf, Building, is_coroutine, returned_from}
+use Rattle.pass_frames_proof.specs.Lines.{IsStorable}
+use Rattle.pass_frames_proof.specs.Related.{AreBuiltOf, Building, IsKeptValue, is_coroutine, returned_from}
+use Rattle.pass_frames_proof.specs.Slotted.{HasSlotsThere}
 use Rattle.pass_frames_proof.specs.Stepping.{IsNotEntering}
 use Rattle.pass_renewed_proof.specs.Renewed.{RenewedGiven}
 use Rattle.run_laws.specs.embedded.Making.{whole_home}
@@ -25,7 +30,7 @@ use Rattle.run_source.specs.declared.state.Activation.{Activation}
 use Rattle.run_source.specs.declared.state.Instance.{Instance}
 use Rattle.run_source.specs.declared.state.State.{State}
 use Rattle.run_step.specs.Step.{AtInstr, fetch, without_slots}
-use Rattle.run_step.specs.Values.{address, arg_values, nth}
+use Rattle.run_step.specs.Values.{address, arg_values, nth, pointer_to, value_in, with_result}
 use Rattle.run_step.specs.declared.world.Slot.{Slot}
 use Rattle.run_step.specs.declared.world.World.{World}
 
@@ -90,3 +95,40 @@ pub record IsAtFree (b : Building) (g : RenewedGiven) (s t : State) (r : AreBuil
   pub frees : IsDeallocator a
   pub does : deallocate s (address (nth (arg_values g.given.code s.top.values args) 0)) ≡ Ok after
   pub giving : IsGivingBack b s t r (address (nth (arg_values g.given.code s.top.values args) 0))
+
+-- ---- allocators
+
+abbrev pub IsAllocator : Allocator → Type 0
+IsAllocator Allocator.Malloc = Unit {0}
+IsAllocator Allocator.Znwm = Unit {0}
+IsAllocator _ = ⊥
+
+-- What is known of both runs where a block is made: their slots have blocks that are there. Nothing is called in a block
+-- on a resume or destroy edge.
+pub record MayMake (b : Building) (s t : State) : Type 0 where
+  pub mine : HasSlotsThere s
+  pub theirs : HasSlotsThere t
+  pub inside : (a : Activation) → IsListed a (s.top ∷ s.below) → is_coroutine b a.func ≡ true
+      → returned_from (b.framing a.func) a a.mode ≡ None
+
+-- The next step makes a block of an allocator, in a function that is no coroutine. Its size is one of 64 bits.
+pub record IsAtOtherMaking (b : Building) (g : RenewedGiven) (s : State) (a : Allocator) (result : Option ℕ)
+    (must_tail : Bool) (ty : Option Ty) (args : List Arg) (n : Word) : Type 0 where
+  pub runs : s.outcome ≡ Outcome.Running
+  pub plain : is_coroutine b s.top.func ≡ false
+  pub mode : IsNotEntering s.top.mode
+  pub there : fetch (function_of g.given s) s.top.block s.top.at
+      ≡ AtInstr (Instr.Call result must_tail ty (Callee.Allocator a) args)
+  pub makes : IsAllocator a
+  pub size : nth (arg_values g.given.code s.top.values args) 0 ≡ Value.Int n
+  pub small : n.bits < 2 ^ 64
+
+-- The next step makes a block of an allocator, in a coroutine. A pointer fits where its result is kept.
+pub record IsAtMaking (b : Building) (g : RenewedGiven) (s : State) (a : Allocator) (result : Option ℕ)
+    (must_tail : Bool) (ty : Option Ty) (args : List Arg) (n : Word) : Type 0 where
+  pub here : IsHere b s (Instr.Call result must_tail ty (Callee.Allocator a) args)
+  pub makes : IsAllocator a
+  pub size : nth (arg_values g.given.code s.top.values args) 0 ≡ Value.Int n
+  pub small : n.bits < 2 ^ 64
+  pub storable : (q : ℕ) (k : KeptValue) → result ≡ Some q → IsKeptValue (b.framing s.top.func) q k
+      → IsStorable k.ty (value_in (with_result s.top.values result (pointer_to (length s.world.memory))) q)

@@ -1,11 +1,13 @@
-//! Deallocations: a block of an allocator dies in both runs, and with its frame an instance is let go.
+//! Allocations and deallocations: a block of an allocator is made in both runs, or dies in both, and with its frame an
+//! instance is let go.
 
-ghost use Rattle.std.specs.Prelude.{◌≡◌, Bool, List, Ok, Option};
+ghost use Rattle.std.specs.Prelude.{◌≡◌, ℕ, Bool, List, Ok, Option};
+ghost use Rattle.ir_base.specs.declared.outcome.Word.{Word};
 ghost use Rattle.ir_model.specs.Ty.{Ty};
 ghost use Rattle.ir_model.specs.declared.operand.Allocator.{Allocator};
 ghost use Rattle.ir_model.specs.declared.operand.Arg.{Arg};
 ghost use Rattle.pass_frames_proof.specs.Followed.{IsFollowed};
-ghost use Rattle.pass_frames_proof.specs.Heaps.{IsAtFree, IsAtOtherFree, IsGivenBack, IsGivingBack};
+ghost use Rattle.pass_frames_proof.specs.Heaps.{IsAtFree, IsAtMaking, IsAtOtherFree, IsAtOtherMaking, IsGivenBack, IsGivingBack, MayMake};
 ghost use Rattle.pass_frames_proof.specs.Related.{AreBuiltOf, Building};
 ghost use Rattle.pass_frames_proof.specs.Stepping.{AreGiven};
 ghost use Rattle.pass_renewed_proof.specs.Renewed.{RenewedGiven};
@@ -22,8 +24,8 @@ pub fn blocks_are_given_back()
         → IsGivenBack b s t after q }
 {}
 
-/// So a call that gives a block back is followed: in a coroutine, where its operands are fetched, and in a function that
-/// is no coroutine.
+/// So a call that gives a block back is followed: in a coroutine, where its operands are fetched, and in a function
+/// that is no coroutine.
 pub fn deallocations_are_followed()
     ensures coroutine { (b : Building) (g : RenewedGiven) → AreGiven b g → (s t : State) (r : AreBuiltOf b s t)
         (a : Allocator) (must_tail : Bool) (ty : Option Ty) (args : List Arg) (after : State)
@@ -31,4 +33,15 @@ pub fn deallocations_are_followed()
     ensures other { (b : Building) (g : RenewedGiven) → AreGiven b g → (s t : State) (r : AreBuiltOf b s t)
         (a : Allocator) (must_tail : Bool) (ty : Option Ty) (args : List Arg) (after : State)
         → IsAtOtherFree b g s t r a must_tail ty args after → IsFollowed b g s t }
+{}
+
+/// Both runs make a block of an allocator, whose address stands for the first run's. It stands alone in the framed run's.
+/// So a call of an allocator is followed: in a coroutine, and in a function that is no coroutine.
+pub fn allocations_are_followed()
+    ensures coroutine { (b : Building) (g : RenewedGiven) → AreGiven b g → (s t : State) → AreBuiltOf b s t
+        → MayMake b s t → (a : Allocator) (result : Option ℕ) (must_tail : Bool) (ty : Option Ty) (args : List Arg)
+        (n : Word) → IsAtMaking b g s a result must_tail ty args n → IsFollowed b g s t }
+    ensures other { (b : Building) (g : RenewedGiven) → AreGiven b g → (s t : State) → AreBuiltOf b s t
+        → MayMake b s t → (a : Allocator) (result : Option ℕ) (must_tail : Bool) (ty : Option Ty) (args : List Arg)
+        (n : Word) → IsAtOtherMaking b g s a result must_tail ty args n → IsFollowed b g s t }
 {}
