@@ -19,6 +19,7 @@ pub mod Followed
 pub mod Framings
 pub mod FromEdges
 pub mod Geps
+pub mod Givens
 pub mod Heaps
 pub mod Here
 pub mod Jumps

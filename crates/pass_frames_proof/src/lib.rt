@@ -20,6 +20,7 @@ pub mod followed;
 pub mod framings;
 pub mod from_edges;
 pub mod geps;
+pub mod givens;
 pub mod heaps;
 pub mod jumping;
 pub mod layers;
