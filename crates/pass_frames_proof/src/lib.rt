@@ -3,17 +3,17 @@
 #![tactic(auto)]
 
 pub mod agains;
-pub mod asking;
-pub mod calling;
 pub mod allocating;
+pub mod asking;
 pub mod beginning;
+pub mod calling;
 pub mod code;
 pub mod copying;
 pub mod distanced;
 pub mod distances;
-pub mod entering;
 pub mod ending;
 pub mod entered;
+pub mod entering;
 pub mod entry;
 pub mod fetched;
 pub mod followed;

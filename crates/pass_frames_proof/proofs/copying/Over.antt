@@ -1,4 +1,5 @@
--- A memcpy that is done in the first run is done in the framed one: both change bytes alone, and what is free there stays.
+-- A memcpy that is done in the first run is done in the framed one: both change bytes alone, and what is free there
+-- stays.
 use Rattle.std.proofs.Common.{◌≡◌, ◌∙◌, Bool, Err, List, None, Ok, Option, Result, ap, false, refl, subst, sym, true, ℕ}
 use Rattle.ir_base.specs.declared.cause.Cause.{Cause}
 use Rattle.ir_model.specs.Ty.{Ty}

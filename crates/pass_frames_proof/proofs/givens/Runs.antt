@@ -6,7 +6,6 @@ use Rattle.frame_layout.specs.declared.layout.Layouts.{Layouts}
 use Rattle.ir_model.specs.Names.{first_where, function_at, same_name}
 use Rattle.ir_model.specs.declared.module.Declaration.{Declaration}
 use Rattle.ir_model.specs.declared.module.Frame.{Frame}
-use Rattle.ir_model.specs.declared.module.Function.{Function}
 use Rattle.pass_edges.specs.EdgeBlocks.{with_edge_blocks}
 use Rattle.pass_frames_proof.specs.Followed.{IsGiven}
 use Rattle.pass_frames_proof.specs.Framings.{IsFraming}

@@ -1,9 +1,8 @@
 -- Both runs make a block of an allocator: it stands alone in the framed run's, and the relation holds.
-use Rattle.std.proofs.Common.{◌≡◌, ◌≢◌, ◌+◌, ◌<◌, ◌^◌, ◌∷◌, ◌++◌, ◌∙◌, [], Bool, List, None, Some, ap, arith, false, length, refl, subst, sym, true, ℕ}
+use Rattle.std.proofs.Common.{◌≡◌, ◌≢◌, ◌+◌, ◌<◌, ◌^◌, ◌∷◌, ◌++◌, ◌∙◌, [], Bool, List, None, Some, ap, arith, false, length, subst, sym, true, ℕ}
 use Rattle.std.specs.List.{Contains}
 use Rattle.std.specs.Prelude.{slice_get}
 use Rattle.flow_solver.specs.Paths.{IsListed}
-use Rattle.ir_model.specs.Ty.{Ty}
 use Rattle.pass_fetch.specs.Fetching.{value_bytes}
 use Rattle.pass_frames.specs.Tables.{offset_at}
 use Rattle.pass_frames_proof.proofs.allocating.Both.{mates_together, new_block, stands_together}
@@ -11,8 +10,7 @@ use Rattle.pass_frames_proof.proofs.allocating.Grown.{free_more, hidden_more, ho
 use Rattle.pass_frames_proof.proofs.moved.Rest.{fields_on, instance_on, on_homes, related_on, same_place}
 use Rattle.pass_frames_proof.specs.Framings.{IsFraming}
 use Rattle.pass_frames_proof.specs.Moved.{MovesRest}
-use Rattle.pass_frames_proof.specs.Places.{Framing}
-use Rattle.pass_frames_proof.specs.Related.{AreBuiltOf, AreInstances, Building, IsAhead, IsFreeOf, instance_in, is_coroutine, returned_from}
+use Rattle.pass_frames_proof.specs.Related.{AreBuiltOf, AreInstances, Building, IsFreeOf, instance_in, is_coroutine, returned_from}
 use Rattle.pass_frames_proof.specs.Slotted.{HasSlotsThere}
 use Rattle.run_framed.specs.Framed.{frame_rights}
 use Rattle.run_laws.proofs.access.Held.{grown_held}
@@ -25,7 +23,7 @@ use Rattle.run_laws.specs.memory.Standing.{AreBoundsKept, AreNullsKept, Embeds}
 use Rattle.run_laws.specs.transfer.Muted.{ended_if, muted}
 use Rattle.run_laws.specs.transfer.Places.{AreStanding, showing}
 use Rattle.run_laws.specs.transfer.Transfer.{AreOver}
-use Rattle.run_memory.specs.Memory.{Rights, is_live, owner_rights}
+use Rattle.run_memory.specs.Memory.{Rights, owner_rights}
 use Rattle.run_memory.specs.Pointers.{moved, offset_of}
 use Rattle.run_memory.specs.declared.block.Byte.{Byte}
 use Rattle.run_memory.specs.declared.block.Kind.{Kind}

@@ -1,5 +1,5 @@
--- An instruction of a coroutine on a line of its own gives a value, and may change the worlds and instances of both runs:
--- its operands are fetched, it is executed, and its result is stored.
+-- An instruction of a coroutine on a line of its own gives a value, and may change the worlds and instances of both
+-- runs: its operands are fetched, it is executed, and its result is stored.
 use Rattle.std.proofs.Common.{◌≡◌, ◌⊎◌, ◌+◌, ◌<◌, ◌≤◌, ◌∷◌, ◌++◌, ◌∙◌, [], List, Some, ap, arith, inl, inr, length, length-append, refl, subst, suc, sym, ℕ, ⊎_elim}
 use Rattle.std.proofs.lemmas.Bool.{cases_lt}
 use Rattle.ir_base.specs.declared.outcome.Outcome.{Outcome}

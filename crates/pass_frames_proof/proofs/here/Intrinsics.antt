@@ -1,5 +1,5 @@
--- A coro intrinsic of a coroutine that gives a value: its operands are fetched, the framed run gives what stands for the
--- first run's value, and it is stored.
+-- A coro intrinsic of a coroutine that gives a value: its operands are fetched, the framed run gives what stands for
+-- the first run's value, and it is stored.
 use Rattle.std.proofs.Common.{◌≡◌, ◌+◌, ◌≤◌, ◌∷◌, ◌∙◌, Bool, List, Ok, Option, Some, ap, arith, length, refl, subst, suc, sym, true, zero, ℕ}
 use Rattle.ir_model.specs.Ty.{Ty}
 use Rattle.ir_model.specs.declared.instr.Instr.{Instr}
