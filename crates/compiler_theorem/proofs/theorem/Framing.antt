@@ -1,10 +1,8 @@
 -- Where the steps of the simulation of frames are followed, the framed form of an accepted source agrees with the run
 -- that makes slots anew.
-use Rattle.std.proofs.Common.{◌≡◌, ℕ, zero, suc, arith, Bool, true, false, List, [], ◌∷◌, length, map, Option, Some, None, refl, sym, ap, ◌∙◌}
-use Rattle.std.proofs.lemmas.Bool.{false≢true}
+use Rattle.std.proofs.Common.{◌≡◌, zero, suc, arith, Bool, false, List, [], ◌∷◌, length, map, Option, refl, sym, ap, ◌∙◌}
 use Rattle.std.proofs.lemmas.List.{length-map}
-use Rattle.std.proofs.lemmas.Option.{slice_get-map}
-use Rattle.std.specs.Prelude.{if◌then◌else◌, option_map, slice_get, unwrap_or}
+use Rattle.std.specs.Prelude.{unwrap_or}
 use Rattle.compiler_theorem.proofs.parts.Globals.{contents_stand}
 use Rattle.compiler_theorem.proofs.parts.Ways.{first_mapped}
 use Rattle.compiler_theorem.proofs.theorem.Built.{framings, sources_built}
@@ -18,11 +16,10 @@ use Rattle.ir_base.specs.declared.name.Name.{Name}
 use Rattle.ir_laws.proofs.facts.Lists.{map_same}
 use Rattle.ir_laws.specs.facts.same_names.Same.{naming}
 use Rattle.ir_model.specs.Names.{first_where, function_at, no_function, same_name}
-use Rattle.ir_model.specs.declared.module.Declaration.{Declaration}
 use Rattle.ir_model.specs.declared.module.Function.{Function}
 use Rattle.ir_model.specs.declared.module.GlobalItem.{GlobalItem}
 use Rattle.ir_model.specs.declared.module.Module.{Module}
-use Rattle.pass_edges.specs.EdgeBlocks.{with_edge_blocks}
+use Rattle.pass_frames_proof.proofs.givens.Runs.{given_runs}
 use Rattle.pass_frames_proof.proofs.followed.Assembly.{followed_keep}
 use Rattle.pass_frames_proof.proofs.start.States.{starts_built}
 use Rattle.pass_frames_proof.proofs.stepping.Operands.{AreSameNames, empty_same}
@@ -30,9 +27,7 @@ use Rattle.pass_frames_proof.specs.Followed.{AreStepsFollowed}
 use Rattle.pass_frames_proof.specs.Meaning.{PaysForFrames}
 use Rattle.pass_frames_proof.specs.Related.{AreBuiltOf, AreShownAlike, Building}
 use Rattle.pass_frames_proof.specs.Stepping.{AreGiven}
-use Rattle.pass_proofs.proofs.edges.states.Parts.{named_moved}
 use Rattle.pass_proofs.proofs.frames.headings.Headings.{framed_names}
-use Rattle.pass_proofs.specs.edges.states.MovedState.{edge_function}
 use Rattle.pass_split_proof.specs.states.Memories.{AreContents}
 use Rattle.pass_renewed_proof.specs.Ledger.{AreSmallGlobals}
 use Rattle.pass_renewed_proof.specs.Prices.{Prices}
@@ -70,59 +65,30 @@ module _ (l : Lowered) (low : IsLowered l) where
   names : map naming l.framed.functions ≡ map naming (early l).functions
   names = (framed_names l.layouts (early l) l.framed low.is_framed).functions
 
-  same_names : AreSameNames (edged l) l.framed
-  same_names = record {
-    functions = λ n. named_by n e.functions l.framed.functions names ∙ sym (named_moved e n);
-    declarations = λ n.
-        ap (λ (ds : List Declaration). first_where (λ (d : Declaration). same_name d.name n) ds) low.is_framed.declarations;
-    globals = low.is_framed.globals;
-    count =
-        sym (length-map l.framed.functions naming) ∙ ap length names ∙ length-map e.functions naming
-        ∙ sym (length-map e.functions edge_function);
-  }
-
-  -- ---- what the runs are given
-
-  edged_at : (func : ℕ) → slice_get (edged l).functions func ≡ option_map edge_function (slice_get e.functions func)
-  edged_at func = slice_get-map edge_function e.functions func
-
-  others : (func : ℕ) → (function_at e func).coroutine ≡ false → function_at (edged l) func ≡ function_at e func
-  others func plain =
-      ap (λ (o : Option Function). unwrap_or o no_function) (edged_at func) ∙ on (slice_get e.functions func) plain
-    where
-      on : (o : Option Function) → (unwrap_or o no_function).coroutine ≡ false
-          → unwrap_or (option_map edge_function o) no_function ≡ unwrap_or o no_function
-      on None p = refl
-      on (Some f) p = ap (λ (b : Bool). if b then with_edge_blocks f else f) p
-
-  coroutines : (func : ℕ) → (function_at e func).coroutine ≡ true
-      → function_at (edged l) func ≡ with_edge_blocks (function_at e func)
-  coroutines func is =
-      ap (λ (o : Option Function). unwrap_or o no_function) (edged_at func) ∙ on (slice_get e.functions func) is
-    where
-      on : (o : Option Function) → (unwrap_or o no_function).coroutine ≡ true
-          → unwrap_or (option_map edge_function o) no_function ≡ with_edge_blocks (unwrap_or o no_function)
-      on None p = absurd (false≢true p)
-      on (Some f) p = ap (λ (b : Bool). if b then with_edge_blocks f else f) p
+  count : length l.framed.functions ≡ length (early l).functions
+  count = sym (length-map l.framed.functions naming) ∙ ap length names ∙ length-map e.functions naming
 
   module _ (a : Anew) (r : Run) where
     abbrev built : Building
     built = building l low.is_framed r.answers
 
+    -- what the runs are given is what steps ask
     pub sources_given : AreGiven (building l low.is_framed r.answers) (renewing l a r)
-    sources_given = record {
-      code = refl;
-      answers = refl;
-      built = sources_built l low r.answers;
-      framings = framings l low r.answers;
-      coroutines = λ func is.
-          coroutines func is
-          ∙ ap with_edge_blocks (sym ((sources_built l low r.answers).coroutines func is).function);
-      others = others;
-      functions = same_names.functions;
-      declarations = same_names.declarations;
-      globals = same_names.globals;
-      count = same_names.count;
+    sources_given =
+        given_runs built l.layouts a.keep a.flags a.roots (sizes_of l) r.answers (sources_built l low r.answers) refl
+        (framings l low r.answers) (record {
+          functions = λ n. named_by n e.functions l.framed.functions names;
+          declarations = low.is_framed.declarations;
+          globals = low.is_framed.globals;
+          count = count;
+        })
+
+    same_names : AreSameNames (edged l) l.framed
+    same_names = record {
+      functions = sources_given.functions;
+      declarations = sources_given.declarations;
+      globals = sources_given.globals;
+      count = sources_given.count;
     }
 
     -- ---- the start
@@ -157,7 +123,7 @@ module _ (l : Lowered) (low : IsLowered l) where
 
       starts : AreBuiltOf (building l low.is_framed r.answers) (first_state (edged l) r.entry r.args)
           (first_state l.framed r.entry r.args)
-      starts = starts_built built (edged l) r.entry r.args (sources_built l low r.answers) plain (others r.entry plain) worlds
+      starts = starts_built built (edged l) r.entry r.args (sources_built l low r.answers) plain (sources_given.others r.entry plain) worlds
           embeds contents.small
 
       pub framing_by : (p : Prices) → AreStepsFollowed (building l low.is_framed r.answers) (renewing l a r) r.entry r.args
