@@ -30,7 +30,7 @@ running_is (Outcome.Returned v) h = absurd h
 running_is Outcome.Running h = refl
 running_is (Outcome.Undefined c p) h = absurd h
 
-kept_stays : (g : Given) (go : Continues) (s : State) → (IsRunning s.outcome → ⊥) → step_by g go s ≡ s
+pub kept_stays : (g : Given) (go : Continues) (s : State) → (IsRunning s.outcome → ⊥) → step_by g go s ≡ s
 kept_stays g go s over = on s.outcome refl
   where
     on : (o : Outcome) → s.outcome ≡ o → step_by g go s ≡ s
@@ -68,11 +68,11 @@ module _ (m : Module) (keep : Keep) (flags : Flags) (roots : Roots) (sizes : Lis
 
   -- ---- what is shown
 
-  alike : (s t : State) → AreInStep m flags roots s t → AreAlike s t
+  pub alike : (s t : State) → AreInStep m flags roots s t → AreAlike s t
   alike s t (Goes b) = beside_alike m flags roots s t b
   alike s t (Ended e) = e.alike
 
-  shows : (s t : State) → AreInStep m flags roots s t → ShowsSame (theirs.seen t) (ours.seen s)
+  pub shows : (s t : State) → AreInStep m flags roots s t → ShowsSame (theirs.seen t) (ours.seen s)
   shows s t (Goes b) = record {
     events = ap (map (seen_event m)) (b.world.events ∙ same_events s.world.events);
     outcome = b.outcome;
@@ -82,7 +82,7 @@ module _ (m : Module) (keep : Keep) (flags : Flags) (roots : Roots) (sizes : Lis
     outcome = ap (λ (u : Seen). u.outcome) e.shown;
   }
 
-  counts : (s t : State) → AreInStep m flags roots s t → (ours.seen s).allocs ≡ (theirs.seen t).allocs
+  pub counts : (s t : State) → AreInStep m flags roots s t → (ours.seen s).allocs ≡ (theirs.seen t).allocs
   counts s t (Goes b) = sym b.world.allocs
   counts s t (Ended e) = sym (ap (λ (u : Seen). u.allocs) e.shown)
 

@@ -8,14 +8,15 @@ use Rattle.run_laws.specs.transfer.Shapes.{Pair, Pairwise}
 use Rattle.run_source.specs.State.{function_of}
 use Rattle.run_source.specs.declared.state.Mode.{Mode}
 use Rattle.run_source.specs.declared.state.State.{State}
-use Rattle.pass_renewed_meaning.specs.Followed.{AreAlike}
+use Rattle.pass_renewed_meaning.specs.Followed.{AreAlike, IsEntering}
 use Rattle.pass_renewed_proof.proofs.Entering.{entering_step}
 use Rattle.pass_renewed_proof.specs.Between.{AreLikeActivations, AreLikeInstances}
 use Rattle.pass_renewed_proof.specs.Entering.{Anew, AreNext, made_anew}
 use Rattle.pass_renewed_proof.specs.Renewed.{RenewedGiven, renew_after, renewed_from, renewed_step}
 
--- what is seen of two states, and who is there, is the same
+-- what is seen of two states, and who is there, is the same; in the second slots are made anew
 pub record IsLike (s t : State) : Type 0 where
+  pub entering : IsEntering t.top.mode
   pub outcome : t.outcome ≡ s.outcome
   pub events : t.world.events ≡ s.world.events
   pub instances : t.instances ≡ s.instances
@@ -31,6 +32,7 @@ pub like_on : (g : RenewedGiven) (from label : ℕ) (xs : List Anew) (at j : ℕ
 like_on g from label [] at j s runs next lt = absurd (omega arith)
 like_on g from label (x ∷ xs) at zero s runs next lt = subst (λ p. IsLike s (renew_after g s from label p)) (sym next.0)
     (record {
+      entering = tt;
       outcome = refl;
       events = refl;
       instances = refl;
@@ -47,6 +49,7 @@ like_on g from label (x ∷ xs) at (suc j) s runs next lt =
     subst (IsLike s) (sym (ap (λ p. iterate (renewed_step g) (suc j) (renew_after g s from label p)) next.0
     ∙ ap (iterate (renewed_step g) j) (entering_step g e from label x.name x.align x.ty runs refl next.1 next.2 next.3)))
     (record {
+      entering = r.entering;
       outcome = r.outcome;
       events = r.events;
       instances = r.instances;

@@ -144,7 +144,7 @@ module _ (c : Setting) (p : Prices) (all : KeepsAll c) where
     by (AtInstr (Instr.Gep name inbounds ty base indices)) e = case _ tt (gep_case c x name inbounds ty base indices) e
     by (AtInstr (Instr.Call result must_tail ty callee args)) e = call result must_tail ty callee args e
 
-  each_step : AreStepsFollowed c.code c.keep c.flags c.roots c.sizes c.entry c.args c.answers p
+  pub each_step : AreStepsFollowed c.code c.keep c.flags c.roots c.sizes c.entry c.args c.answers p
   each_step n t beside runs fine = by n t beside runs fine _ refl
 
   pub made_anew : KeepsMeaning c.code c.keep c.flags c.roots c.sizes c.entry c.args c.answers p

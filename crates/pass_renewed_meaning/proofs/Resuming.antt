@@ -354,9 +354,11 @@ module _ (g : RenewedGiven) (rules : KeepsAllSlots g.given.code g.keep g.flags g
       label) (iterate (renewed_step g) j u)) (sym starts_anew) (subst (λ u. IsOnItsWay u (iterate (renewed_step g) j
       (renew_after g (started t.top.values) y.suspend.block label (renewed_from (g.flags y.instance.coroutine) f 0))))
       (sym (first_is d code)) (record {
+        entering = like.entering;
         running = like.outcome ∙ runs;
         events = like.events ∙ beside.world.events ∙ same_events s.world.events;
         alike = alike_of _ (entered_second t.top.values) _ (record {
+          entering = like.entering;
           outcome = like.outcome;
           events = like.events;
           instances = like.instances;

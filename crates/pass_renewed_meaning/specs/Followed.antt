@@ -14,6 +14,7 @@ use Rattle.run_agreement.specs.Costs.{AgreesBy, cost_from}
 use Rattle.run_agreement.specs.Machines.{IsFine, IsRunning, iterate, state_at}
 use Rattle.run_laws.specs.transfer.Shapes.{Pairwise}
 use Rattle.run_source.specs.Source.{given, returned, step_by}
+use Rattle.run_source.specs.declared.state.Mode.{Mode}
 use Rattle.run_source.specs.declared.state.State.{State}
 use Rattle.run_source_tables.specs.Given.{Given}
 use Rattle.run_step.specs.Runs.{seen_of}
@@ -45,8 +46,14 @@ pub data AreInStep (m : Module) (flags : Flags) (roots : Roots) (s t : State) : 
   Goes : IsBeside m flags roots s t → AreInStep m flags roots s t
   Ended : HaveEnded m flags roots s t → AreInStep m flags roots s t
 
--- the second run is on its way to what stands beside the state
+-- a resumed activation makes its slots anew
+abbrev pub IsEntering : Mode → Type 0
+IsEntering (Mode.Entering from label) = Unit {0}
+IsEntering mode = ⊥
+
+-- the second run is on its way to what stands beside the state, and makes slots anew
 pub record IsOnItsWay (s t : State) : Type 0 where
+  pub entering : IsEntering t.top.mode
   pub running : t.outcome ≡ Outcome.Running
   pub events : t.world.events ≡ s.world.events
   pub alike : AreAlike s t

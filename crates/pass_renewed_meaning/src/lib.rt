@@ -76,8 +76,8 @@ pub fn begins_stay_beside()
 {}
 
 /// Where an instance is resumed or destroyed the second run makes the slots of its new activation anew, one in each
-/// step. Then both states are beside each other at the label. Up to there nothing is seen, and activations and
-/// instances are one to one.
+/// step. Then both states are beside each other at the label. Up to there it makes slots anew, nothing is seen, and
+/// activations and instances are one to one.
 pub fn resumes_stay_beside()
     ensures resumed { (g : RenewedGiven) (d : Given) → d.code ≡ g.given.code
         → KeepsAllSlots g.given.code g.keep g.flags g.roots → (s t : TheState)
