@@ -72,7 +72,7 @@ renewed_stays g s over = on s.outcome refl
     on Outcome.Running e = absurd (over (subst IsRunning (sym e) tt))
     on (Outcome.Undefined c p) e = ap (renewed_advance g s) e
 
-framed_stays : (g : FramedGiven) (s : State) → (IsRunning s.outcome → ⊥) → framed_step g s ≡ s
+pub framed_stays : (g : FramedGiven) (s : State) → (IsRunning s.outcome → ⊥) → framed_step g s ≡ s
 framed_stays g s over = on s.outcome refl
   where
     on : (o : Outcome) → s.outcome ≡ o → framed_step g s ≡ s
@@ -80,14 +80,14 @@ framed_stays g s over = on s.outcome refl
     on Outcome.Running e = absurd (over (subst IsRunning (sym e) tt))
     on (Outcome.Undefined c p) e = ap (framed_advance g s) e
 
-running_is : (o : Outcome) → IsRunning o → o ≡ Outcome.Running
+pub running_is : (o : Outcome) → IsRunning o → o ≡ Outcome.Running
 running_is (Outcome.Returned v) h = absurd h
 running_is Outcome.Running h = refl
 running_is (Outcome.Undefined c p) h = absurd h
 
 -- ---- the account of one step
 
-cost_ones : {T : Type 0} (step : T → T) (n : ℕ) (t : T) → cost_from step (λ u. 1) n t ≡ n
+pub cost_ones : {T : Type 0} (step : T → T) (n : ℕ) (t : T) → cost_from step (λ u. 1) n t ≡ n
 cost_ones step zero t = refl
 cost_ones step (suc n) t = ap (λ (k : ℕ). 1 + k) (cost_ones step n (step t)) ∙ one n
   where
@@ -97,7 +97,7 @@ cost_ones step (suc n) t = ap (λ (k : ℕ). 1 + k) (cost_ones step n (step t)) 
 pays : (n cost price c : ℕ) → n ≤ cost → cost ≤ price → n + 0 ≤ price + c
 pays n cost price c le more = omega arith
 
-seen_same : (m n : Module) → m.declarations ≡ n.declarations → (es more : List Event) → es ≡ more
+pub seen_same : (m n : Module) → m.declarations ≡ n.declarations → (es more : List Event) → es ≡ more
     → map (seen_event m) es ≡ map (seen_event n) more
 seen_same m n d es more e =
     ap (map (seen_event m)) e

@@ -1,0 +1,5 @@
+//! Building frames keeps meaning: from the run in which a resume hands on some values to the framed one.
+#![tactic(auto)]
+
+pub mod covered;
+pub mod slotted;
