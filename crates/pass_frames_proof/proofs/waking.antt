@@ -1,5 +1,5 @@
+pub mod Callers
 pub mod Entered
 pub mod Grown
-pub mod Others
 pub mod Restated
 pub mod Woken

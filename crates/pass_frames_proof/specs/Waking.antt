@@ -1,4 +1,4 @@
--- What is asked where a suspended coroutine is woken by a function that is no coroutine, and makes slots anew then.
+-- What is asked where a suspended coroutine is woken, by a coroutine or by another function, and makes slots anew.
 use Rattle.std.specs.List.{Contains}
 use Rattle.std.specs.Prelude.{◌≡◌, ◌⊎◌, ◌+◌, ◌-◌, ◌<◌, ◌≤◌, ◌^◌, ◌∷◌, ◌++◌, [], Bool, List, None, Ok, Option, Some, false, length, slice_get, take, true, ℕ}
 use Rattle.flow_solver.specs.Paths.{IsListed}
@@ -19,15 +19,19 @@ use Rattle.pass_cells.specs.declared.plan.KeptValue.{KeptValue}
 use Rattle.pass_copies.specs.declared.slot.EarlySlot.{EarlySlot}
 use Rattle.pass_fetch.specs.Fetching.{value_bytes}
 use Rattle.pass_frames.specs.Framed.{begin_of}
+use Rattle.pass_frames_proof.specs.Asking.{AreInstancesPlaced}
 use Rattle.pass_frames_proof.specs.Costs.{resume_cost}
 use Rattle.pass_frames_proof.specs.Entering.{IsGoodAlloca, allocas_up_to, front_allocas}
-use Rattle.pass_frames_proof.specs.Meaning.{step_cost}
+use Rattle.pass_frames_proof.specs.Followed.{IsOn}
+use Rattle.pass_frames_proof.specs.Meaning.{first_anew, step_cost}
+use Rattle.pass_frames_proof.specs.Operands.{IsAtFetch}
 use Rattle.pass_frames_proof.specs.Passes.{block_at}
 use Rattle.pass_frames_proof.specs.Places.{Framing, copies, edged, framed, instrs_at, is_return, own_place, plan}
-use Rattle.pass_frames_proof.specs.Related.{AreGone, Building, IsKeptValue, IsSuspendNumber, all_slots, is_coroutine}
-use Rattle.pass_frames_proof.specs.Stepping.{IsNotEntering}
+use Rattle.pass_frames_proof.specs.Related.{AreBuiltOf, AreGone, Building, IsKeptValue, IsSuspendNumber, all_slots, below_place, is_coroutine}
+use Rattle.pass_frames_proof.specs.Stepping.{IsNotEntering, IsUnlocated, state_in}
 use Rattle.pass_kept_proof.specs.Kept.{kept}
 use Rattle.pass_renewed_proof.specs.Renewed.{RenewedGiven, continue_renewed, renewed_from, renewed_step}
+use Rattle.run_agreement.specs.Machines.{iterate}
 use Rattle.run_framed.specs.Framed.{begin_name, continue_framed, framed_step, reentry_values}
 use Rattle.run_laws.specs.changed.Changed.{Each}
 use Rattle.run_memory.specs.declared.pointer.Value.{Value}
@@ -106,60 +110,78 @@ pub record HasFirstAnew (b : Building) (g : RenewedGiven) (func : ℕ) (env : En
   pub unhanded : (v : ℕ) → IsListed v (allocas_in (take first (instrs_at (b.framing func) 0)))
       → value_in env v ≡ Value.Poison
 
--- Both runs wake it: the step of the first run comes to the first alloca that is made anew, and that of the second to
--- the first of all.
+-- Both runs wake it. The framed run first fetches what the call takes, and then stands at the call itself. Behind the
+-- call its caller goes on. No call is in a block on a resume or destroy edge. Slots of activations have blocks.
 pub record AreWoken (b : Building) (g : RenewedGiven) (s t : State) (label : ℕ) (z : IsSleeping b g s label) : Type 0
   where
-    pub anew : HasFirstAnew b g z.instance.coroutine (kept (g.keep z.instance.coroutine z.suspend) z.env)
+    pub runs : s.outcome ≡ Outcome.Running
+    pub calm : is_coroutine b s.top.func ≡ true
+        → IsNotEntering s.top.mode × (is_return (b.framing s.top.func) s.top.block ≡ false)
+    pub fetches : ℕ
+    pub last : State
+    pub leads : iterate (framed_step b.given) fetches t ≡ last
+    pub shown : (i : ℕ) → i < fetches → IsOn b s (iterate (framed_step b.given) i t)
+    pub last_shown : IsOn b s last
+    pub state : State
+    pub related : AreBuiltOf b s state
+    pub call : Point
+    pub behind : record { block = call.block; at = call.at + 1 } ≡ below_place b (record s.top { at = s.top.at + 1 })
     pub beside : Instance
-    pub there : slice_get t.instances z.number ≡ Some beside
+    pub there : slice_get state.instances z.number ≡ Some beside
     pub source : renewed_step g s
         ≡ continue_renewed g s z.number z.instance z.suspend z.env label
     pub other : Env
-    pub target : framed_step b.given t
-        ≡ continue_framed b.given t z.number beside (own_place (b.framing z.instance.coroutine) z.suspend) other label
-    pub slots : (slot : Slot) → Contains (all_slots t) slot → slot.block < length t.world.memory
+    pub target : framed_step b.given last
+        ≡ continue_framed b.given (record state { top = record state.top { block = call.block; at = call.at } })
+        z.number beside (own_place (b.framing z.instance.coroutine) z.suspend) other label
+    pub slots : (slot : Slot) → Contains (all_slots state) slot → slot.block < length state.world.memory
     pub cost : step_cost b g s s.top.mode
-        ≡ 1 + (resume_cost (b.framing z.instance.coroutine) (Some anew.first) - 1)
+        ≡ fetches + 1 + (resume_cost (b.framing z.instance.coroutine) (first_anew g z.instance.coroutine 0) - 1)
 
 abbrev pub wake_call : Intrinsic → Option ℕ → Bool → Option Ty → List Arg → Instr
 wake_call intrinsic result must_tail ty args = Instr.Call result must_tail ty (Callee.Intrinsic intrinsic) args
 
--- The next step is a resume or destroy by a function that is no coroutine. Both runs find the sleeper, since pointers
--- stand for each other. Its suspend leads to the same label in both modules, since what it switches by has its cases
--- still.
-pub record IsAtWaking (b : Building) (g : RenewedGiven) (s t : State) (label : ℕ) (z : IsSleeping b g s label)
+-- The next step is a resume or destroy, which finds the sleeper. Its suspend leads to the same label in both modules,
+-- since what it switches by has its cases still.
+pub record IsWaking (b : Building) (g : RenewedGiven) (s t : State) (label : ℕ) (z : IsSleeping b g s label)
     (intrinsic : Intrinsic) (leads : Function → Point → ℕ) : Type 0 where
   pub result : Option ℕ
   pub must_tail : Bool
   pub ty : Option Ty
   pub args : List Arg
   pub runs : s.outcome ≡ Outcome.Running
-  pub plain : is_coroutine b s.top.func ≡ false
-  pub mode : IsNotEntering s.top.mode
-  pub there : fetch (function_of g.given s) s.top.block s.top.at
-      ≡ AtInstr (wake_call intrinsic result must_tail ty args)
+  pub placed : AreInstancesPlaced s
   pub finds : sleeper_at s (nth (arg_values g.given.code s.top.values args) 0)
       ≡ Ok (record { number = z.number; instance = z.instance; suspend = z.suspend; values = z.env })
-  pub beside : Instance
-  pub other : Env
-  pub finds_too : sleeper_at t (nth (arg_values b.given.given.code t.top.values args) 0)
-      ≡ Ok (record {
-        number = z.number;
-        instance = beside;
-        suspend = own_place (b.framing z.instance.coroutine) z.suspend;
-        values = other;
-      })
-  pub there_too : slice_get t.instances z.number ≡ Some beside
   pub leads_to : leads (edged (b.framing z.instance.coroutine)) z.suspend ≡ label
   pub leads_too : leads (framed (b.framing z.instance.coroutine))
       (own_place (b.framing z.instance.coroutine) z.suspend) ≡ label
   pub slots : (slot : Slot) → Contains (all_slots t) slot → slot.block < length t.world.memory
 
+-- by a function that is no coroutine
+pub record IsAtWaking (b : Building) (g : RenewedGiven) (s t : State) (label : ℕ) (z : IsSleeping b g s label)
+    (intrinsic : Intrinsic) (leads : Function → Point → ℕ) : Type 0 where
+  pub wakes : IsWaking b g s t label z intrinsic leads
+  pub plain : is_coroutine b s.top.func ≡ false
+  pub mode : IsNotEntering s.top.mode
+  pub there : fetch (function_of g.given s) s.top.block s.top.at
+      ≡ AtInstr (wake_call intrinsic wakes.result wakes.must_tail wakes.ty wakes.args)
+
+-- By a coroutine. Its operand is no address of a slot that is used before begin (K9), and allocas have names of the
+-- table.
+pub record IsAtOwnWaking (b : Building) (g : RenewedGiven) (s t : State) (label : ℕ) (z : IsSleeping b g s label)
+    (intrinsic : Intrinsic) (leads : Function → Point → ℕ) : Type 0 where
+  pub wakes : IsWaking b g s t label z intrinsic leads
+  pub at : IsAtFetch b s (wake_call intrinsic wakes.result wakes.must_tail wakes.ty wakes.args)
+  pub unlocated : IsUnlocated (b.framing s.top.func) (state_in (b.framing s.top.func) s.top.block s.top.at)
+      (wake_call intrinsic wakes.result wakes.must_tail wakes.ty wakes.args)
+  pub allocas : (at u align : ℕ) (ty : Ty)
+      → slice_get (instrs_at (b.framing s.top.func) 0) at ≡ Some (Instr.Alloca u ty align)
+      → u < length (edged (b.framing s.top.func)).names
+
 -- a resume finds no final suspend
-pub record IsUnfinal (x : Framing) (suspend : Point) : Type 0 where
-  pub source : is_final (edged x) suspend ≡ false
-  pub target : is_final (framed x) (own_place x suspend) ≡ false
+abbrev pub IsUnfinal : Framing → Point → Type 0
+IsUnfinal x suspend = is_final (edged x) suspend ≡ false
 
 -- ---- where no slot is made anew
 
@@ -205,17 +227,3 @@ pub record HasNoneAnew (b : Building) (g : RenewedGiven) (func : ℕ) (env : Env
   pub distances : (v cell : ℕ) → entry (plan (b.framing func)).cells v ≡ Some cell
       → IsCellMade (b.framing func) cell (int 64)
   pub wheres : (s : EarlySlot) → Contains (copies (b.framing func)).slots s → IsCellMade (b.framing func) s.cell ptr
-
--- both runs wake it: the first comes to the block on the edge at once
-pub record AreWokenAtOnce (b : Building) (g : RenewedGiven) (s t : State) (label : ℕ) (z : IsSleeping b g s label)
-    : Type 0 where
-  pub anew : HasNoneAnew b g z.instance.coroutine (kept (g.keep z.instance.coroutine z.suspend) z.env) label z.order
-  pub beside : Instance
-  pub there : slice_get t.instances z.number ≡ Some beside
-  pub source : renewed_step g s
-      ≡ continue_renewed g s z.number z.instance z.suspend z.env label
-  pub other : Env
-  pub target : framed_step b.given t
-      ≡ continue_framed b.given t z.number beside (own_place (b.framing z.instance.coroutine) z.suspend) other label
-  pub slots : (slot : Slot) → Contains (all_slots t) slot → slot.block < length t.world.memory
-  pub cost : step_cost b g s s.top.mode ≡ 1 + (resume_cost (b.framing z.instance.coroutine) None - 1)

@@ -9,7 +9,7 @@ use Rattle.ir_model.specs.declared.module.Module.{Module}
 use Rattle.ir_model.specs.declared.operand.Callee.{Callee}
 use Rattle.ir_paths.specs.declared.point.Point.{Point}
 use Rattle.pass_cells.specs.Cells.{fetches_of}
-use Rattle.pass_frames_proof.proofs.calling.Push.{passed_on}
+use Rattle.pass_frames_proof.proofs.calling.Passed.{passed_on}
 use Rattle.pass_frames_proof.proofs.followed.Assembly.{shown_alike}
 use Rattle.pass_frames_proof.proofs.lined.Lines.{framed_does, no_gift}
 use Rattle.pass_frames_proof.proofs.returning.Behind.{CallStands, call_stands, switching_never}

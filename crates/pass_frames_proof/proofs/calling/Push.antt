@@ -2,22 +2,20 @@
 use Rattle.std.proofs.Common.{◌≡◌, ◌⊎◌, inl, inr, ℕ, ◌+◌, ◌<◌, ◌≤◌, Bool, true, false, List, ◌∷◌, ◌++◌, length, refl, sym, ◌∙◌, subst, arith}
 use Rattle.std.proofs.lemmas.Bool.{cases_lt}
 use Rattle.std.specs.List.{Contains}
-use Rattle.std.specs.Prelude.{Option, map, slice_get, ◌&&◌}
+use Rattle.std.specs.Prelude.{Option, map, slice_get}
 use Rattle.flow_solver.specs.Paths.{IsListed}
 use Rattle.ir_laws.proofs.facts.Lists.{get_within}
 use Rattle.ir_laws.specs.paths.woven_rules.Pairs.{AreDifferent}
 use Rattle.ir_model.specs.Ty.{Ty}
-use Rattle.pass_frames_proof.proofs.returning.Turned.{coroutines_turned, one_ahead_turned, placed_at}
-use Rattle.pass_frames_proof.proofs.stepping.Fetch.{not_returned}
-use Rattle.pass_frames_proof.proofs.stepping.Operands.{asked}
+use Rattle.pass_frames_proof.proofs.calling.Passed.{ahead_passed, caller_passed, passed_on}
+use Rattle.pass_frames_proof.proofs.returning.Turned.{placed_at}
 use Rattle.pass_frames_proof.proofs.stepping.Rest.{LeavesRest, all_ahead_kept, below_kept, got, has_kept, instance_kept, made_kept, more_below, one_below}
 use Rattle.pass_frames_proof.proofs.stepping.Same.{fields_kept, kept, own_frame, rest_left}
 use Rattle.pass_frames_proof.specs.Framings.{IsFraming}
-use Rattle.pass_frames_proof.specs.Places.{Framing, is_return, offsets}
-use Rattle.pass_frames_proof.specs.Related.{AreActivations, AreAhead, AreBuiltOf, AreCoroutines, Building, HasCells, HasValues, IsAhead, IsCellName, IsFreeOf, IsSlotBy, all_slots, below_place, instance_in, is_coroutine, is_first, returned_from, slots_below, top_place}
+use Rattle.pass_frames_proof.specs.Places.{is_return}
+use Rattle.pass_frames_proof.specs.Related.{AreActivations, AreAhead, AreBuiltOf, Building, HasValues, IsAhead, IsCellName, IsFreeOf, all_slots, below_place, instance_in, is_coroutine, is_first, returned_from, slots_below, top_place}
 use Rattle.pass_frames_proof.specs.Returning.{IsAmong}
 use Rattle.pass_frames_proof.specs.Stepping.{IsNotEntering}
-use Rattle.pass_proofs.specs.addresses.rules.Addresses.{lies_in_frame}
 use Rattle.run_framed.specs.Framed.{frame_rights}
 use Rattle.run_laws.proofs.transfer.Muted.{muted_length}
 use Rattle.run_laws.specs.access.Lines.{Holds}
@@ -30,23 +28,6 @@ use Rattle.run_source.specs.declared.state.Activation.{Activation}
 use Rattle.run_source.specs.declared.state.State.{State}
 use Rattle.run_step.specs.declared.world.Slot.{Slot}
 use Rattle.run_step.specs.declared.world.World.{World}
-
--- an activation that has gone on to the next instruction
-abbrev pub passed_on : Activation → Activation
-passed_on a = record a { at = a.at + 1 }
-
-source_turned : (x : Framing) (homes : List Home) (rights : Rights) (t : State) (a c : Activation)
-    → IsNotEntering a.mode → is_return x a.block ≡ false → AreCoroutines x homes rights t a c
-    → AreCoroutines x homes rights t (passed_on a) c
-source_turned x homes rights t a c mode unreturned h = record {
-  names = record { each = λ v asks. h.names.each v (asked x a a.mode v mode); room = h.names.room };
-  cells = subst (λ (o : Option ℕ).
-      HasCells x homes rights t.world.memory (instance_in t.instances c.instance) (passed_on a) c o)
-      (sym (not_returned x (passed_on a) a.mode mode unreturned))
-      (subst (λ (o : Option ℕ). HasCells x homes rights t.world.memory (instance_in t.instances c.instance) a c o)
-      (not_returned x a a.mode mode unreturned) h.cells);
-  made = h.made;
-}
 
 -- ---- the target's memory grows
 
@@ -110,66 +91,57 @@ module _ (b : Building) (s t : State) (r : AreBuiltOf b s t)
     t' = record t { world = u; top = new; below = old_t ∷ t.below }
 
     values_kept : (k : Bool) → is_coroutine b s.top.func ≡ k → HasValues b r.homes R t s.top t.top k
-        → HasValues b r.homes R t' old_s old_t k
-    values_kept true is h =
-        coroutines_turned (b.framing s.top.func) r.homes R t' old_s t.top (below_place b old_s)
-        (source_turned (b.framing s.top.func) r.homes R t' s.top t.top (calm is).0 (calm is).1 (record {
-          names = record { each = h.names.each; room = h.names.room };
-          cells = has_kept R t.world.memory u.memory (b.framing s.top.func) (framings s.top.func is) t.top
-              (λ slot e name. top_kept slot e) r.homes
-              (instance_in t.instances t.top.instance) s.top (returned_from (b.framing s.top.func) s.top s.top.mode)
-              (λ y j own from. fields_kept R t.world.memory u.memory y.block
-              (kept b s t r s.world u Touched framings refl old stood others y.block
-              (own_frame b s t r s.world u Touched framings refl old stood others t.top.instance y own)) (b.framing s.top.func)
-              r.homes j s.top.values y.start s.top.mode) h.cells;
-          made = made_kept R t.world.memory u.memory (b.framing s.top.func) (framings s.top.func is) t.top
-              (λ slot e name. top_kept slot e) s.top.mode h.made;
-        }))
+        → HasValues b r.homes R t' s.top t.top k
+    values_kept true is h = record {
+      names = record { each = h.names.each; room = h.names.room };
+      cells = has_kept R t.world.memory u.memory (b.framing s.top.func) (framings s.top.func is) t.top
+          (λ slot e name. top_kept slot e) r.homes
+          (instance_in t.instances t.top.instance) s.top (returned_from (b.framing s.top.func) s.top s.top.mode)
+          (λ y j own from. fields_kept R t.world.memory u.memory y.block
+          (kept b s t r s.world u Touched framings refl old stood others y.block
+          (own_frame b s t r s.world u Touched framings refl old stood others t.top.instance y own)) (b.framing s.top.func)
+          r.homes j s.top.values y.start s.top.mode) h.cells;
+      made = made_kept R t.world.memory u.memory (b.framing s.top.func) (framings s.top.func is) t.top
+          (λ slot e name. top_kept slot e) s.top.mode h.made;
+    }
     values_kept false is h = record { each = h.each; room = h.room }
 
-    slot_by : (slot : Slot) (f : Bool) → IsSlotBy b r.homes r.hides s.top t.top slot f
-        → IsSlotBy b r.homes r.hides old_s old_t slot f
-    slot_by slot true h = h
-    slot_by slot false h = record { block = h.block; home = h.home; own = h.own }
-
     caller : AreActivations b r.homes r.hides t' (below_place b) old_s old_t
-    caller = record {
-      func = r.top.func;
-      place = refl;
-      result = r.top.result;
-      mode = r.top.mode;
-      instance = r.top.instance;
-      has_left = r.top.has_left;
-      values = values_kept (is_coroutine b s.top.func) refl r.top.values;
-      slots = λ slot e.
-          slot_by slot
-          (is_coroutine b s.top.func && lies_in_frame (offsets (b.framing s.top.func)) slot.alloca)
-          (r.top.slots slot e);
-    }
+    caller =
+        caller_passed b r.homes r.hides t' s.top t.top calm (top_place b) (record {
+          func = r.top.func;
+          place = r.top.place;
+          result = r.top.result;
+          mode = r.top.mode;
+          instance = r.top.instance;
+          has_left = r.top.has_left;
+          values = values_kept (is_coroutine b s.top.func) refl r.top.values;
+          slots = r.top.slots;
+        })
 
     ahead_one : (v align : ℕ) (ty : Ty)
         → IsAhead (b.framing s.top.func) r.homes r.hides s.world.memory t.world.memory t.top v ty align
-        → IsAhead (b.framing s.top.func) r.homes r.hides s.world.memory u.memory old_t v ty align
-    ahead_one v align ty h =
-        one_ahead_turned (b.framing s.top.func) r.homes r.hides s.world.memory u.memory t.top (below_place b old_s) v
-        align ty (record {
-          block = h.block;
-          address = h.address;
-          own = h.own;
-          free = h.free;
-          bytes = h.bytes;
-          sized = h.sized;
-          there = old h.block (own_stays (record { alloca = v; block = h.block }) h.own) ∙ h.there;
-        })
+        → IsAhead (b.framing s.top.func) r.homes r.hides s.world.memory u.memory t.top v ty align
+    ahead_one v align ty h = record {
+      block = h.block;
+      address = h.address;
+      own = h.own;
+      free = h.free;
+      bytes = h.bytes;
+      sized = h.sized;
+      there = old h.block (own_stays (record { alloca = v; block = h.block }) h.own) ∙ h.there;
+    }
 
     caller_ahead : is_coroutine b s.top.func ≡ true → is_first s.top.mode ≡ true → s.top.block ≡ 0
         → AreAhead (b.framing s.top.func) r.homes r.hides s.world.memory u.memory old_s old_t
     caller_ahead is first zero =
-        let h = r.ahead.0 is first zero in record {
-          slots = λ at v align ty e le out. ahead_one v align ty (h.slots at v align ty e (omega (arith, le)) out);
+        let h = r.ahead.0 is first zero in
+        ahead_passed (b.framing s.top.func) r.homes r.hides s.world.memory u.memory s.top t.top (below_place b old_s)
+        (record {
+          slots = λ at v align ty e le out. ahead_one v align ty (h.slots at v align ty e le out);
           temporaries = λ z at align ty listed e le.
-              ahead_one z.temporary z.align z.ty (h.temporaries z at align ty listed e (omega (arith, le)));
-        }
+              ahead_one z.temporary z.align z.ty (h.temporaries z at align ty listed e le);
+        })
 
     -- ---- the activation that is entered
 

@@ -21,7 +21,7 @@ use Rattle.pass_fetch.specs.declared.fetch.Fetch.{Fetch}
 use Rattle.pass_frames_proof.proofs.code.Left.{Far, far_named, far_written}
 use Rattle.pass_frames_proof.proofs.code.Names.{Count, First, far_left}
 use Rattle.pass_frames_proof.proofs.distances.Sums.{more_below}
-use Rattle.pass_frames_proof.proofs.led.Front.{led_twice}
+use Rattle.pass_frames_proof.proofs.led.Front.{IsShownLed, led_shown}
 use Rattle.pass_frames_proof.proofs.lines.Loads.{can_load}
 use Rattle.pass_frames_proof.proofs.stepping.Operands.{AreSameNames, can_more, other_stands, seen_one, slot_address}
 use Rattle.pass_frames_proof.specs.Operands.{IsAtFetch}
@@ -40,7 +40,8 @@ use Rattle.pass_proofs.proofs.fetch.rules.Puts.{fetch_rises}
 use Rattle.pass_renewed_proof.specs.Renewed.{RenewedGiven}
 use Rattle.run_framed.specs.Framed.{frame_rights, framed_context}
 use Rattle.run_laws.specs.memory.Pointers.{Home, IsValue}
-use Rattle.run_laws.specs.transfer.Transfer.{IsNamedAlike, same_maps}
+use Rattle.run_laws.specs.transfer.Shapes.{InstrStays}
+use Rattle.run_laws.specs.transfer.Transfer.{IsNamedAlike, StandsFor, same_maps}
 use Rattle.run_memory.specs.Memory.{Rights}
 use Rattle.run_memory.specs.declared.pointer.Value.{Value}
 use Rattle.run_source.specs.Source.{context_of}
@@ -200,9 +201,19 @@ module _ (b : Building) (g : RenewedGiven) (given : AreGiven b g) (s t : State) 
           let e : length (named x).names ≤ n = h.order.low in
           omega (arith, a, e, le)
 
-  pub led : IsLed r.homes c d (work_of s) (work_of t) n i (placed_instr x place_state i) (placed_front x place_state i)
-  led = led_twice r.homes T (slot_table x) (loaded_value x d (work_of t)) more c d (work_of s) (work_of t) n m i
+  all_led : IsShownLed r.homes c d (work_of s) (work_of t) n i (placed_instr x place_state i)
+      (placed_front x place_state i)
+  all_led = led_shown r.homes T (slot_table x) (loaded_value x d (work_of t)) more c d (work_of s) (work_of t) n m i
       may_be_led
+
+  pub led : IsLed r.homes c d (work_of s) (work_of t) n i (placed_instr x place_state i) (placed_front x place_state i)
+  led = all_led.led
+
+  -- operands stand for the source's also where it doesn't look at them
+  pub led_seen : InstrStays (StandsFor true (IsValue r.homes) c d s.top.values led.work.values) i
+      (placed_instr x place_state i)
+  unfolding led
+  led_seen = all_led.shown
 
   -- ---- the step
 

@@ -1,6 +1,6 @@
 -- Where operands of an instruction of a coroutine are fetched no name is set but new ones, and the states are related
 -- as if nothing had been done.
-use Rattle.std.proofs.Common.{◌≡◌, ◌⊎◌, inl, inr, ℕ, ◌<◌, ◌≤◌, false, List, length, refl, sym, ap, subst, arith}
+use Rattle.std.proofs.Common.{◌≡◌, ◌⊎◌, inl, inr, ℕ, ◌<◌, ◌≤◌, false, true, List, length, refl, sym, ap, subst, arith}
 use Rattle.std.proofs.lemmas.Bool.{cases_lt}
 use Rattle.std.specs.Prelude.{None, Option, Some, slice_get}
 use Rattle.ir_base.specs.declared.outcome.Outcome.{Outcome}
@@ -44,7 +44,8 @@ use Rattle.run_framed.specs.Framed.{frame_rights, framed_context, framed_step}
 use Rattle.run_laws.specs.access.Lines.{StandAt}
 use Rattle.run_laws.specs.changed.Changed.{Each}
 use Rattle.run_laws.specs.memory.Pointers.{IsValue}
-use Rattle.run_laws.specs.transfer.Transfer.{AreOver}
+use Rattle.run_laws.specs.transfer.Shapes.{InstrStays}
+use Rattle.run_laws.specs.transfer.Transfer.{AreOver, StandsFor}
 use Rattle.run_memory.specs.Memory.{Rights, owner_rights}
 use Rattle.run_memory.specs.declared.pointer.Value.{Value}
 use Rattle.run_source.specs.Source.{context_of}
@@ -96,6 +97,11 @@ module _ (b : Building) (g : RenewedGiven) (given : AreGiven b g) (s t : State) 
 
   abbrev pub work : Work
   work = led.work
+
+  pub led_seen : InstrStays (StandsFor true (IsValue r.homes) (context_of g.given s) d s.top.values work.values) i
+      (placed_instr x st i)
+  unfolding led
+  led_seen = fetching.led_seen b g given s t r i h
 
   low : length (edged x).names ≤ n
   low = fetching.low b g given s t r i h

@@ -1,10 +1,9 @@
 -- A woken coroutine that makes no slot anew comes to the block on the edge, and the framed run makes all allocas.
-use Rattle.std.proofs.Common.{◌≡◌, ◌+◌, ◌-◌, ◌<◌, ◌≤◌, ◌^◌, ◌%◌, ◌&&◌, ◌==◌, ◌∷◌, ◌++◌, ◌∙◌, [], if◌then◌else◌, Bool, List, None, Option, Some, ap, arith, false, inl, inr, length, length-append, refl, replicate, subst, suc, sym, take, true, zero, ℕ, ⊎_elim}
+use Rattle.std.proofs.Common.{◌≡◌, ◌+◌, ◌-◌, ◌<◌, ◌≤◌, ◌^◌, ◌%◌, ◌==◌, ◌∷◌, ◌++◌, ◌∙◌, [], if◌then◌else◌, Bool, List, None, Option, Some, ap, arith, inl, inr, length, length-append, refl, replicate, subst, suc, sym, take, zero, ℕ, ⊎_elim}
 use Rattle.std.proofs.lemmas.List.{length-replicate}
 use Rattle.std.specs.List.{Contains}
 use Rattle.std.specs.Prelude.{option_map, slice_get, slice_set}
 use Rattle.flow_solver.specs.Paths.{IsListed}
-use Rattle.ir_base.specs.declared.outcome.Outcome.{Outcome}
 use Rattle.ir_laws.proofs.facts.Lists.{get_within, set_here, set_length}
 use Rattle.ir_laws.specs.paths.woven_rules.Pairs.{AreDifferent}
 use Rattle.ir_model.specs.Layout.{size_of}
@@ -37,12 +36,11 @@ use Rattle.pass_frames_proof.specs.Framings.{IsFraming}
 use Rattle.pass_frames_proof.specs.Meaning.{step_cost}
 use Rattle.pass_frames_proof.specs.Moved.{IsSamePlace}
 use Rattle.pass_frames_proof.specs.Passes.{block_at}
-use Rattle.pass_frames_proof.specs.Places.{Framing, edged, framed, offsets, own_place, plan}
-use Rattle.pass_frames_proof.specs.Related.{Anything, AreActivations, AreAhead, AreBuiltOf, AreCellsThere, AreFieldsRight, AreInstances, AreNamed, AreWheresThere, Building, HasCells, HasValues, IsCell, IsFreeOf, IsKeptAs, IsKeptValue, IsSlotBy, IsStatus, behind_place, below_place, instance_in, is_coroutine, is_first, place_by, point_of, returned_from, slots_below, top_place}
+use Rattle.pass_frames_proof.specs.Places.{Framing, edged, framed, own_place, plan}
+use Rattle.pass_frames_proof.specs.Related.{Anything, AreActivations, AreAllAhead, AreBuiltOf, AreCellsThere, AreFieldsRight, AreInstances, AreNamed, AreWheresThere, Building, HasCells, IsCell, IsFreeOf, IsKeptAs, IsKeptValue, IsStatus, below_place, instance_in, is_coroutine, returned_from, slots_below, top_place}
 use Rattle.pass_frames_proof.specs.Stepping.{AreGiven}
-use Rattle.pass_frames_proof.specs.Waking.{AreWokenAtOnce, IsCellMade, IsSleeping, framed_start}
+use Rattle.pass_frames_proof.specs.Waking.{AreWoken, HasNoneAnew, IsCellMade, IsSleeping, framed_start}
 use Rattle.pass_kept_proof.specs.Kept.{kept}
-use Rattle.pass_proofs.specs.addresses.rules.Addresses.{lies_in_frame}
 use Rattle.pass_renewed_proof.specs.Renewed.{RenewedGiven, renew_after, renewed_step, renewed_value, renewed_values}
 use Rattle.run_access_worked.proofs.Ended.{set_frames}
 use Rattle.run_access_worked.specs.Frames.{IsSameFrame}
@@ -71,10 +69,21 @@ use Rattle.run_laws.proofs.transfer.Sets.{set_length as value_length}
 use Rattle.run_access_worked.proofs.Ended.{rights_same as frames_same, set_frames}
 use Rattle.pass_frames_proof.proofs.entering.Cells.{cells_made}
 use Rattle.pass_frames_proof.specs.Places.{place_by as place_by_flag}
+use Rattle.pass_frames_proof.proofs.calling.Passed.{ahead_passed, caller_passed, passed_on}
+use Rattle.pass_frames_proof.proofs.returning.Turned.{placed_at}
+use Rattle.pass_frames_proof.proofs.stepping.Onward.{EndsUp, onward_followed}
+use Rattle.pass_frames_proof.specs.Costs.{resume_cost}
 
-module _ (b : Building) (g : RenewedGiven) (given : AreGiven b g) (s t : State) (r : AreBuiltOf b s t)
-    (runs : s.outcome ≡ Outcome.Running) (plain : is_coroutine b s.top.func ≡ false) (label : ℕ)
-    (z : IsSleeping b g s label) (k : AreWokenAtOnce b g s t label z) where
+module _ (b : Building) (g : RenewedGiven) (given : AreGiven b g) (s t0 : State) (label : ℕ)
+    (z : IsSleeping b g s label) (k : AreWoken b g s t0 label z)
+    (anew : HasNoneAnew b g z.instance.coroutine (kept (g.keep z.instance.coroutine z.suspend) z.env) label z.order) where
+  -- the operands of the call are fetched
+  abbrev t : State
+  t = k.state
+
+  abbrev r : AreBuiltOf b s t
+  r = k.related
+
   abbrev func : ℕ
   func = z.instance.coroutine
 
@@ -112,16 +121,20 @@ module _ (b : Building) (g : RenewedGiven) (given : AreGiven b g) (s t : State) 
   suspend' = own_place x z.suspend
 
   abbrev a' : Activation
-  a' = record (resumed z.number p z.suspend env) { block = k.anew.block; at = 0 }
+  a' = record (resumed z.number p z.suspend env) { block = anew.block; at = 0 }
 
   abbrev caller : Activation
-  caller = record s.top { at = s.top.at + 1 }
+  caller = passed_on s.top
 
   abbrev caller' : Activation
-  caller' = record t.top { at = t.top.at + 1 }
+  caller' = placed_at t.top (below_place b caller)
 
   abbrev s' : State
   s' = record s { instances = xs; top = a'; below = caller ∷ s.below }
+
+  -- at the call
+  abbrev at_call : State
+  at_call = record t { top = record t.top { block = k.call.block; at = k.call.at } }
 
   -- where the framed run begins to make allocas
   abbrev u0 : State
@@ -155,8 +168,8 @@ module _ (b : Building) (g : RenewedGiven) (given : AreGiven b g) (s t : State) 
   source_is =
       k.source
       ∙ ap (renew_after g (push (with_status s z.number p Status.Running) (resumed z.number p z.suspend env))
-      z.suspend.block label) k.anew.none
-      ∙ ap (λ (vs : Env). enter_block g.given (woken vs) label) (renewed_same (g.roots func) k.anew.unrooted env env)
+      z.suspend.block label) anew.none
+      ∙ ap (λ (vs : Env). enter_block g.given (woken vs) label) (renewed_same (g.roots func) anew.unrooted env env)
       ∙ ap (λ (f : Function). record s' {
         top = record a' {
           block = position_of f label;
@@ -165,16 +178,16 @@ module _ (b : Building) (g : RenewedGiven) (given : AreGiven b g) (s t : State) 
         };
       }) (given.coroutines func h.is_coroutine)
       ∙ ap (λ (q : ℕ × Env). record s' { top = record a' { block = q.0; values = q.1 } })
-      (enters g.given.code (edged x) (label_of (slice_get (edged x).blocks z.suspend.block)) env k.anew.block
-      k.anew.block_is k.anew.no_phis)
+      (enters g.given.code (edged x) (label_of (slice_get (edged x).blocks z.suspend.block)) env anew.block
+      anew.block_is anew.no_phis)
 
   -- ---- the allocas
 
   abbrev line : List Instr
-  line = k.anew.line
+  line = anew.line
 
   abbrev next : Instr
-  next = k.anew.last
+  next = anew.last
 
   framed_is : function_at b.given.given.code func ≡ framed x
   framed_is = ap (λ (m : Module). function_at m func) given.code ∙ (given.built.coroutines func h.is_coroutine).is
@@ -184,10 +197,10 @@ module _ (b : Building) (g : RenewedGiven) (given : AreGiven b g) (s t : State) 
 
   all_stand : StandAt (framed x) 0 0 (line ++ (next ∷ []))
   all_stand =
-      subst (StandAt (framed x) 0 0) k.anew.stands (front_stands x k.anew.at k.anew.instr k.anew.there)
+      subst (StandAt (framed x) 0 0) anew.stands (front_stands x anew.at anew.instr anew.there)
 
   good : Each IsGoodAlloca (line ++ (next ∷ []))
-  good = subst (Each IsGoodAlloca) k.anew.stands k.anew.good
+  good = subst (Each IsGoodAlloca) anew.stands anew.good
 
   line_good : (ks js : List Instr) → Each IsGoodAlloca (ks ++ js) → Each IsGoodAlloca ks × Each IsGoodAlloca js
   line_good [] js e = (tt, e)
@@ -203,19 +216,21 @@ module _ (b : Building) (g : RenewedGiven) (given : AreGiven b g) (s t : State) 
       (stand_next (framed x) 0 line [] all_stand)
 
   makes : IsMaking u0 suspend'.block label
-  makes = record { runs = r.outcome ∙ runs; mode = refl; entry_block = refl }
+  makes = record { runs = r.outcome ∙ k.runs; mode = refl; entry_block = refl }
 
-  target_is : framed_step b.given t ≡ u0
+  target_is : framed_step b.given k.last ≡ u0
   target_is =
       k.target
-      ∙ ap (enter_after b.given (push (with_status t z.number y Status.Running)
+      ∙ ap (enter_after b.given (push (with_status at_call z.number y Status.Running)
       (resumed z.number y suspend' (reentry_values (function_at b.given.given.code y.coroutine) (frame_address_of y))))
       suspend'.block label) first_is
       ∙ ap (λ (f : Function). record u0 {
         top = record u0.top {
           values = reentry_values f (frame_address_of y);
         };
+        below = record at_call.top { at = at_call.top.at + 1 } ∷ t.below;
       }) (own_framed ∙ ap (λ (n : ℕ). framed (b.framing n)) (sym h.coroutine))
+      ∙ ap (λ (p : Point). record u0 { below = placed_at t.top p ∷ t.below }) k.behind
     where
       head : (ks js : List Instr) → StandAt (framed x) 0 0 (ks ++ (next ∷ js))
           → Each IsGoodAlloca (ks ++ (next ∷ js))
@@ -230,11 +245,9 @@ module _ (b : Building) (g : RenewedGiven) (given : AreGiven b g) (s t : State) 
           ∙ ap (option_map (λ (n : ℕ). record { block = 0; at = n }))
           (alloca_there (slice_get (framed x).blocks 0) 0 i.0 i.1.0 i.1.1)
 
-  reached : (n : ℕ) → n ≤ length line → iterate (framed_step b.given) (suc n) t ≡ behind_allocas b.given u0
-      (take n line)
+  reached : (n : ℕ) → n ≤ length line → iterate (framed_step b.given) n u0 ≡ behind_allocas b.given u0 (take n line)
   reached n le =
-      ap (iterate (framed_step b.given) n) target_is
-      ∙ up_to_next b.given suspend'.block label u0 makes line next
+      up_to_next b.given suspend'.block label u0 makes line next
       (line_good line (next ∷ []) good).0 refl' stand n le
     where
       refl' : IsGoodAlloca next
@@ -321,7 +334,7 @@ module _ (b : Building) (g : RenewedGiven) (given : AreGiven b g) (s t : State) 
 
     shown : IsOn b s' w'
     shown = subst (IsOn b s') (sym m.state) (record {
-      running = r.outcome ∙ runs;
+      running = r.outcome ∙ k.runs;
       shown = record {
         homes = r.homes;
         events = events_same b s t r;
@@ -349,7 +362,7 @@ module _ (b : Building) (g : RenewedGiven) (given : AreGiven b g) (s t : State) 
 
   abbrev c' : Activation
   c' = record u0.top {
-    block = k.anew.block;
+    block = anew.block;
     at = 0;
     mode = Mode.Resumed;
     values = v.top.values;
@@ -372,14 +385,13 @@ module _ (b : Building) (g : RenewedGiven) (given : AreGiven b g) (s t : State) 
   last_none : alloca_from (function_of b.given.given u0) (0 + length line + 1) ≡ None
   last_none =
       let same : length (front_allocas x) ≡ length line + 1 =
-      ap length k.anew.stands ∙ length-append line (next ∷ []) in
+      ap length anew.stands ∙ length-append line (next ∷ []) in
       let at : 0 + length line + 1 ≡ length (front_allocas x) = omega (arith, same) in
-      (λ j. alloca_from (own_framed j) (at j)) ∙ none_behind x k.anew.at k.anew.instr k.anew.there
+      (λ j. alloca_from (own_framed j) (at j)) ∙ none_behind x anew.at anew.instr anew.there
 
-  entered_is : iterate (framed_step b.given) (suc (suc (length line))) t ≡ t'
+  entered_is : iterate (framed_step b.given) (suc (length line)) u0 ≡ t'
   entered_is =
-      ap (iterate (framed_step b.given) (suc (length line))) target_is
-      ∙ to_the_last b.given suspend'.block label u0 makes line next (line_good line (next ∷ []) good).0
+      to_the_last b.given suspend'.block label u0 makes line next (line_good line (next ∷ []) good).0
       (line_good line (next ∷ []) good).1.0 stand last_none
       ∙ ap entering (last_behind u0 line ∙ all_behind.state ∙ ap (λ (mem : List MemoryBlock). record u0 {
         world = record u0.world { memory = mem };
@@ -394,7 +406,7 @@ module _ (b : Building) (g : RenewedGiven) (given : AreGiven b g) (s t : State) 
       }) own_framed
       ∙ ap (λ (q : ℕ × Env). record t' { top = record c' { block = q.0; values = q.1 } })
       (enters b.given.given.code (framed x) (label_of (slice_get (framed x).blocks suspend'.block)) v.top.values
-      k.anew.block k.anew.block_too k.anew.no_phis_too)
+      anew.block anew.block_too anew.no_phis_too)
 
   abbrev Q : Rights
   Q = frame_rights b.given ys
@@ -418,8 +430,8 @@ module _ (b : Building) (g : RenewedGiven) (given : AreGiven b g) (s t : State) 
   begin_value : value_in c'.values (begin_of x.function) ≡ frame_address_of y
   begin_value =
       all_behind.others (begin_of x.function)
-      (λ l. k.anew.no_begin (subst (λ (ks : List Instr). IsListed (begin_of x.function) (allocas_in ks))
-      (sym k.anew.stands) l))
+      (λ l. anew.no_begin (subst (λ (ks : List Instr). IsListed (begin_of x.function) (allocas_in ks))
+      (sym anew.stands) l))
       ∙ start_values
 
   address_stands : IsValue r.homes (frame_address_of p) (frame_address_of y)
@@ -456,7 +468,7 @@ module _ (b : Building) (g : RenewedGiven) (given : AreGiven b g) (s t : State) 
         (λ none. subst (λ (w : Value). IsValue r.homes w (frame_address_of y)) (sym none) tt)
         (λ same. subst (λ (w : Value). IsValue r.homes w (frame_address_of y)) (sym same) address_stands) z.begun)))
         (λ none. subst (λ (w : Value). IsValue r.homes w (value_in c'.values n)) (sym none) tt)
-        (k.anew.unhanded n unkept);
+        (anew.unhanded n unkept);
     room = all_behind.room ∙ start_room;
   }
 
@@ -478,7 +490,7 @@ module _ (b : Building) (g : RenewedGiven) (given : AreGiven b g) (s t : State) 
               q.0,
               q.1,
               q.2,
-              turned n kv is_kept crosses kv.slot (k.anew.unslotted n kv is_kept)
+              turned n kv is_kept crosses kv.slot (anew.unslotted n kv is_kept)
                   (decode (access_of kv.field_ty) q.0) q.3,
             );
       }
@@ -508,10 +520,10 @@ module _ (b : Building) (g : RenewedGiven) (given : AreGiven b g) (s t : State) 
       → IsCell Q t'.world.memory c' cell ty Anything
   cell_now cell ty sized made =
       let c = cells_made b.given u0 all good
-      (subst (λ (ks : List Instr). AreDifferent (allocas_in ks)) k.anew.stands k.anew.different)
-      (λ n l. subst (λ (q : ℕ). n < q) (sym start_room) (k.anew.low n (subst
-      (λ (ks : List Instr). IsListed n (allocas_in ks)) (sym k.anew.stands) l))) frames_low made.position cell made.align
-      ty (ap (λ (ks : List Instr). slice_get ks made.position) (sym k.anew.stands) ∙ made.there)
+      (subst (λ (ks : List Instr). AreDifferent (allocas_in ks)) anew.stands anew.different)
+      (λ n l. subst (λ (q : ℕ). n < q) (sym start_room) (anew.low n (subst
+      (λ (ks : List Instr). IsListed n (allocas_in ks)) (sym anew.stands) l))) frames_low made.position cell made.align
+      ty (ap (λ (ks : List Instr). slice_get ks made.position) (sym anew.stands) ∙ made.there)
       (ap (λ (f : Function). has_markers f cell) own_framed ∙ made.unmarked)
       (ap (λ (m : Module). size_of m ty) given.code ∙ sized) made.aligned in
       record {
@@ -528,10 +540,10 @@ module _ (b : Building) (g : RenewedGiven) (given : AreGiven b g) (s t : State) 
   made_now : AreCellsThere x Q t'.world.memory c' × AreWheresThere x Q t'.world.memory c'
   made_now = (
     record {
-      values = λ n kv is_kept. cell_now kv.cell kv.ty (k.anew.sizes n kv is_kept) (k.anew.values n kv is_kept);
-      distances = λ n cell told. cell_now cell (int 64) k.anew.sized_words.0 (k.anew.distances n cell told);
+      values = λ n kv is_kept. cell_now kv.cell kv.ty (anew.sizes n kv is_kept) (anew.values n kv is_kept);
+      distances = λ n cell told. cell_now cell (int 64) anew.sized_words.0 (anew.distances n cell told);
     },
-    record { each = λ e listed. cell_now e.cell ptr k.anew.sized_words.1 (k.anew.wheres e listed) },
+    record { each = λ e listed. cell_now e.cell ptr anew.sized_words.1 (anew.wheres e listed) },
   )
 
   own_there : instance_in ys (Some z.number) ≡ Some y'
@@ -539,18 +551,18 @@ module _ (b : Building) (g : RenewedGiven) (given : AreGiven b g) (s t : State) 
 
   returned_is : returned_from x a' Mode.Resumed ≡ Some z.order
   returned_is =
-      ap (λ (q : Bool). if q then entry (plan x).returns (block_at (edged x) k.anew.block).label else None)
-      k.anew.returned
-      ∙ k.anew.behind
+      ap (λ (q : Bool). if q then entry (plan x).returns (block_at (edged x) anew.block).label else None)
+      anew.returned
+      ∙ anew.behind
 
   top_now : AreActivations b r.homes r.hides t' (top_place b) a' c'
   top_now = record {
     func = h.coroutine;
     place =
         ap (λ (q : Bool). record {
-          block = k.anew.block;
-          at = place_by_flag x (record { block = k.anew.block; at = 0 }) q (k.anew.block == 0);
-        }) (sym k.anew.returned)
+          block = anew.block;
+          at = place_by_flag x (record { block = anew.block; at = 0 }) q (anew.block == 0);
+        }) (sym anew.returned)
         ∙ sym (top_is b a' h.is_coroutine tt);
     result = refl;
     mode = refl;
@@ -574,46 +586,21 @@ module _ (b : Building) (g : RenewedGiven) (given : AreGiven b g) (s t : State) 
   -- the caller goes on right behind its call
   caller_now : AreActivations b r.homes r.hides t' (below_place b) caller caller'
   caller_now =
-      let old = activation_on b s t r (s.top ∷ s.below) (t.top ∷ t.below) r.homes r.hides xs ys s.world (u all_news)
-      (moves_grown b s t r given.framings ys rights_are places_are all_news) c' (top_place b) s.top t.top
-      (inl refl) (inl refl) r.top in
       activation_same b r.homes r.hides (record t { world = u all_news; instances = ys; top = c' }) c'
-      (caller' ∷ t.below)
-      (below_place b) caller caller' (record {
-        func = old.func;
-        place = place_now;
-        result = old.result;
-        mode = old.mode;
-        instance = old.instance;
-        has_left = old.has_left;
-        values = others_now (is_coroutine b s.top.func) plain old.values;
-        slots = λ slot e. slot_now slot (is_coroutine b s.top.func && lies_in_frame (offsets (b.framing s.top.func))
-            slot.alloca) (old.slots slot e);
-      })
-    where
-      others_now : (f : Bool) → f ≡ false
-          → HasValues b r.homes Q (record t { world = u all_news; instances = ys; top = c' }) s.top t.top f
-          → HasValues b r.homes Q (record t { world = u all_news; instances = ys; top = c' }) caller caller' f
-      others_now true e q = absurd (cc)
-      others_now false e q = record { each = q.each; room = q.room }
+      (caller' ∷ t.below) (below_place b) caller caller'
+      (caller_passed b r.homes r.hides (record t { world = u all_news; instances = ys; top = c' }) s.top t.top k.calm
+      (top_place b)
+      (activation_on b s t r (s.top ∷ s.below) (t.top ∷ t.below) r.homes r.hides xs ys s.world (u all_news)
+      (moves_grown b s t r given.framings ys rights_are places_are all_news) c' (top_place b) s.top t.top
+      (inl refl) (inl refl) r.top))
 
-      slot_now : (slot : Slot) (f : Bool) → IsSlotBy b r.homes r.hides s.top t.top slot f
-          → IsSlotBy b r.homes r.hides caller caller' slot f
-      slot_now slot true q = q
-      slot_now slot false q = record { block = q.block; home = q.home; own = q.own }
-
-      at_place : point_of t.top ≡ point_of s.top
-      at_place =
-          r.top.place
-          ∙ ap (λ (f : Bool). if f then place_by (b.framing s.top.func) s.top s.top.mode else point_of s.top) plain
-
-      place_now : point_of caller' ≡ below_place b caller
-      place_now =
-          (λ j. record { block = (at_place j).block; at = (at_place j).at + 1 })
-          ∙ ap (λ (f : Bool). if f then record {
-            block = s.top.block;
-            at = behind_place (b.framing s.top.func) s.top.block (s.top.at + 1);
-          } else point_of caller) (sym plain)
+  -- allocas that are still to come
+  all_ahead : AreAllAhead b r.homes r.hides s.world.memory (t.world.memory ++ all_news) (s.top ∷ s.below)
+      (t.top ∷ t.below)
+  all_ahead =
+      ahead_on b s t r (s.top ∷ s.below) (t.top ∷ t.below) r.homes r.hides xs ys s.world (u all_news)
+      (moves_grown b s t r given.framings ys rights_are places_are all_news) c' (s.top ∷ s.below)
+      (t.top ∷ t.below) (λ q l. l) r.ahead
 
   related : AreBuiltOf b s' t'
   related = record {
@@ -646,10 +633,10 @@ module _ (b : Building) (g : RenewedGiven) (given : AreGiven b g) (s t : State) 
     ahead = (
       (λ q first at_entry. absurd (cc)),
       (
-        caller_ahead,
-        (ahead_on b s t r (s.top ∷ s.below) (t.top ∷ t.below) r.homes r.hides xs ys s.world (u all_news)
-            (moves_grown b s t r given.framings ys rights_are places_are all_news) c' (s.top ∷ s.below)
-            (t.top ∷ t.below) (λ q l. l) r.ahead).1,
+        (λ is first at_entry.
+            ahead_passed (b.framing s.top.func) r.homes r.hides s.world.memory (t.world.memory ++ all_news) s.top t.top
+            (below_place b caller) (all_ahead.0 is first at_entry)),
+        all_ahead.1,
       ),
     );
     outcome = r.outcome;
@@ -661,33 +648,30 @@ module _ (b : Building) (g : RenewedGiven) (given : AreGiven b g) (s t : State) 
       free_grown : (e : ℕ) → length t.world.memory ≤ e → IsFreeOf r.homes r.hides s.world.memory e
       free_grown = free_new b s t r given.framings ys rights_are places_are all_news
 
-      caller_ahead : is_coroutine b s.top.func ≡ true → is_first s.top.mode ≡ true → s.top.block ≡ 0
-          → AreAhead (b.framing s.top.func) r.homes r.hides s.world.memory (t.world.memory ++ all_news) caller caller'
-      caller_ahead e first at_entry = let no : true ≡ false = sym e ∙ plain in absurd (cc)
-
   -- ---- the account
 
-  pub entered_followed : IsFollowed b g s t
-  entered_followed = record {
-    steps = suc (suc (length line));
-    few = subst (λ (n : ℕ). suc (suc (length line)) ≤ n) (sym price) (enough (length line));
-    goes_on = inl (omega arith);
-    passes = λ n pos lt. inr (on_way n pos lt);
-    related = subst (λ (q : State × State). AreBuiltOf b q.0 q.1) (λ j. (sym source_is j, sym entered_is j)) related;
+  ends : EndsUp b
+  ends = record {
+    source = s';
+    target = u0;
+    steps = suc (length line);
+    shown = λ n lt.
+        subst (IsOn b s') (sym (reached n (omega (arith, lt)))) (shown n (omega (arith, lt)));
+    related = subst (AreBuiltOf b s') (sym entered_is) related;
   }
+
+  pub entered_followed : IsFollowed b g s t0
+  unfolding ends
+  entered_followed =
+      onward_followed b g s t0 ends k.fetches k.last k.leads k.shown k.last_shown target_is source_is price
     where
-      price : step_cost b g s s.top.mode ≡ 1 + (1 + (length line + 1) - 1)
+      enough : (n m : ℕ) → n + 1 + (1 + (m + 1) - 1) ≡ n + 1 + suc m
+      enough n m = omega arith
+
+      price : step_cost b g s s.top.mode ≡ k.fetches + 1 + suc (length line)
       price =
           k.cost
-          ∙ ap (λ (n : ℕ). 1 + (1 + n - 1))
-          (all_before x k.anew.at k.anew.instr k.anew.there ∙ ap length k.anew.stands ∙ length-append line (next ∷ []))
-
-      enough : (n : ℕ) → suc (suc n) ≤ 1 + (1 + (n + 1) - 1)
-      enough n = omega arith
-
-      on_way : (n : ℕ) → 0 < n → n < suc (suc (length line))
-          → IsOn b (renewed_step g s) (iterate (framed_step b.given) n t)
-      on_way zero pos lt = absurd (omega (arith, pos))
-      on_way (suc n) pos lt =
-          subst (λ (q : State × State). IsOn b q.0 q.1)
-          (λ j. (sym source_is j, sym (reached n (omega (arith, lt))) j)) (shown n (omega (arith, lt)))
+          ∙ ap (λ (o : Option Point). k.fetches + 1 + (resume_cost x (option_map (λ (p : Point). p.at) o) - 1)) anew.none
+          ∙ ap (λ (n : ℕ). k.fetches + 1 + (1 + n - 1))
+          (all_before x anew.at anew.instr anew.there ∙ ap length anew.stands ∙ length-append line (next ∷ []))
+          ∙ enough k.fetches (length line)

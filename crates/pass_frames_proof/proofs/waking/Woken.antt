@@ -1,10 +1,9 @@
 -- A woken coroutine comes to its first alloca that is made anew, and the framed run makes those before it.
-use Rattle.std.proofs.Common.{◌≡◌, ◌+◌, ◌-◌, ◌<◌, ◌≤◌, ◌^◌, ◌%◌, ◌&&◌, ◌∷◌, ◌++◌, ◌∙◌, [], if◌then◌else◌, Bool, List, None, Option, Some, ap, arith, false, inl, inr, length, refl, replicate, subst, suc, sym, take, true, zero, ℕ, ⊎_elim}
+use Rattle.std.proofs.Common.{◌≡◌, ◌+◌, ◌-◌, ◌<◌, ◌≤◌, ◌^◌, ◌%◌, ◌∷◌, ◌++◌, ◌∙◌, [], if◌then◌else◌, Bool, List, None, Option, Some, ap, arith, inl, inr, length, refl, replicate, subst, suc, sym, take, zero, ℕ, ⊎_elim}
 use Rattle.std.proofs.lemmas.List.{length-replicate}
 use Rattle.std.specs.List.{Contains}
 use Rattle.std.specs.Prelude.{option_map, slice_get, slice_set}
 use Rattle.flow_solver.specs.Paths.{IsListed}
-use Rattle.ir_base.specs.declared.outcome.Outcome.{Outcome}
 use Rattle.ir_laws.proofs.facts.Lists.{get_within, set_here, set_length}
 use Rattle.ir_model.specs.Names.{function_at}
 use Rattle.ir_model.specs.declared.instr.Instr.{Instr}
@@ -29,11 +28,10 @@ use Rattle.pass_frames_proof.proofs.waking.Restated.{activation_same, below_same
 use Rattle.pass_frames_proof.specs.Entering.{IsGoodAlloca, IsMaking, allocas_up_to, behind_allocas, made_blocks}
 use Rattle.pass_frames_proof.specs.Followed.{IsFollowed, IsOn}
 use Rattle.pass_frames_proof.specs.Framings.{IsFraming}
-use Rattle.pass_frames_proof.specs.Places.{Framing, alloca_place, framed, offsets, own_place, plan}
-use Rattle.pass_frames_proof.specs.Related.{AreActivations, AreAhead, AreBuiltOf, AreFieldsHeld, AreFieldsRight, AreInstances, AreNamed, Building, HasCells, HasValues, IsFreeOf, IsHeldAs, IsKeptAs, IsKeptValue, IsOffsetOf, IsSlotBy, IsStatus, behind_place, below_place, instance_in, is_coroutine, is_first, place_by, point_of, slots_below, top_place}
+use Rattle.pass_frames_proof.specs.Places.{Framing, alloca_place, framed, own_place, plan}
+use Rattle.pass_frames_proof.specs.Related.{AreActivations, AreAllAhead, AreBuiltOf, AreFieldsHeld, AreFieldsRight, AreInstances, AreNamed, Building, HasCells, IsFreeOf, IsHeldAs, IsKeptAs, IsKeptValue, IsOffsetOf, IsStatus, below_place, instance_in, is_coroutine, point_of, slots_below, top_place}
 use Rattle.pass_frames_proof.specs.Stepping.{AreGiven}
-use Rattle.pass_frames_proof.specs.Waking.{IsSleeping, AreWoken, framed_start, renewed_start}
-use Rattle.pass_proofs.specs.addresses.rules.Addresses.{lies_in_frame}
+use Rattle.pass_frames_proof.specs.Waking.{AreWoken, HasFirstAnew, IsSleeping, framed_start, renewed_start}
 use Rattle.pass_renewed_proof.specs.Renewed.{renew_after, RenewedGiven, renewed_step}
 use Rattle.run_access_worked.specs.Frames.{IsSameFrame}
 use Rattle.run_agreement.specs.Machines.{iterate}
@@ -61,10 +59,22 @@ use Rattle.run_laws.proofs.transfer.Sets.{set_length as value_length}
 use Rattle.pass_frames_proof.specs.Moved.{IsSamePlace}
 use Rattle.run_access_worked.proofs.Ended.{rights_same as frames_same, set_frames}
 use Rattle.pass_frames_proof.proofs.followed.Assembly.{events_same}
+use Rattle.pass_frames_proof.proofs.calling.Passed.{ahead_passed, caller_passed, passed_on}
+use Rattle.pass_frames_proof.proofs.returning.Turned.{placed_at}
+use Rattle.pass_frames_proof.proofs.stepping.Onward.{EndsUp, onward_followed}
+use Rattle.pass_frames_proof.specs.Costs.{resume_cost}
+use Rattle.pass_frames_proof.specs.Meaning.{step_cost}
 
-module _ (b : Building) (g : RenewedGiven) (given : AreGiven b g) (s t : State) (r : AreBuiltOf b s t)
-    (runs : s.outcome ≡ Outcome.Running) (plain : is_coroutine b s.top.func ≡ false) (label : ℕ)
-    (z : IsSleeping b g s label) (k : AreWoken b g s t label z) where
+module _ (b : Building) (g : RenewedGiven) (given : AreGiven b g) (s t0 : State) (label : ℕ)
+    (z : IsSleeping b g s label) (k : AreWoken b g s t0 label z)
+    (anew : HasFirstAnew b g z.instance.coroutine (kept (g.keep z.instance.coroutine z.suspend) z.env)) where
+  -- the operands of the call are fetched
+  abbrev t : State
+  t = k.state
+
+  abbrev r : AreBuiltOf b s t
+  r = k.related
+
   abbrev func : ℕ
   func = z.instance.coroutine
 
@@ -102,16 +112,20 @@ module _ (b : Building) (g : RenewedGiven) (given : AreGiven b g) (s t : State) 
   suspend' = own_place x z.suspend
 
   abbrev a' : Activation
-  a' = renewed_start g z.number p z.suspend z.env label k.anew.first
+  a' = renewed_start g z.number p z.suspend z.env label anew.first
 
   abbrev caller : Activation
-  caller = record s.top { at = s.top.at + 1 }
+  caller = passed_on s.top
 
   abbrev caller' : Activation
-  caller' = record t.top { at = t.top.at + 1 }
+  caller' = placed_at t.top (below_place b caller)
 
   abbrev s' : State
   s' = record s { instances = xs; top = a'; below = caller ∷ s.below }
+
+  -- at the call
+  abbrev at_call : State
+  at_call = record t { top = record t.top { block = k.call.block; at = k.call.at } }
 
   -- where the framed run begins to make allocas
   abbrev u0 : State
@@ -125,15 +139,15 @@ module _ (b : Building) (g : RenewedGiven) (given : AreGiven b g) (s t : State) 
   source_is =
       k.source
       ∙ ap (renew_after g (push (with_status s z.number p Status.Running) (resumed z.number p z.suspend env))
-      z.suspend.block label) k.anew.is
+      z.suspend.block label) anew.is
 
   -- ---- the allocas
 
   abbrev line : List Instr
-  line = allocas_up_to x k.anew.first
+  line = allocas_up_to x anew.first
 
   abbrev next : Instr
-  next = Instr.Alloca k.anew.name k.anew.ty k.anew.align
+  next = Instr.Alloca anew.name anew.ty anew.align
 
   framed_is : function_at b.given.given.code func ≡ framed x
   framed_is = ap (λ (m : Module). function_at m func) given.code ∙ (given.built.coroutines func h.is_coroutine).is
@@ -141,12 +155,12 @@ module _ (b : Building) (g : RenewedGiven) (given : AreGiven b g) (s t : State) 
   own_framed : function_of b.given.given u0 ≡ framed x
   own_framed = ap (function_at b.given.given.code) h.coroutine ∙ framed_is
 
-  all_stand : StandAt (framed x) 0 0 (line ++ (next ∷ k.anew.rest))
+  all_stand : StandAt (framed x) 0 0 (line ++ (next ∷ anew.rest))
   all_stand =
-      subst (StandAt (framed x) 0 0) k.anew.stands (front_stands x k.anew.first next k.anew.there)
+      subst (StandAt (framed x) 0 0) anew.stands (front_stands x anew.first next anew.there)
 
-  good : Each IsGoodAlloca (line ++ (next ∷ k.anew.rest))
-  good = subst (Each IsGoodAlloca) k.anew.stands k.anew.good
+  good : Each IsGoodAlloca (line ++ (next ∷ anew.rest))
+  good = subst (Each IsGoodAlloca) anew.stands anew.good
 
   line_good : (ks js : List Instr) → Each IsGoodAlloca (ks ++ js) → Each IsGoodAlloca ks × Each IsGoodAlloca js
   line_good [] js e = (tt, e)
@@ -159,22 +173,24 @@ module _ (b : Building) (g : RenewedGiven) (given : AreGiven b g) (s t : State) 
 
   stand : StandAt (function_of b.given.given u0) 0 0 (line ++ (next ∷ []))
   stand = subst (λ (f : Function). StandAt f 0 0 (line ++ (next ∷ []))) (sym own_framed)
-      (stand_next (framed x) 0 line k.anew.rest all_stand)
+      (stand_next (framed x) 0 line anew.rest all_stand)
 
   makes : IsMaking u0 suspend'.block label
-  makes = record { runs = r.outcome ∙ runs; mode = refl; entry_block = refl }
+  makes = record { runs = r.outcome ∙ k.runs; mode = refl; entry_block = refl }
 
-  target_is : framed_step b.given t ≡ u0
+  target_is : framed_step b.given k.last ≡ u0
   target_is =
       k.target
-      ∙ ap (enter_after b.given (push (with_status t z.number y Status.Running)
+      ∙ ap (enter_after b.given (push (with_status at_call z.number y Status.Running)
       (resumed z.number y suspend' (reentry_values (function_at b.given.given.code y.coroutine) (frame_address_of y))))
       suspend'.block label) first_is
       ∙ ap (λ (f : Function). record u0 {
         top = record u0.top {
           values = reentry_values f (frame_address_of y);
         };
+        below = record at_call.top { at = at_call.top.at + 1 } ∷ t.below;
       }) (own_framed ∙ ap (λ (n : ℕ). framed (b.framing n)) (sym h.coroutine))
+      ∙ ap (λ (p : Point). record u0 { below = placed_at t.top p ∷ t.below }) k.behind
     where
       head : (ks js : List Instr) → StandAt (framed x) 0 0 (ks ++ (next ∷ js))
           → Each IsGoodAlloca (ks ++ (next ∷ js))
@@ -184,20 +200,18 @@ module _ (b : Building) (g : RenewedGiven) (given : AreGiven b g) (s t : State) 
 
       first_is : alloca_from (function_at b.given.given.code y.coroutine) 0 ≡ Some (record { block = 0; at = 0 })
       first_is =
-          let i = head line k.anew.rest all_stand good in
+          let i = head line anew.rest all_stand good in
           ap (λ (f : Function). alloca_from f 0) own_framed
           ∙ ap (option_map (λ (n : ℕ). record { block = 0; at = n }))
           (alloca_there (slice_get (framed x).blocks 0) 0 i.0 i.1.0 i.1.1)
 
-  reached : (n : ℕ) → n ≤ length line → iterate (framed_step b.given) (suc n) t ≡ behind_allocas b.given u0
-      (take n line)
+  reached : (n : ℕ) → n ≤ length line → iterate (framed_step b.given) n u0 ≡ behind_allocas b.given u0 (take n line)
   reached n le =
-      ap (iterate (framed_step b.given) n) target_is
-      ∙ up_to_next b.given suspend'.block label u0 makes line next
-      (line_good line (next ∷ k.anew.rest) good).0 refl' stand n le
+      up_to_next b.given suspend'.block label u0 makes line next
+      (line_good line (next ∷ anew.rest) good).0 refl' stand n le
     where
       refl' : IsGoodAlloca next
-      refl' = (line_good line (next ∷ k.anew.rest) good).1.0
+      refl' = (line_good line (next ∷ anew.rest) good).1.0
 
   -- ---- instances and memory, when some are made
 
@@ -259,7 +273,7 @@ module _ (b : Building) (g : RenewedGiven) (given : AreGiven b g) (s t : State) 
     w' = behind_allocas b.given u0 (take n line)
 
     m : AreBehind b.given u0 w' (take n line)
-    m = are_behind b.given u0 (take n line) (part_good line n (line_good line (next ∷ k.anew.rest) good).0)
+    m = are_behind b.given u0 (take n line) (part_good line n (line_good line (next ∷ anew.rest) good).0)
 
     abbrev news : List MemoryBlock
     news = made_blocks b.given.given.code (function_of b.given.given u0) (take n line)
@@ -280,7 +294,7 @@ module _ (b : Building) (g : RenewedGiven) (given : AreGiven b g) (s t : State) 
 
     shown : IsOn b s' w'
     shown = subst (IsOn b s') (sym m.state) (record {
-      running = r.outcome ∙ runs;
+      running = r.outcome ∙ k.runs;
       shown = record {
         homes = r.homes;
         events = events_same b s t r;
@@ -295,7 +309,7 @@ module _ (b : Building) (g : RenewedGiven) (given : AreGiven b g) (s t : State) 
   -- ---- the relation at the first alloca that is made anew
 
   all_behind : AreBehind b.given u0 (behind_allocas b.given u0 line) line
-  all_behind = are_behind b.given u0 line (line_good line (next ∷ k.anew.rest) good).0
+  all_behind = are_behind b.given u0 line (line_good line (next ∷ anew.rest) good).0
 
   abbrev v : State
   v = behind_allocas b.given u0 line
@@ -337,9 +351,9 @@ module _ (b : Building) (g : RenewedGiven) (given : AreGiven b g) (s t : State) 
   begin_value : value_in c'.values (begin_of x.function) ≡ frame_address_of y
   begin_value =
       all_behind.others (begin_of x.function)
-      (λ l. k.anew.no_begin (subst (λ (is : List Instr). IsListed (begin_of x.function) (allocas_in is))
-      (sym k.anew.stands)
-      (listed_more line (next ∷ k.anew.rest) l)))
+      (λ l. anew.no_begin (subst (λ (is : List Instr). IsListed (begin_of x.function) (allocas_in is))
+      (sym anew.stands)
+      (listed_more line (next ∷ anew.rest) l)))
       ∙ start_values
     where
       listed_more : (ks js : List Instr) → IsListed (begin_of x.function) (allocas_in ks)
@@ -378,7 +392,7 @@ module _ (b : Building) (g : RenewedGiven) (given : AreGiven b g) (s t : State) 
         (⊎_elim
         (λ none. subst (λ (w : Value). IsValue r.homes w (frame_address_of y)) (sym none) tt)
         (λ same. subst (λ (w : Value). IsValue r.homes w (frame_address_of y)) (sym same) address_stands) z.begun)))
-        (λ l. subst (λ (w : Value). IsValue r.homes w (value_in c'.values n)) (sym (k.anew.unhanded n l)) tt) asks;
+        (λ l. subst (λ (w : Value). IsValue r.homes w (value_in c'.values n)) (sym (anew.unhanded n l)) tt) asks;
     room = all_behind.room ∙ start_room;
   }
     where
@@ -432,7 +446,7 @@ module _ (b : Building) (g : RenewedGiven) (given : AreGiven b g) (s t : State) 
     place =
         (λ j. record { block = 0; at = all_behind.at j })
         ∙ ap (λ (n : ℕ). record { block = 0; at = n }) (none_before (length line))
-        ∙ ap (λ (f : Bool). if f then alloca_place x k.anew.first else point_of a') (sym h.is_coroutine);
+        ∙ ap (λ (f : Bool). if f then alloca_place x anew.first else point_of a') (sym h.is_coroutine);
     result = refl;
     mode = refl;
     instance = refl;
@@ -458,46 +472,21 @@ module _ (b : Building) (g : RenewedGiven) (given : AreGiven b g) (s t : State) 
   -- the caller goes on right behind its call
   caller_now : AreActivations b r.homes r.hides t' (below_place b) caller caller'
   caller_now =
-      let old = activation_on b s t r (s.top ∷ s.below) (t.top ∷ t.below) r.homes r.hides xs ys s.world (u all_news)
-      (moves_grown b s t r given.framings ys rights_are places_are all_news) c' (top_place b) s.top t.top
-      (inl refl) (inl refl) r.top in
       activation_same b r.homes r.hides (record t { world = u all_news; instances = ys; top = c' }) c'
-      (caller' ∷ t.below)
-      (below_place b) caller caller' (record {
-        func = old.func;
-        place = place_now;
-        result = old.result;
-        mode = old.mode;
-        instance = old.instance;
-        has_left = old.has_left;
-        values = others_now (is_coroutine b s.top.func) plain old.values;
-        slots = λ slot e. slot_now slot (is_coroutine b s.top.func && lies_in_frame (offsets (b.framing s.top.func))
-            slot.alloca) (old.slots slot e);
-      })
-    where
-      others_now : (f : Bool) → f ≡ false
-          → HasValues b r.homes Q (record t { world = u all_news; instances = ys; top = c' }) s.top t.top f
-          → HasValues b r.homes Q (record t { world = u all_news; instances = ys; top = c' }) caller caller' f
-      others_now true e q = absurd (cc)
-      others_now false e q = record { each = q.each; room = q.room }
+      (caller' ∷ t.below) (below_place b) caller caller'
+      (caller_passed b r.homes r.hides (record t { world = u all_news; instances = ys; top = c' }) s.top t.top k.calm
+      (top_place b)
+      (activation_on b s t r (s.top ∷ s.below) (t.top ∷ t.below) r.homes r.hides xs ys s.world (u all_news)
+      (moves_grown b s t r given.framings ys rights_are places_are all_news) c' (top_place b) s.top t.top
+      (inl refl) (inl refl) r.top))
 
-      slot_now : (slot : Slot) (f : Bool) → IsSlotBy b r.homes r.hides s.top t.top slot f
-          → IsSlotBy b r.homes r.hides caller caller' slot f
-      slot_now slot true q = q
-      slot_now slot false q = record { block = q.block; home = q.home; own = q.own }
-
-      at_place : point_of t.top ≡ point_of s.top
-      at_place =
-          r.top.place
-          ∙ ap (λ (f : Bool). if f then place_by (b.framing s.top.func) s.top s.top.mode else point_of s.top) plain
-
-      place_now : point_of caller' ≡ below_place b caller
-      place_now =
-          (λ j. record { block = (at_place j).block; at = (at_place j).at + 1 })
-          ∙ ap (λ (f : Bool). if f then record {
-            block = s.top.block;
-            at = behind_place (b.framing s.top.func) s.top.block (s.top.at + 1);
-          } else point_of caller) (sym plain)
+  -- allocas that are still to come
+  all_ahead : AreAllAhead b r.homes r.hides s.world.memory (t.world.memory ++ all_news) (s.top ∷ s.below)
+      (t.top ∷ t.below)
+  all_ahead =
+      ahead_on b s t r (s.top ∷ s.below) (t.top ∷ t.below) r.homes r.hides xs ys s.world (u all_news)
+      (moves_grown b s t r given.framings ys rights_are places_are all_news) c' (s.top ∷ s.below)
+      (t.top ∷ t.below) (λ q l. l) r.ahead
 
   related : AreBuiltOf b s' t'
   related = record {
@@ -530,10 +519,10 @@ module _ (b : Building) (g : RenewedGiven) (given : AreGiven b g) (s t : State) 
     ahead = (
       (λ q first at_entry. absurd (cc)),
       (
-        caller_ahead,
-        (ahead_on b s t r (s.top ∷ s.below) (t.top ∷ t.below) r.homes r.hides xs ys s.world (u all_news)
-            (moves_grown b s t r given.framings ys rights_are places_are all_news) c' (s.top ∷ s.below)
-            (t.top ∷ t.below) (λ q l. l) r.ahead).1,
+        (λ is first at_entry.
+            ahead_passed (b.framing s.top.func) r.homes r.hides s.world.memory (t.world.memory ++ all_news) s.top t.top
+            (below_place b caller) (all_ahead.0 is first at_entry)),
+        all_ahead.1,
       ),
     );
     outcome = r.outcome;
@@ -545,35 +534,33 @@ module _ (b : Building) (g : RenewedGiven) (given : AreGiven b g) (s t : State) 
       free_grown : (e : ℕ) → length t.world.memory ≤ e → IsFreeOf r.homes r.hides s.world.memory e
       free_grown = free_new b s t r given.framings ys rights_are places_are all_news
 
-      caller_ahead : is_coroutine b s.top.func ≡ true → is_first s.top.mode ≡ true → s.top.block ≡ 0
-          → AreAhead (b.framing s.top.func) r.homes r.hides s.world.memory (t.world.memory ++ all_news) caller caller'
-      caller_ahead e first at_entry = let no : true ≡ false = sym e ∙ plain in absurd (cc)
-
   -- ---- the account
 
-  pub woken_followed : IsFollowed b g s t
-  woken_followed = record {
-    steps = suc (length line);
-    few = subst (λ (n : ℕ). suc (length line) ≤ n) (sym k.cost) (enough (length line));
-    goes_on = inl (omega arith);
-    passes = λ n pos lt. inr (on_way n pos lt);
-    related = subst (λ (q : State × State). AreBuiltOf b q.0 q.1)
-        (λ j. (
-          sym source_is j,
-          sym (reached (length line) (itself_le (length line)) ∙ ap (behind_allocas b.given u0)
-              (take_whole line) ∙ v_is) j,
-        ))
+  ends : EndsUp b
+  ends = record {
+    source = s';
+    target = u0;
+    steps = length line;
+    shown = λ n lt.
+        subst (IsOn b s') (sym (reached n (omega (arith, lt)))) (shown n (omega (arith, lt)));
+    related = subst (AreBuiltOf b s')
+        (sym (reached (length line) (itself_le (length line)) ∙ ap (behind_allocas b.given u0) (take_whole line) ∙ v_is))
         related;
   }
     where
-      enough : (n : ℕ) → suc n ≤ 1 + (1 + n - 1)
-      enough n = omega arith
-
       itself_le : (n : ℕ) → n ≤ n
       itself_le n = omega arith
 
-      on_way : (n : ℕ) → 0 < n → n < suc (length line) → IsOn b (renewed_step g s) (iterate (framed_step b.given) n t)
-      on_way zero pos lt = absurd (omega (arith, pos))
-      on_way (suc n) pos lt =
-          subst (λ (q : State × State). IsOn b q.0 q.1)
-          (λ j. (sym source_is j, sym (reached n (omega (arith, lt))) j)) (shown n (omega (arith, lt)))
+  pub woken_followed : IsFollowed b g s t0
+  unfolding ends
+  woken_followed =
+      onward_followed b g s t0 ends k.fetches k.last k.leads k.shown k.last_shown target_is source_is price
+    where
+      enough : (n m : ℕ) → n + 1 + (1 + m - 1) ≡ n + 1 + m
+      enough n m = omega arith
+
+      price : step_cost b g s s.top.mode ≡ k.fetches + 1 + length line
+      price =
+          k.cost
+          ∙ ap (λ (o : Option Point). k.fetches + 1 + (resume_cost x (option_map (λ (p : Point). p.at) o) - 1)) anew.is
+          ∙ enough k.fetches (length line)
