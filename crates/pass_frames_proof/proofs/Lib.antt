@@ -1,1 +1,2 @@
 pub mod here
+pub mod leaving

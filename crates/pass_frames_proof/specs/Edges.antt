@@ -1,13 +1,11 @@
 -- Jumps of a coroutine: what stands at the end of a block and in front of one, and what is executed there.
-use Rattle.std.specs.Prelude.{◌≡◌, ◌≢◌, ◌<◌, ◌≤◌, ◌+◌, ℕ, true, false, List, [], ◌∷◌, length, filter, slice_get, Bool}
+use Rattle.std.specs.Prelude.{◌≡◌, ◌≢◌, ◌<◌, ◌≤◌, ◌+◌, ℕ, true, false, List, [], ◌∷◌, length, slice_get, Bool}
 use Rattle.std.specs.List.{Contains}
 use Rattle.ir_base.specs.declared.outcome.Outcome.{Outcome}
 use Rattle.ir_model.specs.Names.{position_of}
 use Rattle.ir_model.specs.declared.instr.Instr.{Instr}
 use Rattle.ir_model.specs.declared.instr.Phi.{Phi}
 use Rattle.ir_model.specs.declared.instr.Terminator.{Terminator}
-use Rattle.ir_paths.specs.Paths.{entry_point}
-use Rattle.ir_paths.specs.Windows.{leaves}
 use Rattle.pass_copies.specs.declared.slot.EarlySlot.{EarlySlot}
 use Rattle.pass_frames_proof.specs.Costs.{whole}
 use Rattle.pass_frames_proof.specs.Led.{RunsThrough, SparesBlocks}
@@ -28,7 +26,7 @@ use Rattle.run_laws.specs.transfer.Transfer.{AreOver}
 use Rattle.run_memory.specs.Memory.{owner_rights}
 use Rattle.run_memory.specs.declared.pointer.Value.{Value}
 use Rattle.run_source.specs.Source.{context_of}
-use Rattle.run_source.specs.State.{function_of, own_facts, point_of as state_point, work_of}
+use Rattle.run_source.specs.State.{function_of, work_of}
 use Rattle.run_source.specs.declared.state.State.{State}
 use Rattle.run_step.specs.Step.{AtTerm, GoTo, Work, fetch, label_of, phi_values, phis_of, term_action, with_all}
 use Rattle.run_step.specs.Values.{value_in}
@@ -71,8 +69,6 @@ pub record IsAtJump (b : Building) (g : RenewedGiven) (s : State) (e : Terminato
   pub unreturned : is_return (b.framing s.top.func) s.top.block ≡ false
   pub later : block_to (b.framing s.top.func) label ≢ 0
   pub ordinary : is_return (b.framing s.top.func) (block_to (b.framing s.top.func) label) ≡ false
-  pub stays : filter (leaves (state_point s) (entry_point (function_of g.given s) label)) (own_facts g.given s).windows
-      ≡ []
   pub room : length s.top.values ≡ length (edged (b.framing s.top.func)).names
   pub wide : length (edged (b.framing s.top.func)).names ≤ length (framed (b.framing s.top.func)).names
 
@@ -102,8 +98,6 @@ pub record EndsLed (b : Building) (g : RenewedGiven) (s t : State) (homes : List
   pub goes : term_action (framed_context b.given t) work e ≡ GoTo label
   pub gives : Each (GivesNone b.given.given.code) line
   pub block : position_of (framed (b.framing s.top.func)) label ≡ block_to (b.framing s.top.func) label
-  pub stays : filter (leaves (state_point (record t { top = record t.top { at = t.top.at + length line } }))
-      (entry_point (function_of b.given.given t) label)) (own_facts b.given.given t).windows ≡ []
   pub phis : ArePairs homes (length (edged (b.framing s.top.func)).names)
       (entered_phis g s (b.framing s.top.func) label)
       (phi_values b.given.given.code work.values

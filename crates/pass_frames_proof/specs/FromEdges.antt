@@ -1,6 +1,6 @@
 -- Jumps from a block on a resume or destroy edge: what stands in front there is executed with the jump.
 use Rattle.std.specs.List.{Contains}
-use Rattle.std.specs.Prelude.{◌≡◌, ◌≢◌, ◌⊎◌, ◌+◌, ◌*◌, ◌<◌, ◌≤◌, ◌^◌, [], Bool, List, None, Some, false, filter, length, slice_get, take, true, ℕ}
+use Rattle.std.specs.Prelude.{◌≡◌, ◌≢◌, ◌⊎◌, ◌+◌, ◌*◌, ◌<◌, ◌≤◌, ◌^◌, [], Bool, List, None, Some, false, length, slice_get, take, true, ℕ}
 use Rattle.flow_solver.specs.Paths.{IsListed}
 use Rattle.frame_contents.specs.Held.{position_of}
 use Rattle.ir_base.specs.declared.outcome.Outcome.{Outcome}
@@ -11,8 +11,6 @@ use Rattle.ir_model.specs.declared.instr.Terminator.{Terminator}
 use Rattle.ir_model.specs.declared.operand.Arg.{Arg}
 use Rattle.ir_model.specs.declared.operand.Operand.{Operand}
 use Rattle.ir_parts.specs.Contents.{result_of}
-use Rattle.ir_paths.specs.Paths.{entry_point}
-use Rattle.ir_paths.specs.Windows.{leaves}
 use Rattle.pass_cells.specs.Kept.{entry}
 use Rattle.pass_cells.specs.Moves.{again_values}
 use Rattle.pass_cells.specs.Written.{after_blocks, again_row, row_at}
@@ -36,13 +34,12 @@ use Rattle.pass_frames_proof.specs.Saving.{HasNoReturnsBelow, IsRunningInstance}
 use Rattle.pass_frames_proof.specs.Stepping.{IsBeginPlain, IsNotEntering}
 use Rattle.pass_intrinsics.specs.Shapes.{suspends_of}
 use Rattle.pass_proofs.specs.addresses.rules.Addresses.{lies_in_frame}
-use Rattle.pass_renewed_proof.specs.Renewed.{RenewedGiven}
 use Rattle.run_framed.specs.Framed.{frame_rights, framed_context}
 use Rattle.run_laws.specs.changed.Changed.{Each}
 use Rattle.run_laws.specs.memory.Pointers.{Home}
 use Rattle.run_laws.specs.transfer.Transfer.{AreOver}
 use Rattle.run_memory.specs.Memory.{owner_rights}
-use Rattle.run_source.specs.State.{function_of, own_facts, point_of as state_point, work_of}
+use Rattle.run_source.specs.State.{work_of}
 use Rattle.run_source.specs.declared.state.Activation.{Activation}
 use Rattle.run_source.specs.declared.state.State.{State}
 use Rattle.run_step.specs.Step.{Work}
@@ -187,11 +184,9 @@ pub record IsAtReturn (b : Building) (s : State) (label order : ℕ) : Type 0 wh
       → IsLocalSlot (b.framing s.top.func) k slot
 
 -- and its jump leads to an ordinary block
-pub record IsOutOfEdge (b : Building) (g : RenewedGiven) (s : State) (label : ℕ) : Type 0 where
+pub record IsOutOfEdge (b : Building) (s : State) (label : ℕ) : Type 0 where
   pub later : block_to (b.framing s.top.func) label ≢ 0
   pub ordinary : is_return (b.framing s.top.func) (block_to (b.framing s.top.func) label) ≡ false
   pub plain : IsOrdinaryBlock (b.framing s.top.func) (block_to (b.framing s.top.func) label)
   pub there : slice_get (edged (b.framing s.top.func)).blocks (block_to (b.framing s.top.func) label)
       ≡ Some (block_at (edged (b.framing s.top.func)) (block_to (b.framing s.top.func) label))
-  pub stays : filter (leaves (state_point s) (entry_point (function_of g.given s) label)) (own_facts g.given s).windows
-      ≡ []

@@ -1,12 +1,10 @@
 -- What is asked of the end of a block where a coroutine jumps from it, by the code of the framed form.
-use Rattle.std.specs.Prelude.{◌≡◌, ◌≤◌, ◌+◌, ℕ, List, [], length, codes, filter, slice_get, Some}
+use Rattle.std.specs.Prelude.{◌≡◌, ◌≤◌, ℕ, List, length, codes, slice_get, Some}
 use Rattle.std.specs.List.{Contains}
 use Rattle.ir_model.specs.Names.{block_labelled, position_of}
 use Rattle.ir_model.specs.declared.instr.Phi.{Phi}
 use Rattle.ir_model.specs.declared.instr.Terminator.{Terminator}
 use Rattle.ir_model.specs.declared.module.Block.{Block}
-use Rattle.ir_paths.specs.Paths.{entry_point}
-use Rattle.ir_paths.specs.Windows.{leaves}
 use Rattle.pass_cells.specs.Cells.{fetches_of}
 use Rattle.pass_copies.specs.declared.slot.EarlySlot.{EarlySlot}
 use Rattle.pass_fetch.specs.Blocks.{with_fetches}
@@ -27,7 +25,7 @@ use Rattle.run_laws.specs.memory.Pointers.{Home}
 use Rattle.run_laws.specs.transfer.Transfer.{IsSameCase, cases_at}
 use Rattle.run_memory.specs.declared.pointer.Value.{Value}
 use Rattle.run_source.specs.Source.{context_of}
-use Rattle.run_source.specs.State.{function_of, own_facts, point_of as state_point, work_of}
+use Rattle.run_source.specs.State.{work_of}
 use Rattle.run_source.specs.declared.state.State.{State}
 use Rattle.run_step.specs.Step.{AtTerm, Context, GoTo, Work, incoming_from, label_of, phis_of, term_action}
 
@@ -78,10 +76,6 @@ pub record MayGo (b : Building) (g : RenewedGiven) (s t : State) (r : AreBuiltOf
   pub cases : Each (IsSameCase (context_of g.given s) (framed_context b.given t)) (cases_at (AtTerm e))
   pub room : length s.top.values ≤ length t.top.values
 
--- the state of the framed run at the terminator of its block
-abbrev pub ended_at : Framing → ℕ → State → State
-ended_at x k t = record t { top = record t.top { at = t.top.at + length (end_code x k (last_state x k)) } }
-
 -- what is fetched at the end may be, phis get what stands for the source's, and the terminator goes to the same label
 pub record MayJumpBy (b : Building) (g : RenewedGiven) (s t : State) (homes : List Home) (label : ℕ) : Type 0 where
   pub given : ℕ → Value
@@ -107,9 +101,6 @@ pub record MayJumpBy (b : Building) (g : RenewedGiven) (s t : State) (homes : Li
   pub target_label : label_of (slice_get (framed (b.framing s.top.func)).blocks s.top.block)
       ≡ label_at (b.framing s.top.func) s.top.block
   pub block : position_of (framed (b.framing s.top.func)) label ≡ block_to (b.framing s.top.func) label
-  -- no window is left in the framed form
-  pub stays : filter (leaves (state_point (ended_at (b.framing s.top.func) s.top.block t))
-      (entry_point (function_of b.given.given t) label)) (own_facts b.given.given t).windows ≡ []
   pub goes : (e : EndsAt (b.framing s.top.func) given reached (framed_context b.given t) s.top.block (work_of t))
       → term_action (framed_context b.given t) e.work
       (end_term (b.framing s.top.func) (last_state (b.framing s.top.func) s.top.block)
@@ -139,6 +130,4 @@ pub record CanJump (b : Building) (g : RenewedGiven) (s t : State) (r : AreBuilt
       × Each (IsNotSet z.temporary)
       (end_code (b.framing s.top.func) s.top.block (last_state (b.framing s.top.func) s.top.block))
   pub labelled : block_labelled (edged (b.framing s.top.func)) label ≡ Some (block_to (b.framing s.top.func) label)
-  pub stays : filter (leaves (state_point (ended_at (b.framing s.top.func) s.top.block t))
-      (entry_point (function_of b.given.given t) label)) (own_facts b.given.given t).windows ≡ []
   pub go : MayGo b g s t r e given reached

@@ -25,6 +25,7 @@ pub mod Here
 pub mod Jumps
 pub mod Layers
 pub mod Landing
+pub mod Leaving
 pub mod Led
 pub mod Lined
 pub mod Lines

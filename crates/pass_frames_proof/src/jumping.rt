@@ -1,7 +1,7 @@
 //! Jumps of a coroutine are followed: what its phis and the terminator need is fetched at the end of the block, and
 //! phis are stored in front of the next one.
 
-ghost use Rattle.std.specs.Prelude.{◌≡◌, ◌≢◌, ℕ, false, List, Some, slice_get};
+ghost use Rattle.std.specs.Prelude.{◌≡◌, ◌≢◌, ℕ, false, List, Some, length, slice_get};
 ghost use Rattle.ir_model.specs.Names.{block_labelled, position_of};
 ghost use Rattle.ir_model.specs.declared.module.Block.{Block};
 ghost use Rattle.pass_cells.specs.Cells.{fetches_of};
@@ -15,6 +15,7 @@ ghost use Rattle.pass_frames_proof.specs.Places.{Framing, edged, fetched, framed
 ghost use Rattle.ir_model.specs.declared.instr.Instr.{Instr};
 ghost use Rattle.ir_model.specs.declared.instr.Terminator.{Terminator};
 ghost use Rattle.pass_frames_proof.specs.Edges.{AreEndsLed, AreFrontsLed, ArePhisGiven, EndsInPlace, FrontsInPlace, IsAtJump, block_to};
+ghost use Rattle.pass_frames_proof.specs.Leaving.{IsBranch, further};
 ghost use Rattle.pass_frames_proof.specs.Jumps.{CanJump, EndsAt, MayGo, MayJump, PhisInPlace};
 ghost use Rattle.run_framed.specs.Framed.{framed_context};
 ghost use Rattle.run_memory.specs.declared.pointer.Value.{Value};
@@ -61,7 +62,7 @@ pub fn labels_stay()
 {}
 
 /// A jump to a block that is neither the entry nor on a resume or destroy edge is followed, where the line at the end
-/// of the block and that in front of the next one are executed.
+/// of the block and that in front of the next one are executed. It may leave windows, the same in both runs.
 pub fn jumps_are_followed()
     ensures { (b : Building) (g : RenewedGiven) → AreGiven b g
         → (s t : State) (r : AreBuiltOf b s t) (e other : Terminator)
@@ -69,7 +70,7 @@ pub fn jumps_are_followed()
         → EndsInPlace (b.framing s.top.func) s.top.block line other
         → FrontsInPlace (b.framing s.top.func) (block_to (b.framing s.top.func) label) front
         → (ends : AreEndsLed b g s t r label line other) → AreFrontsLed b g s t r label ends.work front
-        → IsFollowed b g s t }
+        → IsBranch b g s (further t (length line)) label → IsFollowed b g s t }
 {}
 
 /// At the end of the block what is fetched there is executed, where it may be. Phis of the next block get what stands
@@ -128,5 +129,7 @@ pub fn ordinary_jumps_are_followed()
         (end_code (b.framing s.top.func) s.top.block (last_state (b.framing s.top.func) s.top.block))
         (end_term (b.framing s.top.func) (last_state (b.framing s.top.func) s.top.block)
         (block_at (edged (b.framing s.top.func)) s.top.block).term)) → ArePhisGiven b g s t r label ends.work)
+        → IsBranch b g s (further t
+        (length (end_code (b.framing s.top.func) s.top.block (last_state (b.framing s.top.func) s.top.block)))) label
         → IsFollowed b g s t }
 {}

@@ -99,8 +99,8 @@ module _ (b : Building) (s t : State) (r : AreBuiltOf b s t)
           (instance_in t.instances t.top.instance) s.top (returned_from (b.framing s.top.func) s.top s.top.mode)
           (λ y j own from. fields_kept R t.world.memory u.memory y.block
           (kept b s t r s.world u Touched framings refl old stood others y.block
-          (own_frame b s t r s.world u Touched framings refl old stood others t.top.instance y own)) (b.framing s.top.func)
-          r.homes j s.top.values y.start s.top.mode) h.cells;
+          (own_frame b s t r s.world u Touched framings refl old stood others t.top.instance y own))
+          (b.framing s.top.func) r.homes j s.top.values y.start s.top.mode) h.cells;
       made = made_kept R t.world.memory u.memory (b.framing s.top.func) (framings s.top.func is) t.top
           (λ slot e name. top_kept slot e) s.top.mode h.made;
     }

@@ -1,9 +1,10 @@
 -- A jump from a block on a resume or destroy edge is followed, with what stands in front there.
-use Rattle.std.proofs.Common.{◌≡◌, ◌⊎◌, ◌+◌, ◌-◌, ◌<◌, ◌≤◌, ◌==◌, ◌∙◌, [], if◌then◌else◌, Bool, List, None, Ok, Option, Some, ap, arith, false, inl, inr, length, map, refl, subst, sym, true, ℕ, ⊎_elim}
+use Rattle.std.proofs.Common.{◌≡◌, ◌⊎◌, ◌+◌, ◌-◌, ◌<◌, ◌≤◌, ◌==◌, ◌∙◌, [], if◌then◌else◌, Bool, Err, List, None, Ok, Option, Result, Some, ap, arith, false, inl, inr, length, map, refl, subst, sym, true, ℕ, ⊎_elim}
 use Rattle.std.proofs.lemmas.Bool.{cases_lt}
 use Rattle.std.specs.List.{Contains}
 use Rattle.std.specs.Prelude.{filter, slice_get}
 use Rattle.flow_solver.specs.Paths.{IsListed}
+use Rattle.ir_base.specs.declared.cause.Cause.{Cause}
 use Rattle.ir_base.specs.declared.outcome.Outcome.{Outcome}
 use Rattle.ir_model.specs.Names.{function_at, position_of}
 use Rattle.ir_model.specs.Ty.{ptr}
@@ -44,6 +45,8 @@ use Rattle.pass_frames_proof.specs.Framings.{IsFraming}
 use Rattle.pass_frames_proof.specs.FromEdges.{IsAtReturn, IsFrontDone, IsNoOwnCell, IsOnCells, IsOutOfEdge, address_name, again_name}
 use Rattle.pass_frames_proof.specs.Jumps.{MayJumpBy}
 use Rattle.pass_frames_proof.specs.Led.{SparesBlocks}
+use Rattle.pass_frames_proof.proofs.leaving.Branches.{none_left}
+use Rattle.pass_frames_proof.specs.Leaving.{further}
 use Rattle.pass_frames_proof.specs.Lined.{GivesNone, lined}
 use Rattle.pass_frames_proof.specs.Lines.{at_work}
 use Rattle.pass_frames_proof.specs.Meaning.{action_at, coroutine_cost, other_cost, step_cost}
@@ -54,7 +57,7 @@ use Rattle.pass_frames_proof.specs.Stepping.{AreGiven}
 use Rattle.pass_proofs.specs.addresses.rules.Addresses.{lies_in_frame}
 use Rattle.pass_renewed_proof.specs.Renewed.{RenewedGiven, renewed_step}
 use Rattle.run_agreement.proofs.Runs.{iterate-add}
-use Rattle.run_agreement.specs.Machines.{iterate}
+use Rattle.run_agreement.specs.Machines.{IsFine, iterate}
 use Rattle.run_framed.specs.Framed.{frame_rights, framed_context, framed_step}
 use Rattle.run_laws.specs.access.Lines.{Holds, StandAt}
 use Rattle.run_laws.specs.changed.Changed.{Each}
@@ -62,7 +65,7 @@ use Rattle.run_laws.specs.memory.Pointers.{IsValue, home_of}
 use Rattle.run_memory.specs.Memory.{Rights}
 use Rattle.run_memory.specs.declared.block.Byte.{Byte}
 use Rattle.run_memory.specs.declared.pointer.Value.{Value}
-use Rattle.run_source.specs.Source.{branch_leaving, context_of, enter_block, go_to}
+use Rattle.run_source.specs.Source.{branch_leaving, context_of, enter_block, go_to, left_windows}
 use Rattle.run_source.specs.State.{function_of, or_undefined, own_facts, work_of}
 use Rattle.run_source.specs.declared.state.Activation.{Activation}
 use Rattle.run_source.specs.declared.state.Instance.{Instance}
@@ -89,7 +92,7 @@ first_done b g given s t r label order h =
 
 module _ (b : Building) (g : RenewedGiven) (given : AreGiven b g) (s t : State) (r : AreBuiltOf b s t)
     (label order : ℕ)
-    (h : IsAtReturn b s label order) (o : IsOutOfEdge b g s label)
+    (h : IsAtReturn b s label order) (o : IsOutOfEdge b s label)
     (may : (done : IsFrontDone b s t r.homes r.hides (front_code (b.framing s.top.func) s.top.block))
     → MayJumpBy b g s (lined t (length (front_code (b.framing s.top.func) s.top.block)) done.work) r.homes label)
     (phis : (done : IsFrontDone b s t r.homes r.hides (front_code (b.framing s.top.func) s.top.block))
@@ -98,7 +101,10 @@ module _ (b : Building) (g : RenewedGiven) (given : AreGiven b g) (s t : State) 
     (end_term (b.framing s.top.func) (last_state (b.framing s.top.func) s.top.block)
     (block_at (edged (b.framing s.top.func)) s.top.block).term))
     → PhisGiven b g s (lined t (length (front_code (b.framing s.top.func) s.top.block)) done.work) r.homes label
-    ends.work) where
+    ends.work) (fine : IsFine (renewed_step g s).outcome)
+    (stays_in : left_windows b.given.given (further (further t (length (front_code (b.framing s.top.func) s.top.block)))
+    (length (end_code (b.framing s.top.func) s.top.block (last_state (b.framing s.top.func) s.top.block)))) label
+    ≡ []) where
   abbrev x : Framing
   x = b.framing s.top.func
 
@@ -220,7 +226,7 @@ module _ (b : Building) (g : RenewedGiven) (given : AreGiven b g) (s t : State) 
   entered : framed_step b.given t2 ≡ t3
   entered =
       framed_does b.given t2 (AtTerm term) (GoTo label) running at_term refl ends.goes
-      ∙ ap (or_undefined b.given.given t2) (goes_by b.given.given t2 label ends.stays)
+      ∙ ap (or_undefined b.given.given t2) (goes_by b.given.given t2 label stays_in)
       ∙ ap (λ (f : Function). record t {
         world = ends.work.world;
         top = record t.top {
@@ -323,10 +329,31 @@ module _ (b : Building) (g : RenewedGiven) (given : AreGiven b g) (s t : State) 
 
   -- ---- the first run
 
+  fetched_jump : fetch (function_of g.given s) k s.top.at ≡ AtTerm (Terminator.Jump label)
+  fetched_jump =
+      ap (λ (f : Function). fetch f k s.top.at) edged_is
+      ∙ ap (λ (q : Option Block). fetch_in q s.top.at) h.here
+      ∙ ap (λ (q : List Instr). fetch_or (slice_get q s.top.at) (s.top.at == length q) (block_at (edged x) k).term)
+      h.no_instrs
+      ∙ (λ j. fetch_or (slice_get [] (h.first j)) (h.first j == 0) (h.jumps j))
+
+  goes : renewed_step g s ≡ or_undefined g.given s (go_to g.given s label)
+  goes = renewed_does g s (AtTerm (Terminator.Jump label)) (GoTo label) h.runs fetched_jump refl refl
+
+  -- its instance is Running, so a window would be left in no step that is defined
+  source_stays : left_windows g.given s label ≡ []
+  source_stays = on (go_to g.given s label) refl (subst (λ (z : State). IsFine z.outcome) goes fine)
+    where
+      on : (o : Result State Cause) → go_to g.given s label ≡ o → IsFine (or_undefined g.given s o).outcome
+          → left_windows g.given s label ≡ []
+      on (Err cause) e q = absurd q
+      on (Ok after) e q =
+          none_left g.given s after label h.instance.number h.instance.instance h.instance.own h.instance.there
+          h.instance.running e
+
   source_is : renewed_step g s ≡ record s { top = a' }
   source_is =
-      renewed_does g s (AtTerm (Terminator.Jump label)) (GoTo label) h.runs fetched refl refl
-      ∙ ap (or_undefined g.given s) (goes_by g.given s label o.stays)
+      goes ∙ ap (or_undefined g.given s) (goes_by g.given s label source_stays)
       ∙ ap (λ (f : Function). record s {
         top = record s.top {
           block = position_of f label;
@@ -335,14 +362,6 @@ module _ (b : Building) (g : RenewedGiven) (given : AreGiven b g) (s t : State) 
               (label_of (slice_get f.blocks s.top.block)) s.top.values;
         };
       }) edged_is
-    where
-      fetched : fetch (function_of g.given s) k s.top.at ≡ AtTerm (Terminator.Jump label)
-      fetched =
-          ap (λ (f : Function). fetch f k s.top.at) edged_is
-          ∙ ap (λ (q : Option Block). fetch_in q s.top.at) h.here
-          ∙ ap (λ (q : List Instr). fetch_or (slice_get q s.top.at) (s.top.at == length q) (block_at (edged x) k).term)
-          h.no_instrs
-          ∙ (λ j. fetch_or (slice_get [] (h.first j)) (h.first j == 0) (h.jumps j))
 
   -- ---- what is touched: cells alone
 
@@ -381,13 +400,13 @@ module _ (b : Building) (g : RenewedGiven) (given : AreGiven b g) (s t : State) 
   }
 
   -- behind the first front
-  further : (u : World) → SparesBlocks x t1.top done.work.world.memory u.memory → Spares u
-  further u spares e none =
+  behind_first : (u : World) → SparesBlocks x t1.top done.work.world.memory u.memory → Spares u
+  behind_first u spares e none =
       spares.same e (λ slot listed of same. none slot listed (cell_is_name x slot.alloca of) same)
       ∙ done.last.spares e none
 
   z_spares : Spares z.world
-  z_spares = further z.world led.last.spares
+  z_spares = behind_first z.world led.last.spares
 
   -- ---- the activation on top
 
@@ -538,7 +557,7 @@ module _ (b : Building) (g : RenewedGiven) (given : AreGiven b g) (s t : State) 
       subst (IsOn b s)
       (sym (iterate-add (framed_step b.given) (length line + 1) j t1
       ∙ ap (iterate (framed_step b.given) j) to_front ∙ q.1.0))
-      (shown_there q.0.world (lined t3 j q.0).top (q.1.1.events ∙ done.last.events) (further q.0.world q.1.1.spares))
+      (shown_there q.0.world (lined t3 j q.0).top (q.1.1.events ∙ done.last.events) (behind_first q.0.world q.1.1.spares))
 
   shown_rest : (i : ℕ) → i < rest → IsOn b s (iterate (framed_step b.given) i t1)
   shown_rest i lt = ⊎_elim (λ less. shown_line i less) (λ le. later le (cases_lt i (length line + 1)))
@@ -572,21 +591,13 @@ module _ (b : Building) (g : RenewedGiven) (given : AreGiven b g) (s t : State) 
       cost_is b g s s.top.mode h.mode
       ∙ ap (λ (q : Bool). if q then coroutine_cost b g s (action_at g s) else other_cost b g s (action_at g s))
       h.coroutine
-      ∙ ap (λ (f : Fetched). coroutine_cost b g s (action_of (context_of g.given s) (work_of s) f)) fetched
+      ∙ ap (λ (f : Fetched). coroutine_cost b g s (action_of (context_of g.given s) (work_of s) f)) fetched_jump
       ∙ ap (λ (f : Function). jump_cost x k (position_of f label)) edged_is
       ∙ ap (λ (q : Bool). whole x k - place_by x (record { block = k; at = length (instrs_at x k) }) q (k == 0)
       + (place x (record { block = k'; at = 0 })).at) h.returned
       ∙ (λ i. inside.whole_is i - 0 + fronts.place i)
       ∙ sums (length first) (length line) (length front)
     where
-      fetched : fetch (function_of g.given s) k s.top.at ≡ AtTerm (Terminator.Jump label)
-      fetched =
-          ap (λ (f : Function). fetch f k s.top.at) edged_is
-          ∙ ap (λ (q : Option Block). fetch_in q s.top.at) h.here
-          ∙ ap (λ (q : List Instr). fetch_or (slice_get q s.top.at) (s.top.at == length q) (block_at (edged x) k).term)
-          h.no_instrs
-          ∙ (λ j. fetch_or (slice_get [] (h.first j)) (h.first j == 0) (h.jumps j))
-
       sums : (p m n : ℕ) → (p + m + 1) - 0 + n ≡ p + (m + 1 + n)
       sums p m n = omega arith
 

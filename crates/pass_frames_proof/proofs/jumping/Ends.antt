@@ -203,7 +203,6 @@ module _ (b : Building) (g : RenewedGiven) (s t : State) (homes : List Home) (is
     goes = q.goes run;
     gives = all (GivesNone b.given.given.code) (into_gives b.given.given.code);
     block = q.block;
-    stays = q.stays;
     phis = phis;
   }
 

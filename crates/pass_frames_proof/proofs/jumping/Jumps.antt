@@ -1,17 +1,13 @@
 -- A jump of a coroutine is followed.
-use Rattle.std.proofs.Common.{◌≡◌, ◌⊎◌, inl, inr, ℕ, ◌+◌, ◌-◌, ◌<◌, ◌≤◌, Bool, List, [], length, refl, sym, ap, ◌∙◌, subst, arith}
-use Rattle.std.proofs.lemmas.Bool.{cases_lt}
-use Rattle.std.specs.Prelude.{Ok, filter, slice_get, if◌then◌else◌}
+use Rattle.std.proofs.Common.{◌≡◌, ℕ, ◌+◌, ◌-◌, ◌<◌, Bool, List, length, refl, sym, ap, ◌∙◌, subst, arith}
+use Rattle.std.specs.Prelude.{Ok, slice_get, if◌then◌else◌}
 use Rattle.ir_base.specs.declared.outcome.Outcome.{Outcome}
 use Rattle.ir_model.specs.Names.{function_at, position_of}
 use Rattle.ir_model.specs.declared.instr.Instr.{Instr}
 use Rattle.ir_model.specs.declared.instr.Terminator.{Terminator}
 use Rattle.ir_model.specs.declared.module.Function.{Function}
-use Rattle.ir_paths.specs.Paths.{entry_point}
-use Rattle.ir_paths.specs.Windows.{leaves}
 use Rattle.ir_paths.specs.declared.point.Point.{Point}
-use Rattle.ir_paths.specs.declared.point.Window.{Window}
-use Rattle.pass_frames_proof.proofs.jumping.Landed.{a', c', landed, shown_there}
+use Rattle.pass_frames_proof.proofs.jumping.Landed.{a', c', landed}
 use Rattle.pass_frames_proof.proofs.lined.Lines.{each_between, framed_does, line_leads}
 use Rattle.pass_frames_proof.proofs.stepping.Shown.{still_shown}
 use Rattle.pass_frames_proof.proofs.stepping.Stands.{cost_is, renewed_does, top_is}
@@ -24,26 +20,27 @@ use Rattle.pass_frames_proof.specs.Places.{Framing, edged, framed, instrs_at, pl
 use Rattle.pass_frames_proof.specs.Related.{AreBuiltOf, Building, point_of}
 use Rattle.pass_frames_proof.specs.Stepping.{AreGiven}
 use Rattle.pass_renewed_proof.specs.Renewed.{RenewedGiven, renewed_step}
-use Rattle.run_agreement.proofs.Runs.{iterate-add}
 use Rattle.run_agreement.specs.Machines.{iterate}
 use Rattle.run_framed.specs.Framed.{framed_context, framed_step}
 use Rattle.run_laws.specs.access.Lines.{StandAt}
-use Rattle.run_source.specs.Source.{branch_leaving, context_of, enter_block, go_to}
-use Rattle.run_source.specs.State.{function_of, or_undefined, own_facts, point_of as state_point, work_of}
+use Rattle.run_source.specs.Source.{context_of, enter_block, go_to}
+use Rattle.run_source.specs.State.{function_of, or_undefined, work_of}
 use Rattle.run_source.specs.declared.state.State.{State}
-use Rattle.run_source_tables.specs.Given.{Given}
 use Rattle.run_step.specs.Step.{AtTerm, Context, GoTo, Work, action_of, fetch, label_of, values_in}
-
-goes_by : (g : Given) (s : State) (label : ℕ)
-    → filter (leaves (state_point s) (entry_point (function_of g s) label)) (own_facts g s).windows ≡ []
-    → go_to g s label ≡ Ok (enter_block g s label)
-goes_by g s label none = ap (λ (ws : List Window). branch_leaving g s label ws) none
+use Rattle.pass_frames_proof.proofs.leaving.Branches.{Branches, branches, changed_by}
+use Rattle.pass_frames_proof.proofs.leaving.Left.{left_by}
+use Rattle.pass_frames_proof.proofs.stepping.Landing.{spared_shown}
+use Rattle.pass_frames_proof.proofs.stepping.Onward.{EndsUp, onward_followed}
+use Rattle.pass_frames_proof.specs.Leaving.{IsBranch, further}
+use Rattle.pass_frames_proof.specs.Led.{RunsThrough}
+use Rattle.run_memory.specs.Memory.{Rights}
 
 module _ (b : Building) (g : RenewedGiven) (given : AreGiven b g) (s t : State) (r : AreBuiltOf b s t)
     (e other : Terminator) (label : ℕ) (line front : List Instr) (h : IsAtJump b g s e label)
     (places : EndsInPlace (b.framing s.top.func) s.top.block line other)
     (fronts : FrontsInPlace (b.framing s.top.func) (block_to (b.framing s.top.func) label) front)
-    (ends : AreEndsLed b g s t r label line other) (led : AreFrontsLed b g s t r label ends.work front) where
+    (ends : AreEndsLed b g s t r label line other) (led : AreFrontsLed b g s t r label ends.work front)
+    (branch : IsBranch b g s (further t (length line)) label) where
   abbrev x : Framing
   x = b.framing s.top.func
 
@@ -65,22 +62,34 @@ module _ (b : Building) (g : RenewedGiven) (given : AreGiven b g) (s t : State) 
   abbrev z : Work
   z = led.work
 
+  -- what becomes of instances, and whether the activation has left
+  both : Branches b g s t (further t (length line)) label
+  both = branches b g s t (further t (length line)) r given.framings label (refl, refl, refl) refl branch
+
+  -- the first run behind its step
+  abbrev s'' : State
+  s'' = record s {
+    instances = both.xs;
+    top = left_by both.left (a' b g given s t r e other label line front h fronts ends led);
+  }
+
   -- ---- the first run
 
   edged_is : function_of g.given s ≡ edged x
   edged_is = given.coroutines s.top.func h.coroutine
 
-  source_is : renewed_step g s
-      ≡ record s { top = a' b g given s t r e other label line front h fronts ends led }
+  source_is : renewed_step g s ≡ s''
   source_is =
       renewed_does g s (AtTerm e) (GoTo label) h.runs h.there refl h.does
-      ∙ ap (or_undefined g.given s) (goes_by g.given s label h.stays)
+      ∙ ap (or_undefined g.given s) both.source
       ∙ ap (λ (f : Function). record s {
+        instances = both.xs;
         top = record s.top {
           block = position_of f label;
           at = 0;
           values = values_in g.given.code (slice_get f.blocks (position_of f label))
               (label_of (slice_get f.blocks s.top.block)) s.top.values;
+          has_left = both.left;
         };
       }) edged_is
 
@@ -115,43 +124,40 @@ module _ (b : Building) (g : RenewedGiven) (given : AreGiven b g) (s t : State) 
       ∙ ap (λ (p : Point). fetch (framed x) p.block (p.at + length line)) at_place ∙ places.term
 
   abbrev t2 : State
-  t2 = record t { world = w.world; top = record t.top { block = k; at = 0; values = y.values } }
+  t2 = record t {
+    world = w.world;
+    instances = both.ys;
+    top = record t.top { block = k; at = 0; values = y.values; has_left = both.left };
+  }
+
+  -- it does the same where it has other values
+  target_goes : go_to b.given.given t1 label ≡ Ok (enter_block b.given.given (changed_by t1 both.ys both.left) label)
+  target_goes = both.at_values w.world w.values
 
   entered : framed_step b.given t1 ≡ t2
   entered =
       framed_does b.given t1 (AtTerm other) (GoTo label) running at_term refl ends.goes
-      ∙ ap (or_undefined b.given.given t1) (goes_by b.given.given t1 label ends.stays)
-      ∙ ap (λ (f : Function). record t {
-        world = w.world;
-        top = record t.top {
+      ∙ ap (or_undefined b.given.given t1) target_goes
+      ∙ ap (λ (f : Function). record t2 {
+        top = record t2.top {
           block = position_of f label;
-          at = 0;
           values = values_in b.given.given.code (slice_get f.blocks (position_of f label))
               (label_of (slice_get f.blocks t.top.block)) w.values;
         };
       }) framed_is
-      ∙ ap (λ (n : ℕ). record t {
-        world = w.world;
-        top = record t.top {
+      ∙ ap (λ (n : ℕ). record t2 {
+        top = record t2.top {
           block = n;
-          at = 0;
           values = values_in b.given.given.code (slice_get (framed x).blocks n)
               (label_of (slice_get (framed x).blocks t.top.block)) w.values;
         };
       }) ends.block
-      ∙ ap (λ (p : Point). record t {
-        world = w.world;
-        top = record t.top {
-          block = k;
-          at = 0;
+      ∙ ap (λ (p : Point). record t2 {
+        top = record t2.top {
           values = values_in b.given.given.code (slice_get (framed x).blocks k)
               (label_of (slice_get (framed x).blocks p.block)) w.values;
         };
       }) at_place
-
-  to_front : iterate (framed_step b.given) (length line + 1) t ≡ t2
-  to_front =
-      iterate-add (framed_step b.given) (length line) 1 t ∙ ap (framed_step b.given) leads ∙ entered
 
   front_stand : StandAt (function_of b.given.given t2) k 0 front
   front_stand = subst (λ (f : Function). StandAt f k 0 front) (sym framed_is) fronts.stand
@@ -159,33 +165,51 @@ module _ (b : Building) (g : RenewedGiven) (given : AreGiven b g) (s t : State) 
   abbrev OnFront : Work → Type 0
   OnFront = IsOnFront x t
 
+  front_runs : RunsThrough (framed_context b.given t2) OnFront front y z
+  front_runs =
+      subst (λ (q : Rights). RunsThrough (record (framed_context b.given t) { rights = q }) OnFront front y z)
+      (sym both.frames) led.runs
+
   front_leads : iterate (framed_step b.given) (length front) t2 ≡ lined t2 (length front) z
-  front_leads = line_leads b.given t2 OnFront front z running front_stand led.gives led.runs
+  front_leads = line_leads b.given t2 OnFront front z running front_stand led.gives front_runs
 
-  abbrev steps : ℕ
-  steps = length line + 1 + length front
-
-  all_leads : iterate (framed_step b.given) steps t
-      ≡ record t { world = z.world; top = c' b g given s t r e other label line front h fronts ends led }
-  all_leads =
-      iterate-add (framed_step b.given) (length line + 1) (length front) t
-      ∙ ap (iterate (framed_step b.given) (length front)) to_front ∙ front_leads
-      ∙ ap (λ (n : ℕ). record t { world = z.world; top = record t.top { block = k; at = n; values = z.values } })
-      (from_none (length front))
+  related : AreBuiltOf b s'' (iterate (framed_step b.given) (length front) t2)
+  related =
+      subst (AreBuiltOf b s'')
+      (sym (front_leads
+      ∙ ap (λ (n : ℕ). record t2 { world = z.world; top = record t2.top { at = n; values = z.values } })
+      (from_none (length front))))
+      (both.turned s.world z.world (a' b g given s t r e other label line front h fronts ends led)
+      (c' b g given s t r e other label line front h fronts ends led)
+      (landed b g given s t r e other label line front h fronts ends led))
     where
       from_none : (n : ℕ) → 0 + n ≡ n
       from_none n = omega arith
 
   -- ---- what is shown on the way
 
-  shown_front : (j : ℕ) → j < length front → IsOn b s (iterate (framed_step b.given) (length line + 1 + j) t)
+  -- where the instance runs again
+  related_behind : AreBuiltOf b (changed_by s both.xs both.left) (changed_by t both.ys both.left)
+  related_behind = both.turned s.world t.world s.top t.top r
+
+  shown_front : (j : ℕ) → j < length front → IsOn b s'' (iterate (framed_step b.given) j t2)
   shown_front j lt =
-      let q = each_between b.given t2 OnFront front z running front_stand led.gives led.runs j lt in
-      subst (IsOn b s)
-      (sym (iterate-add (framed_step b.given) (length line + 1) j t
-      ∙ ap (iterate (framed_step b.given) j) to_front ∙ q.1.0))
-      (shown_there b g given s t r e other label line front h fronts ends led q.0.world (lined t2 j q.0).top
-      q.1.1.events q.1.1.spares)
+      let q = each_between b.given t2 OnFront front z running front_stand led.gives front_runs j lt in
+      subst (IsOn b s'') (sym q.1.0)
+      (on_again (spared_shown b (changed_by s both.xs both.left) (changed_by t both.ys both.left) related_behind
+      given.framings h.coroutine running q.0.world (lined t2 j q.0).top q.1.1.events
+      (record { same = q.1.1.spares.same })))
+    where
+      on_again : {u : State} → IsOn b (changed_by s both.xs both.left) u → IsOn b s'' u
+      on_again k = record {
+        running = k.running;
+        shown = record {
+          homes = k.shown.homes;
+          events = k.shown.events;
+          outcome = k.shown.outcome;
+          instances = k.shown.instances;
+        };
+      }
 
   shown_line : (i : ℕ) → i < length line → IsOn b s (iterate (framed_step b.given) i t)
   shown_line i lt =
@@ -193,29 +217,12 @@ module _ (b : Building) (g : RenewedGiven) (given : AreGiven b g) (s t : State) 
       (u : Work). u.world ≡ t.world) line w running stand ends.gives ends.runs i lt in
       subst (IsOn b s) (sym q.1.0) (still_shown b s t r given.framings running i q.0 q.1.1)
 
-  shown_end : IsOn b s (iterate (framed_step b.given) (length line) t)
-  shown_end = subst (IsOn b s) (sym leads) (still_shown b s t r given.framings running (length line) w ends.world)
-
-  on_way : (i : ℕ) → i < steps → IsOn b s (iterate (framed_step b.given) i t)
-  on_way i lt = first (cases_lt i (length line))
-    where
-      last : (i < length line + 1) ⊎ (length line + 1 ≤ i) → length line ≤ i
-          → IsOn b s (iterate (framed_step b.given) i t)
-      last (inl less) le =
-          let same : length line ≡ i = omega (arith, less, le) in
-          subst (λ (n : ℕ). IsOn b s (iterate (framed_step b.given) n t)) same shown_end
-      last (inr more) le =
-          let same : length line + 1 + (i - (length line + 1)) ≡ i = omega (arith, more) in
-          subst (λ (n : ℕ). IsOn b s (iterate (framed_step b.given) n t)) same
-          (shown_front (i - (length line + 1)) (omega (arith, more, lt)))
-
-      first : (i < length line) ⊎ (length line ≤ i) → IsOn b s (iterate (framed_step b.given) i t)
-      first (inl less) = shown_line i less
-      first (inr le) = last (cases_lt i (length line + 1)) le
+  shown_end : IsOn b s t1
+  shown_end = still_shown b s t r given.framings running (length line) w ends.world
 
   -- ---- the account
 
-  cost : step_cost b g s s.top.mode ≡ steps
+  cost : step_cost b g s s.top.mode ≡ length line + 1 + length front
   cost =
       cost_is b g s s.top.mode h.mode
       ∙ ap (λ (q : Bool). if q then coroutine_cost b g s (action_at g s) else other_cost b g s (action_at g s))
@@ -228,15 +235,16 @@ module _ (b : Building) (g : RenewedGiven) (given : AreGiven b g) (s t : State) 
       behind : (p m n : ℕ) → (p + m + 1) - p + n ≡ m + 1 + n
       behind p m n = omega arith
 
-  pub jump_followed : IsFollowed b g s t
-  jump_followed = record {
-    steps = steps;
-    few = subst (λ (n : ℕ). steps ≤ n) (sym cost) (same steps);
-    goes_on = inl (omega arith);
-    passes = λ i pos lt. inl (on_way i lt);
-    related = subst (λ (p : State × State). AreBuiltOf b p.0 p.1) (λ i. (sym source_is i, sym all_leads i))
-        (landed b g given s t r e other label line front h fronts ends led);
+  ends_up : EndsUp b
+  ends_up = record {
+    source = s'';
+    target = t2;
+    steps = length front;
+    shown = shown_front;
+    related = related;
   }
-    where
-      same : (n : ℕ) → n ≤ n
-      same n = omega arith
+
+  pub jump_followed : IsFollowed b g s t
+  unfolding ends_up
+  jump_followed =
+      onward_followed b g s t ends_up (length line) t1 leads shown_line shown_end entered source_is cost

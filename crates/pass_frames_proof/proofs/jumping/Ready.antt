@@ -36,6 +36,5 @@ may_jump b g given s t r e label h here there q = record {
   target_label = label_there (b.framing s.top.func) s.top.block (block_at (edged
       (b.framing s.top.func)) s.top.block) here;
   block = position_same (b.framing s.top.func) label (block_to (b.framing s.top.func) label) q.labelled;
-  stays = q.stays;
   goes = λ run. goes_there b g given s t r e label h q.given q.reached q.go run;
 }

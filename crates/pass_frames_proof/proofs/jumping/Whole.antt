@@ -1,5 +1,5 @@
 -- A jump to an ordinary block is followed: over the end of its block, and the stores of phis in front of the next one.
-use Rattle.std.proofs.Common.{◌≡◌, ℕ}
+use Rattle.std.proofs.Common.{◌≡◌, length, ℕ}
 use Rattle.std.specs.Prelude.{Some, slice_get}
 use Rattle.ir_model.specs.declared.instr.Terminator.{Terminator}
 use Rattle.pass_cells.specs.Written.{stored_phis}
@@ -11,6 +11,7 @@ use Rattle.pass_frames_proof.specs.Code.{end_code, end_term, last_state}
 use Rattle.pass_frames_proof.specs.Edges.{AreEndsLed, ArePhisGiven, IsAtJump, block_to}
 use Rattle.pass_frames_proof.specs.Followed.{IsFollowed}
 use Rattle.pass_frames_proof.specs.Jumps.{MayJump}
+use Rattle.pass_frames_proof.specs.Leaving.{IsBranch, further}
 use Rattle.pass_frames_proof.specs.Passes.{block_at}
 use Rattle.pass_frames_proof.specs.Phis.{IsOrdinaryBlock}
 use Rattle.pass_frames_proof.specs.Places.{edged, fetched, plan}
@@ -30,8 +31,10 @@ pub whole_jump_followed : (b : Building) (g : RenewedGiven) → AreGiven b g →
     (end_code (b.framing s.top.func) s.top.block (last_state (b.framing s.top.func) s.top.block))
     (end_term (b.framing s.top.func) (last_state (b.framing s.top.func) s.top.block)
     (block_at (edged (b.framing s.top.func)) s.top.block).term)) → ArePhisGiven b g s t r label ends.work)
-    → IsFollowed b g s t
-whole_jump_followed b g given s t r e label h here there ordinary may phis =
+    → IsBranch b g s
+    (further t (length (end_code (b.framing s.top.func) s.top.block (last_state (b.framing s.top.func) s.top.block))))
+    label → IsFollowed b g s t
+whole_jump_followed b g given s t r e label h here there ordinary may phis branch =
     let ends : AreEndsLed b g s t r label
     (end_code (b.framing s.top.func) s.top.block (last_state (b.framing s.top.func) s.top.block))
     (end_term (b.framing s.top.func) (last_state (b.framing s.top.func) s.top.block)
@@ -49,3 +52,4 @@ whole_jump_followed b g given s t r e label h here there ordinary may phis =
     (end_term (b.framing s.top.func) (last_state (b.framing s.top.func) s.top.block)
     (block_at (edged (b.framing s.top.func)) s.top.block).term) label
     (end_code (b.framing s.top.func) s.top.block (last_state (b.framing s.top.func) s.top.block)) h ends (phis ends))
+    branch

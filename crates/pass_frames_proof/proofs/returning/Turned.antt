@@ -1,5 +1,5 @@
--- An activation that stands at another place is related as it was.
-use Rattle.std.proofs.Common.{ℕ, Bool, true, false, List, refl}
+-- An activation that stands at another place, or differs in nothing but what no value depends on, is related as it was.
+use Rattle.std.proofs.Common.{◌≡◌, ℕ, Bool, true, false, List, ap, refl}
 use Rattle.std.specs.Prelude.{None, Option, Some, ◌&&◌}
 use Rattle.ir_model.specs.Ty.{Ty, int, ptr}
 use Rattle.ir_paths.specs.declared.point.Point.{Point}
@@ -15,36 +15,42 @@ use Rattle.run_source.specs.declared.state.Activation.{Activation}
 use Rattle.run_source.specs.declared.state.Instance.{Instance}
 use Rattle.run_source.specs.declared.state.Mode.{Mode}
 use Rattle.run_source.specs.declared.state.State.{State}
+use Rattle.run_step.specs.Values.{Env, value_in}
 use Rattle.run_step.specs.declared.world.Slot.{Slot}
 
 -- the activation at a place
 abbrev pub placed_at : Activation → Point → Activation
 placed_at c p = record c { block = p.block; at = p.at }
 
-module _ (x : Framing) (homes : List Home) (rights : Rights) (m : List MemoryBlock) (a c : Activation) (p : Point) where
-  there_turned : AreCellsThere x rights m c → AreCellsThere x rights m (placed_at c p)
+module _ (x : Framing) (homes : List Home) (rights : Rights) (m : List MemoryBlock) (a c d : Activation)
+    (slots : d.slots ≡ c.slots) (values : d.values ≡ c.values) where
+  value_same : (v : ℕ) → value_in d.values v ≡ value_in c.values v
+  value_same v = ap (λ (e : Env). value_in e v) values
+
+  there_turned : AreCellsThere x rights m c → AreCellsThere x rights m d
   there_turned h = record {
-    values = λ v k kept. cell_turned rights m c (placed_at c p) k.cell k.ty Anything refl refl (h.values v k kept);
-    distances = λ v cell e. cell_turned rights m c (placed_at c p) cell (int 64) Anything refl refl (h.distances v cell e);
+    values = λ v k kept. cell_turned rights m c d k.cell k.ty Anything slots (value_same k.cell) (h.values v k kept);
+    distances = λ v cell e.
+        cell_turned rights m c d cell (int 64) Anything slots (value_same cell) (h.distances v cell e);
   }
 
-  wheres_there_turned : AreWheresThere x rights m c → AreWheresThere x rights m (placed_at c p)
+  wheres_there_turned : AreWheresThere x rights m c → AreWheresThere x rights m d
   wheres_there_turned h = record {
-    each = λ s e. cell_turned rights m c (placed_at c p) s.cell ptr Anything refl refl (h.each s e);
+    each = λ s e. cell_turned rights m c d s.cell ptr Anything slots (value_same s.cell) (h.each s e);
   }
 
-  made_turned : (mode : Mode) → AreMade x rights m c mode → AreMade x rights m (placed_at c p) mode
+  pub made_turned : (mode : Mode) → AreMade x rights m c mode → AreMade x rights m d mode
   made_turned Mode.Plain h = (there_turned h.0, wheres_there_turned h.1)
   made_turned Mode.Ramp h = (there_turned h.0, wheres_there_turned h.1)
   made_turned (Mode.GivenRamp frame) h = (there_turned h.0, wheres_there_turned h.1)
   made_turned Mode.Resumed h = (there_turned h.0, wheres_there_turned h.1)
   made_turned (Mode.Entering from label) h = tt
 
-  has_turned : (own : Option Instance) (from : Option ℕ) → HasCells x homes rights m own a c from
-      → HasCells x homes rights m own a (placed_at c p) from
+  pub has_turned : (own : Option Instance) (from : Option ℕ) → HasCells x homes rights m own a c from
+      → HasCells x homes rights m own a d from
   has_turned own None h = (
-    cells_turned rights m c (placed_at c p) x homes a.values refl refl h.0,
-    wheres_turned rights m c (placed_at c p) x own refl (λ s listed. (refl, refl)) h.1,
+    cells_turned rights m c d x homes a.values slots values h.0,
+    wheres_turned rights m c d x own slots (λ s listed. (value_same s.cell, value_same s.temporary)) h.1,
   )
   has_turned None (Some suspend) h = absurd h
   has_turned (Some y) (Some suspend) h = h
@@ -53,9 +59,9 @@ pub coroutines_turned : (x : Framing) (homes : List Home) (rights : Rights) (t :
     → AreCoroutines x homes rights t a c → AreCoroutines x homes rights t a (placed_at c p)
 coroutines_turned x homes rights t a c p h = record {
   names = record { each = h.names.each; room = h.names.room };
-  cells = has_turned x homes rights t.world.memory a c p (instance_in t.instances c.instance)
+  cells = has_turned x homes rights t.world.memory a c (placed_at c p) refl refl (instance_in t.instances c.instance)
       (returned_from x a a.mode) h.cells;
-  made = made_turned x homes rights t.world.memory a c p a.mode h.made;
+  made = made_turned x homes rights t.world.memory a c (placed_at c p) refl refl a.mode h.made;
 }
 
 values_turned : (b : Building) (homes : List Home) (rights : Rights) (t : State) (a c : Activation) (p : Point)
