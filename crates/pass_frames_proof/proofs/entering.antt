@@ -1,4 +1,5 @@
 pub mod Allocas
 pub mod Behind
 pub mod Cells
+pub mod Into
 pub mod Stand

@@ -41,6 +41,14 @@ pub record IsAtOtherAlloca (b : Building) (g : RenewedGiven) (s : State) (name :
     pub instance : s.top.instance ≡ None
     pub off : g.flags s.top.func name ≡ false
 
+-- The next step is an alloca in the entry block of a coroutine, whatever the activation is there for.
+pub record IsAtAlloca (b : Building) (s : State) (name : ℕ) (ty : Ty) (align : ℕ) : Type 0 where
+  pub runs : s.outcome ≡ Outcome.Running
+  pub coroutine : is_coroutine b s.top.func ≡ true
+  pub entry_block : s.top.block ≡ 0
+  pub there : slice_get (instrs_at (b.framing s.top.func) 0) s.top.at ≡ Some (Instr.Alloca name ty align)
+  pub aligned : is_alignment align ≡ true
+
 -- The next step is an alloca of a ramp, in its entry block. Names of allocas are of the coroutine's table, and each is
 -- that of one alone (N1). They are kept in no cell, and no distance from them is made yet: uses come behind (F2).
 pub record IsAtRampAlloca (b : Building) (g : RenewedGiven) (s : State) (name : ℕ) (ty : Ty) (align : ℕ) : Type 0

@@ -2,6 +2,7 @@ pub mod Agains
 pub mod Asking
 pub mod Calling
 pub mod Allocating
+pub mod Anew
 pub mod Beginning
 pub mod Code
 pub mod Copying

@@ -92,8 +92,22 @@ pub record IsSleeping (b : Building) (g : RenewedGiven) (s : State) (label : ℕ
   pub begin_low : begin_of (b.framing instance.coroutine).function
       < length (framed (b.framing instance.coroutine)).names
 
--- The first of its allocas that is made anew. Those of the framed form have alignments that there are, and names of
--- their own, of which begin's is none.
+-- Allocas in front of a framed form's entry have alignments that there are, and names of their own in its table, of
+-- which begin's is none.
+pub record AreFrontsGood (x : Framing) : Type 0 where
+  pub good : Each IsGoodAlloca (front_allocas x)
+  pub different : AreDifferent (allocas_in (front_allocas x))
+  pub low : (v : ℕ) → IsListed v (allocas_in (front_allocas x)) → v < length (framed x).names
+  pub no_begin : IsListed (begin_of x.function) (allocas_in (front_allocas x)) → ⊥
+
+-- an alloca of the coroutine stands among them, behind those that stand before it
+pub record StandsInFront (x : Framing) (at name : ℕ) (ty : Ty) (align : ℕ) : Type 0 where
+  pub there : slice_get (instrs_at x 0) at ≡ Some (Instr.Alloca name ty align)
+  pub rest : List Instr
+  pub is : front_allocas x ≡ allocas_up_to x at ++ (Instr.Alloca name ty align ∷ rest)
+
+-- The first of its allocas that is made anew. Those of the framed form have alignments that there are, and begin's name
+-- is that of none.
 pub record HasFirstAnew (b : Building) (g : RenewedGiven) (func : ℕ) (env : Env) : Type 0 where
   pub first : ℕ
   pub name : ℕ
@@ -101,10 +115,7 @@ pub record HasFirstAnew (b : Building) (g : RenewedGiven) (func : ℕ) (env : En
   pub align : ℕ
   pub is : renewed_from (g.flags func) (function_at g.given.code func) 0
       ≡ Some (record { block = 0; at = first })
-  pub there : slice_get (instrs_at (b.framing func) 0) first ≡ Some (Instr.Alloca name ty align)
-  pub rest : List Instr
-  pub stands : front_allocas (b.framing func)
-      ≡ allocas_up_to (b.framing func) first ++ (Instr.Alloca name ty align ∷ rest)
+  pub stands : StandsInFront (b.framing func) first name ty align
   pub good : Each IsGoodAlloca (front_allocas (b.framing func))
   pub no_begin : IsListed (begin_of (b.framing func).function) (allocas_in (front_allocas (b.framing func))) → ⊥
   pub unhanded : (v : ℕ) → IsListed v (allocas_in (take first (instrs_at (b.framing func) 0)))
@@ -193,25 +204,8 @@ pub record IsCellMade (x : Framing) (cell : ℕ) (ty : Ty) : Type 0 where
   pub unmarked : has_markers (framed x) cell ≡ false
   pub aligned : value_bytes ty ≤ align
 
--- No alloca is made anew, and so no address is moved, nor is the distance of one kept. The label leads to a block on
--- the edge, which has no phis. Of names that are kept nowhere but begin's nothing is handed on.
-pub record HasNoneAnew (b : Building) (g : RenewedGiven) (func : ℕ) (env : Env) (label order : ℕ) : Type 0 where
-  pub none : renewed_from (g.flags func) (function_at g.given.code func) 0 ≡ None
-  pub unrooted : (v : ℕ) → g.roots func v ≡ None
-  pub at : ℕ
-  pub instr : Instr
-  pub there : slice_get (instrs_at (b.framing func) 0) at ≡ Some instr
-  pub line : List Instr
-  pub last : Instr
-  pub stands : front_allocas (b.framing func) ≡ line ++ (last ∷ [])
-  pub good : Each IsGoodAlloca (front_allocas (b.framing func))
-  pub different : AreDifferent (allocas_in (front_allocas (b.framing func)))
-  pub low : (v : ℕ) → IsListed v (allocas_in (front_allocas (b.framing func)))
-      → v < length (framed (b.framing func)).names
-  pub no_begin : IsListed (begin_of (b.framing func).function) (allocas_in (front_allocas (b.framing func))) → ⊥
-  pub unhanded : (v : ℕ) → entry (plan (b.framing func)).places v ≡ None
-      → (v ≡ begin_of (b.framing func).function) ⊎ (value_in env v ≡ Value.Poison)
-  pub unslotted : (v : ℕ) (k : KeptValue) → IsKeptValue (b.framing func) v k → k.slot ≡ None
+-- The label leads to a block on the edge behind that suspend, which has no phis. Cells are allocas without markers.
+pub record HasEdgeBlock (b : Building) (func label order : ℕ) : Type 0 where
   pub block : ℕ
   pub block_is : position_of (edged (b.framing func)) label ≡ block
   pub block_too : position_of (framed (b.framing func)) label ≡ block
@@ -227,3 +221,20 @@ pub record HasNoneAnew (b : Building) (g : RenewedGiven) (func : ℕ) (env : Env
   pub distances : (v cell : ℕ) → entry (plan (b.framing func)).cells v ≡ Some cell
       → IsCellMade (b.framing func) cell (int 64)
   pub wheres : (s : EarlySlot) → Contains (copies (b.framing func)).slots s → IsCellMade (b.framing func) s.cell ptr
+
+-- No alloca is made anew, and so no address is moved, nor is the distance of one kept. Of names that are kept nowhere
+-- but begin's nothing is handed on.
+pub record HasNoneAnew (b : Building) (g : RenewedGiven) (func : ℕ) (env : Env) (label order : ℕ) : Type 0 where
+  pub none : renewed_from (g.flags func) (function_at g.given.code func) 0 ≡ None
+  pub unrooted : (v : ℕ) → g.roots func v ≡ None
+  pub at : ℕ
+  pub instr : Instr
+  pub there : slice_get (instrs_at (b.framing func) 0) at ≡ Some instr
+  pub line : List Instr
+  pub last : Instr
+  pub stands : front_allocas (b.framing func) ≡ line ++ (last ∷ [])
+  pub fronts : AreFrontsGood (b.framing func)
+  pub unhanded : (v : ℕ) → entry (plan (b.framing func)).places v ≡ None
+      → (v ≡ begin_of (b.framing func).function) ⊎ (value_in env v ≡ Value.Poison)
+  pub unslotted : (v : ℕ) (k : KeptValue) → IsKeptValue (b.framing func) v k → k.slot ≡ None
+  pub edge : HasEdgeBlock b func label order

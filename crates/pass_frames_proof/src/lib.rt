@@ -4,6 +4,7 @@
 
 pub mod agains;
 pub mod allocating;
+pub mod anew;
 pub mod asking;
 pub mod beginning;
 pub mod calling;

@@ -11,7 +11,7 @@ use Rattle.pass_frames_proof.proofs.allocating.Both.{end_block, made_memory, new
 use Rattle.pass_frames_proof.proofs.allocating.Plain.{early_slot, new_slot_by}
 use Rattle.pass_frames_proof.proofs.stepping.Codes.{instr_there}
 use Rattle.pass_frames_proof.proofs.stepping.Stands.{renewed_does}
-use Rattle.pass_frames_proof.specs.Allocating.{IsAtRampAlloca, IsFrameBehind, IsOwnBehind}
+use Rattle.pass_frames_proof.specs.Allocating.{IsAtAlloca, IsAtRampAlloca, IsFrameBehind, IsOwnBehind}
 use Rattle.pass_frames_proof.specs.Places.{Framing, edged}
 use Rattle.pass_frames_proof.specs.Related.{Building}
 use Rattle.pass_frames_proof.specs.Stepping.{AreGiven, IsNotEntering}
@@ -67,6 +67,118 @@ abbrev pub late_block : Bool → MemoryBlock → MemoryBlock
 late_block true x = killed_block x
 late_block false x = x
 
+-- ---- the step itself, whatever becomes of the slot
+
+module _ (b : Building) (g : RenewedGiven) (given : AreGiven b g) (s : State) (name : ℕ) (ty : Ty) (align : ℕ)
+    (h : IsAtAlloca b s name ty align) where
+  abbrev n1 : ℕ
+  n1 = length s.world.memory
+
+  abbrev X1 : Framing
+  X1 = b.framing s.top.func
+
+  abbrev f1 : Function
+  f1 = function_of g.given s
+
+  abbrev ends1 : Bool
+  ends1 = ends_first (g.flags s.top.func name) (has_markers (edged X1) name)
+
+  abbrev size1 : ℕ
+  size1 = size_of g.given.code ty
+
+  abbrev x1 : MemoryBlock
+  x1 = new_block ends1 size1 align Kind.Slot
+
+  abbrev slot1 : Slot
+  slot1 = record { alloca = name; block = n1 }
+
+  abbrev env1 : Env
+  env1 = with_value s.top.values name (pointer_to n1)
+
+  -- behind the alloca, but for the slot
+  abbrev behind1 : State
+  behind1 = record s {
+    world = record s.world { memory = s.world.memory ++ x1 ∷ [] };
+    top = record s.top { at = s.top.at + 1; values = env1 };
+  }
+
+  code_is : f1 ≡ edged X1
+  code_is = given.coroutines s.top.func h.coroutine
+
+  kind_is : alloca_kind f1 ≡ Kind.Slot
+  kind_is =
+      ap alloca_kind code_is
+      ∙ ap (λ (k : Function). if k.coroutine then Kind.Slot else Kind.Stack)
+      (given.built.coroutines s.top.func h.coroutine).function
+      ∙ ap (λ (c : Bool). if c then Kind.Slot else Kind.Stack) h.coroutine
+
+  marked_is : has_markers f1 name ≡ has_markers (edged X1) name
+  marked_is = ap (λ (k : Function). has_markers k name) code_is
+
+  first_work : (m : List MemoryBlock) → Work
+  first_work m = record { world = record s.world { memory = m }; values = env1 }
+
+  does : instr_action (context_of g.given s) (work_of s) (Instr.Alloca name ty align)
+      ≡ NewSlot (first_work (s.world.memory ++ new_block (has_markers (edged X1) name) size1 align Kind.Slot ∷ []))
+      slot1
+  unfolding first_work
+  does =
+      ap (λ (c : Bool). if c then alloca (context_of g.given s) (work_of s) name size1 align else Stuck Cause.Align)
+      h.aligned
+      ∙ ap (λ (m : List MemoryBlock). NewSlot (record {
+        world = record s.world { memory = m };
+        values = env1;
+      }) slot1) (made_memory (has_markers f1 name) s.world.memory size1 align (alloca_kind f1))
+      ∙ (λ j. NewSlot (record {
+        world = record s.world {
+          memory = s.world.memory ++ new_block (marked_is j) size1 align (kind_is j) ∷ [];
+        };
+        values = env1;
+      }) slot1)
+
+  there : fetch f1 s.top.block s.top.at ≡ AtInstr (Instr.Alloca name ty align)
+  there =
+      (λ j. fetch (code_is j) (h.entry_block j) s.top.at)
+      ∙ instr_there (edged X1) 0 s.top.at (Instr.Alloca name ty align) h.there
+
+  -- a slot that is made anew lives at once
+  lives : (c e : Bool)
+      → (if c then with_memory (record behind1 {
+        world = record s.world { memory = s.world.memory ++ new_block e size1 align Kind.Slot ∷ [] };
+      }) (start (s.world.memory ++ new_block e size1 align Kind.Slot ∷ []) n1) else record behind1 {
+        world = record s.world { memory = s.world.memory ++ new_block e size1 align Kind.Slot ∷ [] };
+      })
+      ≡ record behind1 {
+        world = record s.world { memory = s.world.memory ++ new_block (ends_first c e) size1 align Kind.Slot ∷ [] };
+      }
+  lives true e =
+      ap (λ (m : List MemoryBlock). record behind1 { world = record s.world { memory = m } })
+      (end_block s.world.memory (new_block e size1 align Kind.Slot) started
+      ∙ ap (λ (y : MemoryBlock). s.world.memory ++ y ∷ []) (started_new e size1 align Kind.Slot))
+  lives false e = refl
+
+  pub slot_step : renewed_step g s ≡ renewed_slot g behind1 slot1 s.top.mode
+  unfolding first_work
+  slot_step =
+      renewed_does g s (AtInstr (Instr.Alloca name ty align))
+      (NewSlot (first_work (s.world.memory ++ new_block (has_markers (edged X1) name) size1 align Kind.Slot ∷ []))
+      slot1)
+      h.runs there refl does
+      ∙ ap (λ (z : State). renewed_slot g z slot1 s.top.mode)
+      (lives (g.flags s.top.func name) (has_markers (edged X1) name))
+
+-- ---- of a ramp
+
+at_alloca : (b : Building) (g : RenewedGiven) (s : State) (name : ℕ) (ty : Ty) (align : ℕ)
+    → IsAtRampAlloca b g s name ty align → IsAtAlloca b s name ty align
+at_alloca b g s name ty align h = record {
+  runs = h.runs;
+  coroutine = h.coroutine;
+  entry_block = h.entry_block;
+  there = h.there;
+  aligned = h.aligned;
+}
+
 module _ (b : Building) (g : RenewedGiven) (given : AreGiven b g) (s : State) (name : ℕ) (ty : Ty) (align : ℕ)
     (h : IsAtRampAlloca b g s name ty align) where
   abbrev pub n : ℕ
@@ -100,67 +212,9 @@ module _ (b : Building) (g : RenewedGiven) (given : AreGiven b g) (s : State) (n
     top = record s.top { at = s.top.at + 1; values = env };
   }
 
-  code_is : f ≡ edged X
-  code_is = given.coroutines s.top.func h.coroutine
-
-  kind_is : alloca_kind f ≡ Kind.Slot
-  kind_is =
-      ap alloca_kind code_is
-      ∙ ap (λ (k : Function). if k.coroutine then Kind.Slot else Kind.Stack) (given.built.coroutines s.top.func h.coroutine).function
-      ∙ ap (λ (c : Bool). if c then Kind.Slot else Kind.Stack) h.coroutine
-
-  marked_is : has_markers f name ≡ has_markers (edged X) name
-  marked_is = ap (λ (k : Function). has_markers k name) code_is
-
-  first_work : (m : List MemoryBlock) → Work
-  first_work m = record { world = record s.world { memory = m }; values = env }
-
-  does : instr_action (context_of g.given s) (work_of s) (Instr.Alloca name ty align)
-      ≡ NewSlot (first_work (s.world.memory ++ new_block (has_markers (edged X) name) size align Kind.Slot ∷ [])) slot
-  unfolding first_work
-  does =
-      ap (λ (c : Bool). if c then alloca (context_of g.given s) (work_of s) name size align else Stuck Cause.Align)
-      h.aligned
-      ∙ ap (λ (m : List MemoryBlock). NewSlot (record {
-        world = record s.world { memory = m };
-        values = env;
-      }) slot) (made_memory (has_markers f name) s.world.memory size align (alloca_kind f))
-      ∙ (λ j. NewSlot (record {
-        world = record s.world {
-          memory = s.world.memory ++ new_block (marked_is j) size align (kind_is j) ∷ [];
-        };
-        values = env;
-      }) slot)
-
-  there : fetch f s.top.block s.top.at ≡ AtInstr (Instr.Alloca name ty align)
-  there =
-      (λ j. fetch (code_is j) (h.entry_block j) s.top.at)
-      ∙ instr_there (edged X) 0 s.top.at (Instr.Alloca name ty align) h.there
-
-  -- a slot that is made anew lives at once
-  lives : (c e : Bool)
-      → (if c then with_memory (record behind {
-        world = record s.world { memory = s.world.memory ++ new_block e size align Kind.Slot ∷ [] };
-      }) (start (s.world.memory ++ new_block e size align Kind.Slot ∷ []) n) else record behind {
-        world = record s.world { memory = s.world.memory ++ new_block e size align Kind.Slot ∷ [] };
-      })
-      ≡ record behind {
-        world = record s.world { memory = s.world.memory ++ new_block (ends_first c e) size align Kind.Slot ∷ [] };
-      }
-  lives true e =
-      ap (λ (m : List MemoryBlock). record behind { world = record s.world { memory = m } })
-      (end_block s.world.memory (new_block e size align Kind.Slot) started
-      ∙ ap (λ (y : MemoryBlock). s.world.memory ++ y ∷ []) (started_new e size align Kind.Slot))
-  lives false e = refl
-
   pub step_is : IsNotEntering s.top.mode → renewed_step g s ≡ new_slot g.given behind slot
-  unfolding first_work
   step_is mode =
-      renewed_does g s (AtInstr (Instr.Alloca name ty align))
-      (NewSlot (first_work (s.world.memory ++ new_block (has_markers (edged X) name) size align Kind.Slot ∷ [])) slot)
-      h.runs there refl does
-      ∙ ap (λ (z : State). renewed_slot g z slot s.top.mode)
-      (lives (g.flags s.top.func name) (has_markers (edged X) name))
+      slot_step b g given s name ty align (at_alloca b g s name ty align h)
       ∙ new_slot_by g behind slot s.top.mode mode
 
   -- ---- the slot

@@ -313,7 +313,8 @@ module _ (b : Building) (g : RenewedGiven) (given : AreGiven b g) (s t : State) 
 
   woken_by : renewed_step g s ≡ continue_renewed g s z.number z.instance z.suspend z.env label
       → framed_step b.given last
-      ≡ continue_framed b.given last z.number beside.sleeper.instance (own_place y z.suspend) beside.sleeper.values label
+      ≡ continue_framed b.given last z.number beside.sleeper.instance (own_place y z.suspend) beside.sleeper.values
+      label
       → AreWoken b g s t label z
   woken_by source target = record {
     runs = w.runs;
@@ -395,8 +396,8 @@ module _ (b : Building) (g : RenewedGiven) (given : AreGiven b g) (s t : State) 
       ∙ ap (λ (q : Bool). or_undefined b.given.given last2 (ok_if (not q) Cause.State
       (continue_framed b.given last2 z.number there2.sleeper.instance (own_place y2 z.suspend) there2.sleeper.values
       (resume_label (framed y2) (own_place y2 z.suspend))))) unfinal_too
-      ∙ ap (continue_framed b.given last2 z.number there2.sleeper.instance (own_place y2 z.suspend) there2.sleeper.values)
-      w.leads_too
+      ∙ ap (continue_framed b.given last2 z.number there2.sleeper.instance (own_place y2 z.suspend)
+      there2.sleeper.values) w.leads_too
 
   resumed : AreWoken b g s t label z
   resumed =
@@ -423,8 +424,8 @@ module _ (b : Building) (g : RenewedGiven) (given : AreGiven b g) (s t : State) 
 
   destroyed_source : renewed_step g s ≡ continue_renewed g s z.number z.instance z.suspend z.env label
   destroyed_source =
-      renewed_does g s (AtInstr (wake_call k3 w.result w.must_tail w.ty w.args)) (Coro k3 w.args w.result) w.runs c.there
-      refl refl
+      renewed_does g s (AtInstr (wake_call k3 w.result w.must_tail w.ty w.args)) (Coro k3 w.args w.result) w.runs
+      c.there refl refl
       ∙ ap (λ (o : Result Sleeper Cause). or_undefined g.given s (and_then o (λ (y : Sleeper).
       Ok (continue_renewed g s y.number y.instance y.suspend y.values
       (destroy_label (function_at g.given.code y.instance.coroutine) y.suspend))))) w.finds
@@ -445,8 +446,8 @@ module _ (b : Building) (g : RenewedGiven) (given : AreGiven b g) (s t : State) 
       ∙ ap (λ (f : Function). continue_framed b.given last3 z.number there3.sleeper.instance (own_place y3 z.suspend)
       there3.sleeper.values (destroy_label f (own_place y3 z.suspend)))
       (target_code b g given s t label z k3 destroy_label w (destroy_wakes b g s) c)
-      ∙ ap (continue_framed b.given last3 z.number there3.sleeper.instance (own_place y3 z.suspend) there3.sleeper.values)
-      w.leads_too
+      ∙ ap (continue_framed b.given last3 z.number there3.sleeper.instance (own_place y3 z.suspend)
+      there3.sleeper.values) w.leads_too
 
   destroyed : AreWoken b g s t label z
   destroyed =

@@ -10,7 +10,6 @@ use Rattle.ir_model.specs.Layout.{size_of}
 use Rattle.ir_model.specs.Names.{function_at, position_of}
 use Rattle.ir_model.specs.Ty.{Ty, int, ptr}
 use Rattle.ir_model.specs.declared.instr.Instr.{Instr}
-use Rattle.ir_model.specs.declared.instr.Phi.{Phi}
 use Rattle.ir_model.specs.declared.module.Function.{Function}
 use Rattle.ir_model.specs.declared.module.Module.{Module}
 use Rattle.ir_paths.specs.Slots.{allocas_in}
@@ -22,6 +21,7 @@ use Rattle.pass_frames.specs.Framed.{begin_of}
 use Rattle.pass_frames_proof.proofs.distances.Sums.{value_set}
 use Rattle.pass_frames_proof.proofs.entering.Allocas.{alloca_there, to_the_last, up_to_next}
 use Rattle.pass_frames_proof.proofs.entering.Behind.{AreBehind, are_behind}
+use Rattle.pass_frames_proof.proofs.entering.Into.{enters, last_behind}
 use Rattle.pass_frames_proof.proofs.entering.Stand.{front_stands, none_behind, all_before}
 use Rattle.pass_frames_proof.proofs.followed.Assembly.{events_same}
 use Rattle.pass_frames_proof.proofs.moved.Rest.{activation_on, ahead_on, below_on, free_on}
@@ -30,7 +30,7 @@ use Rattle.pass_frames_proof.proofs.stepping.Rest.{got}
 use Rattle.pass_frames_proof.proofs.stepping.Stands.{top_is, values_of}
 use Rattle.pass_frames_proof.proofs.waking.Grown.{free_new, instance_grown, mates_grown, moves_grown, over_grown, right_grown, seen_there}
 use Rattle.pass_frames_proof.proofs.waking.Restated.{activation_same, below_same, instance_same}
-use Rattle.pass_frames_proof.specs.Entering.{IsGoodAlloca, IsMaking, behind_alloca, behind_allocas, front_allocas, made_blocks}
+use Rattle.pass_frames_proof.specs.Entering.{IsGoodAlloca, IsMaking, behind_allocas, front_allocas, made_blocks}
 use Rattle.pass_frames_proof.specs.Followed.{IsFollowed, IsOn}
 use Rattle.pass_frames_proof.specs.Framings.{IsFraming}
 use Rattle.pass_frames_proof.specs.Meaning.{step_cost}
@@ -61,7 +61,7 @@ use Rattle.run_source.specs.declared.state.Instance.{Instance}
 use Rattle.run_source.specs.declared.state.Mode.{Mode}
 use Rattle.run_source.specs.declared.state.State.{State}
 use Rattle.run_source.specs.declared.state.Status.{Status}
-use Rattle.run_step.specs.Step.{AtInstr, fetch, has_markers, label_of, phi_values, phis_of, values_in, with_all}
+use Rattle.run_step.specs.Step.{AtInstr, fetch, has_markers, label_of, values_in}
 use Rattle.run_step.specs.Values.{Env, access_of, value_in, with_result}
 use Rattle.run_step.specs.declared.world.Slot.{Slot}
 use Rattle.run_step.specs.declared.world.World.{World}
@@ -76,7 +76,8 @@ use Rattle.pass_frames_proof.specs.Costs.{resume_cost}
 
 module _ (b : Building) (g : RenewedGiven) (given : AreGiven b g) (s t0 : State) (label : ℕ)
     (z : IsSleeping b g s label) (k : AreWoken b g s t0 label z)
-    (anew : HasNoneAnew b g z.instance.coroutine (kept (g.keep z.instance.coroutine z.suspend) z.env) label z.order) where
+    (anew : HasNoneAnew b g z.instance.coroutine (kept (g.keep z.instance.coroutine z.suspend) z.env) label
+    z.order) where
   -- the operands of the call are fetched
   abbrev t : State
   t = k.state
@@ -121,7 +122,7 @@ module _ (b : Building) (g : RenewedGiven) (given : AreGiven b g) (s t0 : State)
   suspend' = own_place x z.suspend
 
   abbrev a' : Activation
-  a' = record (resumed z.number p z.suspend env) { block = anew.block; at = 0 }
+  a' = record (resumed z.number p z.suspend env) { block = anew.edge.block; at = 0 }
 
   abbrev caller : Activation
   caller = passed_on s.top
@@ -143,14 +144,6 @@ module _ (b : Building) (g : RenewedGiven) (given : AreGiven b g) (s t0 : State)
     top = framed_start b z.number y suspend' label;
     below = caller' ∷ t.below;
   }
-
-  -- entering a block without phis
-  enters : (m : Module) (f : Function) (from : ℕ) (vs : Env) (n : ℕ) → position_of f label ≡ n
-      → phis_of (slice_get f.blocks n) ≡ []
-      → ◌≡◌ {A = ℕ × Env} (position_of f label, values_in m (slice_get f.blocks (position_of f label)) from vs) (n, vs)
-  enters m f from vs n at none =
-      ap (λ (q : ℕ). (q, values_in m (slice_get f.blocks q) from vs)) at
-      ∙ ap (λ (ps : List Phi). (n, with_all vs (phi_values m vs from ps))) none
 
   renewed_same : (roots : ℕ → Option ℕ) → ((v : ℕ) → roots v ≡ None) → (e vs : Env) → renewed_values roots e vs ≡ vs
   renewed_same roots none e [] = refl
@@ -178,8 +171,8 @@ module _ (b : Building) (g : RenewedGiven) (given : AreGiven b g) (s t0 : State)
         };
       }) (given.coroutines func h.is_coroutine)
       ∙ ap (λ (q : ℕ × Env). record s' { top = record a' { block = q.0; values = q.1 } })
-      (enters g.given.code (edged x) (label_of (slice_get (edged x).blocks z.suspend.block)) env anew.block
-      anew.block_is anew.no_phis)
+      (enters g.given.code (edged x) label (label_of (slice_get (edged x).blocks z.suspend.block)) env anew.edge.block
+      anew.edge.block_is anew.edge.no_phis)
 
   -- ---- the allocas
 
@@ -200,7 +193,7 @@ module _ (b : Building) (g : RenewedGiven) (given : AreGiven b g) (s t0 : State)
       subst (StandAt (framed x) 0 0) anew.stands (front_stands x anew.at anew.instr anew.there)
 
   good : Each IsGoodAlloca (line ++ (next ∷ []))
-  good = subst (Each IsGoodAlloca) anew.stands anew.good
+  good = subst (Each IsGoodAlloca) anew.stands anew.fronts.good
 
   line_good : (ks js : List Instr) → Each IsGoodAlloca (ks ++ js) → Each IsGoodAlloca ks × Each IsGoodAlloca js
   line_good [] js e = (tt, e)
@@ -362,7 +355,7 @@ module _ (b : Building) (g : RenewedGiven) (given : AreGiven b g) (s t0 : State)
 
   abbrev c' : Activation
   c' = record u0.top {
-    block = anew.block;
+    block = anew.edge.block;
     at = 0;
     mode = Mode.Resumed;
     values = v.top.values;
@@ -371,11 +364,6 @@ module _ (b : Building) (g : RenewedGiven) (given : AreGiven b g) (s t0 : State)
 
   abbrev t' : State
   t' = record u0 { world = u all_news; top = c' }
-
-  last_behind : (w : State) (ks : List Instr)
-      → behind_alloca b.given (behind_allocas b.given w ks) next ≡ behind_allocas b.given w (ks ++ (next ∷ []))
-  last_behind w [] = refl
-  last_behind w (i ∷ ks) = last_behind (behind_alloca b.given w i) ks
 
   abbrev entering : State → State
   entering w = enter_block b.given.given (record w {
@@ -393,7 +381,7 @@ module _ (b : Building) (g : RenewedGiven) (given : AreGiven b g) (s t0 : State)
   entered_is =
       to_the_last b.given suspend'.block label u0 makes line next (line_good line (next ∷ []) good).0
       (line_good line (next ∷ []) good).1.0 stand last_none
-      ∙ ap entering (last_behind u0 line ∙ all_behind.state ∙ ap (λ (mem : List MemoryBlock). record u0 {
+      ∙ ap entering (last_behind b.given u0 line next ∙ all_behind.state ∙ ap (λ (mem : List MemoryBlock). record u0 {
         world = record u0.world { memory = mem };
         top = record u0.top { at = v.top.at; values = v.top.values; slots = v.top.slots };
       }) all_behind.memory)
@@ -405,8 +393,8 @@ module _ (b : Building) (g : RenewedGiven) (given : AreGiven b g) (s t0 : State)
         };
       }) own_framed
       ∙ ap (λ (q : ℕ × Env). record t' { top = record c' { block = q.0; values = q.1 } })
-      (enters b.given.given.code (framed x) (label_of (slice_get (framed x).blocks suspend'.block)) v.top.values
-      anew.block anew.block_too anew.no_phis_too)
+      (enters b.given.given.code (framed x) label (label_of (slice_get (framed x).blocks suspend'.block)) v.top.values
+      anew.edge.block anew.edge.block_too anew.edge.no_phis_too)
 
   abbrev Q : Rights
   Q = frame_rights b.given ys
@@ -430,7 +418,7 @@ module _ (b : Building) (g : RenewedGiven) (given : AreGiven b g) (s t0 : State)
   begin_value : value_in c'.values (begin_of x.function) ≡ frame_address_of y
   begin_value =
       all_behind.others (begin_of x.function)
-      (λ l. anew.no_begin (subst (λ (ks : List Instr). IsListed (begin_of x.function) (allocas_in ks))
+      (λ l. anew.fronts.no_begin (subst (λ (ks : List Instr). IsListed (begin_of x.function) (allocas_in ks))
       (sym anew.stands) l))
       ∙ start_values
 
@@ -520,8 +508,8 @@ module _ (b : Building) (g : RenewedGiven) (given : AreGiven b g) (s t0 : State)
       → IsCell Q t'.world.memory c' cell ty Anything
   cell_now cell ty sized made =
       let c = cells_made b.given u0 all good
-      (subst (λ (ks : List Instr). AreDifferent (allocas_in ks)) anew.stands anew.different)
-      (λ n l. subst (λ (q : ℕ). n < q) (sym start_room) (anew.low n (subst
+      (subst (λ (ks : List Instr). AreDifferent (allocas_in ks)) anew.stands anew.fronts.different)
+      (λ n l. subst (λ (q : ℕ). n < q) (sym start_room) (anew.fronts.low n (subst
       (λ (ks : List Instr). IsListed n (allocas_in ks)) (sym anew.stands) l))) frames_low made.position cell made.align
       ty (ap (λ (ks : List Instr). slice_get ks made.position) (sym anew.stands) ∙ made.there)
       (ap (λ (f : Function). has_markers f cell) own_framed ∙ made.unmarked)
@@ -540,10 +528,10 @@ module _ (b : Building) (g : RenewedGiven) (given : AreGiven b g) (s t0 : State)
   made_now : AreCellsThere x Q t'.world.memory c' × AreWheresThere x Q t'.world.memory c'
   made_now = (
     record {
-      values = λ n kv is_kept. cell_now kv.cell kv.ty (anew.sizes n kv is_kept) (anew.values n kv is_kept);
-      distances = λ n cell told. cell_now cell (int 64) anew.sized_words.0 (anew.distances n cell told);
+      values = λ n kv is_kept. cell_now kv.cell kv.ty (anew.edge.sizes n kv is_kept) (anew.edge.values n kv is_kept);
+      distances = λ n cell told. cell_now cell (int 64) anew.edge.sized_words.0 (anew.edge.distances n cell told);
     },
-    record { each = λ e listed. cell_now e.cell ptr anew.sized_words.1 (anew.wheres e listed) },
+    record { each = λ e listed. cell_now e.cell ptr anew.edge.sized_words.1 (anew.edge.wheres e listed) },
   )
 
   own_there : instance_in ys (Some z.number) ≡ Some y'
@@ -551,18 +539,18 @@ module _ (b : Building) (g : RenewedGiven) (given : AreGiven b g) (s t0 : State)
 
   returned_is : returned_from x a' Mode.Resumed ≡ Some z.order
   returned_is =
-      ap (λ (q : Bool). if q then entry (plan x).returns (block_at (edged x) anew.block).label else None)
-      anew.returned
-      ∙ anew.behind
+      ap (λ (q : Bool). if q then entry (plan x).returns (block_at (edged x) anew.edge.block).label else None)
+      anew.edge.returned
+      ∙ anew.edge.behind
 
   top_now : AreActivations b r.homes r.hides t' (top_place b) a' c'
   top_now = record {
     func = h.coroutine;
     place =
         ap (λ (q : Bool). record {
-          block = anew.block;
-          at = place_by_flag x (record { block = anew.block; at = 0 }) q (anew.block == 0);
-        }) (sym anew.returned)
+          block = anew.edge.block;
+          at = place_by_flag x (record { block = anew.edge.block; at = 0 }) q (anew.edge.block == 0);
+        }) (sym anew.edge.returned)
         ∙ sym (top_is b a' h.is_coroutine tt);
     result = refl;
     mode = refl;
@@ -671,7 +659,8 @@ module _ (b : Building) (g : RenewedGiven) (given : AreGiven b g) (s t0 : State)
       price : step_cost b g s s.top.mode ≡ k.fetches + 1 + suc (length line)
       price =
           k.cost
-          ∙ ap (λ (o : Option Point). k.fetches + 1 + (resume_cost x (option_map (λ (p : Point). p.at) o) - 1)) anew.none
+          ∙ ap (λ (o : Option Point). k.fetches + 1 + (resume_cost x (option_map (λ (p : Point). p.at) o) - 1))
+          anew.none
           ∙ ap (λ (n : ℕ). k.fetches + 1 + (1 + n - 1))
           (all_before x anew.at anew.instr anew.there ∙ ap length anew.stands ∙ length-append line (next ∷ []))
           ∙ enough k.fetches (length line)

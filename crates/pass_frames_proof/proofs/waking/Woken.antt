@@ -155,12 +155,12 @@ module _ (b : Building) (g : RenewedGiven) (given : AreGiven b g) (s t0 : State)
   own_framed : function_of b.given.given u0 ≡ framed x
   own_framed = ap (function_at b.given.given.code) h.coroutine ∙ framed_is
 
-  all_stand : StandAt (framed x) 0 0 (line ++ (next ∷ anew.rest))
+  all_stand : StandAt (framed x) 0 0 (line ++ (next ∷ anew.stands.rest))
   all_stand =
-      subst (StandAt (framed x) 0 0) anew.stands (front_stands x anew.first next anew.there)
+      subst (StandAt (framed x) 0 0) anew.stands.is (front_stands x anew.first next anew.stands.there)
 
-  good : Each IsGoodAlloca (line ++ (next ∷ anew.rest))
-  good = subst (Each IsGoodAlloca) anew.stands anew.good
+  good : Each IsGoodAlloca (line ++ (next ∷ anew.stands.rest))
+  good = subst (Each IsGoodAlloca) anew.stands.is anew.good
 
   line_good : (ks js : List Instr) → Each IsGoodAlloca (ks ++ js) → Each IsGoodAlloca ks × Each IsGoodAlloca js
   line_good [] js e = (tt, e)
@@ -173,7 +173,7 @@ module _ (b : Building) (g : RenewedGiven) (given : AreGiven b g) (s t0 : State)
 
   stand : StandAt (function_of b.given.given u0) 0 0 (line ++ (next ∷ []))
   stand = subst (λ (f : Function). StandAt f 0 0 (line ++ (next ∷ []))) (sym own_framed)
-      (stand_next (framed x) 0 line anew.rest all_stand)
+      (stand_next (framed x) 0 line anew.stands.rest all_stand)
 
   makes : IsMaking u0 suspend'.block label
   makes = record { runs = r.outcome ∙ k.runs; mode = refl; entry_block = refl }
@@ -200,7 +200,7 @@ module _ (b : Building) (g : RenewedGiven) (given : AreGiven b g) (s t0 : State)
 
       first_is : alloca_from (function_at b.given.given.code y.coroutine) 0 ≡ Some (record { block = 0; at = 0 })
       first_is =
-          let i = head line anew.rest all_stand good in
+          let i = head line anew.stands.rest all_stand good in
           ap (λ (f : Function). alloca_from f 0) own_framed
           ∙ ap (option_map (λ (n : ℕ). record { block = 0; at = n }))
           (alloca_there (slice_get (framed x).blocks 0) 0 i.0 i.1.0 i.1.1)
@@ -208,10 +208,10 @@ module _ (b : Building) (g : RenewedGiven) (given : AreGiven b g) (s t0 : State)
   reached : (n : ℕ) → n ≤ length line → iterate (framed_step b.given) n u0 ≡ behind_allocas b.given u0 (take n line)
   reached n le =
       up_to_next b.given suspend'.block label u0 makes line next
-      (line_good line (next ∷ anew.rest) good).0 refl' stand n le
+      (line_good line (next ∷ anew.stands.rest) good).0 refl' stand n le
     where
       refl' : IsGoodAlloca next
-      refl' = (line_good line (next ∷ anew.rest) good).1.0
+      refl' = (line_good line (next ∷ anew.stands.rest) good).1.0
 
   -- ---- instances and memory, when some are made
 
@@ -273,7 +273,7 @@ module _ (b : Building) (g : RenewedGiven) (given : AreGiven b g) (s t0 : State)
     w' = behind_allocas b.given u0 (take n line)
 
     m : AreBehind b.given u0 w' (take n line)
-    m = are_behind b.given u0 (take n line) (part_good line n (line_good line (next ∷ anew.rest) good).0)
+    m = are_behind b.given u0 (take n line) (part_good line n (line_good line (next ∷ anew.stands.rest) good).0)
 
     abbrev news : List MemoryBlock
     news = made_blocks b.given.given.code (function_of b.given.given u0) (take n line)
@@ -309,7 +309,7 @@ module _ (b : Building) (g : RenewedGiven) (given : AreGiven b g) (s t0 : State)
   -- ---- the relation at the first alloca that is made anew
 
   all_behind : AreBehind b.given u0 (behind_allocas b.given u0 line) line
-  all_behind = are_behind b.given u0 line (line_good line (next ∷ anew.rest) good).0
+  all_behind = are_behind b.given u0 line (line_good line (next ∷ anew.stands.rest) good).0
 
   abbrev v : State
   v = behind_allocas b.given u0 line
@@ -352,8 +352,8 @@ module _ (b : Building) (g : RenewedGiven) (given : AreGiven b g) (s t0 : State)
   begin_value =
       all_behind.others (begin_of x.function)
       (λ l. anew.no_begin (subst (λ (is : List Instr). IsListed (begin_of x.function) (allocas_in is))
-      (sym anew.stands)
-      (listed_more line (next ∷ anew.rest) l)))
+      (sym anew.stands.is)
+      (listed_more line (next ∷ anew.stands.rest) l)))
       ∙ start_values
     where
       listed_more : (ks js : List Instr) → IsListed (begin_of x.function) (allocas_in ks)
@@ -544,8 +544,8 @@ module _ (b : Building) (g : RenewedGiven) (given : AreGiven b g) (s t0 : State)
     shown = λ n lt.
         subst (IsOn b s') (sym (reached n (omega (arith, lt)))) (shown n (omega (arith, lt)));
     related = subst (AreBuiltOf b s')
-        (sym (reached (length line) (itself_le (length line)) ∙ ap (behind_allocas b.given u0) (take_whole line) ∙ v_is))
-        related;
+        (sym (reached (length line) (itself_le (length line)) ∙ ap (behind_allocas b.given u0) (take_whole line)
+        ∙ v_is)) related;
   }
     where
       itself_le : (n : ℕ) → n ≤ n

@@ -1,0 +1,4 @@
+pub mod Last
+pub mod Lists
+pub mod Made
+pub mod Next

@@ -1,0 +1,22 @@
+//! Slots that a woken coroutine makes anew, one after another, until it enters the block on the edge.
+
+ghost use Rattle.std.specs.Prelude.{ℕ};
+ghost use Rattle.ir_model.specs.Ty.{Ty};
+ghost use Rattle.pass_frames_proof.specs.Anew.{HasCellsMade, HasNextAnew, HasNoneLeft, IsAtAnew};
+ghost use Rattle.pass_frames_proof.specs.Followed.{IsFollowed};
+ghost use Rattle.pass_frames_proof.specs.Related.{AreBuiltOf, Building};
+ghost use Rattle.pass_frames_proof.specs.Slotted.{HasSlotsThere};
+ghost use Rattle.pass_frames_proof.specs.Stepping.{AreGiven};
+ghost use Rattle.pass_renewed_proof.specs.Renewed.{RenewedGiven};
+ghost use Rattle.run_source.specs.declared.state.State.{State};
+
+/// A slot is made anew in both runs. The framed run also makes the allocas up to the next such slot, or all that are
+/// left. Then the block on the edge is entered: fields are right, and all cells are there.
+pub fn slots_made_anew_are_followed()
+    ensures next { (b : Building) (g : RenewedGiven) → AreGiven b g → (s t : State) → AreBuiltOf b s t → (name : ℕ)
+        (ty : Ty) (align from label order : ℕ) → IsAtAnew b g s name ty align from label order → HasSlotsThere s
+        → HasSlotsThere t → HasNextAnew b g s name → IsFollowed b g s t }
+    ensures last { (b : Building) (g : RenewedGiven) → AreGiven b g → (s t : State) → AreBuiltOf b s t → (name : ℕ)
+        (ty : Ty) (align from label order : ℕ) → IsAtAnew b g s name ty align from label order → HasSlotsThere s
+        → HasSlotsThere t → HasNoneLeft b g s name label order → HasCellsMade b t → IsFollowed b g s t }
+{}
