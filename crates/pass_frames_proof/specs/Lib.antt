@@ -41,6 +41,7 @@ pub mod Ordinary
 pub mod Passes
 pub mod Phis
 pub mod Places
+pub mod Ramps
 pub mod Reached
 pub mod Related
 pub mod Returning

@@ -33,6 +33,7 @@ pub mod moved;
 pub mod offsets;
 pub mod ordinary;
 pub mod phis;
+pub mod ramps;
 pub mod reached;
 pub mod returning;
 pub mod saving;

@@ -42,7 +42,7 @@ into_outside offsets n (Fetch.Address base distance) = refl
 -- ---- lists of allocas and of moves
 
 module _ (P : Instr → Type 0) (one : (r : ℕ) (ty : Ty) (align : ℕ) → P (Instr.Alloca r ty align)) where
-  kept_each : (ks : List KeptValue) → Each P (kept_allocas ks)
+  pub kept_each : (ks : List KeptValue) → Each P (kept_allocas ks)
   kept_each [] = tt
   kept_each (k ∷ ks) =
       (one _ _ _, (one _ _ _, each_joined P (distance_allocas k) (kept_allocas ks) (on k.slot) (kept_each ks)))
@@ -51,12 +51,12 @@ module _ (P : Instr → Type 0) (one : (r : ℕ) (ty : Ty) (align : ℕ) → P (
       on None = tt
       on (Some s) = (one _ _ _, tt)
 
-  links_each : (first count n : ℕ) → Each P (link_allocas first count n)
+  pub links_each : (first count n : ℕ) → Each P (link_allocas first count n)
   links_each first count zero = tt
   links_each first count (suc n) =
       each_joined P (link_allocas first count n) _ (links_each first count n) (one _ _ _, tt)
 
-  slots_each : (ss : List EarlySlot) → Each P (slot_allocas ss)
+  pub slots_each : (ss : List EarlySlot) → Each P (slot_allocas ss)
   slots_each [] = tt
   slots_each (s ∷ ss) = (one _ _ _, (one _ _ _, slots_each ss))
 

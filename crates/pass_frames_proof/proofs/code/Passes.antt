@@ -66,7 +66,7 @@ fetched_made t ends m n b = record {
   term = ap (λ (x : ℕ). fetched_term t x b.term) (fetched_passed t (end_at ends b.label) n b n b.instrs);
 }
 
-fetched_there : (t : List (Option Fetch)) (ends : List (List Instr)) (m n : ℕ) (bs : List Block) (k : ℕ) (b : Block)
+pub fetched_there : (t : List (Option Fetch)) (ends : List (List Instr)) (m n : ℕ) (bs : List Block) (k : ℕ) (b : Block)
     → slice_get bs k ≡ Some b
     → (p : ℕ) × (slice_get (fetched_blocks t ends m n bs) k
     ≡ Some (fetched_block t ends p (next_after_blocks t n (take k bs)) b))

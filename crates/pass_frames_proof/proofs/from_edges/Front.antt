@@ -80,7 +80,7 @@ use Rattle.pass_copies.specs.BeginCopies.{entry_front as copies_front}
 
 -- ---- lists
 
-listed_contains : {A : Type 0} (xs : List A) (x : A) → IsListed x xs → Contains xs x
+pub listed_contains : {A : Type 0} (xs : List A) (x : A) → IsListed x xs → Contains xs x
 listed_contains [] x l = absurd l
 listed_contains (y ∷ xs) x (inl e) = (0, omega arith, sym e)
 listed_contains (y ∷ xs) x (inr l) =

@@ -79,10 +79,10 @@ module _ (f : Function) (k : ℕ) (c : Block) (there : slice_get f.blocks k ≡ 
 
 module _ {S : Type 0} (L : Layer S) where
   -- what stands behind what an instruction becomes
-  rest : List Instr → ℕ → Instr → List Instr
+  pub rest : List Instr → ℕ → Instr → List Instr
   rest is k i = grown L (L.after (state_at L is k) i) (drop (suc k) is) ++ L.back (passed L L.start is)
 
-  split_woven : (is : List Instr) (k : ℕ) (i : Instr) → slice_get is k ≡ Some i
+  pub split_woven : (is : List Instr) (k : ℕ) (i : Instr) → slice_get is k ≡ Some i
       → woven L is ≡ up_to L is k ++ (becomes L (state_at L is k) i ++ rest is k i)
   unfolding rest
   split_woven is k i e =

@@ -1,0 +1,3 @@
+pub mod Allocas
+pub mod Entry
+pub mod Front

@@ -1,0 +1,89 @@
+-- A ramp that is called: what stands in front of its entry, what its allocas are, and what its parameters get.
+use Rattle.std.specs.List.{Contains}
+use Rattle.std.specs.Prelude.{◌≡◌, ◌++◌, ℕ, List, [], Some, false, length, slice_get, None}
+use Rattle.flow_solver.specs.Paths.{IsListed}
+use Rattle.ir_laws.specs.paths.woven_rules.Pairs.{AreDifferent}
+use Rattle.ir_model.specs.Layout.{size_of}
+use Rattle.ir_model.specs.Ty.{Ty, int, ptr}
+use Rattle.ir_model.specs.declared.instr.Instr.{Instr}
+use Rattle.ir_model.specs.declared.module.Module.{Module}
+use Rattle.pass_cells.specs.Kept.{entry}
+use Rattle.pass_cells.specs.Written.{stored_params}
+use Rattle.pass_cells.specs.declared.plan.KeptValue.{KeptValue}
+use Rattle.pass_copies.specs.declared.slot.EarlySlot.{EarlySlot}
+use Rattle.pass_fetch.specs.Fetching.{value_bytes}
+use Rattle.pass_frames_proof.specs.Entered.{IsAlloca, IsEntryName, temporary_of}
+use Rattle.pass_frames_proof.specs.Entering.{front_allocas}
+use Rattle.pass_frames_proof.specs.Entry.{cells_of, puts_of}
+use Rattle.pass_frames_proof.specs.Lines.{IsNoRoot, IsStorable}
+use Rattle.pass_frames_proof.specs.Passes.{block_at}
+use Rattle.pass_frames_proof.specs.Places.{Framing, copies, edged, framed, instrs_at, offsets, place, plan}
+use Rattle.pass_frames_proof.specs.Related.{IsKeptValue}
+use Rattle.pass_frames_proof.specs.Stores.{given_params}
+use Rattle.pass_proofs.specs.addresses.rules.Addresses.{lies_in_frame}
+use Rattle.rule_laws.specs.rules.function_rules.Kept.{KeepsFunctionRules}
+use Rattle.run_laws.specs.access.Lines.{StandAt}
+use Rattle.run_laws.specs.changed.Changed.{Each}
+use Rattle.run_memory.specs.declared.pointer.Value.{Value}
+use Rattle.run_step.specs.Step.{has_markers}
+
+-- ---- the code in front of the entry
+
+-- There is an entry, which has no phis: no edge leads to it (F1).
+pub record IsPlainEntry (x : Framing) : Type 0 where
+  pub there : slice_get (edged x).blocks 0 ≡ Some (block_at (edged x) 0)
+  pub no_phis : (block_at (edged x) 0).phis ≡ []
+
+-- addresses of temporaries go to their cells, and parameters to theirs
+abbrev pub entry_stores : Framing → List Instr
+entry_stores x = puts_of temporary_of (copies x).slots ++ stored_params (plan x) (edged x).params
+
+-- all allocas stand in front, and behind them these stores
+pub record HasEntryFront (x : Framing) : Type 0 where
+  pub stand : StandAt (framed x) 0 0 (front_allocas x ++ entry_stores x)
+  pub place : (place x (record { block = 0; at = 0 })).at ≡ length (front_allocas x ++ entry_stores x)
+
+-- ---- the allocas
+
+-- Among the allocas in front are those of slots that lie in no frame, of temporaries, and of cells. Cells of addresses
+-- have names of their own.
+pub record HasAllocasInFront (x : Framing) : Type 0 where
+  pub own : (at v align : ℕ) (ty : Ty) → slice_get (instrs_at x 0) at ≡ Some (Instr.Alloca v ty align)
+      → lies_in_frame (offsets x) v ≡ false → IsListed (Instr.Alloca v ty align) (front_allocas x)
+  pub temporaries : (s : EarlySlot) → Contains (copies x).slots s
+      → IsListed (Instr.Alloca s.temporary s.ty s.align) (front_allocas x)
+  pub wheres : (s : EarlySlot) → Contains (copies x).slots s
+      → IsListed (Instr.Alloca s.cell ptr (value_bytes ptr)) (front_allocas x)
+  pub values : (v : ℕ) (k : KeptValue) → IsKeptValue x v k
+      → IsListed (Instr.Alloca k.cell k.ty (value_bytes k.ty)) (front_allocas x)
+  pub distances : (v cell : ℕ) → entry (plan x).cells v ≡ Some cell
+      → IsListed (Instr.Alloca cell (int 64) (value_bytes (int 64))) (front_allocas x)
+  pub once : AreDifferent (cells_of (copies x).slots)
+
+-- The framed form, a function of a module by its number, breaks no rule (`framed_forms_are_kept`). Its allocas have
+-- alignments that there are (Y4). No marker names a cell, whose name is new. Sizes are the same in both modules.
+pub record HasEntryAllocas (m : Module) (func : ℕ) (x : Framing) : Type 0 where
+  pub rules : KeepsFunctionRules m func (framed x)
+  pub allocas : Each IsAlloca (front_allocas x)
+  pub unmarked : (cell : ℕ) → IsEntryName x cell → has_markers (framed x) cell ≡ false
+  pub same : (ty : Ty) → size_of m ty ≡ size_of x.code ty
+
+-- ---- the parameters
+
+-- Its value may be stored (values fit their types, Y1), no distance is kept of it or goes on from it: it is no address
+-- in a slot.
+pub record FitsParam (x : Framing) (q : ℕ × Value) : Type 0 where
+  pub storable : (k : KeptValue) → IsKeptValue x q.0 k → IsStorable k.ty q.1
+  pub no_root : IsNoRoot x q.0
+  pub no_distance : entry (plan x).cells q.0 ≡ None
+
+-- each parameter has its argument
+pub record FitParams (x : Framing) (args : List Value) : Type 0 where
+  pub long : length args ≡ length (edged x).params
+  pub fit : Each (FitsParam x) (given_params (edged x).params args)
+
+-- a ramp that may be called with these arguments
+pub record IsRamp (m : Module) (func : ℕ) (x : Framing) (args : List Value) : Type 0 where
+  pub entry : IsPlainEntry x
+  pub allocas : HasEntryAllocas m func x
+  pub params : FitParams x args
