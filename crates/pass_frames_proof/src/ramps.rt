@@ -1,8 +1,17 @@
 //! Calls of ramps: the framed run executes the front of the entry with the call.
 
+ghost use Rattle.std.specs.Prelude.{◌≡◌, ℕ, Bool, List, Option, true};
+ghost use Rattle.ir_model.specs.declared.instr.Instr.{Instr};
+ghost use Rattle.pass_frames_proof.specs.Calling.{HasBlocks, IsAtCall, IsAtPlainCall};
+ghost use Rattle.pass_frames_proof.specs.Followed.{IsFollowed};
 ghost use Rattle.pass_frames_proof.specs.Framings.{IsFraming};
 ghost use Rattle.pass_frames_proof.specs.Places.{Framing};
-ghost use Rattle.pass_frames_proof.specs.Ramps.{HasAllocasInFront, HasEntryFront, IsPlainEntry};
+ghost use Rattle.pass_frames_proof.specs.Ramps.{HasAllocasInFront, HasEntryFront, IsPlainEntry, IsRamp};
+ghost use Rattle.pass_frames_proof.specs.Related.{AreBuiltOf, Building, is_coroutine};
+ghost use Rattle.pass_frames_proof.specs.Stepping.{AreGiven};
+ghost use Rattle.pass_renewed_proof.specs.Renewed.{RenewedGiven};
+ghost use Rattle.run_memory.specs.declared.pointer.Value.{Value};
+ghost use Rattle.run_source.specs.declared.state.State.{State};
 
 /// In front of the entry stand all allocas, and behind them stores alone: of addresses of temporaries, and of
 /// parameters.
@@ -13,4 +22,17 @@ pub fn entries_have_their_fronts()
 /// Among these allocas are those of slots that lie in no frame, of temporaries and of cells.
 pub fn entries_have_their_allocas()
     ensures { (x : Framing) → IsFraming x → IsPlainEntry x → HasAllocasInFront x }
+{}
+
+/// A call of a ramp is followed, from a coroutine and from a function that is none. With the call the framed run
+/// executes all allocas, and stores parameters and addresses of temporaries into their cells.
+pub fn calls_of_ramps_are_followed()
+    ensures coroutines { (b : Building) (g : RenewedGiven) → AreGiven b g → (s t : State) → AreBuiltOf b s t → (i : Instr)
+        (func : ℕ) (args : List Value) (result : Option ℕ) (must_tail : Bool)
+        → IsAtCall b g s i func args result must_tail → is_coroutine b func ≡ true
+        → IsRamp b.framed_code func (b.framing func) args → HasBlocks t → IsFollowed b g s t }
+    ensures others { (b : Building) (g : RenewedGiven) → AreGiven b g → (s t : State) → AreBuiltOf b s t → (i : Instr)
+        (func : ℕ) (args : List Value) (result : Option ℕ) (must_tail : Bool)
+        → IsAtPlainCall b g s i func args result must_tail → is_coroutine b func ≡ true
+        → IsRamp b.framed_code func (b.framing func) args → HasBlocks t → IsFollowed b g s t }
 {}

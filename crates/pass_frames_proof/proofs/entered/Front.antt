@@ -37,7 +37,7 @@ each_at P [] h s k lt e = absurd (omega (arith, lt))
 each_at P (u ∷ ss) h s zero lt e = subst P e h.0
 each_at P (u ∷ ss) h s (suc k) lt e = each_at P ss h.1 s k (omega (arith, lt)) e
 
-cell_listed : (ss : List EarlySlot) (q : ℕ) → IsListed q (cells_of ss)
+pub cell_listed : (ss : List EarlySlot) (q : ℕ) → IsListed q (cells_of ss)
     → (s : EarlySlot) × Contains ss s × (q ≡ s.cell)
 cell_listed [] q l = absurd l
 cell_listed (u ∷ ss) q (inl e) = (u, (0, omega arith, refl), e)
