@@ -10,6 +10,7 @@ pub mod Costs
 pub mod Distanced
 pub mod Distances
 pub mod Edges
+pub mod Early
 pub mod Ending
 pub mod Ends
 pub mod Entering

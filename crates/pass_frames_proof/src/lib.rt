@@ -12,6 +12,7 @@ pub mod code;
 pub mod copying;
 pub mod distanced;
 pub mod distances;
+pub mod early;
 pub mod ending;
 pub mod entered;
 pub mod entering;

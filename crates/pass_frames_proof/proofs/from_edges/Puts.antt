@@ -47,7 +47,7 @@ module _ (x : Framing) (k : ℕ) where
   abbrev pub put_code : ℕ → ℕ → EarlySlot → List Instr
   put_code m d s = address_behind m (begin_of x.function) d ∷ put m s.cell ∷ []
 
-  put_is : (m d : ℕ) (s : EarlySlot) → slice_get (offsets x) s.slot ≡ Some (Some d)
+  pub put_is : (m d : ℕ) (s : EarlySlot) → slice_get (offsets x) s.slot ≡ Some (Some d)
       → fetch_of (slot_table x) (Operand.Local s.cell) ≡ None
       → (becomes A (m, tt) (put s.slot s.cell) ≡ put_code m d s)
       × (A.after (m, tt) (put s.slot s.cell) ≡ (m + 1, tt))
