@@ -1,9 +1,15 @@
 //! Slots that are used before begin: what stands right behind it is executed.
 
-ghost use Rattle.std.specs.Prelude.{ℕ, List};
+ghost use Rattle.std.specs.Prelude.{◌≡◌, ℕ, List, false};
+ghost use Rattle.ir_model.specs.declared.instr.Instr.{Instr};
+ghost use Rattle.ir_parts.specs.Contents.{instr_operands};
+ghost use Rattle.pass_copies.specs.Uses.{is_access};
 ghost use Rattle.pass_copies.specs.declared.slot.EarlySlot.{EarlySlot};
+ghost use Rattle.pass_frames_proof.specs.Code.{is_ahead, loaded};
 ghost use Rattle.pass_frames_proof.specs.Early.{AreCopied, IsCopiedSlot, MayCopyAll};
-ghost use Rattle.pass_frames_proof.specs.Places.{Framing};
+ghost use Rattle.pass_frames_proof.specs.Places.{Framing, Placed, copies};
+ghost use Rattle.pass_frames_proof.specs.Stepping.{IsUnlocated};
+ghost use Rattle.pass_proofs.specs.fetch.rules.Fetches.{AreUnfetched};
 ghost use Rattle.run_laws.specs.changed.Changed.{Each};
 ghost use Rattle.run_laws.specs.memory.Standing.{AreByteRights};
 ghost use Rattle.run_source.specs.declared.state.Activation.{Activation};
@@ -15,4 +21,12 @@ pub fn early_slots_are_copied()
     ensures { (x : Framing) (c : Context) → AreByteRights c.rights → (a : Activation) (k block start : ℕ)
         (ss : List EarlySlot) (ps : Each (IsCopiedSlot x start) ss) (m : ℕ) (w : Work)
         → MayCopyAll x c a block start m w ss ps → AreCopied x c a k block start m w ss ps }
+{}
+
+/// Accesses before begin alone go by the cells of addresses, and of these the ones whose operand is such a slot.
+pub fn other_instructions_are_unlocated()
+    ensures others { (x : Framing) (n : Placed) (i : Instr) → is_access i ≡ false → IsUnlocated x n i }
+    ensures behind { (x : Framing) (n : Placed) (i : Instr) → is_ahead n ≡ false → IsUnlocated x n i }
+    ensures unused { (x : Framing) (n : Placed) (i : Instr)
+        → AreUnfetched (copies x).fetches (instr_operands (loaded x n i)) → IsUnlocated x n i }
 {}
