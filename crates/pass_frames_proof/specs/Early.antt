@@ -1,7 +1,7 @@
 -- Slots that are used before begin: right behind it the bytes of their temporaries are copied to their places in the
 -- frame, and the addresses of these go to their cells.
 use Rattle.std.specs.List.{Contains}
-use Rattle.std.specs.Prelude.{◌≡◌, ◌≢◌, ◌⊎◌, ◌+◌, ◌*◌, ◌<◌, ◌≤◌, ◌^◌, [], ◌∷◌, List, None, length, ℕ}
+use Rattle.std.specs.Prelude.{◌≡◌, ◌≢◌, ◌⊎◌, ◌+◌, ◌*◌, ◌<◌, ◌≤◌, ◌^◌, [], ◌∷◌, List, None, Some, false, length, slice_get, true, ℕ}
 use Rattle.flow_solver.specs.Paths.{IsListed}
 use Rattle.ir_laws.specs.paths.woven_rules.Pairs.{AreDifferent}
 use Rattle.ir_model.specs.Ty.{ptr}
@@ -20,7 +20,13 @@ use Rattle.pass_frames_proof.specs.Related.{Anything, IsCell}
 use Rattle.run_laws.specs.access.Accessed.{Span}
 use Rattle.run_laws.specs.access.Lines.{AreDisjoint, Holds, pointer_at}
 use Rattle.run_laws.specs.changed.Changed.{Each}
+use Rattle.run_laws.specs.memory.Pointers.{Home, home_of}
+use Rattle.run_laws.specs.memory.Standing.{byte_of}
+use Rattle.run_laws.specs.transfer.Places.{HasRoom, IsApartFrom, MayBeSeen}
+use Rattle.run_laws.specs.transfer.Ready.{Place, home_at}
+use Rattle.run_memory.specs.Memory.{Rights, is_live}
 use Rattle.run_memory.specs.declared.block.Byte.{Byte}
+use Rattle.run_memory.specs.declared.block.MemoryBlock.{MemoryBlock}
 use Rattle.run_memory.specs.declared.pointer.Value.{Value}
 use Rattle.run_source.specs.declared.state.Activation.{Activation}
 use Rattle.run_step.specs.Step.{Context, Work}
@@ -122,3 +128,22 @@ pub record MayCopyAll (x : Framing) (c : Context) (a : Activation) (block start 
   pub temporaries : (s z : EarlySlot) → IsListed s ss → IsListed z ss → s.cell ≢ z.temporary
   pub apart : AllApart x block start ss ps
   pub each : AllMayCopy x c a block start m w ss ps
+
+-- ---- homes of what was copied
+
+-- The live block has room from the place on, apart from all others. What it holds at its home stands there, too.
+pub record IsCopiedTo (rights target : Rights) (homes : List Home) (m n : List MemoryBlock) (p : Place)
+    (x : MemoryBlock) : Type 0 where
+  pub room : HasRoom rights target n (home_at p) p.block x
+  pub apart : IsApartFrom rights homes m (home_at p) p.block x
+  pub same : (z : MemoryBlock) → slice_get n (home_of homes p.block).block ≡ Some z → (i : ℕ) → i < x.size
+      → byte_of room.block (p.offset + i) ≡ byte_of z ((home_of homes p.block).offset + i)
+
+-- No pointer is about into the block, and it was copied to the place, if it is live.
+pub record MayComeThere (rights target : Rights) (homes : List Home) (m n : List MemoryBlock) (p : Place) : Type 0
+  where
+    pub known : p.block < length homes
+    pub unseen : (home_of homes p.block).is_seen ≡ false
+    pub seen : MayBeSeen rights target n (home_at p) p.block (slice_get m p.block)
+    pub copied : (x : MemoryBlock) → slice_get m p.block ≡ Some x → is_live x.life ≡ true
+        → IsCopiedTo rights target homes m n p x

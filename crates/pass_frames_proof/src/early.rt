@@ -1,17 +1,22 @@
 //! Slots that are used before begin: what stands right behind it is executed.
 
-ghost use Rattle.std.specs.Prelude.{◌≡◌, ℕ, List, false};
+ghost use Rattle.std.specs.Prelude.{◌≡◌, ℕ, List, false, set};
 ghost use Rattle.ir_model.specs.declared.instr.Instr.{Instr};
 ghost use Rattle.ir_parts.specs.Contents.{instr_operands};
 ghost use Rattle.pass_copies.specs.Uses.{is_access};
 ghost use Rattle.pass_copies.specs.declared.slot.EarlySlot.{EarlySlot};
 ghost use Rattle.pass_frames_proof.specs.Code.{is_ahead, loaded};
-ghost use Rattle.pass_frames_proof.specs.Early.{AreCopied, IsCopiedSlot, MayCopyAll};
+ghost use Rattle.pass_frames_proof.specs.Early.{AreCopied, IsCopiedSlot, MayComeThere, MayCopyAll};
 ghost use Rattle.pass_frames_proof.specs.Places.{Framing, Placed, copies};
 ghost use Rattle.pass_frames_proof.specs.Stepping.{IsUnlocated};
 ghost use Rattle.pass_proofs.specs.fetch.rules.Fetches.{AreUnfetched};
 ghost use Rattle.run_laws.specs.changed.Changed.{Each};
+ghost use Rattle.run_laws.specs.memory.Pointers.{Home};
 ghost use Rattle.run_laws.specs.memory.Standing.{AreByteRights};
+ghost use Rattle.run_laws.specs.transfer.Places.{AreStanding};
+ghost use Rattle.run_laws.specs.transfer.Ready.{Place, home_at};
+ghost use Rattle.run_memory.specs.Memory.{Rights};
+ghost use Rattle.run_memory.specs.declared.block.MemoryBlock.{MemoryBlock};
 ghost use Rattle.run_source.specs.declared.state.Activation.{Activation};
 ghost use Rattle.run_step.specs.Step.{Context, Work};
 
@@ -29,4 +34,11 @@ pub fn other_instructions_are_unlocated()
     ensures behind { (x : Framing) (n : Placed) (i : Instr) → is_ahead n ≡ false → IsUnlocated x n i }
     ensures unused { (x : Framing) (n : Placed) (i : Instr)
         → AreUnfetched (copies x).fetches (instr_operands (loaded x n i)) → IsUnlocated x n i }
+{}
+
+/// A block into which no pointer is about comes to stand where its bytes were copied to. Pointers may be about there.
+pub fn copied_blocks_come_there()
+    ensures { (rights target : Rights) (homes : List Home) (m n : List MemoryBlock) (p : Place)
+        → MayComeThere rights target homes m n p → AreStanding rights target homes m n
+        → AreStanding rights target (set homes p.block (home_at p)) m n }
 {}
