@@ -4,5 +4,6 @@ pub mod Called
 pub mod Entry
 pub mod Front
 pub mod Grown
+pub mod Params
 pub mod Rules
 pub mod Values

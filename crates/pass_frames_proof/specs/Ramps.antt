@@ -1,6 +1,6 @@
 -- A ramp that is called: what stands in front of its entry, what its allocas are, and what its parameters get.
 use Rattle.std.specs.List.{Contains}
-use Rattle.std.specs.Prelude.{◌≡◌, ◌++◌, ℕ, List, [], Some, false, length, slice_get, None}
+use Rattle.std.specs.Prelude.{◌≡◌, ◌++◌, ℕ, List, [], Some, false, length, slice_get}
 use Rattle.flow_solver.specs.Paths.{IsListed}
 use Rattle.ir_laws.specs.paths.woven_rules.Pairs.{AreDifferent}
 use Rattle.ir_model.specs.Layout.{size_of}
@@ -15,7 +15,7 @@ use Rattle.pass_fetch.specs.Fetching.{value_bytes}
 use Rattle.pass_frames_proof.specs.Entered.{IsAlloca, IsEntryName, temporary_of}
 use Rattle.pass_frames_proof.specs.Entering.{front_allocas}
 use Rattle.pass_frames_proof.specs.Entry.{cells_of, puts_of}
-use Rattle.pass_frames_proof.specs.Lines.{IsNoRoot, IsStorable}
+use Rattle.pass_frames_proof.specs.Lines.{IsStorable}
 use Rattle.pass_frames_proof.specs.Passes.{block_at}
 use Rattle.pass_frames_proof.specs.Places.{Framing, copies, edged, framed, instrs_at, offsets, place, plan}
 use Rattle.pass_frames_proof.specs.Related.{IsKeptValue}
@@ -70,12 +70,9 @@ pub record HasEntryAllocas (m : Module) (func : ℕ) (x : Framing) : Type 0 wher
 
 -- ---- the parameters
 
--- Its value may be stored (values fit their types, Y1), no distance is kept of it or goes on from it: it is no address
--- in a slot.
+-- its value may be stored: values fit their types (Y1)
 pub record FitsParam (x : Framing) (q : ℕ × Value) : Type 0 where
   pub storable : (k : KeptValue) → IsKeptValue x q.0 k → IsStorable k.ty q.1
-  pub no_root : IsNoRoot x q.0
-  pub no_distance : entry (plan x).cells q.0 ≡ None
 
 -- each parameter has its argument
 pub record FitParams (x : Framing) (args : List Value) : Type 0 where

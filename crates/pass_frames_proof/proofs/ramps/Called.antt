@@ -31,7 +31,8 @@ use Rattle.pass_frames_proof.proofs.ramps.Behind.{AreEntryAllocas, all_may_put, 
 use Rattle.pass_frames_proof.proofs.ramps.Entry.{IsBareEntry, bare_entry}
 use Rattle.pass_frames_proof.proofs.ramps.Front.{entry_front}
 use Rattle.pass_frames_proof.proofs.ramps.Grown.{grown_over, grown_shown, new_free}
-use Rattle.pass_frames_proof.proofs.ramps.Rules.{entry_allocas, params_low, params_once}
+use Rattle.pass_frames_proof.proofs.ramps.Params.{are_unaddressed, params_low, params_once}
+use Rattle.pass_frames_proof.proofs.ramps.Rules.{entry_allocas}
 use Rattle.pass_frames_proof.proofs.ramps.Values.{entry_below, names_given, none_long, params_given, params_long, stand_on, unset_poison}
 use Rattle.pass_frames_proof.proofs.returning.Behind.{stand_before, stand_behind}
 use Rattle.pass_frames_proof.proofs.returning.Turned.{placed_at}
@@ -281,6 +282,7 @@ module _ (b : Building) (g : RenewedGiven) (given : AreGiven b g) (s t : State) 
   given1 : Each (IsNameGiven x r.homes w1) (given_params (edged x).params args)
   given1 =
       names_given x r.homes source_env w1 (given_params (edged x).params args) ramp.params.fit
+      (are_unaddressed x is args)
       (params_given (edged x).params args (replicate (length (edged x).names) None)
       (params_once is.position (edged x) is.frameable.rules.definitions)
       (each_turns (λ (p : Param). p.name < length (edged x).names)

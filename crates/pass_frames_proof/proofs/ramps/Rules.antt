@@ -1,10 +1,8 @@
 -- What the rules say of the allocas in front of an entry: each has a name of its own, which is no parameter's.
-use Rattle.std.proofs.Common.{◌≡◌, ◌+◌, ◌<◌, ◌++◌, ◌∙◌, ◌∷◌, [], Bool, List, None, Option, Some, ap, arith, false, inl, inr, length, refl, subst, suc, sym, true, zero, ℕ}
+use Rattle.std.proofs.Common.{◌≡◌, ◌+◌, ◌<◌, ◌∙◌, ◌∷◌, [], Bool, List, None, Option, Some, ap, arith, false, inl, inr, length, refl, subst, suc, sym, true, zero, ℕ}
 use Rattle.std.specs.Prelude.{map, slice_get, ◌==◌}
 use Rattle.flow_solver.specs.Paths.{IsListed}
 use Rattle.ir_laws.proofs.facts.Members.{each_turns}
-use Rattle.ir_laws.proofs.facts.Lists.{row_of}
-use Rattle.ir_laws.proofs.paths.source_rules.Locals.{Apart, listed_left}
 use Rattle.ir_laws.specs.paths.woven_rules.Pairs.{AreDifferent}
 use Rattle.ir_model.specs.declared.instr.Instr.{Instr}
 use Rattle.ir_model.specs.declared.instr.Terminator.{Terminator}
@@ -12,13 +10,12 @@ use Rattle.ir_model.specs.declared.module.Block.{Block}
 use Rattle.ir_model.specs.declared.module.Function.{Function}
 use Rattle.ir_model.specs.declared.module.Module.{Module}
 use Rattle.ir_model.specs.declared.module.Param.{Param}
-use Rattle.ir_parts.specs.Locals.{locals_of}
 use Rattle.ir_paths.specs.Windows.{instr_at, instr_in}
 use Rattle.ir_paths.specs.declared.point.Point.{Point}
 use Rattle.pass_frames_proof.proofs.code.Framed.{entry_made}
 use Rattle.pass_frames_proof.proofs.ramps.Behind.{AreEntryAllocas, framed_params}
 use Rattle.pass_frames_proof.proofs.ramps.Front.{entry_front}
-use Rattle.pass_frames_proof.proofs.ramps.Values.{name_listed, names_of}
+use Rattle.pass_frames_proof.proofs.ramps.Values.{name_listed}
 use Rattle.pass_frames_proof.proofs.returning.Behind.{stand_before}
 use Rattle.pass_frames_proof.specs.Entered.{IsAlloca, names_in}
 use Rattle.pass_frames_proof.specs.Entering.{front_allocas}
@@ -27,13 +24,8 @@ use Rattle.pass_frames_proof.specs.Passes.{block_at}
 use Rattle.pass_frames_proof.specs.Places.{Framing, edged, framed}
 use Rattle.pass_frames_proof.specs.Ramps.{HasEntryAllocas, IsPlainEntry, entry_stores}
 use Rattle.pass_frames_proof.specs.Saving.{HasLowAllocas}
-use Rattle.rule_laws.proofs.rules.front_rules.Names.{once_at}
-use Rattle.rule_laws.proofs.rules.local_rules.Names.{numbers}
-use Rattle.rule_laws.proofs.rules.source_rules.Locals.{block_names, no_param, result_below, same_result}
-use Rattle.rule_laws.proofs.rules.woven_rules.Once.{names_below, once_apart}
+use Rattle.rule_laws.proofs.rules.source_rules.Locals.{no_param, result_below, same_result}
 use Rattle.rule_laws.specs.rules.function_rules.Kept.{KeepsFunctionRules}
-use Rattle.rule_laws.specs.rules.source_rules.Named.{HasTabledLocals}
-use Rattle.rule_names.specs.Definitions.{first_twice}
 use Rattle.rule_uses.specs.Undefined.{params_of}
 use Rattle.run_laws.specs.access.Lines.{StandAt}
 use Rattle.run_laws.specs.changed.Changed.{Each, result_of}
@@ -121,30 +113,6 @@ module _ (m : Module) (k : ℕ) (f : Function) (rules : KeepsFunctionRules m k f
   )
 
 -- ---- the framed form
-
--- parameters have names of their own, which are the table's
-module _ (k : ℕ) (f : Function) where
-  abbrev rest : List ℕ
-  rest = row_of block_names f.blocks
-
-  different_names : (ps : List Param) → Apart (names_of ps ++ rest) → AreDifferent (names_of ps)
-  different_names [] h = tt
-  different_names (p ∷ ps) h = (λ l. h.0 (listed_left p.name (names_of ps) rest l), different_names ps h.1)
-
-  pub params_once : first_twice [] (locals_of k f) ≡ None → AreDifferent (names_of f.params)
-  params_once once = different_names f.params (once_apart (numbers f) (once_at k f once))
-
-  low_params : HasTabledLocals k f → (ps : List Param) → ((p : Param) → IsListed p ps → IsListed p f.params)
-      → Each (λ (p : Param). p.name < length f.names) ps
-  low_params tabled [] inside = tt
-  low_params tabled (p ∷ ps) inside = (
-    names_below k f tabled p.name
-        (listed_left p.name (names_of f.params) rest (name_listed f.params p (inside p (inl refl)))),
-    low_params tabled ps (λ q l. inside q (inr l)),
-  )
-
-  pub params_low : HasTabledLocals k f → Each (λ (p : Param). p.name < length f.names) f.params
-  params_low tabled = low_params tabled f.params (λ p l. l)
 
 module _ (m : Module) (k : ℕ) (x : Framing) (is : IsFraming x) (e : IsPlainEntry x) (h : HasEntryAllocas m k x) where
   entry : (c : Block) × (slice_get (framed x).blocks 0 ≡ Some c)

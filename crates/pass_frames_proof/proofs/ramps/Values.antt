@@ -9,9 +9,11 @@ use Rattle.ir_model.specs.declared.instr.Instr.{Instr}
 use Rattle.ir_model.specs.declared.module.Function.{Function}
 use Rattle.ir_model.specs.declared.module.Module.{Module}
 use Rattle.ir_model.specs.declared.module.Param.{Param}
+use Rattle.pass_cells.specs.Kept.{entry}
 use Rattle.pass_frames_proof.proofs.stepping.Called.{no_value}
 use Rattle.pass_frames_proof.specs.Entered.{IsAlloca, Made, made_all, made_one}
-use Rattle.pass_frames_proof.specs.Places.{Framing}
+use Rattle.pass_frames_proof.specs.Lines.{IsNoRoot}
+use Rattle.pass_frames_proof.specs.Places.{Framing, plan}
 use Rattle.pass_frames_proof.specs.Ramps.{FitsParam}
 use Rattle.pass_frames_proof.specs.Stores.{IsNameGiven, given_params}
 use Rattle.pass_renewed_proof.proofs.EnteredValues.{set_here}
@@ -146,18 +148,23 @@ stand_on m f homes env k (j ∷ js) ups none h v =
 
 -- ---- what is to be stored
 
+-- no distance is kept of it or goes on from it
+pub record IsUnaddressed (x : Framing) (q : ℕ × Value) : Type 0 where
+  pub no_root : IsNoRoot x q.0
+  pub no_distance : entry (plan x).cells q.0 ≡ None
+
 pub names_given : (x : Framing) (homes : List Home) (env : Env) (w : Work) (qs : List (ℕ × Value))
-    → Each (FitsParam x) qs → Each (λ (q : ℕ × Value). value_in env q.0 ≡ q.1) qs
+    → Each (FitsParam x) qs → Each (IsUnaddressed x) qs → Each (λ (q : ℕ × Value). value_in env q.0 ≡ q.1) qs
     → ((v : ℕ) → IsValue homes (value_in env v) (value_in w.values v)) → Each (IsNameGiven x homes w) qs
-names_given x homes env w [] fit is h = tt
-names_given x homes env w (q ∷ qs) fit is h = (
+names_given x homes env w [] fit bare is h = tt
+names_given x homes env w (q ∷ qs) fit bare is h = (
   record {
     stands = subst (λ (u : Value). IsValue homes u (value_in w.values q.0)) is.0 (h q.0);
     storable = fit.0.storable;
-    no_root = fit.0.no_root;
-    no_distance = fit.0.no_distance;
+    no_root = bare.0.no_root;
+    no_distance = bare.0.no_distance;
   },
-  names_given x homes env w qs fit.1 is.1 h,
+  names_given x homes env w qs fit.1 bare.1 is.1 h,
 )
 
 -- ---- how many there are
