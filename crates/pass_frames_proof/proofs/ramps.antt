@@ -5,5 +5,6 @@ pub mod Entry
 pub mod Front
 pub mod Grown
 pub mod Params
+pub mod Plain
 pub mod Rules
 pub mod Values

@@ -1,7 +1,8 @@
 -- A ramp that is called: what stands in front of its entry, what its allocas are, and what its parameters get.
 use Rattle.std.specs.List.{Contains}
-use Rattle.std.specs.Prelude.{◌≡◌, ◌++◌, ℕ, List, [], Some, false, length, slice_get}
+use Rattle.std.specs.Prelude.{◌≡◌, ◌++◌, ℕ, List, Some, false, length, slice_get}
 use Rattle.flow_solver.specs.Paths.{IsListed}
+use Rattle.ir_laws.specs.facts.spelled.Filled.{HasNoEntryPhis}
 use Rattle.ir_laws.specs.paths.woven_rules.Pairs.{AreDifferent}
 use Rattle.ir_model.specs.Layout.{size_of}
 use Rattle.ir_model.specs.Ty.{Ty, int, ptr}
@@ -16,7 +17,6 @@ use Rattle.pass_frames_proof.specs.Entered.{IsAlloca, IsEntryName, temporary_of}
 use Rattle.pass_frames_proof.specs.Entering.{front_allocas}
 use Rattle.pass_frames_proof.specs.Entry.{cells_of, puts_of}
 use Rattle.pass_frames_proof.specs.Lines.{IsStorable}
-use Rattle.pass_frames_proof.specs.Passes.{block_at}
 use Rattle.pass_frames_proof.specs.Places.{Framing, copies, edged, framed, instrs_at, offsets, place, plan}
 use Rattle.pass_frames_proof.specs.Related.{IsKeptValue}
 use Rattle.pass_frames_proof.specs.Stores.{given_params}
@@ -29,10 +29,9 @@ use Rattle.run_step.specs.Step.{has_markers}
 
 -- ---- the code in front of the entry
 
--- There is an entry, which has no phis: no edge leads to it (F1).
-pub record IsPlainEntry (x : Framing) : Type 0 where
-  pub there : slice_get (edged x).blocks 0 ≡ Some (block_at (edged x) 0)
-  pub no_phis : (block_at (edged x) 0).phis ≡ []
+-- its entry has no phis: no edge leads to it (F1), and phis of texts have operands
+abbrev pub IsPlainEntry : Framing → Type 0
+IsPlainEntry x = HasNoEntryPhis x.function.blocks
 
 -- addresses of temporaries go to their cells, and parameters to theirs
 abbrev pub entry_stores : Framing → List Instr

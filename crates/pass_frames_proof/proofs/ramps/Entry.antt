@@ -14,6 +14,7 @@ use Rattle.pass_fetch.specs.Blocks.{fetched_block, fetched_phis, next_after_phis
 use Rattle.pass_frames.specs.Framed.{celled}
 use Rattle.pass_frames_proof.proofs.code.Names.{local}
 use Rattle.pass_frames_proof.proofs.code.Passes.{cells_made, fetched_there}
+use Rattle.pass_frames_proof.proofs.ramps.Plain.{entry_phis, entry_there}
 use Rattle.pass_frames_proof.specs.Framings.{IsFraming}
 use Rattle.pass_frames_proof.specs.Passes.{block_at, no_block, phi_ends}
 use Rattle.pass_frames_proof.specs.Places.{Framing, copies, edged, fetched, is_return, named, plan, with_copies, written}
@@ -76,7 +77,7 @@ module _ (x : Framing) (is : IsFraming x) (e : IsPlainEntry x) where
   fetched_entry =
       let q = fetched_there (fetches_of (plan x)) (phi_ends (named x) (fetches_of (plan x))) (length (named x).names)
       (next_after_phis_by (fetches_of (plan x)) (length (named x).names) (named x).blocks) (named x).blocks 0 b
-      e.there in
+      (entry_there x is) in
       record {
         of = record {
           block = fetched_block (fetches_of (plan x)) (phi_ends (named x) (fetches_of (plan x))) q.0
@@ -84,7 +85,7 @@ module _ (x : Framing) (is : IsFraming x) (e : IsPlainEntry x) where
           there = q.1;
           label = refl;
         };
-        no_phis = ap (fetched_phis (fetches_of (plan x)) q.0) e.no_phis;
+        no_phis = ap (fetched_phis (fetches_of (plan x)) q.0) (entry_phis x is e);
       }
 
   written_entry : IsEntryOf (written x)
@@ -109,8 +110,10 @@ module _ (x : Framing) (is : IsFraming x) (e : IsPlainEntry x) where
 
   pub bare_entry : IsBareEntry x
   bare_entry = record {
-    there = e.there;
-    unreturned = away_unflagged x.code is.position F is.frameable.rules is.frameable.cells.returns b e.there;
+    there = entry_there x is;
+    unreturned =
+        away_unflagged x.code is.position F is.frameable.rules is.frameable.cells.returns b
+        (entry_there x is);
     unresumed =
         ap (λ (z : Block). flag_at (copies x).resumed z.label)
         (block_is (written x) written_entry.block written_entry.there)
@@ -120,7 +123,7 @@ module _ (x : Framing) (is : IsFraming x) (e : IsPlainEntry x) where
         (block_is (fetched x) fetched_entry.of.block fetched_entry.of.there)
         ∙ ap (entry (plan x).returns) fetched_entry.of.label
         ∙ entry_unreturned x.code is.position F is.frameable.rules x.contents.crossing (local x is) is.frameable.cells b
-        e.there;
+        (entry_there x is);
     no_phis =
         ap (λ (z : Block). z.phis) (block_is (fetched x) fetched_entry.of.block fetched_entry.of.there)
         ∙ fetched_entry.no_phis;

@@ -15,6 +15,7 @@ use Rattle.ir_paths.specs.declared.point.Point.{Point}
 use Rattle.pass_frames_proof.proofs.code.Framed.{entry_made}
 use Rattle.pass_frames_proof.proofs.ramps.Behind.{AreEntryAllocas, framed_params}
 use Rattle.pass_frames_proof.proofs.ramps.Front.{entry_front}
+use Rattle.pass_frames_proof.proofs.ramps.Plain.{entry_there}
 use Rattle.pass_frames_proof.proofs.ramps.Values.{name_listed}
 use Rattle.pass_frames_proof.proofs.returning.Behind.{stand_before}
 use Rattle.pass_frames_proof.specs.Entered.{IsAlloca, names_in}
@@ -116,7 +117,7 @@ module _ (m : Module) (k : ℕ) (f : Function) (rules : KeepsFunctionRules m k f
 
 module _ (m : Module) (k : ℕ) (x : Framing) (is : IsFraming x) (e : IsPlainEntry x) (h : HasEntryAllocas m k x) where
   entry : (c : Block) × (slice_get (framed x).blocks 0 ≡ Some c)
-  entry = let z = entry_made x (block_at (edged x) 0) e.there in (z.0, z.1)
+  entry = let z = entry_made x (block_at (edged x) 0) (entry_there x is) in (z.0, z.1)
 
   stands : InEntry m k (framed x) h.rules entry.0 entry.1 0 (front_allocas x)
   stands =
@@ -126,7 +127,7 @@ module _ (m : Module) (k : ℕ) (x : Framing) (is : IsFraming x) (e : IsPlainEnt
   own_low : HasLowAllocas x
   own_low at u align ty there =
       result_below is.position (edged x) is.frameable.rules.tabled (record { block = 0; at = at })
-      (Instr.Alloca u ty align) u (ap (λ (o : Option Block). instr_in o at) e.there ∙ there) refl
+      (Instr.Alloca u ty align) u (ap (λ (o : Option Block). instr_in o at) (entry_there x is) ∙ there) refl
 
   pub entry_allocas : AreEntryAllocas m x
   entry_allocas = record {
