@@ -1,3 +1,4 @@
+pub mod Aligned
 pub mod Allocas
 pub mod Behind
 pub mod Called

@@ -13,6 +13,7 @@ use Rattle.ir_model.specs.declared.module.Param.{Param}
 use Rattle.ir_paths.specs.Windows.{instr_at, instr_in}
 use Rattle.ir_paths.specs.declared.point.Point.{Point}
 use Rattle.pass_frames_proof.proofs.code.Framed.{entry_made}
+use Rattle.pass_frames_proof.proofs.ramps.Aligned.{all_aligned, are_allocas}
 use Rattle.pass_frames_proof.proofs.ramps.Behind.{AreEntryAllocas, framed_params}
 use Rattle.pass_frames_proof.proofs.ramps.Front.{entry_front}
 use Rattle.pass_frames_proof.proofs.ramps.Plain.{entry_there}
@@ -21,8 +22,9 @@ use Rattle.pass_frames_proof.proofs.returning.Behind.{stand_before}
 use Rattle.pass_frames_proof.specs.Entered.{IsAlloca, names_in}
 use Rattle.pass_frames_proof.specs.Entering.{front_allocas}
 use Rattle.pass_frames_proof.specs.Framings.{IsFraming}
+use Rattle.pass_frames_proof.specs.Layers.{woven}
 use Rattle.pass_frames_proof.specs.Passes.{block_at}
-use Rattle.pass_frames_proof.specs.Places.{Framing, edged, framed}
+use Rattle.pass_frames_proof.specs.Places.{Framing, edged, framed, instrs_at, placed_layer}
 use Rattle.pass_frames_proof.specs.Ramps.{HasEntryAllocas, IsPlainEntry, entry_stores}
 use Rattle.pass_frames_proof.specs.Saving.{HasLowAllocas}
 use Rattle.rule_laws.proofs.rules.source_rules.Locals.{no_param, result_below, same_result}
@@ -124,6 +126,11 @@ module _ (m : Module) (k : ℕ) (x : Framing) (is : IsFraming x) (e : IsPlainEnt
       in_entry m k (framed x) h.rules entry.0 entry.1 0 (front_allocas x)
       (stand_before (framed x) 0 0 (front_allocas x) (entry_stores x) (entry_front x is e).stand)
 
+  allocas : Each IsAlloca (front_allocas x)
+  allocas =
+      all_aligned m k (framed x) h.rules 0 (front_allocas x) (are_allocas (woven (placed_layer x 0) (instrs_at x 0)))
+      stands
+
   own_low : HasLowAllocas x
   own_low at u align ty there =
       result_below is.position (edged x) is.frameable.rules.tabled (record { block = 0; at = at })
@@ -131,8 +138,8 @@ module _ (m : Module) (k : ℕ) (x : Framing) (is : IsFraming x) (e : IsPlainEnt
 
   pub entry_allocas : AreEntryAllocas m x
   entry_allocas = record {
-    allocas = h.allocas;
-    once = once_in m k (framed x) h.rules entry.0 entry.1 0 (front_allocas x) h.allocas stands;
+    allocas = allocas;
+    once = once_in m k (framed x) h.rules entry.0 entry.1 0 (front_allocas x) allocas stands;
     low = low_in m k (framed x) h.rules entry.0 entry.1 0 (front_allocas x) stands;
     unset =
         each_turns (λ (j : Instr). (a : IsAlloca j) → IsListed a.name (params_of (framed x)) → ⊥)
