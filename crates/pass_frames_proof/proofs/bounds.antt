@@ -1,2 +1,8 @@
+pub mod Around
+pub mod Behind
+pub mod Codes
+pub mod Lengths
 pub mod Once
+pub mod Parts
 pub mod Rows
+pub mod Steps

@@ -4,9 +4,11 @@ pub mod Calling
 pub mod Allocating
 pub mod Anew
 pub mod Beginning
+pub mod Bounds
 pub mod Code
 pub mod Copying
 pub mod Costs
+pub mod Counts
 pub mod Distanced
 pub mod Distances
 pub mod Edges

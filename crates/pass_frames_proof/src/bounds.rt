@@ -1,11 +1,30 @@
 //! How much is woven in: bounds of the code of a framed form, by numbers of the coroutine with blocks on edges.
 
-ghost use Rattle.std.specs.Prelude.{◌≤◌, ℕ, Option, length};
+ghost use Rattle.std.specs.Prelude.{◌≡◌, ◌≤◌, ◌+◌, ℕ, Option, Some, false, length, slice_get};
+ghost use Rattle.ir_model.specs.declared.instr.Instr.{Instr};
+ghost use Rattle.ir_parts.specs.Contents.{instr_operands};
+ghost use Rattle.ir_paths.specs.declared.point.Point.{Point};
 ghost use Rattle.pass_cells.specs.Written.{row_at};
+ghost use Rattle.pass_frames_proof.specs.Bounds.{behind_of, more_of};
+ghost use Rattle.pass_frames_proof.specs.Costs.{instr_cost};
 ghost use Rattle.pass_frames_proof.specs.Framings.{IsFraming};
-ghost use Rattle.pass_frames_proof.specs.Places.{Framing, plan};
+ghost use Rattle.pass_frames_proof.specs.Meaning.{behind_at, own_cost};
+ghost use Rattle.pass_frames_proof.specs.Places.{Framing, instrs_at, is_return, place, plan};
 
 /// A suspend has no more values that cross it than are kept.
 pub fn rows_are_short()
     ensures { (x : Framing) → IsFraming x → (o : Option ℕ) → length (row_at (plan x).rows o) ≤ length (plan x).kept }
+{}
+
+/// From the place of an instruction to that of the next one it takes a step for the instruction, one for each operand,
+/// one for its result, and what else is put in around it. Not much more stands in front of it or behind it.
+pub fn instructions_take_few_steps()
+    ensures cost { (x : Framing) → IsFraming x → (p : Point) (i : Instr)
+        → slice_get (instrs_at x p.block) p.at ≡ Some i
+        → instr_cost x p ≤ 2 + length (instr_operands i) + more_of x i }
+    ensures own { (x : Framing) → IsFraming x → (p : Point) (i : Instr)
+        → slice_get (instrs_at x p.block) p.at ≡ Some i → is_return x p.block ≡ false
+        → own_cost x p ≤ 3 + length (instr_operands i) + more_of x i }
+    ensures behind { (x : Framing) → IsFraming x → (p : Point) (i : Instr)
+        → slice_get (instrs_at x p.block) p.at ≡ Some i → behind_at x p.block (p.at + 1) ≤ 1 + behind_of x i }
 {}
