@@ -38,6 +38,7 @@ pub mod Marking
 pub mod Meaning
 pub mod Measured
 pub mod Moved
+pub mod Numbers
 pub mod Offsets
 pub mod Operands
 pub mod Ordinary

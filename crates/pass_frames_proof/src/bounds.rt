@@ -9,7 +9,8 @@ ghost use Rattle.pass_frames_proof.specs.Bounds.{behind_of, more_of};
 ghost use Rattle.pass_frames_proof.specs.Costs.{instr_cost};
 ghost use Rattle.pass_frames_proof.specs.Framings.{IsFraming};
 ghost use Rattle.pass_frames_proof.specs.Meaning.{behind_at, own_cost};
-ghost use Rattle.pass_frames_proof.specs.Places.{Framing, instrs_at, is_return, place, plan};
+ghost use Rattle.pass_frames_proof.specs.Numbers.{allocas_of_blocks, names_of};
+ghost use Rattle.pass_frames_proof.specs.Places.{Framing, edged, instrs_at, is_return, place, plan};
 
 /// A suspend has no more values that cross it than are kept.
 pub fn rows_are_short()
@@ -27,4 +28,10 @@ pub fn instructions_take_few_steps()
         → own_cost x p ≤ 3 + length (instr_operands i) + more_of x i }
     ensures behind { (x : Framing) → IsFraming x → (p : Point) (i : Instr)
         → slice_get (instrs_at x p.block) p.at ≡ Some i → behind_at x p.block (p.at + 1) ≤ 1 + behind_of x i }
+{}
+
+/// Kept values are names of the coroutine, and so are allocas, of which none is kept.
+pub fn kept_values_are_names()
+    ensures { (x : Framing) → IsFraming x
+        → length (plan x).kept + allocas_of_blocks (edged x).blocks ≤ names_of (edged x) }
 {}
