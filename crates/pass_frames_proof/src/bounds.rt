@@ -9,7 +9,7 @@ ghost use Rattle.pass_frames_proof.specs.Bounds.{behind_of, more_of};
 ghost use Rattle.pass_frames_proof.specs.Costs.{instr_cost};
 ghost use Rattle.pass_frames_proof.specs.Framings.{IsFraming};
 ghost use Rattle.pass_frames_proof.specs.Meaning.{behind_at, own_cost};
-ghost use Rattle.pass_frames_proof.specs.Numbers.{allocas_of_blocks, names_of};
+ghost use Rattle.pass_frames_proof.specs.Numbers.{allocas_of_blocks, distances_of, gep_names_of, names_of};
 ghost use Rattle.pass_frames_proof.specs.Places.{Framing, edged, instrs_at, is_return, place, plan};
 
 /// A suspend has no more values that cross it than are kept.
@@ -34,4 +34,10 @@ pub fn instructions_take_few_steps()
 pub fn kept_values_are_names()
     ensures { (x : Framing) → IsFraming x
         → length (plan x).kept + allocas_of_blocks (edged x).blocks ≤ names_of (edged x) }
+{}
+
+/// Values of which distances are kept, and links, are getelementptrs, each another one.
+pub fn distances_are_of_getelementptrs()
+    ensures { (x : Framing) → IsFraming x
+        → distances_of (plan x).kept + (plan x).links ≤ length (gep_names_of (edged x).blocks) }
 {}
