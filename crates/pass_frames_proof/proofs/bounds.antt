@@ -1,6 +1,7 @@
 pub mod Around
 pub mod Behind
 pub mod Codes
+pub mod Early
 pub mod Lengths
 pub mod Links
 pub mod Once

@@ -9,8 +9,8 @@ ghost use Rattle.pass_frames_proof.specs.Bounds.{behind_of, more_of};
 ghost use Rattle.pass_frames_proof.specs.Costs.{instr_cost};
 ghost use Rattle.pass_frames_proof.specs.Framings.{IsFraming};
 ghost use Rattle.pass_frames_proof.specs.Meaning.{behind_at, own_cost};
-ghost use Rattle.pass_frames_proof.specs.Numbers.{allocas_of_blocks, distances_of, gep_names_of, names_of};
-ghost use Rattle.pass_frames_proof.specs.Places.{Framing, edged, instrs_at, is_return, place, plan};
+ghost use Rattle.pass_frames_proof.specs.Numbers.{allocas_of_blocks, allocas_of_instrs, distances_of, gep_names_of, names_of};
+ghost use Rattle.pass_frames_proof.specs.Places.{Framing, copies, edged, instrs_at, is_return, place, plan};
 
 /// A suspend has no more values that cross it than are kept.
 pub fn rows_are_short()
@@ -40,4 +40,9 @@ pub fn kept_values_are_names()
 pub fn distances_are_of_getelementptrs()
     ensures { (x : Framing) → IsFraming x
         → distances_of (plan x).kept + (plan x).links ≤ length (gep_names_of (edged x).blocks) }
+{}
+
+/// Slots that are used before begin are allocas of the entry, each another one.
+pub fn early_slots_are_allocas()
+    ensures { (x : Framing) → IsFraming x → length (copies x).slots ≤ allocas_of_instrs (instrs_at x 0) }
 {}

@@ -227,6 +227,14 @@ module _ (x : Framing) (is : IsFraming x) where
   alloca_low : (v : ℕ) → IsListed v (allocas_of F) → v < First
   alloca_low v l = valued_low v (ap (λ (o : Option Kind). is_some o) (pointer v l))
 
+  -- a slot that is used before begin is one of the function's names
+  pub used_low : (v : ℕ) → flag_at (used_before (written x) slots (before_labels x)) v ≡ true → v < First
+  used_low v e =
+      alloca_low v
+      (flagged_name v
+      (⊎_elim (λ h. absurd (never (length (written x).names) v h)) (λ h. h)
+      (blocks_mark slots (before_labels x) (replicate (length (written x).names) false) (written x).blocks v e)))
+
   -- behind names, cells and fields
   pub far_left : (v : ℕ) → First + 2 * Count ≤ v → IsLeft v
   far_left v far =
