@@ -2,6 +2,7 @@ pub mod Around
 pub mod Behind
 pub mod Codes
 pub mod Early
+pub mod Ends
 pub mod Lengths
 pub mod Links
 pub mod Once

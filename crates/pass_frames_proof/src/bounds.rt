@@ -1,15 +1,16 @@
 //! How much is woven in: bounds of the code of a framed form, by numbers of the coroutine with blocks on edges.
 
-ghost use Rattle.std.specs.Prelude.{◌≡◌, ◌≤◌, ◌+◌, ℕ, Option, Some, false, length, slice_get};
+ghost use Rattle.std.specs.Prelude.{◌≡◌, ◌≤◌, ◌+◌, ◌*◌, ℕ, Option, Some, false, length, slice_get};
 ghost use Rattle.ir_model.specs.declared.instr.Instr.{Instr};
 ghost use Rattle.ir_parts.specs.Contents.{instr_operands};
 ghost use Rattle.ir_paths.specs.declared.point.Point.{Point};
 ghost use Rattle.pass_cells.specs.Written.{row_at};
 ghost use Rattle.pass_frames_proof.specs.Bounds.{behind_of, more_of};
-ghost use Rattle.pass_frames_proof.specs.Costs.{instr_cost};
+ghost use Rattle.pass_frames_proof.specs.Costs.{instr_cost, whole};
 ghost use Rattle.pass_frames_proof.specs.Framings.{IsFraming};
 ghost use Rattle.pass_frames_proof.specs.Meaning.{behind_at, own_cost};
-ghost use Rattle.pass_frames_proof.specs.Numbers.{allocas_of_blocks, allocas_of_instrs, distances_of, gep_names_of, names_of};
+ghost use Rattle.pass_frames_proof.specs.Numbers.{allocas_of_blocks, allocas_of_instrs, distances_of, gep_names_of, names_of, phis_of_blocks};
+ghost use Rattle.pass_frames_proof.specs.Passes.{block_at};
 ghost use Rattle.pass_frames_proof.specs.Places.{Framing, copies, edged, instrs_at, is_return, place, plan};
 
 /// A suspend has no more values that cross it than are kept.
@@ -40,6 +41,13 @@ pub fn kept_values_are_names()
 pub fn distances_are_of_getelementptrs()
     ensures { (x : Framing) → IsFraming x
         → distances_of (plan x).kept + (plan x).links ≤ length (gep_names_of (edged x).blocks) }
+{}
+
+/// Behind the last instruction of a block, with its terminator, stand at most three instructions and two for each phi.
+pub fn ends_take_few_steps()
+    ensures { (x : Framing) → IsFraming x → (k : ℕ) → slice_get (edged x).blocks k ≡ Some (block_at (edged x) k)
+        → is_return x k ≡ false → whole x k ≤ (place x (record { block = k; at = length (instrs_at x k) })).at
+        + (2 * phis_of_blocks (edged x).blocks + 3) }
 {}
 
 /// Slots that are used before begin are allocas of the entry, each another one.
