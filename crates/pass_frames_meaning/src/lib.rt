@@ -3,3 +3,4 @@
 
 pub mod covered;
 pub mod slotted;
+pub mod called;

@@ -1,0 +1,4 @@
+pub mod Voids
+pub mod Comes
+pub mod Called
+pub mod CalledHooks

@@ -1,0 +1,34 @@
+//! In both runs activations below are right behind their calls, and the callee tells which name its result gets.
+
+ghost use Rattle.std.specs.Prelude.{◌≡◌, ℕ, List, None};
+ghost use Rattle.ir_base.specs.declared.outcome.Word.{Word};
+ghost use Rattle.pass_frames_meaning.specs.Called.{IsCalledState, KeepsCalled};
+ghost use Rattle.pass_renewed_proof.specs.Renewed.{RenewedGiven, renewed_step};
+ghost use Rattle.run_framed.specs.Framed.{FramedGiven, framed_state_at, given_call};
+ghost use Rattle.run_hooks.specs.Away.{IsPlacedState, KeepsAllPlaceRules};
+ghost use Rattle.run_hooks.specs.Hooks.{Hooks, step_of};
+ghost use Rattle.run_hooks.specs.Reached.{AllHaveSwitches};
+ghost use Rattle.run_source.specs.Source.{first_state};
+ghost use Rattle.run_source.specs.State.{function_of};
+ghost use Rattle.run_source.specs.declared.state.State.{State as TheState};
+ghost use Rattle.run_step.specs.Runs.{iterate};
+ghost use Rattle.run_step.specs.Step.{fetch};
+ghost use Rattle.run_types.specs.Rules.{KeepsAllTypes};
+
+/// Hooks that change activations as their names say leave those below right behind their calls, whose result has the
+/// name that the callee gives. What makes allocas again has an instance.
+pub fn called_states_stay()
+    ensures { (h : Hooks) → KeepsCalled h → KeepsAllTypes h.given.code → (s : TheState)
+        → IsCalledState h.given.code s → IsPlacedState h s → IsCalledState h.given.code (step_of h s) }
+{}
+
+/// So it is in each state of the two runs between which frames are built, where no call gives a frame.
+pub fn activations_of_runs_are_behind_calls()
+    ensures renewed { (g : RenewedGiven) (entry : ℕ) (args : List Word) (n : ℕ) → AllHaveSwitches g.given.code
+        → KeepsAllPlaceRules g.given → KeepsAllTypes g.given.code
+        → IsCalledState g.given.code (iterate (renewed_step g) n (first_state g.given.code entry args)) }
+    ensures framed { (g : FramedGiven) (entry : ℕ) (args : List Word) (n : ℕ) → AllHaveSwitches g.given.code
+        → KeepsAllPlaceRules g.given → KeepsAllTypes g.given.code
+        → ((s : TheState) (block at : ℕ) → given_call g s (fetch (function_of g.given s) block at) ≡ None)
+        → IsCalledState g.given.code (framed_state_at g entry args n) }
+{}
