@@ -4,3 +4,4 @@
 pub mod covered;
 pub mod slotted;
 pub mod called;
+pub mod spared;
