@@ -1,3 +1,4 @@
 pub mod Covered
 pub mod Called
+pub mod Giving
 pub mod Spared

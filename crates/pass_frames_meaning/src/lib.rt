@@ -4,4 +4,5 @@
 pub mod covered;
 pub mod slotted;
 pub mod called;
+pub mod giving;
 pub mod spared;
