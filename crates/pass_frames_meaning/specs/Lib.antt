@@ -1,4 +1,6 @@
 pub mod Covered
 pub mod Called
 pub mod Giving
+pub mod Others
+pub mod Setting
 pub mod Spared

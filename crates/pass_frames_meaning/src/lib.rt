@@ -5,4 +5,5 @@ pub mod covered;
 pub mod slotted;
 pub mod called;
 pub mod giving;
+pub mod others;
 pub mod spared;
