@@ -3,6 +3,7 @@
 
 pub mod covered;
 pub mod slotted;
+pub mod begun;
 pub mod called;
 pub mod giving;
 pub mod others;
