@@ -7,7 +7,7 @@ ghost use Rattle.std.specs.Prelude.{◌≡◌, ℕ, List, [], Some, find, slice_
 ghost use Rattle.compiler.specs.cleanup.accepted.Ready.{IsReady};
 ghost use Rattle.compiler_theorem.specs.parts.Framed.{AreFramedFacts, AreLaidFacts, HaveFirstBlocks, HavePlainWidths, HaveTokens, TakeBytes};
 ghost use Rattle.compiler_theorem.specs.theorem.Entries.{IsEntry, IsEntryCall, Run};
-ghost use Rattle.compiler_theorem.specs.theorem.Lowered.{IsLowered, Lowered, early, framed_run, plain_run, split_from};
+ghost use Rattle.compiler_theorem.specs.theorem.Lowered.{HasFewBytes, IsLowered, Lowered, early, framed_run, plain_run, split_from};
 ghost use Rattle.compiler_theorem.specs.theorem.GoodLayouts.{AreGoodLayouts};
 ghost use Rattle.frame_contents.specs.Held.{suspend_count};
 ghost use Rattle.frame_layout.specs.Frames.{index_size};
@@ -55,6 +55,6 @@ pub fn ready_modules_are_followable()
 /// functions that are split.
 pub fn framed_forms_agree_with_their_parts()
     ensures { (l : Lowered) → IsLowered l → AreGoodLayouts (early l) l.layouts.coroutines → IsReady l.layouts l.framed
-        → (r : Run) (other : ℕ) → IsEntryCall l.source r → IsEntry l.source (split_from l l.framed) r.entry other
+        → HasFewBytes l → (r : Run) (other : ℕ) → IsEntryCall l.source r → IsEntry l.source (split_from l l.framed) r.entry other
         → AgreesWithin 4 (at (framed_run l l.framed r)) (at (plain_run (split_from l l.framed) r other)) }
 {}

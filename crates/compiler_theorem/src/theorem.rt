@@ -5,7 +5,7 @@ ghost use Rattle.run_source.specs.declared.state.State.{State};
 ghost use Rattle.compiler_theorem.specs.theorem.Anew.{Anew, IsAnewOf};
 ghost use Rattle.compiler_theorem.specs.theorem.Built.{building};
 ghost use Rattle.compiler_theorem.specs.theorem.Entries.{Run, IsEntry};
-ghost use Rattle.compiler_theorem.specs.theorem.Lowered.{AreAllocasFirst, Lowered, IsLowered, early, printed_from};
+ghost use Rattle.compiler_theorem.specs.theorem.Lowered.{AreAllocasFirst, HasFewBytes, Lowered, IsLowered, early, printed_from};
 ghost use Rattle.ir_model.specs.declared.module.Module.{Module};
 ghost use Rattle.frame_layout.specs.declared.layout.Layouts.{Layouts};
 ghost use Rattle.pass_frames.specs.Framed.{IsFramedForm};
@@ -14,7 +14,7 @@ ghost use Rattle.run_types.specs.States.{AreArguments};
 ghost use Rattle.pass_frames_proof.specs.Related.{AreBuilt};
 ghost use Rattle.pass_frames_proof.specs.Stepping.{AreGiven};
 ghost use Rattle.pass_renewed_proof.specs.Prices.{Prices};
-ghost use Rattle.compiler_theorem.specs.theorem.Theorem.{KeepsMeaning, Steps, renewing};
+ghost use Rattle.compiler_theorem.specs.theorem.Theorem.{AreFramesShown, KeepsMeaning, KeepsRuns, Steps, renewing};
 ghost use Rattle.compiler_theorem.specs.theorem.Elision.{ElidedSteps, ElidesCalls};
 
 /// Relations between states of the framed run and of that where calls are elided.
@@ -47,17 +47,26 @@ pub fn sources_give_frames()
 {}
 
 /// What is printed of a source that breaks no rule agrees with it within its step factor, with frames that share
-/// bytes and with plain ones, where no call is elided.
+/// bytes and with plain ones, where no call is elided. The text has fewer bytes than an index can count.
+pub fn lowered_runs_agree()
+    ensures { (a : Anew) (p : Prices) (l : Lowered) (low : IsLowered l) → HasFewBytes l → Steps a p l low
+        → (r : Run) (other : ℕ) → IsEntry l.source (printed_from l l.framed) r.entry other
+        → AreArguments l.source r.entry r.args → KeepsRuns l r other }
+{}
+
+/// And where frames show the slots and values that stand in them, they stand where they lie by the layouts.
 pub fn lowering_keeps_meaning()
-    ensures { (a : Anew) (p : Prices) (l : Lowered) (low : IsLowered l) → Steps a p l low → (r : Run) (other : ℕ)
+    ensures { (a : Anew) (p : Prices) (l : Lowered) (low : IsLowered l) → HasFewBytes l → Steps a p l low
+        → AreFramesShown a l low → (r : Run) (other : ℕ)
         → IsEntry l.source (printed_from l l.framed) r.entry other → AreArguments l.source r.entry r.args
         → KeepsMeaning l r other }
 {}
 
-/// So it does where calls are elided, with the most sites of one function in the step factor; it makes as many
-/// allocator calls less.
+/// What is printed agrees with the source where calls are elided, too, with the most sites of one function in the step
+/// factor. It makes so many allocator calls less.
 pub fn elision_keeps_meaning<Q: RelatesElided>()
-    ensures { (a : Anew) (p : Prices) (l : Lowered) (low : IsLowered l) → Steps a p l low → (n : Module) (sites : ℕ)
+    ensures { (a : Anew) (p : Prices) (l : Lowered) (low : IsLowered l) → HasFewBytes l → Steps a p l low
+        → (n : Module) (sites : ℕ)
         → ElidedSteps Q.elided Q.eliding l n sites → (r : Run) (other : ℕ)
         → IsEntry l.source (printed_from l n) r.entry other → AreArguments l.source r.entry r.args
         → ElidesCalls l n sites r other }

@@ -11,7 +11,7 @@ use Rattle.compiler_theorem.proofs.parts.Followable.{comes}
 use Rattle.compiler_theorem.specs.narrow.Narrow.{IsNarrow, IsNarrowFunction, IsNarrowModule}
 use Rattle.compiler_theorem.specs.parts.Framed.{AreSmallInnerIndices}
 use Rattle.compiler_theorem.specs.theorem.Anew.{HaveSteadyIndices}
-use Rattle.compiler_theorem.specs.theorem.Lowered.{IsLowered, Lowered, early, edged}
+use Rattle.compiler_theorem.specs.theorem.Lowered.{HasFewBytes, IsLowered, Lowered, early, edged}
 use Rattle.ir_laws.proofs.facts.Members.{at_each, each_by}
 use Rattle.ir_model.specs.Names.{function_at, no_function}
 use Rattle.ir_model.specs.Ty.{Ty}
@@ -31,12 +31,9 @@ use Rattle.rule_laws.specs.rules.function_rules.Kept.{KeepsFunctionRules}
 use Rattle.run_laws.specs.changed.Changed.{Each}
 use Rattle.run_step.specs.Step.{AtInstr, fetch}
 
-module _ (l : Lowered) (low : IsLowered l) where
+module _ (l : Lowered) (low : IsLowered l) (few : HasFewBytes l) where
   abbrev bound : ℕ
   bound = length l.text
-
-  small : length l.text < 2 ^ 31
-  small = omega (arith, low.source.short)
 
   source : IsNarrowModule (length l.text) l.source
   source = text_narrow l.text l.source low.source.stands
@@ -81,7 +78,7 @@ module _ (l : Lowered) (low : IsLowered l) where
       on None e name block at inbounds ty base indices there = absurd (cc)
       on (Some f) e name block at inbounds ty base indices there =
           steady_indices (edged l) ty indices
-          (fields_small (length l.text) small (edged l) edged_narrow func f
+          (fields_small (length l.text) few (edged l) edged_narrow func f
           (split_rules l.text l.source low.source.stands low.source.accepted func f e) e block at name inbounds ty base
           indices there)
 
@@ -124,5 +121,5 @@ module _ (l : Lowered) (low : IsLowered l) where
       → AreSmallInnerIndices (exits_split l.framed) ty indices
   framed_small rules k f there block at name inbounds ty base indices e =
       small_indices (exits_split l.framed) ty indices
-      (fields_small (length l.text) small (exits_split l.framed) exited_narrow k f (rules k f there) there block at name
+      (fields_small (length l.text) few (exits_split l.framed) exited_narrow k f (rules k f there) there block at name
       inbounds ty base indices e)

@@ -19,7 +19,7 @@ use Rattle.compiler.specs.cleanup.accepted.Ready.{IsReady}
 use Rattle.compiler_theorem.specs.parts.Framed.{AreFramedFacts}
 use Rattle.compiler_theorem.specs.theorem.Entries.{IsEntry, IsEntryCall, Run}
 use Rattle.compiler_theorem.specs.theorem.GoodLayouts.{AreGoodLayouts}
-use Rattle.compiler_theorem.specs.theorem.Lowered.{IsLowered, Lowered, early, framed_run, plain_run, split_from}
+use Rattle.compiler_theorem.specs.theorem.Lowered.{HasFewBytes, IsLowered, Lowered, early, framed_run, plain_run, split_from}
 use Rattle.ir_base.specs.declared.name.Name.{Name}
 use Rattle.ir_laws.specs.facts.function_rules.Signatures.{Heading, heading}
 use Rattle.ir_laws.specs.facts.same_names.Same.{naming}
@@ -99,7 +99,7 @@ named_alike (f ∷ fs) = λ i. on f.coroutine f i ∷ named_alike fs i
 -- ---- the two passes
 
 module _ (l : Lowered) (low : IsLowered l) (good : AreGoodLayouts (early l) l.layouts.coroutines)
-    (ready : IsReady l.layouts l.framed) (r : Run) (other : ℕ)
+    (ready : IsReady l.layouts l.framed) (few : HasFewBytes l) (r : Run) (other : ℕ)
     (call : IsEntryCall l.source r) (entry : IsEntry l.source (split_from l l.framed) r.entry other) where
   abbrev x : Module
   x = exits_split l.framed
@@ -139,7 +139,7 @@ module _ (l : Lowered) (low : IsLowered l) (good : AreGoodLayouts (early l) l.la
           leads = framed_leads l low ready k f there c;
         };
     widths = λ k f there c. framed_wide l low k f there;
-    fields = framed_small l low (kept_there l.layouts l.framed ready);
+    fields = framed_small l low few (kept_there l.layouts l.framed ready);
   }
 
   calls_kept : PartsKeepCalls l.layouts (exits_split l.framed)

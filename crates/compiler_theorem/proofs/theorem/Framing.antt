@@ -1,17 +1,17 @@
--- Where the steps of the simulation of frames are followed, the framed form of an accepted source agrees with the run
--- that makes slots anew.
+-- Where the steps of the simulation of frames are followed, the framed form of an accepted source agrees with the run in
+-- which a resume hands on some values.
 use Rattle.std.proofs.Common.{◌≡◌, zero, suc, arith, Bool, false, List, [], ◌∷◌, length, map, Option, refl, sym, ap, ◌∙◌}
 use Rattle.std.proofs.lemmas.List.{length-map}
 use Rattle.std.specs.Prelude.{unwrap_or}
 use Rattle.compiler_theorem.proofs.parts.Globals.{contents_stand}
 use Rattle.compiler_theorem.proofs.parts.Ways.{first_mapped}
 use Rattle.compiler_theorem.proofs.theorem.Built.{framings, sources_built}
-use Rattle.compiler_theorem.proofs.theorem.Renewing.{early_entry, slots_kept}
+use Rattle.compiler_theorem.proofs.theorem.Renewing.{all_kept, early_entry}
 use Rattle.compiler_theorem.specs.theorem.Anew.{Anew, IsAnewOf}
 use Rattle.compiler_theorem.specs.theorem.Built.{building}
 use Rattle.compiler_theorem.specs.theorem.Entries.{IsEntryCall, Run}
-use Rattle.compiler_theorem.specs.theorem.Lowered.{IsLowered, Lowered, early, edged, framed_run, price_renewed, renewed_run, sizes_of}
-use Rattle.compiler_theorem.specs.theorem.Theorem.{renewing}
+use Rattle.compiler_theorem.specs.theorem.Lowered.{HasFewBytes, IsLowered, Lowered, early, edged, price_renewed, sizes_of}
+use Rattle.compiler_theorem.specs.theorem.Theorem.{renewing, setting}
 use Rattle.ir_base.specs.declared.name.Name.{Name}
 use Rattle.ir_laws.proofs.facts.Lists.{map_same}
 use Rattle.ir_laws.specs.facts.same_names.Same.{naming}
@@ -19,20 +19,19 @@ use Rattle.ir_model.specs.Names.{first_where, function_at, no_function, same_nam
 use Rattle.ir_model.specs.declared.module.Function.{Function}
 use Rattle.ir_model.specs.declared.module.GlobalItem.{GlobalItem}
 use Rattle.ir_model.specs.declared.module.Module.{Module}
+use Rattle.pass_frames_meaning.proofs.covered.Assembly.{kept_agrees}
+use Rattle.pass_frames_meaning.specs.Covered.{AgreesWithFrames, AreCoveredStepsFollowed}
 use Rattle.pass_frames_proof.proofs.givens.Runs.{given_runs}
-use Rattle.pass_frames_proof.proofs.followed.Assembly.{followed_keep}
 use Rattle.pass_frames_proof.proofs.start.States.{starts_built}
 use Rattle.pass_frames_proof.proofs.stepping.Operands.{AreSameNames, empty_same}
-use Rattle.pass_frames_proof.specs.Followed.{AreStepsFollowed}
 use Rattle.pass_frames_proof.specs.Meaning.{PaysForFrames}
-use Rattle.pass_frames_proof.specs.Related.{AreBuiltOf, AreShownAlike, Building}
+use Rattle.pass_frames_proof.specs.Related.{AreBuiltOf, Building}
 use Rattle.pass_frames_proof.specs.Stepping.{AreGiven}
 use Rattle.pass_proofs.proofs.frames.headings.Headings.{framed_names}
 use Rattle.pass_split_proof.specs.states.Memories.{AreContents}
 use Rattle.pass_renewed_proof.specs.Ledger.{AreSmallGlobals}
 use Rattle.pass_renewed_proof.specs.Prices.{Prices}
 use Rattle.run_accepted.proofs.Accepted.{edged_globals}
-use Rattle.run_agreement.specs.Costs.{AgreesBy}
 use Rattle.run_laws.proofs.memory.Itself.{stands_in_itself}
 use Rattle.run_laws.specs.memory.Standing.{Embeds, own_homes}
 use Rattle.run_memory.proofs.Digits.{length-encode}
@@ -126,18 +125,16 @@ module _ (l : Lowered) (low : IsLowered l) where
       starts = starts_built built (edged l) r.entry r.args (sources_built l low r.answers) plain (sources_given.others r.entry plain) worlds
           embeds contents.small
 
-      pub framing_by : (p : Prices) → AreStepsFollowed (building l low.is_framed r.answers) (renewing l a r) r.entry r.args
+      pub framing_by : HasFewBytes l → (p : Prices)
+          → AreCoveredStepsFollowed (setting l a r) (building l low.is_framed r.answers)
           → PaysForFrames (building l low.is_framed r.answers) (renewing l a r) (price_renewed l a r p)
-          → AgreesBy (AreBuiltOf (building l low.is_framed r.answers)) (AreShownAlike (building l low.is_framed r.answers))
-          (renewed_run l a r) (price_renewed l a r p) (framed_run l l.framed r) (λ t. 1)
-      framing_by p followed pays =
-          followed_keep built l.layouts a.keep a.flags a.roots (sizes_of l) r.entry r.args r.answers (price_renewed l a r p) refl
-          low.is_framed.declarations starts followed (sources_built l low r.answers) refl (slots_kept l low a anew r call)
-          plain pays
+          → AgreesWithFrames (setting l a r) p (building l low.is_framed r.answers) l.layouts
+      framing_by few p followed pays =
+          kept_agrees (setting l a r) p built l.layouts (all_kept l low a anew r call few) refl
+          low.is_framed.declarations pays starts followed
 
-pub framing : (l : Lowered) (low : IsLowered l) (a : Anew) → IsAnewOf (early l) a → (p : Prices) (r : Run)
-    → IsEntryCall l.source r → AreStepsFollowed (building l low.is_framed r.answers) (renewing l a r) r.entry r.args
+pub framing : (l : Lowered) (low : IsLowered l) → HasFewBytes l → (a : Anew) → IsAnewOf (early l) a → (p : Prices) (r : Run)
+    → IsEntryCall l.source r → AreCoveredStepsFollowed (setting l a r) (building l low.is_framed r.answers)
     → PaysForFrames (building l low.is_framed r.answers) (renewing l a r) (price_renewed l a r p)
-    → AgreesBy (AreBuiltOf (building l low.is_framed r.answers)) (AreShownAlike (building l low.is_framed r.answers))
-    (renewed_run l a r) (price_renewed l a r p) (framed_run l l.framed r) (λ t. 1)
-framing l low a anew p r call followed pays = framing_by l low a r anew call p followed pays
+    → AgreesWithFrames (setting l a r) p (building l low.is_framed r.answers) l.layouts
+framing l low few a anew p r call followed pays = framing_by l low a r anew call few p followed pays

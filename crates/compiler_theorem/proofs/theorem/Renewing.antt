@@ -6,7 +6,7 @@ use Rattle.compiler_theorem.proofs.narrow.Modules.{edged_steady}
 use Rattle.compiler_theorem.proofs.theorem.Slots.{split_slots}
 use Rattle.compiler_theorem.specs.theorem.Anew.{Anew, IsAnewOf}
 use Rattle.compiler_theorem.specs.theorem.Entries.{IsEntryCall, Run}
-use Rattle.compiler_theorem.specs.theorem.Lowered.{IsLowered, Lowered, early, edged, sizes_of}
+use Rattle.compiler_theorem.specs.theorem.Lowered.{HasFewBytes, IsLowered, Lowered, early, edged, sizes_of}
 use Rattle.compiler_theorem.specs.theorem.Theorem.{setting}
 use Rattle.ir_laws.specs.facts.sound_states.Named.{AreLocalsNamed}
 use Rattle.ir_model.specs.Names.{function_at, no_function}
@@ -47,16 +47,17 @@ module _ (l : Lowered) (low : IsLowered l) (a : Anew) (anew : IsAnewOf (early l)
   arguments : AreArguments (edged l) r.entry r.args
   arguments = subst (λ (g : Function). FitParams g.params (map Value.Int r.args)) same_entry call.fits
 
-  pub slots_kept : KeepsAllSlots (edged l) a.keep a.flags a.roots
-  slots_kept = split_slots l low a anew (edged_steady l low)
+  module _ (few : HasFewBytes l) where
+    pub slots_kept : KeepsAllSlots (edged l) a.keep a.flags a.roots
+    slots_kept = split_slots l low a anew (edged_steady l low few)
 
-  pub all_kept : KeepsAll (setting l a r)
-  all_kept = record {
-    slots = slots_kept;
-    steps = edged_steps l.text l.source low.source.stands low.source.accepted;
-    locals = locals;
-    globals = edged_globals l.text l.source low.source.stands low.source.accepted;
-    places = (edged_places l.text l.source low.source.stands low.source.accepted (sizes_of l) r.answers).each;
-    types = edged_types l.text l.source low.source.stands low.source.accepted;
-    arguments = arguments;
-  }
+    pub all_kept : KeepsAll (setting l a r)
+    all_kept = record {
+      slots = slots_kept;
+      steps = edged_steps l.text l.source low.source.stands low.source.accepted;
+      locals = locals;
+      globals = edged_globals l.text l.source low.source.stands low.source.accepted;
+      places = (edged_places l.text l.source low.source.stands low.source.accepted (sizes_of l) r.answers).each;
+      types = edged_types l.text l.source low.source.stands low.source.accepted;
+      arguments = arguments;
+    }

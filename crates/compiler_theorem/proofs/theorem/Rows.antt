@@ -1,7 +1,7 @@
 -- The rows of the theorem: what each pass costs, up to the framed form and from there on.
 use Rattle.std.proofs.Common.{ℕ, ◌*◌, ◌≤◌, arith}
 use Rattle.run_agreement.proofs.Compose.{compose_within}
-use Rattle.run_agreement.proofs.Costs.{agrees_within, agrees_within_by_steps, compose_by, cost_above}
+use Rattle.run_agreement.proofs.Costs.{agrees_within, agrees_within_by_steps, cost_above}
 use Rattle.run_agreement.specs.Agreements.{AgreesWithin}
 use Rattle.run_agreement.specs.Costs.{AgreesBy, Through, cost_at}
 use Rattle.run_agreement.specs.Factor.{size_factor}
@@ -9,15 +9,13 @@ use Rattle.run_agreement.specs.Machines.{IsFine, Machine, at, state_at}
 use Rattle.run_source.specs.declared.state.State.{State}
 use Rattle.compiler_theorem.proofs.theorem.Framing.{framing}
 use Rattle.compiler_theorem.proofs.theorem.Needed.{split_needed}
-use Rattle.compiler_theorem.proofs.theorem.Renewing.{all_kept}
 use Rattle.compiler_theorem.specs.theorem.Anew.{Anew}
 use Rattle.compiler_theorem.specs.theorem.Built.{building}
 use Rattle.compiler_theorem.specs.theorem.Entries.{IsEntryCall, Run}
-use Rattle.compiler_theorem.specs.theorem.Lowered.{IsLowered, Lowered, framed_run, kept_run, price_kept, price_renewed, renewed_run, sizes_of, source_run}
+use Rattle.compiler_theorem.specs.theorem.Lowered.{HasFewBytes, IsLowered, Lowered, framed_run, kept_run, price_kept, sizes_of, source_run}
 use Rattle.pass_renewed_proof.specs.Prices.{Prices}
-use Rattle.compiler_theorem.specs.theorem.Theorem.{AreMadeAnew, IsSomewhereShown, Steps, setting}
+use Rattle.compiler_theorem.specs.theorem.Theorem.{AreFramesShown, AreMadeAnew, IsSomewhereShown, Steps}
 use Rattle.pass_frames_proof.specs.Related.{AreBuiltOf, AreShownAlike}
-use Rattle.pass_renewed_meaning.proofs.Dispatch.{made_anew}
 use Rattle.pass_renewed_meaning.specs.Followed.{AreAlike}
 use Rattle.pass_proofs.proofs.kept.sources.States.{split_corresponds}
 use Rattle.pass_proofs.specs.kept.sources.Beside.{IsKeptOf, IsNearlyKeptOf}
@@ -29,7 +27,7 @@ at_least b n = least n (cost_at b (λ t. 1) n) (cost_above b.step (λ t. 1) 1 (�
     least : (n x : ℕ) → 1 * n ≤ x → n ≤ x
     least n x h = omega arith
 
-module _ (a : Anew) (p : Prices) (l : Lowered) (low : IsLowered l) (h : Steps a p l low) (r : Run)
+module _ (a : Anew) (p : Prices) (l : Lowered) (low : IsLowered l) (few : HasFewBytes l) (h : Steps a p l low) (r : Run)
     (call : IsEntryCall l.source r) where
   -- what frames are built of
   abbrev Framed : State → State → Type 0
@@ -52,11 +50,7 @@ module _ (a : Anew) (p : Prices) (l : Lowered) (low : IsLowered l) (h : Steps a 
   -- Kept to Framed
   pub to_framed : AgreesBy (Through (AreMadeAnew l a) Framed) (Through AreAlike NearlyFramed) (kept_run l a r)
       (price_kept l a r p) (framed_run l l.framed r) (λ t. 1)
-  to_framed =
-      compose_by (AreMadeAnew l a) AreAlike Framed NearlyFramed (kept_run l a r) (price_kept l a r p) (renewed_run l a r)
-      (price_renewed l a r p) (framed_run l l.framed r) (λ t. 1)
-      (made_anew (setting l a r) p (all_kept l low a h.anew r call))
-      (framing l low a h.anew p r call (h.followed r call) (h.pays r call))
+  to_framed = framing l low few a h.anew p r call (h.followed r call) (h.pays r call)
 
   -- Source to Framed
   pub framed_within : AgreesWithin (4 * (4 * size_factor l.source)) (at (source_run l r))
@@ -71,12 +65,12 @@ module _ (a : Anew) (p : Prices) (l : Lowered) (low : IsLowered l) (h : Steps a 
       (λ n fine. h.paid r n call fine) (at_least (framed_run l l.framed r)) to_framed)
 
   -- what is shown in frames
-  pub somewhere_shown : (n : ℕ) → IsFine (at (source_run l r) n).outcome → IsSomewhereShown l r n
-  somewhere_shown n fine =
+  pub somewhere_shown : AreFramesShown a l low → (n : ℕ) → IsFine (at (source_run l r) n).outcome → IsSomewhereShown l r n
+  somewhere_shown shown n fine =
       let x = to_kept.forward n fine in
       let y = to_framed.forward x.steps (x.unstuck x.steps (omega arith)) in
       record {
         steps = y.steps;
-        shown = h.shown r (state_at (source_run l r) n)
+        shown = shown r (state_at (source_run l r) n)
             (state_at (framed_run l l.framed r) y.steps) (state_at (kept_run l a r) x.steps, x.related, y.related);
       }

@@ -1,5 +1,5 @@
 -- What is lowered, and the modules and machines of its passes in a row.
-use Rattle.std.specs.Prelude.{◌≡◌, ◌<◌, ◌≤◌, ◌^◌, ℕ, Bool, true, List, None, Ok, Some, length, map, slice_get}
+use Rattle.std.specs.Prelude.{◌≡◌, ◌<◌, ◌^◌, ℕ, Bool, true, List, None, Ok, Some, length, map, slice_get}
 use Rattle.run_agreement.specs.Machines.{Machine}
 use Rattle.pass_cleanup.specs.Cleaned.{plain_machine}
 use Rattle.pass_cleanup.specs.Cleanup.{clean_module}
@@ -9,7 +9,7 @@ use Rattle.pass_split.specs.Parts.{split_module}
 use Rattle.frame_contents.specs.Frames.{AreLayouts}
 use Rattle.compiler_theorem.specs.theorem.Anew.{Anew}
 use Rattle.compiler_theorem.specs.theorem.Entries.{Run}
-use Rattle.pass_renewed_proof.specs.Prices.{Prices, kept_price, renewed_machine, renewed_price}
+use Rattle.pass_renewed_proof.specs.Prices.{Prices, kept_price, renewed_price}
 use Rattle.pass_early.specs.Early.{early_module}
 use Rattle.frame_layout.specs.declared.layout.Layouts.{Layouts}
 use Rattle.pass_proofs.specs.edges.states.MovedState.{edges_split}
@@ -59,12 +59,16 @@ lowered_from l n = clean_module (split_from l n)
 abbrev pub printed_from : Lowered → Module → Module
 printed_from l n = module_order (lowered_from l n)
 
--- the text stands for the module, which breaks no rule; it is one that the program takes
+-- the text stands for the module, which breaks no rule
 pub record IsAccepted (l : Lowered) : Type 0 where
-  pub short : length l.text ≤ 2 ^ 24
   pub bytes : AreBytes l.text
   pub stands : StandsFor l.text l.source
   pub accepted : IsRefused Stage.Source l.source None
+
+-- An index into a structure is a word of 32 bits, in which 2^31 or more is negative. The program takes a text of at most
+-- 2^24 bytes.
+abbrev pub HasFewBytes : Lowered → Type 0
+HasFewBytes l = length l.text < 2 ^ 31
 
 -- the layouts and the framed form are its own
 pub record IsLowered (l : Lowered) : Type 0 where
@@ -84,9 +88,6 @@ source_run l r = source_machine l.source (sizes_of l) r.entry r.args r.answers
 
 abbrev pub kept_run : Lowered → Anew → Run → Machine State
 kept_run l a r = kept_machine (edged l) a.keep (sizes_of l) r.entry r.args r.answers
-
-abbrev pub renewed_run : Lowered → Anew → Run → Machine State
-renewed_run l a r = renewed_machine (edged l) a.keep a.flags a.roots (sizes_of l) r.entry r.args r.answers
 
 abbrev pub framed_run : Lowered → Module → Run → Machine State
 framed_run l n r = framed_machine n l.layouts r.entry r.args r.answers

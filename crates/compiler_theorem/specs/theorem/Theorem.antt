@@ -14,7 +14,7 @@ use Rattle.compiler_theorem.specs.theorem.Built.{building}
 use Rattle.compiler_theorem.specs.theorem.Lowered.{IsLowered, Lowered, early, edged, framed_run, kept_run, lowered_from}
 use Rattle.compiler_theorem.specs.theorem.Lowered.{plain_run, price_kept, price_renewed, printed_from, sizes_of}
 use Rattle.compiler_theorem.specs.theorem.Lowered.{source_run}
-use Rattle.pass_frames_proof.specs.Followed.{AreStepsFollowed}
+use Rattle.pass_frames_meaning.specs.Covered.{AreCoveredStepsFollowed}
 use Rattle.pass_frames_proof.specs.Meaning.{PaysForFrames}
 use Rattle.pass_frames_proof.specs.Related.{AreBuiltOf}
 use Rattle.pass_renewed_proof.specs.Prices.{Prices}
@@ -48,24 +48,29 @@ renewing l a r = renewed_given (edged l) a.keep a.flags a.roots (sizes_of l) r.a
 
 -- | Pass | from | to | costs | |
 -- | saves written out, edges with blocks, what is needed handed on | Source | Kept | 4 | stands |
--- | slots made anew, then frames built, by prices that fit | Kept | Framed | 4 * (1 + p + q), on average | the first stands, the second by `followed` |
+-- | slots made anew and frames built, by prices that fit | Kept | Framed | 4 * (1 + p + q), on average | by `followed` |
 -- | functions split | Framed | Plain | 4 | stands |
 -- | calls of coro.id gone, then names in order | Plain | Plain | 1 | stands |
 pub record Steps (a : Anew) (p : Prices) (l : Lowered) (low : IsLowered l) : Type 0 where
   -- such tables there are (`sources_have_tables`)
   pub anew : IsAnewOf (early l) a
-  -- waits for: the steps of the simulation of frames. By it the two runs agree (`frames_keep_meaning`)
+  -- waits for: the steps of the simulation of frames, from states of runs that are covered. By it the two runs agree
+  -- (`kept_runs_agree_with_framed_ones`)
   pub followed : (r : Run) → IsEntryCall l.source r
-      → AreStepsFollowed (building l low.is_framed r.answers) (renewing l a r) r.entry r.args
+      → AreCoveredStepsFollowed (setting l a r) (building l low.is_framed r.answers)
   -- waits for: prices by places
   pub pays : (r : Run) → IsEntryCall l.source r
       → PaysForFrames (building l low.is_framed r.answers) (renewing l a r) (price_renewed l a r p)
   -- waits for: prices counted by names and operands, a resume with the jump behind it
   pub paid : (r : Run) (n : ℕ) → IsEntryCall l.source r → IsFine (at (kept_run l a r) n).outcome
       → cost_at (kept_run l a r) (price_kept l a r p) n ≤ (4 * size_factor l.source) * n
-  -- waits for: the relations of these two over those that stand, byte for byte
-  pub shown : (r : Run) (s t : State) → Through (IsKeptOf l.source (sizes_of l) r.answers)
-      (Through (AreMadeAnew l a) (AreBuiltOf (building l low.is_framed r.answers))) s t → AreShown l.source l.layouts.coroutines s t
+
+-- waits for: the relations of these steps over those that stand, byte for byte
+abbrev pub AreFramesShown : Anew → (l : Lowered) → IsLowered l → Type 0
+AreFramesShown a l low =
+    (r : Run) (s t : State) → Through (IsKeptOf l.source (sizes_of l) r.answers)
+    (Through (AreMadeAnew l a) (AreBuiltOf (building l low.is_framed r.answers))) s t
+    → AreShown l.source l.layouts.coroutines s t
 
 -- a state of the framed run in which the slots and values of a state of the source stand
 pub record IsSomewhereShown (l : Lowered) (r : Run) (n : ℕ) : Type 0 where
@@ -74,12 +79,16 @@ pub record IsSomewhereShown (l : Lowered) (r : Run) (n : ℕ) : Type 0 where
       (state_at (framed_run l l.framed r) steps)
 
 -- the printed text stands for a module whose runs agree with the source's within its step factor, with as many
--- allocator calls; in frames slots and values stand where they lie by the layouts
-pub record KeepsMeaning (l : Lowered) (r : Run) (other : ℕ) : Type 0 where
+-- allocator calls
+pub record KeepsRuns (l : Lowered) (r : Run) (other : ℕ) : Type 0 where
   pub stands : StandsFor (module_text (lowered_from l l.framed)) (printed_from l l.framed)
   pub headline : Agrees (step_factor l.source 0) (step_factor l.source 0) (at (source_run l r))
       (at (plain_run (printed_from l l.framed) r other))
   pub agrees : AgreesWithin (step_factor l.source 0) (at (source_run l r))
       (at (plain_run (printed_from l l.framed) r other))
+
+-- so it does, and in frames slots and values stand where they lie by the layouts
+pub record KeepsMeaning (l : Lowered) (r : Run) (other : ℕ) : Type 0 where
+  pub runs : KeepsRuns l r other
   pub shared : (n : ℕ) → IsFine (at (source_run l r) n).outcome → IsSomewhereShown l r n
   pub apart : (n : ℕ) → IsFine (at (source_run l r) n).outcome → LiveAreApart l.source (state_at (source_run l r) n)
