@@ -152,8 +152,8 @@ pub record AreWoken (b : Building) (g : RenewedGiven) (s t : State) (label : ℕ
 abbrev pub wake_call : Intrinsic → Option ℕ → Bool → Option Ty → List Arg → Instr
 wake_call intrinsic result must_tail ty args = Instr.Call result must_tail ty (Callee.Intrinsic intrinsic) args
 
--- The next step is a resume or destroy, which finds the sleeper. Its suspend leads to the same label in both modules,
--- since what it switches by has its cases still.
+-- The next step is a resume or destroy, which finds the sleeper. Its suspend leads to the label, and stands in no block
+-- on a resume or destroy edge, which has a jump alone.
 pub record IsWaking (b : Building) (g : RenewedGiven) (s t : State) (label : ℕ) (z : IsSleeping b g s label)
     (intrinsic : Intrinsic) (leads : Function → Point → ℕ) : Type 0 where
   pub result : Option ℕ
@@ -165,8 +165,7 @@ pub record IsWaking (b : Building) (g : RenewedGiven) (s t : State) (label : ℕ
   pub finds : sleeper_at s (nth (arg_values g.given.code s.top.values args) 0)
       ≡ Ok (record { number = z.number; instance = z.instance; suspend = z.suspend; values = z.env })
   pub leads_to : leads (edged (b.framing z.instance.coroutine)) z.suspend ≡ label
-  pub leads_too : leads (framed (b.framing z.instance.coroutine))
-      (own_place (b.framing z.instance.coroutine) z.suspend) ≡ label
+  pub unreturned : is_return (b.framing z.instance.coroutine) z.suspend.block ≡ false
   pub slots : (slot : Slot) → Contains (all_slots t) slot → slot.block < length t.world.memory
 
 -- by a function that is no coroutine

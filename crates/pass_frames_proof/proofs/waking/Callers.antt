@@ -5,7 +5,6 @@ use Rattle.std.specs.List.{Contains}
 use Rattle.ir_base.specs.declared.cause.Cause.{Cause}
 use Rattle.ir_base.specs.declared.outcome.Outcome.{Outcome}
 use Rattle.ir_model.specs.Names.{function_at}
-use Rattle.ir_model.specs.Ty.{Ty}
 use Rattle.ir_model.specs.declared.instr.Instr.{Instr}
 use Rattle.ir_model.specs.declared.module.Function.{Function}
 use Rattle.ir_model.specs.declared.operand.Arg.{Arg}
@@ -22,22 +21,22 @@ use Rattle.pass_frames_proof.proofs.calling.Passed.{passed_on}
 use Rattle.pass_frames_proof.proofs.followed.Assembly.{shown_alike}
 use Rattle.pass_frames_proof.proofs.here.Intrinsics.{call_args, pair_stands}
 use Rattle.pass_frames_proof.proofs.lined.Lines.{framed_does}
-use Rattle.pass_frames_proof.proofs.returning.Behind.{CallStands, call_stands, switching_never}
+use Rattle.pass_frames_proof.proofs.returning.Behind.{CallStands, call_stands}
 use Rattle.pass_frames_proof.proofs.returning.Turned.{placed_at}
 use Rattle.pass_frames_proof.proofs.stepping.Doing.{at_place, code_framed, fetched_is}
 use Rattle.pass_frames_proof.proofs.stepping.Fronted as fronted
 use Rattle.pass_frames_proof.proofs.stepping.Other.{fetched_there, here_is}
 use Rattle.pass_frames_proof.proofs.stepping.Stands.{cost_is, renewed_does}
 use Rattle.pass_frames_proof.proofs.waking.Entered.{entered_followed}
+use Rattle.pass_frames_proof.proofs.waking.Labels.{labels_same}
 use Rattle.pass_frames_proof.proofs.waking.Woken.{woken_followed}
 use Rattle.pass_frames_proof.specs.Asking.{IsSleeperBeside}
 use Rattle.pass_frames_proof.specs.Code.{address_state, load_name, slot_table}
 use Rattle.pass_frames_proof.specs.Followed.{IsFollowed, IsOn}
 use Rattle.pass_frames_proof.specs.Framings.{IsFraming}
-use Rattle.pass_frames_proof.specs.Lined.{lined}
 use Rattle.pass_frames_proof.specs.Meaning.{action_at, coroutine_cost, other_cost, own_cost, sleeper_by, step_cost, woken_cost}
 use Rattle.pass_frames_proof.specs.Places.{Framing, Placed, edged, framed, is_return, own_place, place, plan}
-use Rattle.pass_frames_proof.specs.Related.{AreBuiltOf, AreInstances, Building, all_slots, behind_place, below_place, is_coroutine, point_of}
+use Rattle.pass_frames_proof.specs.Related.{AreBuiltOf, Building, all_slots, behind_place, below_place, is_coroutine, point_of}
 use Rattle.pass_frames_proof.specs.Returning.{SwitchesTo}
 use Rattle.pass_frames_proof.specs.Stepping.{AreGiven, IsNotEntering, placed_front, placed_instr, state_in}
 use Rattle.pass_frames_proof.specs.Waking.{AreWoken, HasFirstAnew, HasNoneAnew, IsAtOwnWaking, IsAtWaking, IsSleeping, IsUnfinal, IsWaking, wake_call}
@@ -55,7 +54,7 @@ use Rattle.run_source.specs.declared.state.State.{State}
 use Rattle.run_source_tables.specs.Given.{is_final}
 use Rattle.run_step.specs.Results.{and_then, ok_if}
 use Rattle.run_step.specs.Step.{AtInstr, Context, Coro, Work, action_of, fetch, intrinsic_call}
-use Rattle.run_step.specs.Values.{Env, arg_values, nth}
+use Rattle.run_step.specs.Values.{arg_values, nth}
 use Rattle.run_step.specs.declared.world.Slot.{Slot}
 use Rattle.run_step.specs.declared.world.World.{World}
 
@@ -362,6 +361,12 @@ module _ (b : Building) (g : RenewedGiven) (given : AreGiven b g) (s t : State) 
   unfinal_too : is_final (framed y2) (own_place y2 z.suspend) ≡ false
   unfinal_too = final_same y2 there2.suspend_number z.suspend there2.numbered ∙ unfinal
 
+  leads_too : resume_label (framed y2) (own_place y2 z.suspend) ≡ label
+  leads_too =
+      labels_same y2 (given.framings z.instance.coroutine there2.instances.is_coroutine) 0 there2.suspend_number z.suspend
+      there2.numbered w.unreturned
+      ∙ w.leads_to
+
   resumed_source : renewed_step g s ≡ continue_renewed g s z.number z.instance z.suspend z.env label
   resumed_source =
       renewed_does g s (AtInstr (wake_call k w.result w.must_tail w.ty w.args)) (Coro k w.args w.result) w.runs c.there
@@ -397,7 +402,7 @@ module _ (b : Building) (g : RenewedGiven) (given : AreGiven b g) (s t : State) 
       (continue_framed b.given last2 z.number there2.sleeper.instance (own_place y2 z.suspend) there2.sleeper.values
       (resume_label (framed y2) (own_place y2 z.suspend))))) unfinal_too
       ∙ ap (continue_framed b.given last2 z.number there2.sleeper.instance (own_place y2 z.suspend)
-      there2.sleeper.values) w.leads_too
+      there2.sleeper.values) leads_too
 
   resumed : AreWoken b g s t label z
   resumed =
@@ -421,6 +426,12 @@ module _ (b : Building) (g : RenewedGiven) (given : AreGiven b g) (s t : State) 
       (record { number = z.number; instance = z.instance; suspend = z.suspend; values = z.env })
       (sleeper_at last3 (nth (arg_values b.given.given.code c.state.top.values c.now) 0))
   there3 = beside b g given s t label z k3 destroy_label w (destroy_wakes b g s) c
+
+  leads_there : destroy_label (framed y3) (own_place y3 z.suspend) ≡ label
+  leads_there =
+      labels_same y3 (given.framings z.instance.coroutine there3.instances.is_coroutine) 1 there3.suspend_number z.suspend
+      there3.numbered w.unreturned
+      ∙ w.leads_to
 
   destroyed_source : renewed_step g s ≡ continue_renewed g s z.number z.instance z.suspend z.env label
   destroyed_source =
@@ -447,7 +458,7 @@ module _ (b : Building) (g : RenewedGiven) (given : AreGiven b g) (s t : State) 
       there3.sleeper.values (destroy_label f (own_place y3 z.suspend)))
       (target_code b g given s t label z k3 destroy_label w (destroy_wakes b g s) c)
       ∙ ap (continue_framed b.given last3 z.number there3.sleeper.instance (own_place y3 z.suspend)
-      there3.sleeper.values) w.leads_too
+      there3.sleeper.values) leads_there
 
   destroyed : AreWoken b g s t label z
   destroyed =
