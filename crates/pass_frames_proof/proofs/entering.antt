@@ -1,5 +1,6 @@
 pub mod Allocas
 pub mod Behind
 pub mod Cells
+pub mod Edge
 pub mod Into
 pub mod Stand

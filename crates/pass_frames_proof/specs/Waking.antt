@@ -1,11 +1,11 @@
 -- What is asked where a suspended coroutine is woken, by a coroutine or by another function, and makes slots anew.
 use Rattle.std.specs.List.{Contains}
-use Rattle.std.specs.Prelude.{◌≡◌, ◌⊎◌, ◌+◌, ◌-◌, ◌<◌, ◌≤◌, ◌^◌, ◌∷◌, ◌++◌, [], Bool, List, None, Ok, Option, Some, false, length, slice_get, take, true, ℕ}
+use Rattle.std.specs.Prelude.{◌≡◌, ◌≢◌, ◌⊎◌, ◌+◌, ◌-◌, ◌<◌, ◌≤◌, ◌^◌, ◌∷◌, ◌++◌, [], Bool, List, None, Ok, Option, Some, false, length, slice_get, take, true, ℕ}
 use Rattle.flow_solver.specs.Paths.{IsListed}
 use Rattle.ir_base.specs.declared.outcome.Outcome.{Outcome}
 use Rattle.ir_laws.specs.paths.woven_rules.Pairs.{AreDifferent}
 use Rattle.ir_model.specs.Layout.{size_of}
-use Rattle.ir_model.specs.Names.{function_at, position_of}
+use Rattle.ir_model.specs.Names.{block_labelled, function_at}
 use Rattle.ir_model.specs.Ty.{Ty, int, ptr}
 use Rattle.ir_model.specs.declared.instr.Instr.{Instr}
 use Rattle.ir_model.specs.declared.module.Function.{Function}
@@ -43,7 +43,7 @@ use Rattle.run_source.specs.declared.state.Mode.{Mode}
 use Rattle.run_source.specs.declared.state.State.{State}
 use Rattle.run_source.specs.declared.state.Status.{Status}
 use Rattle.run_source_tables.specs.Given.{is_final}
-use Rattle.run_step.specs.Step.{AtInstr, fetch, has_markers, phis_of}
+use Rattle.run_step.specs.Step.{AtInstr, fetch, has_markers}
 use Rattle.run_step.specs.Values.{Env, arg_values, nth, value_in}
 use Rattle.run_step.specs.declared.world.Slot.{Slot}
 
@@ -206,10 +206,10 @@ pub record IsCellMade (x : Framing) (cell : ℕ) (ty : Ty) : Type 0 where
 -- The label leads to a block on the edge behind that suspend, which has no phis. Cells are allocas without markers.
 pub record HasEdgeBlock (b : Building) (func label order : ℕ) : Type 0 where
   pub block : ℕ
-  pub block_is : position_of (edged (b.framing func)) label ≡ block
-  pub block_too : position_of (framed (b.framing func)) label ≡ block
-  pub no_phis : phis_of (slice_get (edged (b.framing func)).blocks block) ≡ []
-  pub no_phis_too : phis_of (slice_get (framed (b.framing func)).blocks block) ≡ []
+  pub labelled : block_labelled (edged (b.framing func)) label ≡ Some block
+  pub there : slice_get (edged (b.framing func)).blocks block ≡ Some (block_at (edged (b.framing func)) block)
+  pub later : block ≢ 0
+  pub no_phis : (block_at (edged (b.framing func)) block).phis ≡ []
   pub returned : is_return (b.framing func) block ≡ true
   pub behind : entry (plan (b.framing func)).returns (block_at (edged (b.framing func)) block).label ≡ Some order
   pub sizes : (v : ℕ) (k : KeptValue) → IsKeptValue (b.framing func) v k

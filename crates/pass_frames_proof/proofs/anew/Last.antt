@@ -26,6 +26,7 @@ use Rattle.pass_frames_proof.proofs.anew.Made.{MakesAnew, allocas_shown}
 use Rattle.pass_frames_proof.proofs.anew.Next.{part_good}
 use Rattle.pass_frames_proof.proofs.entering.Allocas.{to_the_last, up_to_next}
 use Rattle.pass_frames_proof.proofs.entering.Cells.{cells_made}
+use Rattle.pass_frames_proof.proofs.entering.Edge.{edge_is, edge_too, no_phis, no_phis_too}
 use Rattle.pass_frames_proof.proofs.entering.Into.{enters, last_behind}
 use Rattle.pass_frames_proof.proofs.entering.Stand.{all_before, none_behind}
 use Rattle.pass_frames_proof.proofs.stepping.Stands.{top_is, values_of}
@@ -354,7 +355,7 @@ module _ (b : Building) (g : RenewedGiven) (given : AreGiven b g) (s t : State) 
       }) edged_is
       ∙ ap (λ (z : ℕ × Env). record s' { top = record a' { block = z.0; values = z.1 } })
       (enters g.given.code (edged X) label (label_of (slice_get (edged X).blocks from)) moved_env edge.block
-      edge.block_is edge.no_phis)
+      (edge_is b s.top.func label order edge) (no_phis b s.top.func label order edge))
 
   parts : HasLast all
   parts = has_last first line
@@ -405,7 +406,7 @@ module _ (b : Building) (g : RenewedGiven) (given : AreGiven b g) (s t : State) 
       }) (made.framed_is b g l)
       ∙ ap (λ (z : ℕ × Env). record t' { top = record c' { block = z.0; values = z.1 } })
       (enters b.given.given.code (framed X) label (label_of (slice_get (framed X).blocks from)) v.top.values edge.block
-      edge.block_too edge.no_phis_too)
+      (edge_too b s.top.func label order edge) (no_phis_too b s.top.func label order edge))
     where
       one_more : (n : ℕ) → n + 1 ≡ suc n
       one_more n = omega arith

@@ -21,6 +21,7 @@ use Rattle.pass_frames.specs.Framed.{begin_of}
 use Rattle.pass_frames_proof.proofs.distances.Sums.{value_set}
 use Rattle.pass_frames_proof.proofs.entering.Allocas.{alloca_there, to_the_last, up_to_next}
 use Rattle.pass_frames_proof.proofs.entering.Behind.{AreBehind, are_behind}
+use Rattle.pass_frames_proof.proofs.entering.Edge.{edge_is, edge_too, no_phis, no_phis_too}
 use Rattle.pass_frames_proof.proofs.entering.Into.{enters, last_behind}
 use Rattle.pass_frames_proof.proofs.entering.Stand.{front_stands, none_behind, all_before}
 use Rattle.pass_frames_proof.proofs.followed.Assembly.{events_same}
@@ -172,7 +173,7 @@ module _ (b : Building) (g : RenewedGiven) (given : AreGiven b g) (s t0 : State)
       }) (given.coroutines func h.is_coroutine)
       ∙ ap (λ (q : ℕ × Env). record s' { top = record a' { block = q.0; values = q.1 } })
       (enters g.given.code (edged x) label (label_of (slice_get (edged x).blocks z.suspend.block)) env anew.edge.block
-      anew.edge.block_is anew.edge.no_phis)
+      (edge_is b func label z.order anew.edge) (no_phis b func label z.order anew.edge))
 
   -- ---- the allocas
 
@@ -394,7 +395,7 @@ module _ (b : Building) (g : RenewedGiven) (given : AreGiven b g) (s t0 : State)
       }) own_framed
       ∙ ap (λ (q : ℕ × Env). record t' { top = record c' { block = q.0; values = q.1 } })
       (enters b.given.given.code (framed x) label (label_of (slice_get (framed x).blocks suspend'.block)) v.top.values
-      anew.edge.block anew.edge.block_too anew.edge.no_phis_too)
+      anew.edge.block (edge_too b func label z.order anew.edge) (no_phis_too b func label z.order anew.edge))
 
   abbrev Q : Rights
   Q = frame_rights b.given ys
