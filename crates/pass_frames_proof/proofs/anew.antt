@@ -1,3 +1,4 @@
+pub mod Cells
 pub mod Last
 pub mod Lists
 pub mod Made

@@ -1,5 +1,5 @@
 -- Slots that a woken coroutine makes anew one after another, until it enters the block on the edge behind its suspend.
-use Rattle.std.specs.Prelude.{◌≡◌, ◌≢◌, ◌⊎◌, ◌+◌, ◌<◌, ◌≤◌, ◌^◌, None, Some, false, length, slice_get, take, true, ℕ}
+use Rattle.std.specs.Prelude.{◌≡◌, ◌≢◌, ◌⊎◌, ◌+◌, ◌++◌, ◌<◌, ◌≤◌, ◌^◌, List, None, Some, false, length, slice_get, take, true, ℕ}
 use Rattle.flow_solver.specs.Paths.{IsListed}
 use Rattle.ir_model.specs.Layout.{size_of}
 use Rattle.ir_model.specs.Names.{function_at}
@@ -19,6 +19,8 @@ use Rattle.pass_proofs.specs.addresses.rules.Addresses.{lies_in_frame}
 use Rattle.pass_renewed_proof.specs.Renewed.{RenewedGiven, renewed_from}
 use Rattle.run_framed.specs.Framed.{frame_rights}
 use Rattle.run_memory.specs.declared.pointer.Value.{Value}
+use Rattle.run_source.specs.State.{function_of}
+use Rattle.run_source.specs.declared.state.Instance.{Instance}
 use Rattle.run_source.specs.declared.state.Mode.{Mode}
 use Rattle.run_source.specs.declared.state.State.{State}
 use Rattle.run_step.specs.Step.{has_markers}
@@ -92,3 +94,16 @@ pub record HasCellsMade (b : Building) (t : State) : Type 0 where
       → slice_get (front_allocas (b.framing t.top.func)) p ≡ Some (Instr.Alloca name ty align)
       → has_markers (framed (b.framing t.top.func)) name ≡ false → size_of b.framed_code ty ≡ value_bytes ty
       → value_bytes ty ≤ align → IsCell (frame_rights b.given t.instances) t.world.memory t.top name ty Anything
+
+-- The next instructions are allocas in front of the entry, on the way of an activation in its place there. No frame lies
+-- in a block that is still to come.
+pub record MakesLine (b : Building) (t : State) (is : List Instr) : Type 0 where
+  pub code : b.given.given.code ≡ b.framed_code
+  pub function : function_of b.given.given t ≡ framed (b.framing t.top.func)
+  pub fronts : AreFrontsGood (b.framing t.top.func)
+  pub before : List Instr
+  pub rest : List Instr
+  pub stands : front_allocas (b.framing t.top.func) ≡ before ++ (is ++ rest)
+  pub at : t.top.at ≡ length before
+  pub room : length t.top.values ≡ length (framed (b.framing t.top.func)).names
+  pub frames : (i : ℕ) (y : Instance) → slice_get t.instances i ≡ Some y → y.block < length t.world.memory

@@ -1,9 +1,9 @@
 -- The last slot is made anew: the framed run makes all allocas that are left, and both enter the block on the edge.
 use Rattle.std.proofs.Common.{◌≡◌, ◌≢◌, ◌⊎◌, ◌+◌, ◌-◌, ◌<◌, ◌≤◌, ◌==◌, ◌∷◌, ◌++◌, ◌∙◌, [], if◌then◌else◌, Bool, List, None, Option, Some, ap, append-nil, arith, false, inl, inr, length, length-append, refl, subst, suc, sym, take, ℕ, ⊎_elim}
-use Rattle.std.proofs.lemmas.Bool.{cases_eq, cases_lt}
+use Rattle.std.proofs.lemmas.Bool.{cases_eq}
 use Rattle.std.specs.Prelude.{option_map, slice_get}
 use Rattle.flow_solver.specs.Paths.{IsListed}
-use Rattle.ir_laws.proofs.facts.Lists.{get_behind, get_front}
+use Rattle.ir_laws.proofs.facts.Lists.{get_within}
 use Rattle.ir_laws.proofs.facts.Members.{each_left, each_right}
 use Rattle.ir_laws.proofs.paths.edges.Lists.{different_right}
 use Rattle.ir_laws.proofs.paths.source_rules.Locals.{listed_right}
@@ -13,24 +13,23 @@ use Rattle.ir_model.specs.Names.{function_at, position_of}
 use Rattle.ir_model.specs.Ty.{Ty, int, ptr}
 use Rattle.ir_model.specs.declared.instr.Instr.{Instr}
 use Rattle.ir_model.specs.declared.module.Function.{Function}
-use Rattle.ir_model.specs.declared.module.Module.{Module}
 use Rattle.ir_paths.specs.Slots.{allocas_in}
 use Rattle.ir_paths.specs.declared.point.Point.{Point}
 use Rattle.pass_cells.specs.Kept.{entry}
 use Rattle.pass_cells.specs.declared.plan.KeptValue.{KeptValue}
 use Rattle.pass_fetch.specs.Fetching.{value_bytes}
 use Rattle.pass_frames.specs.Framed.{begin_of}
-use Rattle.pass_frames_proof.proofs.anew.Lists.{HasLast, allocas_append, allocas_apart, alloca_listed, has_last, itself_moved, poison_stays, rooted_value, unrooted_value}
+use Rattle.pass_frames_proof.proofs.anew.Cells.{made_on}
+use Rattle.pass_frames_proof.proofs.anew.Lists.{HasLast, allocas_append, allocas_apart, has_last, itself_moved, poison_stays, rooted_value, unrooted_value}
 use Rattle.pass_frames_proof.proofs.anew.Made as made
 use Rattle.pass_frames_proof.proofs.anew.Made.{MakesAnew, allocas_shown}
 use Rattle.pass_frames_proof.proofs.anew.Next.{part_good}
 use Rattle.pass_frames_proof.proofs.entering.Allocas.{to_the_last, up_to_next}
-use Rattle.pass_frames_proof.proofs.entering.Cells.{cells_made}
 use Rattle.pass_frames_proof.proofs.entering.Edge.{edge_is, edge_too, no_phis, no_phis_too}
 use Rattle.pass_frames_proof.proofs.entering.Into.{enters, last_behind}
 use Rattle.pass_frames_proof.proofs.entering.Stand.{all_before, none_behind}
 use Rattle.pass_frames_proof.proofs.stepping.Stands.{top_is, values_of}
-use Rattle.pass_frames_proof.specs.Anew.{HasCellsMade, HasNoneLeft, IsAtAnew}
+use Rattle.pass_frames_proof.specs.Anew.{HasCellsMade, HasNoneLeft, IsAtAnew, MakesLine}
 use Rattle.pass_frames_proof.specs.Costs.{slot_cost}
 use Rattle.pass_frames_proof.specs.Entering.{IsGoodAlloca, allocas_up_to, behind_allocas, entered, front_allocas}
 use Rattle.pass_frames_proof.specs.Followed.{IsFollowed, IsOn}
@@ -40,16 +39,15 @@ use Rattle.pass_frames_proof.specs.Places.{Framing, edged, framed, instrs_at, of
 use Rattle.pass_frames_proof.specs.Related.{Anything, AreActivations, AreBuiltOf, AreCellsThere, AreCoroutines, AreFieldsRight, AreGone, AreNamed, AreWheresThere, Building, HasCells, IsCell, IsHeldAs, IsKeptAs, IsKeptValue, is_coroutine, returned_from, top_place}
 use Rattle.pass_frames_proof.specs.Slotted.{HasSlotsThere}
 use Rattle.pass_frames_proof.specs.Stepping.{AreGiven}
-use Rattle.pass_frames_proof.specs.Waking.{HasEdgeBlock, IsCellMade}
+use Rattle.pass_frames_proof.specs.Waking.{AreFrontsGood, HasEdgeBlock, IsCellMade}
 use Rattle.pass_proofs.specs.addresses.rules.Addresses.{lies_in_frame}
 use Rattle.pass_renewed_proof.specs.Renewed.{RenewedGiven, in_new_slot, renew_after, renewed_step, renewed_values}
 use Rattle.run_agreement.specs.Machines.{iterate}
 use Rattle.run_framed.specs.Framed.{alloca_from, frame_rights, framed_step}
-use Rattle.run_laws.specs.access.Lines.{Holds, StandAt}
+use Rattle.run_laws.specs.access.Lines.{StandAt}
 use Rattle.run_laws.specs.changed.Changed.{Each}
 use Rattle.run_laws.specs.memory.Pointers.{IsValue}
 use Rattle.run_memory.specs.Memory.{Rights, decode}
-use Rattle.run_memory.specs.declared.block.MemoryBlock.{MemoryBlock}
 use Rattle.run_memory.specs.declared.pointer.Value.{Value}
 use Rattle.run_source.specs.State.{function_of}
 use Rattle.run_source.specs.declared.state.Activation.{Activation}
@@ -240,59 +238,51 @@ module _ (b : Building) (g : RenewedGiven) (given : AreGiven b g) (s t : State) 
   at_is : t.top.at ≡ length before
   at_is = ap (λ (p : Point). p.at) (made.place_there b g l)
 
+  makes_line : MakesLine b t all
+  makes_line = record {
+    code = given.code;
+    function = made.framed_is b g l ∙ ap (λ (f : ℕ). framed (b.framing f)) (sym r.top.func);
+    fronts = subst (λ (f : ℕ). AreFrontsGood (b.framing f)) (sym r.top.func) h.fronts;
+    before = before;
+    rest = [];
+    stands = ap (λ (f : ℕ). front_allocas (b.framing f)) r.top.func ∙ stands;
+    at = at_is;
+    room = old.names.room ∙ ap (λ (f : ℕ). length (framed (b.framing f)).names) (sym r.top.func);
+    frames = made.frames_low b g l;
+  }
+
+  all_cells : HasCellsMade b (record t {
+    world = made.u b g l;
+    top = record t.top { at = v.top.at; values = v.top.values; slots = v.top.slots };
+  })
+  all_cells = subst (HasCellsMade b) (made.behind_is b g l) (made_on b t all makes_line made_cells)
+
   cell_now : (cell : ℕ) (ty' : Ty) → size_of b.framed_code ty' ≡ value_bytes ty' → IsCellMade X cell ty'
       → IsCell R (made.u b g l).memory c' cell ty' Anything
-  cell_now cell ty' sized k = ⊎_elim (λ lt. earlier lt) (λ le. later le) (cases_lt k.position (length before))
+  cell_now cell ty' sized k =
+      let c = all_cells.each from label k.position cell k.align ty' (r.top.mode ∙ h.mode) made_already
+      (ap (λ (f : ℕ). slice_get (front_allocas (b.framing f)) k.position) r.top.func ∙ k.there)
+      (ap (λ (f : ℕ). has_markers (framed (b.framing f)) cell) r.top.func ∙ k.unmarked) sized k.aligned in
+      record {
+        block = c.block;
+        address = c.address;
+        own = c.own;
+        bytes = c.bytes;
+        sized = c.sized;
+        holds = c.holds;
+        has = tt;
+      }
     where
-      there : slice_get (before ++ all) k.position ≡ Some (Instr.Alloca cell ty' k.align)
-      there = ap (λ (is : List Instr). slice_get is k.position) (sym h.stands.is) ∙ k.there
-
-      earlier : k.position < length (allocas_up_to X s.top.at) → IsCell R (made.u b g l).memory c' cell ty' Anything
-      earlier lt =
-          let there_too : slice_get (front_allocas (b.framing t.top.func)) k.position
-          ≡ Some (Instr.Alloca cell ty' k.align) =
-          ap (λ (f : ℕ). slice_get (front_allocas (b.framing f)) k.position) r.top.func ∙ k.there in
-          let unmarked : has_markers (framed (b.framing t.top.func)) cell ≡ false =
-          ap (λ (f : ℕ). has_markers (framed (b.framing f)) cell) r.top.func ∙ k.unmarked in
-          let at = at_is in
-          let c = made_cells.each from label k.position cell k.align ty' (r.top.mode ∙ h.mode) (omega (arith, lt, at)) there_too unmarked sized
-          k.aligned in
-          record {
-            block = c.block;
-            address =
-                (made.all_behind b g l).others cell
-                (λ listed.
-                allocas_apart (allocas_up_to X s.top.at) all different cell
-                (alloca_listed (allocas_up_to X s.top.at) k.position cell k.align ty'
-                (sym (get_front (allocas_up_to X s.top.at) all k.position lt) ∙ there)) listed)
-                ∙ c.address;
-            own = (made.all_behind b g l).kept _ c.own;
-            bytes = c.bytes;
-            sized = c.sized;
-            holds = made.held b g l c.block 0 (value_bytes ty') c.bytes c.holds;
-            has = tt;
-          }
-
-      later : length (allocas_up_to X s.top.at) ≤ k.position → IsCell R (made.u b g l).memory c' cell ty' Anything
-      later le =
-          let p : ℕ = k.position - length (allocas_up_to X s.top.at) in
-          let same : k.position ≡ length (allocas_up_to X s.top.at) + p = omega (arith, le) in
-          let c = cells_made b.given t all (made.all_good b g l) (made.different_all b g l) (made.low_all b g l)
-          (made.frames_low b g l) p cell k.align ty'
-          (sym (get_behind (allocas_up_to X s.top.at) all p)
-          ∙ ap (slice_get (allocas_up_to X s.top.at ++ all)) (sym same) ∙ there)
-          (ap (λ (f : Function). has_markers f cell) (made.framed_is b g l) ∙ k.unmarked)
-          (ap (λ (m : Module). size_of m ty') given.code ∙ sized) k.aligned in
-          record {
-            block = c.block;
-            address = c.address;
-            own = c.own;
-            bytes = c.bytes;
-            sized = c.sized;
-            holds = subst (λ (m : List MemoryBlock). Holds R m c.block 0 (value_bytes ty') c.bytes)
-                (made.memory_is b g l) c.holds;
-            has = tt;
-          }
+      -- all of them are
+      made_already : k.position < v.top.at
+      made_already =
+          let within : k.position < length (front_allocas X) =
+          get_within (front_allocas X) k.position (Instr.Alloca cell ty' k.align) k.there in
+          let whole : length (front_allocas X) ≡ length before + length all =
+          ap length h.stands.is ∙ length-append before all in
+          let at : t.top.at ≡ length before = at_is in
+          let behind : v.top.at ≡ t.top.at + length all = (made.all_behind b g l).at in
+          omega (arith, within, whole, at, behind)
 
   made_now : AreCellsThere X R (made.u b g l).memory c' × AreWheresThere X R (made.u b g l).memory c'
   made_now = (
