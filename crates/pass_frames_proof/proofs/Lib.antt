@@ -1,2 +1,1 @@
 pub mod here
-pub mod leaving

@@ -1,14 +1,21 @@
 -- Branches of coroutines, and the windows that they leave.
-use Rattle.std.specs.Prelude.{◌≡◌, ◌⊎◌, ◌∷◌, ◌+◌, [], List, Ok, Some, slice_get, ℕ}
+use Rattle.std.specs.Prelude.{◌≡◌, ◌⊎◌, ◌∷◌, ◌+◌, [], List, Ok, Some, length, slice_get, true, ℕ}
 use Rattle.flow_solver.specs.Paths.{IsListed}
+use Rattle.ir_model.specs.Names.{block_labelled}
+use Rattle.ir_paths.specs.Paths.{entry_point}
+use Rattle.ir_paths.specs.Windows.{leaves}
 use Rattle.ir_paths.specs.declared.point.Window.{Window}
-use Rattle.pass_frames_proof.specs.Places.{own_place}
-use Rattle.pass_frames_proof.specs.Related.{Building}
+use Rattle.pass_frames_proof.specs.Code.{end_code, last_state}
+use Rattle.pass_frames_proof.specs.Passes.{block_at}
+use Rattle.pass_frames_proof.specs.Places.{Framing, edged, framed, instrs_at, own_place, place}
+use Rattle.pass_frames_proof.specs.Related.{Building, is_coroutine}
+use Rattle.pass_frames_proof.specs.Stepping.{IsNotEntering}
 use Rattle.pass_renewed_proof.specs.Renewed.{RenewedGiven}
 use Rattle.run_laws.specs.changed.Changed.{Each}
 use Rattle.run_source.specs.Source.{go_to, left_windows}
 use Rattle.run_source.specs.declared.state.Instance.{Instance}
 use Rattle.run_source.specs.declared.state.State.{State}
+use Rattle.run_source_tables.specs.Given.{facts_at}
 
 -- the framed run so many instructions further, at its terminator
 abbrev pub further : State → ℕ → State
@@ -38,3 +45,41 @@ pub record LeavesWindows (b : Building) (g : RenewedGiven) (s u : State) (label 
 -- either way both runs do the same
 abbrev pub IsBranch : Building → RenewedGiven → (s u : State) → ℕ → Type 0
 IsBranch b g s u label = StaysInside b g s u label ⊎ LeavesWindows b g s u label
+
+-- ---- windows of the framed form
+
+-- Where a branch from the end of a block leaves the window of the coroutine, it leaves that of the framed form. The
+-- save of the one is that of the other at its place.
+pub record IsWindowPlaced (x : Framing) (v w : Window) : Type 0 where
+  pub save : w.save ≡ own_place x v.save
+  pub leaves_too : (k label target : ℕ) → slice_get (edged x).blocks k ≡ Some (block_at (edged x) k)
+      → block_labelled (edged x) label ≡ Some target
+      → leaves (record {
+        block = k;
+        at = (place x (record { block = k; at = length (instrs_at x k) })).at + length (end_code x k (last_state x k));
+      }) (entry_point (framed x) label) w
+      ≡ leaves (record { block = k; at = length (instrs_at x k) }) (entry_point (edged x) label) v
+
+-- one to one
+abbrev pub AreWindowsPlaced : Framing → List Window → List Window → Type 0
+AreWindowsPlaced x [] [] = Unit {0}
+AreWindowsPlaced x [] (w ∷ ws) = ⊥
+AreWindowsPlaced x (v ∷ vs) [] = ⊥
+AreWindowsPlaced x (v ∷ vs) (w ∷ ws) = IsWindowPlaced x v w × AreWindowsPlaced x vs ws
+
+-- The next step is a branch to a label, at the end of a block of a coroutine, which is defined. An instance is one of
+-- its activations' coroutine, as in each state of a run.
+pub record IsAtBranch (b : Building) (g : RenewedGiven) (s : State) (label : ℕ) : Type 0 where
+  pub coroutine : is_coroutine b s.top.func ≡ true
+  pub mode : IsNotEntering s.top.mode
+  pub at : s.top.at ≡ length (instrs_at (b.framing s.top.func) s.top.block)
+  pub here : slice_get (edged (b.framing s.top.func)).blocks s.top.block
+      ≡ Some (block_at (edged (b.framing s.top.func)) s.top.block)
+  pub target : ℕ
+  pub labelled : block_labelled (edged (b.framing s.top.func)) label ≡ Some target
+  pub windows : AreWindowsPlaced (b.framing s.top.func) (facts_at g.given.facts s.top.func).windows
+      (facts_at b.given.given.facts s.top.func).windows
+  pub after : State
+  pub does : go_to g.given s label ≡ Ok after
+  pub instances : (i : ℕ) (x : Instance) → s.top.instance ≡ Some i → slice_get s.instances i ≡ Some x
+      → x.coroutine ≡ s.top.func

@@ -27,6 +27,7 @@ pub mod givens;
 pub mod heaps;
 pub mod jumping;
 pub mod layers;
+pub mod leaving;
 pub mod led;
 pub mod lined;
 pub mod lines;
