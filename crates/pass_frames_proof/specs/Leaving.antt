@@ -5,9 +5,8 @@ use Rattle.ir_model.specs.Names.{block_labelled}
 use Rattle.ir_paths.specs.Paths.{entry_point}
 use Rattle.ir_paths.specs.Windows.{leaves}
 use Rattle.ir_paths.specs.declared.point.Window.{Window}
-use Rattle.pass_frames_proof.specs.Code.{end_code, last_state}
 use Rattle.pass_frames_proof.specs.Passes.{block_at}
-use Rattle.pass_frames_proof.specs.Places.{Framing, edged, framed, instrs_at, own_place, place}
+use Rattle.pass_frames_proof.specs.Places.{Framing, edged, framed, instrs_at, own_place}
 use Rattle.pass_frames_proof.specs.Related.{Building, is_coroutine}
 use Rattle.pass_frames_proof.specs.Stepping.{IsNotEntering}
 use Rattle.pass_renewed_proof.specs.Renewed.{RenewedGiven}
@@ -54,10 +53,7 @@ pub record IsWindowPlaced (x : Framing) (v w : Window) : Type 0 where
   pub save : w.save ≡ own_place x v.save
   pub leaves_too : (k label target : ℕ) → slice_get (edged x).blocks k ≡ Some (block_at (edged x) k)
       → block_labelled (edged x) label ≡ Some target
-      → leaves (record {
-        block = k;
-        at = (place x (record { block = k; at = length (instrs_at x k) })).at + length (end_code x k (last_state x k));
-      }) (entry_point (framed x) label) w
+      → leaves (record { block = k; at = length (block_at (framed x) k).instrs }) (entry_point (framed x) label) w
       ≡ leaves (record { block = k; at = length (instrs_at x k) }) (entry_point (edged x) label) v
 
 -- one to one
