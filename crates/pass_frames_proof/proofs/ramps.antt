@@ -2,9 +2,11 @@ pub mod Aligned
 pub mod Allocas
 pub mod Behind
 pub mod Called
+pub mod Classes
 pub mod Entry
 pub mod Front
 pub mod Grown
+pub mod Markers
 pub mod Params
 pub mod Plain
 pub mod Rules

@@ -13,7 +13,7 @@ use Rattle.pass_cells.specs.Written.{stored_params}
 use Rattle.pass_cells.specs.declared.plan.KeptValue.{KeptValue}
 use Rattle.pass_copies.specs.declared.slot.EarlySlot.{EarlySlot}
 use Rattle.pass_fetch.specs.Fetching.{value_bytes}
-use Rattle.pass_frames_proof.specs.Entered.{IsEntryName, temporary_of}
+use Rattle.pass_frames_proof.specs.Entered.{temporary_of}
 use Rattle.pass_frames_proof.specs.Entering.{front_allocas}
 use Rattle.pass_frames_proof.specs.Entry.{cells_of, puts_of}
 use Rattle.pass_frames_proof.specs.Lines.{IsStorable}
@@ -25,7 +25,6 @@ use Rattle.rule_laws.specs.rules.function_rules.Kept.{KeepsFunctionRules}
 use Rattle.run_laws.specs.access.Lines.{StandAt}
 use Rattle.run_laws.specs.changed.Changed.{Each}
 use Rattle.run_memory.specs.declared.pointer.Value.{Value}
-use Rattle.run_step.specs.Step.{has_markers}
 
 -- ---- the code in front of the entry
 
@@ -59,11 +58,10 @@ pub record HasAllocasInFront (x : Framing) : Type 0 where
       → IsListed (Instr.Alloca cell (int 64) (value_bytes (int 64))) (front_allocas x)
   pub once : AreDifferent (cells_of (copies x).slots)
 
--- The framed form, a function of a module by its number, breaks no rule (`framed_forms_are_kept`). No marker names a
--- cell, whose name is new. Sizes are the same in both modules.
+-- The framed form, a function of a module by its number, breaks no rule (`framed_forms_are_kept`). Sizes are the same
+-- in both modules.
 pub record HasEntryAllocas (m : Module) (func : ℕ) (x : Framing) : Type 0 where
   pub rules : KeepsFunctionRules m func (framed x)
-  pub unmarked : (cell : ℕ) → IsEntryName x cell → has_markers (framed x) cell ≡ false
   pub same : (ty : Ty) → size_of m ty ≡ size_of x.code ty
 
 -- ---- the parameters

@@ -1,17 +1,21 @@
 //! Calls of ramps: the framed run executes the front of the entry with the call.
 
-ghost use Rattle.std.specs.Prelude.{◌≡◌, ℕ, Bool, List, Option, true};
+ghost use Rattle.std.specs.Prelude.{◌≡◌, ◌≤◌, ℕ, Bool, List, Option, false, length, true};
 ghost use Rattle.ir_model.specs.declared.instr.Instr.{Instr};
+ghost use Rattle.ir_model.specs.declared.module.Module.{Module};
+ghost use Rattle.pass_copies.specs.Uses.{flag_at};
 ghost use Rattle.pass_frames_proof.specs.Calling.{HasBlocks, IsAtCall, IsAtPlainCall};
 ghost use Rattle.pass_frames_proof.specs.Followed.{IsFollowed};
 ghost use Rattle.pass_frames_proof.specs.Framings.{IsFraming};
-ghost use Rattle.pass_frames_proof.specs.Places.{Framing};
+ghost use Rattle.pass_frames_proof.specs.Places.{Framing, edged, framed, marked};
 ghost use Rattle.pass_frames_proof.specs.Ramps.{HasAllocasInFront, HasEntryFront, IsPlainEntry, IsRamp};
 ghost use Rattle.pass_frames_proof.specs.Related.{AreBuiltOf, Building, is_coroutine};
 ghost use Rattle.pass_frames_proof.specs.Stepping.{AreGiven};
 ghost use Rattle.pass_renewed_proof.specs.Renewed.{RenewedGiven};
+ghost use Rattle.rule_laws.specs.rules.function_rules.Kept.{KeepsFunctionRules};
 ghost use Rattle.run_memory.specs.declared.pointer.Value.{Value};
 ghost use Rattle.run_source.specs.declared.state.State.{State};
+ghost use Rattle.run_step.specs.Step.{has_markers};
 
 /// In front of the entry stand all allocas, and behind them stores alone: of addresses of temporaries, and of
 /// parameters.
@@ -22,6 +26,14 @@ pub fn entries_have_their_fronts()
 /// Among these allocas are those of slots that lie in no frame, of temporaries and of cells.
 pub fn entries_have_their_allocas()
     ensures { (x : Framing) → IsFraming x → IsPlainEntry x → HasAllocasInFront x }
+{}
+
+/// Markers in a framed form are of slots of its ramp: of no other name, so of none that is new.
+pub fn markers_are_of_ramp_slots()
+    ensures others { (m : Module) (k : ℕ) (x : Framing) → IsFraming x → KeepsFunctionRules m k (framed x) → (name : ℕ)
+        → flag_at (marked x) name ≡ false → has_markers (framed x) name ≡ false }
+    ensures new { (m : Module) (k : ℕ) (x : Framing) → IsFraming x → KeepsFunctionRules m k (framed x) → (name : ℕ)
+        → length (edged x).names ≤ name → has_markers (framed x) name ≡ false }
 {}
 
 /// A call of a ramp is followed, from a coroutine and from a function that is none. With the call the framed run

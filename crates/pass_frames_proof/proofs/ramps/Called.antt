@@ -20,7 +20,7 @@ use Rattle.pass_frames_proof.proofs.calling.Callers.{Enters, coroutine_enters, o
 use Rattle.pass_frames_proof.proofs.calling.Passed.{passed_on}
 use Rattle.pass_frames_proof.proofs.calling.Push.{pushed, t'}
 use Rattle.pass_frames_proof.proofs.entered.Allocas.{all_grow, all_made, slots_differ, slots_new, some_made, values_long}
-use Rattle.pass_frames_proof.proofs.entered.Front.{cell_listed, entry_stored}
+use Rattle.pass_frames_proof.proofs.entered.Front.{entry_stored}
 use Rattle.pass_frames_proof.proofs.entered.Ways.{stores_pass}
 use Rattle.pass_frames_proof.proofs.from_edges.Front.{listed_contains}
 use Rattle.pass_frames_proof.proofs.led.Steps.{fills_elsewhere}
@@ -31,6 +31,7 @@ use Rattle.pass_frames_proof.proofs.ramps.Behind.{AreEntryAllocas, all_may_put, 
 use Rattle.pass_frames_proof.proofs.ramps.Entry.{IsBareEntry, bare_entry}
 use Rattle.pass_frames_proof.proofs.ramps.Front.{entry_front}
 use Rattle.pass_frames_proof.proofs.ramps.Grown.{grown_over, grown_shown, new_free}
+use Rattle.pass_frames_proof.proofs.ramps.Markers.{entry_name}
 use Rattle.pass_frames_proof.proofs.ramps.Params.{are_unaddressed, params_low, params_once}
 use Rattle.pass_frames_proof.proofs.ramps.Rules.{entry_allocas}
 use Rattle.pass_frames_proof.proofs.ramps.Values.{entry_below, names_given, none_long, params_given, params_long, stand_on, unset_poison}
@@ -38,7 +39,6 @@ use Rattle.pass_frames_proof.proofs.returning.Behind.{stand_before, stand_behind
 use Rattle.pass_frames_proof.proofs.returning.Turned.{placed_at}
 use Rattle.pass_frames_proof.proofs.stepping.After.{cells_turned, right_there, wheres_there, wheres_turned}
 use Rattle.pass_frames_proof.proofs.stepping.Fetch.{not_returned, own_blocks}
-use Rattle.pass_frames_proof.proofs.stepping.Names.{cell_is_name, where_is_name}
 use Rattle.pass_frames_proof.proofs.stepping.Onward.{EndsUp, onward_followed}
 use Rattle.pass_frames_proof.proofs.stepping.Rest.{got}
 use Rattle.pass_frames_proof.proofs.stepping.Stands.{made_of, top_is, values_of}
@@ -54,7 +54,7 @@ use Rattle.pass_frames_proof.specs.Framings.{IsFraming}
 use Rattle.pass_frames_proof.specs.Led.{RunsThrough}
 use Rattle.pass_frames_proof.specs.Lined.{GivesNone, gives_frame, lined}
 use Rattle.pass_frames_proof.specs.Lines.{HasOwnBlocks}
-use Rattle.pass_frames_proof.specs.Places.{Framing, copies, edged, framed, place}
+use Rattle.pass_frames_proof.specs.Places.{Framing, edged, framed, place}
 use Rattle.pass_frames_proof.specs.Ramps.{HasAllocasInFront, HasEntryFront, IsRamp, entry_stores}
 use Rattle.pass_frames_proof.specs.Related.{AreActivations, AreAhead, AreBuiltOf, AreCellsRight, AreCoroutines, AreWheresRight, Building, HasCells, IsAhead, IsBuiltBy, IsCellName, IsFreeOf, all_slots, below_place, instance_in, is_coroutine, point_of, top_place}
 use Rattle.pass_frames_proof.specs.Returning.{IsAmong}
@@ -418,12 +418,6 @@ module _ (b : Building) (g : RenewedGiven) (given : AreGiven b g) (s t : State) 
 
   -- ---- allocas that the source is still to make
 
-  entry_name : (v : ℕ) → IsEntryName x v → IsCellName x v
-  entry_name v (inl of) = cell_is_name x v of
-  entry_name v (inr l) =
-      let e = cell_listed (copies x).slots v l in
-      subst (IsCellName x) (sym e.2) (where_is_name x e.0 e.1)
-
   ahead_one : (name align : ℕ) (ty : Ty) → IsListed (Instr.Alloca name ty align) line1
       → ((v : ℕ) → IsCellName x v → v ≡ name → ⊥)
       → IsAhead x r.homes r.hides s.world.memory u.memory new name ty align
@@ -439,8 +433,8 @@ module _ (b : Building) (g : RenewedGiven) (given : AreGiven b g) (s t : State) 
         (each_turns
         (λ (p : Span). (v : ℕ) × IsEntryName x v × Contains K.slots (record { alloca = v; block = p.block }))
         (λ (p : Span). p.block ≡ e.block → ⊥)
-        (λ p k. other_block u1.top k.0 name p.block e.block own1 k.2 own (apart k.0 (entry_name k.0 k.1))) stored.spans
-        stored.inside)
+        (λ p k. other_block u1.top k.0 name p.block e.block own1 k.2 own (apart k.0 (entry_name x k.0 k.1)))
+        stored.spans stored.inside)
         ∙ e.there ∙ block_ahead b x is h inside q.instances m env room frames_low co name align ty;
   }
     where

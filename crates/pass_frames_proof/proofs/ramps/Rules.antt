@@ -1,5 +1,5 @@
 -- What the rules say of the allocas in front of an entry: each has a name of its own, which is no parameter's.
-use Rattle.std.proofs.Common.{◌≡◌, ◌+◌, ◌<◌, ◌∙◌, ◌∷◌, [], Bool, List, None, Option, Some, ap, arith, false, inl, inr, length, refl, subst, suc, sym, true, zero, ℕ}
+use Rattle.std.proofs.Common.{◌≡◌, ◌+◌, ◌<◌, ◌≤◌, ◌∙◌, ◌∷◌, [], Bool, List, None, Option, Some, ap, arith, false, inl, inr, length, refl, subst, suc, sym, true, zero, ℕ}
 use Rattle.std.specs.Prelude.{map, slice_get, ◌==◌}
 use Rattle.flow_solver.specs.Paths.{IsListed}
 use Rattle.ir_laws.proofs.facts.Members.{each_turns}
@@ -16,6 +16,7 @@ use Rattle.pass_frames_proof.proofs.code.Framed.{entry_made}
 use Rattle.pass_frames_proof.proofs.ramps.Aligned.{all_aligned, are_allocas}
 use Rattle.pass_frames_proof.proofs.ramps.Behind.{AreEntryAllocas, framed_params}
 use Rattle.pass_frames_proof.proofs.ramps.Front.{entry_front}
+use Rattle.pass_frames_proof.proofs.ramps.Markers.{entry_name, new_unmarked}
 use Rattle.pass_frames_proof.proofs.ramps.Plain.{entry_there}
 use Rattle.pass_frames_proof.proofs.ramps.Values.{name_listed}
 use Rattle.pass_frames_proof.proofs.returning.Behind.{stand_before}
@@ -150,6 +151,8 @@ module _ (m : Module) (k : ℕ) (x : Framing) (is : IsFraming x) (e : IsPlainEnt
         (name_listed (edged x).params p l)))) (front_allocas x)
         (unset_in m k (framed x) h.rules entry.0 entry.1 0 (front_allocas x) stands);
     own = own_low;
-    unmarked = h.unmarked;
+    unmarked = λ cell name.
+        let new : length (edged x).names ≤ cell = (entry_name x cell name).new in
+        new_unmarked m k x is h.rules cell new;
     same = h.same;
   }
