@@ -1,3 +1,4 @@
 pub mod Copies
 pub mod Moved
+pub mod Placed
 pub mod Unlocated

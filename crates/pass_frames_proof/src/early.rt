@@ -1,12 +1,18 @@
 //! Slots that are used before begin: what stands right behind it is executed.
 
-ghost use Rattle.std.specs.Prelude.{◌≡◌, ℕ, List, false, set};
+ghost use Rattle.std.specs.Prelude.{◌≡◌, ◌+◌, ◌<◌, ◌^◌, ℕ, List, None, false, set};
 ghost use Rattle.ir_model.specs.declared.instr.Instr.{Instr};
+ghost use Rattle.ir_model.specs.declared.operand.Operand.{Operand};
 ghost use Rattle.ir_parts.specs.Contents.{instr_operands};
 ghost use Rattle.pass_copies.specs.Uses.{is_access};
 ghost use Rattle.pass_copies.specs.declared.slot.EarlySlot.{EarlySlot};
-ghost use Rattle.pass_frames_proof.specs.Code.{is_ahead, loaded};
+ghost use Rattle.pass_fetch.specs.Fetching.{fetch_of};
+ghost use Rattle.pass_frames.specs.Tables.{offset_at};
+ghost use Rattle.pass_frames_proof.specs.Code.{is_ahead, loaded, slot_table};
 ghost use Rattle.pass_frames_proof.specs.Early.{AreCopied, IsCopiedSlot, MayComeThere, MayCopyAll};
+ghost use Rattle.pass_frames_proof.specs.Framings.{IsFraming};
+ghost use Rattle.pass_frames_proof.specs.FromEdges.{IsEarlyInFrame};
+ghost use Rattle.pass_frames_proof.specs.Offsets.{AreHeldOnce};
 ghost use Rattle.pass_frames_proof.specs.Places.{Framing, Placed, copies};
 ghost use Rattle.pass_frames_proof.specs.Stepping.{IsUnlocated};
 ghost use Rattle.pass_proofs.specs.fetch.rules.Fetches.{AreUnfetched};
@@ -19,6 +25,15 @@ ghost use Rattle.run_memory.specs.Memory.{Rights};
 ghost use Rattle.run_memory.specs.declared.block.MemoryBlock.{MemoryBlock};
 ghost use Rattle.run_source.specs.declared.state.Activation.{Activation};
 ghost use Rattle.run_step.specs.Step.{Context, Work};
+
+/// Each slot that is used before begin lies in the frame, where it has its place among what is held. No address is made
+/// of its temporary or of its cell.
+pub fn early_slots_lie_in_frames()
+    ensures slots { (x : Framing) → IsFraming x → AreHeldOnce x.contents.held → (start : ℕ)
+        → ((n : ℕ) → start + offset_at x.layout n < 2 ^ 64) → Each (IsEarlyInFrame x start) (copies x).slots }
+    ensures temporaries { (x : Framing) → IsFraming x
+        → Each (λ (s : EarlySlot). fetch_of (slot_table x) (Operand.Local s.temporary) ≡ None) (copies x).slots }
+{}
 
 /// Right behind begin the bytes of each slot that is used before it are copied from its temporary to its place in the
 /// frame. The address of that place goes to the slot's cell.

@@ -97,14 +97,14 @@ module _ (slots : List Bool) where
       ⊎_elim (λ h. instr_marks b used i v h) (λ h. inr h)
       (instrs_mark (still_before b i) (mark_instr slots b used i) is v e)
 
-  blocks_mark : (before used : List Bool) (bs : List Block) (v : ℕ)
+  pub blocks_mark : (before used : List Bool) (bs : List Block) (v : ℕ)
       → flag_at (mark_blocks slots before used bs) v ≡ true → IsEither used v
   blocks_mark before used [] v e = inl e
   blocks_mark before used (b ∷ bs) v e =
       ⊎_elim (λ h. instrs_mark (flag_at before b.label) used b.instrs v h) (λ h. inr h)
       (blocks_mark before (mark_instrs slots (flag_at before b.label) used b.instrs) bs v e)
 
-slot_used : (used : List Bool) (sizes : List ℕ) (n : ℕ) (is : List Instr) (s : EarlySlot)
+pub slot_used : (used : List Bool) (sizes : List ℕ) (n : ℕ) (is : List Instr) (s : EarlySlot)
     → IsListed s (slots_from used sizes n is) → flag_at used s.slot ≡ true
 slot_used used sizes n [] s l = absurd l
 slot_used used sizes n (Instr.Alloca r ty align ∷ is) s l =
@@ -122,7 +122,7 @@ slot_used used sizes n (Instr.Alloca r ty align ∷ is) s l =
 slot_used used sizes n (_ ∷ is) s l = slot_used used sizes n is s l
 
 -- no name is flagged where nothing is
-never : (n v : ℕ) → flag_at (replicate n false) v ≡ true → ⊥
+pub never : (n v : ℕ) → flag_at (replicate n false) v ≡ true → ⊥
 never n v h = let t : true ≡ false = sym h ∙ none_flagged n v in absurd (cc)
 
 -- what is fetched from a cell before begin is flagged
