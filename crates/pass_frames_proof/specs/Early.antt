@@ -3,6 +3,7 @@
 use Rattle.std.specs.List.{Contains}
 use Rattle.std.specs.Prelude.{◌≡◌, ◌≢◌, ◌⊎◌, ◌+◌, ◌*◌, ◌<◌, ◌≤◌, ◌^◌, [], ◌∷◌, List, None, Some, false, length, slice_get, true, ℕ}
 use Rattle.flow_solver.specs.Paths.{IsListed}
+use Rattle.frame_contents.specs.declared.held.Holding.{Holding}
 use Rattle.ir_laws.specs.paths.woven_rules.Pairs.{AreDifferent}
 use Rattle.ir_model.specs.Ty.{ptr}
 use Rattle.ir_model.specs.declared.instr.Instr.{Instr}
@@ -38,6 +39,10 @@ abbrev pub copies_line : Framing → (k m : ℕ) → List EarlySlot → List Ins
 copies_line x k m ss = addressed x k (m, tt) (begin_copies ss)
 
 -- ---- one slot
+
+-- its size is that of its field
+abbrev pub IsOfField : Framing → EarlySlot → Type 0
+IsOfField x s = (n : ℕ) (h : Holding) → slice_get x.contents.held n ≡ Some h → h.value ≡ s.slot → s.size ≡ h.size
 
 -- its place in the frame, and what its temporary holds; a slot has bytes (Y4), and no address is made of a temporary
 pub record IsCopiedSlot (x : Framing) (start : ℕ) (s : EarlySlot) : Type 0 where

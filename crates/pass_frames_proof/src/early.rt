@@ -9,7 +9,7 @@ ghost use Rattle.pass_copies.specs.declared.slot.EarlySlot.{EarlySlot};
 ghost use Rattle.pass_fetch.specs.Fetching.{fetch_of};
 ghost use Rattle.pass_frames.specs.Tables.{offset_at};
 ghost use Rattle.pass_frames_proof.specs.Code.{is_ahead, loaded, slot_table};
-ghost use Rattle.pass_frames_proof.specs.Early.{AreCopied, IsCopiedSlot, MayComeThere, MayCopyAll};
+ghost use Rattle.pass_frames_proof.specs.Early.{AreCopied, IsCopiedSlot, IsOfField, MayComeThere, MayCopyAll};
 ghost use Rattle.pass_frames_proof.specs.Framings.{IsFraming};
 ghost use Rattle.pass_frames_proof.specs.FromEdges.{IsEarlyInFrame};
 ghost use Rattle.pass_frames_proof.specs.Offsets.{AreHeldOnce};
@@ -26,11 +26,12 @@ ghost use Rattle.run_memory.specs.declared.block.MemoryBlock.{MemoryBlock};
 ghost use Rattle.run_source.specs.declared.state.Activation.{Activation};
 ghost use Rattle.run_step.specs.Step.{Context, Work};
 
-/// Each slot that is used before begin lies in the frame, where it has its place among what is held. No address is made
-/// of its temporary or of its cell.
+/// Each slot that is used before begin lies in the frame, where it has its place among what is held, and is as large as
+/// its field. No address is made of its temporary or of its cell.
 pub fn early_slots_lie_in_frames()
     ensures slots { (x : Framing) → IsFraming x → AreHeldOnce x.contents.held → (start : ℕ)
         → ((n : ℕ) → start + offset_at x.layout n < 2 ^ 64) → Each (IsEarlyInFrame x start) (copies x).slots }
+    ensures sizes { (x : Framing) → AreHeldOnce x.contents.held → Each (IsOfField x) (copies x).slots }
     ensures temporaries { (x : Framing) → IsFraming x
         → Each (λ (s : EarlySlot). fetch_of (slot_table x) (Operand.Local s.temporary) ≡ None) (copies x).slots }
 {}

@@ -177,35 +177,38 @@ frame_named classes k (s ∷ slots) v (suc n) e f =
 
 -- ---- each of a coroutine's
 
-each_listed : {A : Type 0} (P : A → Type 0) (xs : List A) → ((x : A) → IsListed x xs → P x) → Each P xs
+pub each_listed : {A : Type 0} (P : A → Type 0) (xs : List A) → ((x : A) → IsListed x xs → P x) → Each P xs
 each_listed P [] h = tt
 each_listed P (x ∷ xs) h = (h x (inl refl), each_listed P xs (λ y l. h y (inr l)))
+
+module _ (x : Framing) where
+  abbrev pub slots : List Bool
+  slots = class_flags x.function x.contents.classes SlotClass.Frame
+
+  abbrev pub used : List Bool
+  used = used_before (written x) slots (before_labels x)
+
+  pub flagged_slot : (s : EarlySlot) → IsListed s (copies x).slots → flag_at slots s.slot ≡ true
+  flagged_slot s l =
+      let flagged : flag_at used s.slot ≡ true =
+      slot_used used (sizes_by_name x.function x.contents.held) (length (written x).names)
+      (entry_instrs (written x).blocks) s l in
+      ⊎_elim (λ h. absurd (never (length (written x).names) s.slot h)) (λ h. h)
+      (blocks_mark slots (before_labels x) (replicate (length (written x).names) false) (written x).blocks s.slot
+      flagged)
 
 module _ (x : Framing) (is : IsFraming x) where
   abbrev names : ℕ
   names = length (with_copies x).names
-
-  abbrev slots : List Bool
-  slots = class_flags x.function x.contents.classes SlotClass.Frame
-
-  abbrev used : List Bool
-  used = used_before (written x) slots (before_labels x)
 
   abbrev Class : ℕ → Type 0
   Class v = IsOfClass SlotClass.Frame x.contents.classes 0 (allocas_of x.function) v
 
   frame_class : (s : EarlySlot) → IsListed s (copies x).slots → Class s.slot
   frame_class s l =
-      let flagged : flag_at used s.slot ≡ true =
-      slot_used used (sizes_by_name x.function x.contents.held) (length (written x).names)
-      (entry_instrs (written x).blocks) s l in
-      let slot : flag_at slots s.slot ≡ true =
-      ⊎_elim (λ h. absurd (never (length (written x).names) s.slot h)) (λ h. h)
-      (blocks_mark slots (before_labels x) (replicate (length (written x).names) false) (written x).blocks s.slot
-      flagged) in
       ⊎_elim (λ h. absurd (never (length x.function.names) s.slot h)) (λ y. y)
       (slot_flagged SlotClass.Frame x.contents.classes 0 (allocas_of x.function)
-      (replicate (length x.function.names) false) s.slot slot)
+      (replicate (length x.function.names) false) s.slot (flagged_slot x s l))
 
   slot_low : (s : EarlySlot) → Class s.slot → s.slot < First x is
   slot_low s c =
