@@ -1,8 +1,10 @@
+pub mod Allocas
 pub mod Around
 pub mod Behind
 pub mod Codes
 pub mod Early
 pub mod Ends
+pub mod Lean
 pub mod Lengths
 pub mod Links
 pub mod Once

@@ -1,12 +1,12 @@
 //! How much is woven in: bounds of the code of a framed form, by numbers of the coroutine with blocks on edges.
 
-ghost use Rattle.std.specs.Prelude.{◌≡◌, ◌≤◌, ◌+◌, ◌*◌, ℕ, Option, Some, false, length, slice_get};
+ghost use Rattle.std.specs.Prelude.{◌≡◌, ◌≤◌, ◌+◌, ◌*◌, ℕ, None, Option, Some, false, length, slice_get};
 ghost use Rattle.ir_model.specs.declared.instr.Instr.{Instr};
 ghost use Rattle.ir_parts.specs.Contents.{instr_operands};
 ghost use Rattle.ir_paths.specs.declared.point.Point.{Point};
 ghost use Rattle.pass_cells.specs.Written.{row_at};
 ghost use Rattle.pass_frames_proof.specs.Bounds.{behind_of, more_of};
-ghost use Rattle.pass_frames_proof.specs.Costs.{instr_cost, whole};
+ghost use Rattle.pass_frames_proof.specs.Costs.{allocas_before, instr_cost, whole};
 ghost use Rattle.pass_frames_proof.specs.Framings.{IsFraming};
 ghost use Rattle.pass_frames_proof.specs.Meaning.{behind_at, own_cost};
 ghost use Rattle.pass_frames_proof.specs.Numbers.{allocas_of_blocks, allocas_of_instrs, distances_of, gep_names_of, names_of, phis_of_blocks};
@@ -53,4 +53,13 @@ pub fn ends_take_few_steps()
 /// Slots that are used before begin are allocas of the entry, each another one.
 pub fn early_slots_are_allocas()
     ensures { (x : Framing) → IsFraming x → length (copies x).slots ≤ allocas_of_instrs (instrs_at x 0) }
+{}
+
+/// In front of the entry of a framed form stand no more allocas than those of the coroutine's entry, two for each kept
+/// value and each slot that is used before begin, and one for each distance and link.
+pub fn allocas_in_front_are_few()
+    ensures { (x : Framing) (at : ℕ) (i : Instr) → slice_get (instrs_at x 0) at ≡ Some i
+        → allocas_before x None
+        ≤ 2 * length (plan x).kept + distances_of (plan x).kept + (plan x).links + 2 * length (copies x).slots
+        + allocas_of_instrs (instrs_at x 0) }
 {}
