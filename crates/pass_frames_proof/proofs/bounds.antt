@@ -9,6 +9,7 @@ pub mod Lengths
 pub mod Links
 pub mod Once
 pub mod Parts
+pub mod Returned
 pub mod Rows
 pub mod Steps
 pub mod Values

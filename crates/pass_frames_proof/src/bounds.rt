@@ -1,17 +1,18 @@
 //! How much is woven in: bounds of the code of a framed form, by numbers of the coroutine with blocks on edges.
 
-ghost use Rattle.std.specs.Prelude.{◌≡◌, ◌≤◌, ◌+◌, ◌*◌, ℕ, None, Option, Some, false, length, slice_get};
+ghost use Rattle.std.specs.Prelude.{◌≡◌, ◌≢◌, ◌≤◌, ◌+◌, ◌*◌, ℕ, None, Option, Some, false, length, slice_get};
 ghost use Rattle.ir_model.specs.declared.instr.Instr.{Instr};
 ghost use Rattle.ir_parts.specs.Contents.{instr_operands};
 ghost use Rattle.ir_paths.specs.declared.point.Point.{Point};
 ghost use Rattle.pass_cells.specs.Written.{row_at};
 ghost use Rattle.pass_frames_proof.specs.Bounds.{behind_of, more_of};
+ghost use Rattle.pass_frames_proof.specs.Code.{front_code};
 ghost use Rattle.pass_frames_proof.specs.Costs.{allocas_before, instr_cost, whole};
 ghost use Rattle.pass_frames_proof.specs.Framings.{IsFraming};
 ghost use Rattle.pass_frames_proof.specs.Meaning.{behind_at, own_cost};
 ghost use Rattle.pass_frames_proof.specs.Numbers.{allocas_of_blocks, allocas_of_instrs, distances_of, gep_names_of, names_of, phis_of_blocks};
 ghost use Rattle.pass_frames_proof.specs.Passes.{block_at};
-ghost use Rattle.pass_frames_proof.specs.Places.{Framing, copies, edged, instrs_at, is_return, place, plan};
+ghost use Rattle.pass_frames_proof.specs.Places.{Framing, copies, edged, fetched, instrs_at, is_return, place, plan};
 
 /// A suspend has no more values that cross it than are kept.
 pub fn rows_are_short()
@@ -62,4 +63,12 @@ pub fn allocas_in_front_are_few()
         → allocas_before x None
         ≤ 2 * length (plan x).kept + distances_of (plan x).kept + (plan x).links + 2 * length (copies x).slots
         + allocas_of_instrs (instrs_at x 0) }
+{}
+
+/// In front of a block that isn't the entry stand at most three instructions for each kept value, two for each
+/// distance and each slot that is used before begin, and one for each phi.
+pub fn fronts_are_short()
+    ensures { (x : Framing) → IsFraming x → (k : ℕ) → k ≢ 0
+        → length (front_code x k) ≤ 2 * length (copies x).slots
+        + (3 * length (plan x).kept + 2 * distances_of (plan x).kept + length (block_at (fetched x) k).phis) }
 {}

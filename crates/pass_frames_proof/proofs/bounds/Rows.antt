@@ -23,14 +23,14 @@ use Rattle.pass_intrinsics.specs.Shapes.{suspends_of}
 
 -- ---- the values with a place that are paired with a suspend
 
-abbrev placed_first : (o : Option ℕ) → ℕ → List ℕ
+abbrev pub placed_first : (o : Option ℕ) → ℕ → List ℕ
 placed_first None v = []
 placed_first (Some k) v = v ∷ []
 
-abbrev first_of : List (Option ℕ) → ℕ → ℕ × ℕ → List ℕ
+abbrev pub first_of : List (Option ℕ) → ℕ → ℕ × ℕ → List ℕ
 first_of places j p = if p.1 == j then placed_first (entry places p.0) p.0 else []
 
-abbrev firsts : List (Option ℕ) → ℕ → List (ℕ × ℕ) → List ℕ
+abbrev pub firsts : List (Option ℕ) → ℕ → List (ℕ × ℕ) → List ℕ
 firsts places j [] = []
 firsts places j (p ∷ ps) = first_of places j p ++ firsts places j ps
 
@@ -148,7 +148,7 @@ module _ (places : List (Option ℕ)) (j : ℕ) where
         on false e h none = h
     value_once v k _ _ (LeftOut _ s ss all crosses rest) = value_once v (k + 1) ss all rest
 
-    all_once : (vs : List ℕ) (all : List (ℕ × ℕ)) → CrossedBy f vs all → AreDifferent vs
+    pub all_once : (vs : List ℕ) (all : List (ℕ × ℕ)) → CrossedBy f vs all → AreDifferent vs
         → AreDifferent (firsts places j all) × ((w : ℕ) → IsListed w (firsts places j all) → IsListed w vs)
     all_once _ _ Nothing d = (tt, λ w l. absurd l)
     all_once _ _ (More v vs here rest crossed more) d =
@@ -197,7 +197,7 @@ values_once f = distinct_once [] (all_defined f) tt
 
 -- ---- in a coroutine
 
-listed_at : (vs : List ℕ) (at v : ℕ) → slice_get vs at ≡ Some v → IsListed v vs
+pub listed_at : (vs : List ℕ) (at v : ℕ) → slice_get vs at ≡ Some v → IsListed v vs
 listed_at [] at v e = absurd (cc)
 listed_at (u ∷ us) zero v e = let same : u ≡ v = cc in inl (sym same)
 listed_at (u ∷ us) (suc at) v e = inr (listed_at us at v e)
