@@ -8,6 +8,7 @@ pub mod Lean
 pub mod Lengths
 pub mod Links
 pub mod Once
+pub mod Ordinary
 pub mod Parts
 pub mod Returned
 pub mod Rows

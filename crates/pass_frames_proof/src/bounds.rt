@@ -12,6 +12,7 @@ ghost use Rattle.pass_frames_proof.specs.Framings.{IsFraming};
 ghost use Rattle.pass_frames_proof.specs.Meaning.{behind_at, own_cost};
 ghost use Rattle.pass_frames_proof.specs.Numbers.{allocas_of_blocks, allocas_of_instrs, distances_of, gep_names_of, names_of, phis_of_blocks};
 ghost use Rattle.pass_frames_proof.specs.Passes.{block_at};
+ghost use Rattle.pass_frames_proof.specs.Phis.{IsOrdinaryBlock};
 ghost use Rattle.pass_frames_proof.specs.Places.{Framing, copies, edged, fetched, instrs_at, is_return, place, plan};
 
 /// A suspend has no more values that cross it than are kept.
@@ -71,4 +72,14 @@ pub fn fronts_are_short()
     ensures { (x : Framing) → IsFraming x → (k : ℕ) → k ≢ 0
         → length (front_code x k) ≤ 2 * length (copies x).slots
         + (3 * length (plan x).kept + 2 * distances_of (plan x).kept + length (block_at (fetched x) k).phis) }
+{}
+
+/// A block that is no entry and to which no resume or destroy edge leads is an ordinary one. So its first place is
+/// behind its phis' stores.
+pub fn other_blocks_are_ordinary()
+    ensures is { (x : Framing) → IsFraming x → (k : ℕ) → slice_get (edged x).blocks k ≡ Some (block_at (edged x) k)
+        → is_return x k ≡ false → k ≢ 0 → IsOrdinaryBlock x k }
+    ensures place { (x : Framing) → IsFraming x → (k : ℕ) → slice_get (edged x).blocks k ≡ Some (block_at (edged x) k)
+        → is_return x k ≡ false → k ≢ 0
+        → (place x (record { block = k; at = 0 })).at ≤ length (block_at (fetched x) k).phis }
 {}
