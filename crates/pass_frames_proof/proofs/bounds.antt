@@ -1,6 +1,7 @@
 pub mod Allocas
 pub mod Around
 pub mod Behind
+pub mod Calls
 pub mod Codes
 pub mod Early
 pub mod Ends

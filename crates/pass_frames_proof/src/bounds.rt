@@ -7,7 +7,7 @@ ghost use Rattle.ir_paths.specs.declared.point.Point.{Point};
 ghost use Rattle.pass_cells.specs.Written.{row_at};
 ghost use Rattle.pass_frames_proof.specs.Bounds.{behind_of, more_of};
 ghost use Rattle.pass_frames_proof.specs.Code.{front_code};
-ghost use Rattle.pass_frames_proof.specs.Costs.{allocas_before, instr_cost, whole};
+ghost use Rattle.pass_frames_proof.specs.Costs.{allocas_before, call_cost, instr_cost, whole};
 ghost use Rattle.pass_frames_proof.specs.Framings.{IsFraming};
 ghost use Rattle.pass_frames_proof.specs.Meaning.{behind_at, own_cost};
 ghost use Rattle.pass_frames_proof.specs.Numbers.{allocas_of_blocks, allocas_of_instrs, distances_of, gep_names_of, names_of, phis_of_blocks};
@@ -82,4 +82,14 @@ pub fn other_blocks_are_ordinary()
     ensures place { (x : Framing) → IsFraming x → (k : ℕ) → slice_get (edged x).blocks k ≡ Some (block_at (edged x) k)
         → is_return x k ≡ false → k ≢ 0
         → (place x (record { block = k; at = 0 })).at ≤ length (block_at (fetched x) k).phis }
+{}
+
+/// A call of a ramp executes all allocas first, and then a store for each slot that is used before begin, for each
+/// parameter and for each phi of the entry.
+pub fn calls_are_short()
+    ensures { (x : Framing) → IsFraming x → slice_get (edged x).blocks 0 ≡ Some (block_at (edged x) 0)
+        → is_return x 0 ≡ false → call_cost x
+        ≤ 2 * length (plan x).kept + distances_of (plan x).kept + (plan x).links + 2 * length (copies x).slots
+        + allocas_of_instrs (instrs_at x 0)
+        + (length (copies x).slots + (length (edged x).params + length (block_at (fetched x) 0).phis)) }
 {}

@@ -47,7 +47,7 @@ w r = 1
 abbrev A : List Instr → ℕ
 A is = many w is
 
-filtered : (is : List Instr) → length (filter is_alloca is) ≡ A is
+pub filtered : (is : List Instr) → length (filter is_alloca is) ≡ A is
 filtered [] = refl
 filtered (Instr.Alloca r ty align ∷ is) = let a = filtered is in omega (arith, a)
 filtered (_ ∷ is) = let a = filtered is in omega (arith, a)

@@ -70,7 +70,7 @@ module _ (t : List (Option Fetch)) (ends : List Instr) (first : ℕ) (b : Block)
   abbrev L : Layer (ℕ × Unit {0})
   L = both (fetching t ends first b) (only test)
 
-  one_short : (n : ℕ) (u : Unit {0}) (i : Instr) → length (becomes L (n, u) i) ≤ weight t i
+  pub one_short : (n : ℕ) (u : Unit {0}) (i : Instr) → length (becomes L (n, u) i) ≤ weight t i
   one_short n u i =
       let line : List Instr = fetches_of_all t n (instr_operands i) ++ (with_fetched t n i ∷ []) in
       let e : length (becomes L (n, u) i) ≡ length (grown (only test) u line) =
@@ -153,7 +153,7 @@ module _ (t : List (Option Fetch)) where
       let a = fetches_few t k (Operand.Local cell ∷ []) in
       omega (arith, e, f, a)
 
-  cell_weight : (v cell : ℕ) (ty : Ty) → IsFree t v → IsFree t cell → weight t (store_to ty v cell) ≤ 1
+  pub cell_weight : (v cell : ℕ) (ty : Ty) → IsFree t v → IsFree t cell → weight t (store_to ty v cell) ≤ 1
   cell_weight v cell ty free free' =
       let k : ℕ = next_after t 0 (Operand.Local v) in
       let e = length-append (fetches_by 0 (fetch_of t (Operand.Local v)))

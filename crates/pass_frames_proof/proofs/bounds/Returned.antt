@@ -158,7 +158,7 @@ values_more c (v ∷ vs) (k ∷ ks) h =
 
 -- ---- in a coroutine
 
-calm_unfetched : (x : Framing) (is : IsFraming x) (j : Instr) → IsCalm x is j
+pub calm_unfetched : (x : Framing) (is : IsFraming x) (j : Instr) → IsCalm x is j
     → AreUnfetched (T x is) (instr_operands j)
 calm_unfetched x is j c =
     each_turns (Q x is) (λ (y : Operand). fetch_of (T x is) y ≡ None) quiet (instr_operands j) c.1

@@ -226,7 +226,7 @@ module _ (x : Framing) (is : IsFraming x) (k : ℕ) where
   calm_list : (P : Instr → Type 0) → ((j : Instr) → IsCalm x is j → P j) → (v : ℕ) → Each P (stored (plan x) v)
   calm_list P turns v = each_turns (IsCalm x is) P turns (stored (plan x) v) (stored_calm x is v)
 
-  params_each : (P : Instr → Type 0) → ((j : Instr) → IsCalm x is j → P j) → (ps : List Param)
+  pub params_each : (P : Instr → Type 0) → ((j : Instr) → IsCalm x is j → P j) → (ps : List Param)
       → Each P (stored_params (plan x) ps)
   params_each P turns [] = tt
   params_each P turns (p ∷ ps) =
