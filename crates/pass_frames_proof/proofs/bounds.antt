@@ -14,4 +14,5 @@ pub mod Parts
 pub mod Returned
 pub mod Rows
 pub mod Steps
+pub mod Totals
 pub mod Values

@@ -93,3 +93,15 @@ pub fn calls_are_short()
         + allocas_of_instrs (instrs_at x 0)
         + (length (copies x).slots + (length (edged x).params + length (block_at (fetched x) 0).phis)) }
 {}
+
+/// By the names of a coroutine with blocks on edges: allocas in front of the entry, what a call of the ramp executes
+/// there, and the front of another block with what is fetched for phis at its end.
+pub fn costs_are_bounded_by_names()
+    ensures allocas { (x : Framing) → IsFraming x → (at : ℕ) (i : Instr) → slice_get (instrs_at x 0) at ≡ Some i
+        → allocas_before x None ≤ 3 * names_of (edged x) }
+    ensures call { (x : Framing) → IsFraming x → slice_get (edged x).blocks 0 ≡ Some (block_at (edged x) 0)
+        → is_return x 0 ≡ false → call_cost x ≤ 4 * names_of (edged x) }
+    ensures front { (x : Framing) → IsFraming x → (k : ℕ) → k ≢ 0
+        → length (front_code x k) + 2 * phis_of_blocks (edged x).blocks
+        ≤ 5 * names_of (edged x) + length (block_at (edged x) k).phis }
+{}
