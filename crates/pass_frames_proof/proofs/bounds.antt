@@ -5,6 +5,7 @@ pub mod Calls
 pub mod Codes
 pub mod Early
 pub mod Ends
+pub mod Jumps
 pub mod Lean
 pub mod Lengths
 pub mod Links

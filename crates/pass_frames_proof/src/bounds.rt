@@ -1,13 +1,13 @@
 //! How much is woven in: bounds of the code of a framed form, by numbers of the coroutine with blocks on edges.
 
-ghost use Rattle.std.specs.Prelude.{◌≡◌, ◌≢◌, ◌≤◌, ◌+◌, ◌*◌, ℕ, None, Option, Some, false, length, slice_get};
+ghost use Rattle.std.specs.Prelude.{◌≡◌, ◌≢◌, ◌≤◌, ◌+◌, ◌*◌, ℕ, [], None, Option, Some, false, length, slice_get, true};
 ghost use Rattle.ir_model.specs.declared.instr.Instr.{Instr};
 ghost use Rattle.ir_parts.specs.Contents.{instr_operands};
 ghost use Rattle.ir_paths.specs.declared.point.Point.{Point};
 ghost use Rattle.pass_cells.specs.Written.{row_at};
 ghost use Rattle.pass_frames_proof.specs.Bounds.{behind_of, more_of};
 ghost use Rattle.pass_frames_proof.specs.Code.{front_code};
-ghost use Rattle.pass_frames_proof.specs.Costs.{allocas_before, call_cost, instr_cost, whole};
+ghost use Rattle.pass_frames_proof.specs.Costs.{allocas_before, call_cost, instr_cost, jump_cost, whole};
 ghost use Rattle.pass_frames_proof.specs.Framings.{IsFraming};
 ghost use Rattle.pass_frames_proof.specs.Meaning.{behind_at, own_cost};
 ghost use Rattle.pass_frames_proof.specs.Numbers.{allocas_of_blocks, allocas_of_instrs, distances_of, gep_names_of, names_of, phis_of_blocks};
@@ -104,4 +104,20 @@ pub fn costs_are_bounded_by_names()
     ensures front { (x : Framing) → IsFraming x → (k : ℕ) → k ≢ 0
         → length (front_code x k) + 2 * phis_of_blocks (edged x).blocks
         ≤ 5 * names_of (edged x) + length (block_at (edged x) k).phis }
+{}
+
+/// A jump to a block that isn't the entry takes at most three steps, two for each phi, and one for each phi of that
+/// block. One from a block on a resume or destroy edge also executes that block's front.
+pub fn jumps_take_few_steps()
+    ensures others { (x : Framing) → IsFraming x → (target : ℕ)
+        → slice_get (edged x).blocks target ≡ Some (block_at (edged x) target) → target ≢ 0
+        → (k : ℕ) → slice_get (edged x).blocks k ≡ Some (block_at (edged x) k) → is_return x k ≡ false
+        → jump_cost x k target
+        ≤ 3 + 2 * phis_of_blocks (edged x).blocks + length (block_at (edged x) target).phis }
+    ensures returns { (x : Framing) → IsFraming x → (target : ℕ)
+        → slice_get (edged x).blocks target ≡ Some (block_at (edged x) target) → target ≢ 0
+        → (k : ℕ) → slice_get (edged x).blocks k ≡ Some (block_at (edged x) k) → is_return x k ≡ true → k ≢ 0
+        → instrs_at x k ≡ [] → jump_cost x k target
+        ≤ 3 + 5 * names_of (edged x) + length (block_at (edged x) k).phis
+        + length (block_at (edged x) target).phis }
 {}
