@@ -6,5 +6,6 @@ pub mod slotted;
 pub mod begun;
 pub mod called;
 pub mod giving;
+pub mod order;
 pub mod others;
 pub mod spared;

@@ -1,0 +1,18 @@
+//! New names of the framed form come in the order of the passes.
+
+ghost use Rattle.std.specs.Prelude.{◌≡◌, ℕ, Some, slice_get, true};
+ghost use Rattle.ir_model.specs.declared.instr.Instr.{Instr};
+ghost use Rattle.pass_addresses.specs.Placing.{stays, without_promise_of};
+ghost use Rattle.pass_frames_proof.specs.Code.{loaded};
+ghost use Rattle.pass_frames_proof.specs.Framings.{IsFraming};
+ghost use Rattle.pass_frames_proof.specs.Places.{Framing, instrs_at, marked};
+ghost use Rattle.pass_frames_proof.specs.Stepping.{AreNamesInOrder, IsUnlocated, state_in};
+
+/// Where an instruction accesses no slot that is used before begin, and stays as it is but for loads and addresses, its new
+/// names are those of the passes in turn.
+pub fn names_are_in_order()
+    ensures { (x : Framing) → IsFraming x → (k at : ℕ) (i : Instr) → slice_get (instrs_at x k) at ≡ Some i
+        → IsUnlocated x (state_in x k at) i → stays (marked x) (loaded x (state_in x k at) i) ≡ true
+        → without_promise_of (loaded x (state_in x k at) i) ≡ loaded x (state_in x k at) i
+        → AreNamesInOrder x (state_in x k at) i }
+{}
