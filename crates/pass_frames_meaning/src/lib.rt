@@ -8,4 +8,6 @@ pub mod called;
 pub mod giving;
 pub mod order;
 pub mod others;
+pub mod placed;
+pub mod slotted;
 pub mod spared;
