@@ -7,15 +7,13 @@ use Rattle.ir_model.specs.declared.instr.Terminator.{Terminator}
 use Rattle.ir_model.specs.declared.operand.Arg.{Arg}
 use Rattle.ir_paths.specs.Windows.{windows_of}
 use Rattle.pass_frames_meaning.specs.Called.{IsCalledState}
-use Rattle.pass_frames_meaning.specs.Giving.{AreFramesOwned, HasNoHeapSlots}
 use Rattle.pass_frames_meaning.specs.Spared.{AreFieldsApart}
-use Rattle.pass_frames_proof.specs.Asking.{AreInstancesPlaced, IsPromiseLaid}
+use Rattle.pass_frames_proof.specs.Asking.{IsPromiseLaid}
 use Rattle.pass_frames_proof.specs.Lined.{GivesNone}
 use Rattle.pass_frames_proof.specs.Marking.{IsWholeMarked, marking}
 use Rattle.pass_frames_proof.specs.Places.{edged}
 use Rattle.pass_frames_proof.specs.Related.{AreBuiltOf, Building, is_coroutine}
-use Rattle.pass_frames_proof.specs.Returning.{FitsResult, HasOwnSlots, HasSlotKinds, HasSlotsListed, given_value}
-use Rattle.pass_frames_proof.specs.Slotted.{HasListedSlots, HasSlotsApart, HasSlotsThere}
+use Rattle.pass_frames_proof.specs.Returning.{FitsResult, given_value}
 use Rattle.pass_frames_proof.specs.Stepping.{AreGiven, HasFieldIndices}
 use Rattle.pass_renewed_meaning.specs.Rules.{KeepsStepRules}
 use Rattle.pass_renewed_proof.specs.Renewed.{RenewedGiven}
@@ -25,6 +23,7 @@ use Rattle.run_source.specs.State.{function_of}
 use Rattle.run_source.specs.declared.state.Activation.{Activation}
 use Rattle.run_source.specs.declared.state.State.{State}
 use Rattle.run_source_tables.specs.Given.{facts_at, frame_of}
+use Rattle.run_slots.specs.Slots.{IsSlottedState}
 use Rattle.run_states.specs.sound_states.Sound.{IsSound}
 use Rattle.run_step.specs.Step.{AtInstr, AtTerm, fetch}
 use Rattle.run_step.specs.declared.world.Slot.{Slot}
@@ -67,25 +66,16 @@ pub record AreOfRuns (c : Setting) (s t : State) (r : AreBuiltOf c.b s t) : Type
   pub sound : IsSound c.g.given.code s
   pub fitting : IsFittingState c.g.given.code s
   pub called : IsCalledState c.g.given.code s
-  -- slots have blocks of allocas, those of what is over are killed, and instances begin in blocks of allocators
-  pub mine : HasSlotsThere s
-  pub theirs : HasSlotsThere t
-  pub live : HasListedSlots s
-  pub listed : HasSlotsListed s
-  pub kinds : HasSlotKinds s
-  pub own : HasOwnSlots t
-  pub placed : AreInstancesPlaced s
+  -- slots have blocks of allocas, and instances those of allocators
+  pub slots : IsSlottedState s
+  pub other_slots : IsSlottedState t
   -- the name of an alloca has the address of its slot where a marker stands
   pub marked : is_coroutine c.b s.top.func ≡ false → (starts must_tail : Bool) (ty : Option Ty) (size : Arg) (u : Ty)
       (name : ℕ)
       → fetch (function_of c.g.given s) s.top.block s.top.at ≡ AtInstr (marking starts must_tail ty size u name)
       → (slot : Slot) × IsWholeMarked c.b s name slot
-  pub apart : HasSlotsApart t
   -- live slots lie in no field of what crosses where an instance is suspended
   pub fields : AreFieldsApart c.b s
-  -- instances own their blocks until these are freed, and no slot of the framed run has the block of an allocator
-  pub owned : AreFramesOwned s
-  pub heapless : HasNoHeapSlots t
   -- what a coroutine below is given may be stored
   pub stored : (a : Activation) (more : List Activation) (arg : Option Arg) → s.below ≡ a ∷ more
       → fetch (function_of c.g.given s) s.top.block s.top.at ≡ AtTerm (Terminator.Ret arg)

@@ -8,6 +8,7 @@ ghost use Rattle.pass_frames_proof.specs.Related.{AreBuiltOf, Building};
 ghost use Rattle.pass_frames_proof.specs.Returning.{HasSlotsListed};
 ghost use Rattle.pass_frames_proof.specs.Slotted.{HasListedSlots};
 ghost use Rattle.run_memory.specs.declared.pointer.Value.{Value};
+ghost use Rattle.run_slots.specs.Slots.{IsSlottedState};
 ghost use Rattle.run_source.specs.Source.{deallocate};
 ghost use Rattle.run_source.specs.declared.state.State.{State as TheState};
 
@@ -17,4 +18,10 @@ pub fn blocks_that_may_be_given_back()
     ensures { (b : Building) (s t : TheState) (r : AreBuiltOf b s t) → HasListedSlots s → HasSlotsListed s
         → AreInstancesPlaced s → AreFramesOwned s → HasNoHeapSlots t → HasNoReturns b s → (p : Value)
         (after : TheState) → deallocate s p ≡ Ok after → IsGivingBack b s t r p }
+{}
+
+/// In a state of a run instances own their blocks until these are freed. Slots have blocks of allocas.
+pub fn slotted_states_own_their_frames()
+    ensures owned { (s : TheState) → IsSlottedState s → AreFramesOwned s }
+    ensures heapless { (s : TheState) → IsSlottedState s → HasNoHeapSlots s }
 {}

@@ -23,9 +23,11 @@ use Rattle.ir_model.specs.declared.operand.Intrinsic.{Intrinsic}
 use Rattle.ir_model.specs.declared.operand.Operand.{Operand}
 use Rattle.ir_paths.specs.Windows.{operand_at, windows_of}
 use Rattle.pass_frames_meaning.proofs.giving.Giving.{given_back}
+use Rattle.pass_frames_meaning.proofs.giving.Owned.{frames_owned, no_heap_slots}
 use Rattle.pass_frames_meaning.proofs.others.AtPlace.{AreTwo, args_wanted, called_by_name, function_there, not_inner, two_wanted}
 use Rattle.pass_frames_meaning.proofs.others.Behind.{behind_call, waits}
 use Rattle.pass_frames_meaning.proofs.others.Returns.{no_returns_below}
+use Rattle.pass_frames_meaning.proofs.slotted.Facts.{instances_placed, listed_slots, own_slots, slot_kinds, slots_apart, slots_listed, slots_there}
 use Rattle.pass_frames_meaning.proofs.spared.Spared.{fields_spared}
 use Rattle.pass_frames_meaning.proofs.called.Voids.{void_allocator, void_intrinsic}
 use Rattle.pass_frames_meaning.proofs.others.Windows.{no_windows}
@@ -182,7 +184,7 @@ module _ (c : Setting) (all : KeepsAll c) (s t : State) (r : AreBuiltOf c.b s t)
   no_gift = (calm_by s.top.mode fits).1
 
   spared : AreFieldsSpared c.b s t r
-  spared = fields_spared c.b s t r k.live k.listed k.apart k.placed k.fields (no_returns_below c all s k.called.below)
+  spared = fields_spared c.b s t r (listed_slots s k.slots) (slots_listed s k.slots) (slots_apart t k.other_slots) (instances_placed s k.slots) k.fields (no_returns_below c all s k.called.below)
 
   -- K1
   no_window : HasNoWindows c.b c.g s.top.func
@@ -331,14 +333,14 @@ module _ (c : Setting) (all : KeepsAll c) (s t : State) (r : AreBuiltOf c.b s t)
         sized = ap (λ (ts : List TypeItem). (extent_or (extent_of ts ty)).size) all.same_types;
         instance = no_instance;
         off = flag_off name;
-      }) k.mine k.theirs
+      }) (slots_there s k.slots) (slots_there t k.other_slots)
 
   -- ---- calls
 
   blocks : HasBlocks t
   blocks n among =
       let z = slot_among n (all_slots t) among in
-      subst (λ (j : ℕ). j < length t.world.memory) z.2 (k.theirs.each z.0 z.1)
+      subst (λ (j : ℕ). j < length t.world.memory) z.2 ((slots_there t k.other_slots).each z.0 z.1)
 
   module _ (enters : EntersCoroutines c s t) (result : Option ℕ) (must_tail : Bool) (ty : Option Ty) (args : List Arg)
     where
@@ -389,8 +391,8 @@ module _ (c : Setting) (all : KeepsAll c) (s t : State) (r : AreBuiltOf c.b s t)
   module _ (result : Option ℕ) (must_tail : Bool) (ty : Option Ty) (args : List Arg) where
     may_make : MayMake c.b s t
     may_make = record {
-      mine = k.mine;
-      theirs = k.theirs;
+      mine = slots_there s k.slots;
+      theirs = slots_there t k.other_slots;
       inside = λ a l. on a l;
     }
       where
@@ -442,7 +444,7 @@ module _ (c : Setting) (all : KeepsAll c) (s t : State) (r : AreBuiltOf c.b s t)
           there = there ∙ ap (λ (o : Option ℕ). AtInstr (Instr.Call o must_tail ty (Callee.Allocator a) args)) none;
           frees = is;
           does = z.1;
-          giving = given_back c.b s t r k.live k.listed k.placed k.owned k.heapless may_make.inside
+          giving = given_back c.b s t r (listed_slots s k.slots) (slots_listed s k.slots) (instances_placed s k.slots) (frames_owned s k.slots) (no_heap_slots t k.other_slots) may_make.inside
               (address (nth (arg_values c.g.given.code s.top.values args) 0)) z.0 z.1;
         })
 
@@ -490,7 +492,7 @@ module _ (c : Setting) (all : KeepsAll c) (s t : State) (r : AreBuiltOf c.b s t)
           mode = mode;
           there = at;
           off = flag_off m.slot;
-        }) k.live whole.0 whole.1
+        }) (listed_slots s k.slots) whole.0 whole.1
 
     asks : (x : Intrinsic) → IsAsking x
         → fetch (function_at c.g.given.code s.top.func) s.top.block s.top.at
@@ -506,7 +508,7 @@ module _ (c : Setting) (all : KeepsAll c) (s t : State) (r : AreBuiltOf c.b s t)
           there = there;
           asking = is;
           does = z.1;
-          may = record { placed = k.placed; laid = all.laid; frames = all.frames; no_gift = no_gift };
+          may = record { placed = instances_placed s k.slots; laid = all.laid; frames = all.frames; no_gift = no_gift };
         })
 
     -- K1
@@ -576,7 +578,7 @@ module _ (c : Setting) (all : KeepsAll c) (s t : State) (r : AreBuiltOf c.b s t)
   -- ---- terminators
 
   owned : OwnsSlots c.b s t r
-  owned = slots_owned c.b s t r k.listed k.kinds k.own
+  owned = slots_owned c.b s t r (slots_listed s k.slots) (slot_kinds s k.slots) (own_slots t k.other_slots)
 
   module _ (e : Terminator) (there : fetch (function_at c.g.given.code s.top.func) s.top.block s.top.at ≡ AtTerm e)
     where

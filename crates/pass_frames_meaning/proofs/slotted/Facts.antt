@@ -144,14 +144,14 @@ made_by_alloca x e = ap (λ (b : Bool). b || same_kind x.kind Kind.Stack) e
 
 module _ (s : State) (h : IsSlottedState s) where
   -- a slot of an activation
-  one_of : (a : Activation) → IsListed a (s.top ∷ s.below) → (slot : Slot) → Contains a.slots slot
+  pub one_of : (a : Activation) → IsListed a (s.top ∷ s.below) → (slot : Slot) → Contains a.slots slot
       → 1 ≤ times_on (s.top ∷ s.below) slot.block
   one_of a l slot c =
       let k = listed_times a.slots slot (contained a.slots slot c) in
       let o = one_on slot.block (s.top ∷ s.below) a l in
       omega (arith, k, o)
 
-  block_of : (n : ℕ) → 1 ≤ times_on (s.top ∷ s.below) n → IsSlotBlock s.world.memory n
+  pub block_of : (n : ℕ) → 1 ≤ times_on (s.top ∷ s.below) n → IsSlotBlock s.world.memory n
   block_of n c = h.slotted.there n (omega (arith, c))
 
   pub slots_there : HasSlotsThere s
