@@ -9,5 +9,6 @@ pub mod giving;
 pub mod order;
 pub mod others;
 pub mod placed;
+pub mod plain;
 pub mod slotted;
 pub mod spared;

@@ -18,6 +18,7 @@ use Rattle.pass_cells.specs.Kept.{entry, joined}
 use Rattle.pass_cells.specs.Links.{bases_of, further, jumped, roots_after, roots_of, slot_by, slots_of, with_base, with_bases_by, with_bases_in}
 use Rattle.pass_frames.specs.Tables.{class_flags}
 use Rattle.pass_frames_meaning.specs.Called.{IsCalling}
+use Rattle.pass_frames_meaning.specs.Plain.{IsNoAlloca, IsNoGep}
 use Rattle.pass_frames_proof.proofs.distances.Apart.{has_root}
 use Rattle.pass_frames_proof.specs.Framings.{IsFraming}
 use Rattle.pass_frames_proof.specs.Lines.{IsNoRoot}
@@ -184,44 +185,66 @@ module _ (x : Framing) (is : IsFraming x) where
       (flags_are_allocas x.function x.contents.classes SlotClass.Local slot
       (slot_flagged (class_flags x.function x.contents.classes SlotClass.Local) (bases_of (edged x)) u slot e)))
 
+  module _ (k at : ℕ) (i : Instr) (there : slice_get (instrs_at x k) at ≡ Some i) (r : ℕ)
+      (given : result_of i ≡ Some r) where
+    module _ (other : IsNoAlloca i) where
+      not_alloca : (name align : ℕ) (ty : Ty) → i ≡ Instr.Alloca name ty align → ⊥
+      not_alloca name align ty e = subst IsNoAlloca e other
+
+      -- it isn't an alloca's name
+      pub alloca_apart : (l m align : ℕ) (ty : Ty)
+          → slice_get (instrs_at x l) m ≡ Some (Instr.Alloca r ty align) → ⊥
+      alloca_apart l m align ty e = not_alloca r align ty
+          (once (record { block = k; at = at }) (record { block = l; at = m }) i (Instr.Alloca r ty align) r
+          (point_there k at i there) (point_there l m (Instr.Alloca r ty align) e) given refl)
+
+      no_root : IsNoRoot x r
+      no_root u slot root same =
+          let a = root_alloca u slot root in
+          not_alloca slot a.align a.ty
+          (once (record { block = k; at = at }) a.point i (Instr.Alloca slot a.ty a.align) slot
+          (point_there k at i there) a.stands (given ∙ ap Some (sym same)) refl)
+
+      pub plain_by : entry (plan x).cells r ≡ None → IsPlainName x r
+      plain_by none = record {
+        name = record { low = result_low k at r i there given; no_root = no_root };
+        no_distance = none;
+      }
+
+    module _ (no_gep : IsNoGep i) where
+      not_gep : IsGepOf r i → ⊥
+      not_gep g = subst IsNoGep g.is no_gep
+
+      pub no_distance : entry (plan x).cells r ≡ None
+      no_distance = on (entry (plan x).cells r) refl
+        where
+          on : (o : Option ℕ) → entry (plan x).cells r ≡ o → o ≡ None
+          on None e = refl
+          on (Some c) e =
+              let root = has_root x is r c e in
+              let base = slot_based (class_flags x.function x.contents.classes SlotClass.Local) (bases_of (edged x)) r
+              root.0 root.1 in
+              let g = base_made (edged x) r base.0 base.1 in
+              absurd (not_gep (subst (IsGepOf r) (sym (once (record { block = k; at = at })
+              (record { block = g.block; at = g.has.at }) i g.has.instr r (point_there k at i there)
+              (ap (λ (o : Option Block). instr_in o g.has.at) g.found ∙ g.has.there) given
+              (ap result_of g.has.gep.is))) g.has.gep))
+
+  -- ---- results of calls
+
+  no_alloca_calls : (i : Instr) → IsCalling i → IsNoAlloca i
+  no_alloca_calls (Instr.Call result must_tail ty callee args) calls = tt
+  no_alloca_calls _ calls = absurd calls
+
+  no_gep_calls : (i : Instr) → IsCalling i → IsNoGep i
+  no_gep_calls (Instr.Call result must_tail ty callee args) calls = tt
+  no_gep_calls _ calls = absurd calls
+
   module _ (k at : ℕ) (i : Instr) (there : slice_get (instrs_at x k) at ≡ Some i) (calls : IsCalling i) (r : ℕ)
       (given : result_of i ≡ Some r) where
-    not_alloca : (name align : ℕ) (ty : Ty) → i ≡ Instr.Alloca name ty align → ⊥
-    not_alloca name align ty e = subst IsCalling e calls
-
-    not_gep : IsGepOf r i → ⊥
-    not_gep g = subst IsCalling g.is calls
-
-    -- it isn't an alloca's name
     pub no_alloca : (l m align : ℕ) (ty : Ty) → slice_get (instrs_at x l) m ≡ Some (Instr.Alloca r ty align) → ⊥
-    no_alloca l m align ty e = not_alloca r align ty
-        (once (record { block = k; at = at }) (record { block = l; at = m }) i (Instr.Alloca r ty align) r
-        (point_there k at i there) (point_there l m (Instr.Alloca r ty align) e) given refl)
-
-    no_root : IsNoRoot x r
-    no_root u slot root same =
-        let a = root_alloca u slot root in
-        not_alloca slot a.align a.ty
-        (once (record { block = k; at = at }) a.point i (Instr.Alloca slot a.ty a.align) slot
-        (point_there k at i there) a.stands (given ∙ ap Some (sym same)) refl)
-
-    no_distance : entry (plan x).cells r ≡ None
-    no_distance = on (entry (plan x).cells r) refl
-      where
-        on : (o : Option ℕ) → entry (plan x).cells r ≡ o → o ≡ None
-        on None e = refl
-        on (Some c) e =
-            let root = has_root x is r c e in
-            let base = slot_based (class_flags x.function x.contents.classes SlotClass.Local) (bases_of (edged x)) r root.0
-            root.1 in
-            let g = base_made (edged x) r base.0 base.1 in
-            absurd (not_gep (subst (IsGepOf r) (sym (once (record { block = k; at = at })
-            (record { block = g.block; at = g.has.at }) i g.has.instr r (point_there k at i there)
-            (ap (λ (o : Option Block). instr_in o g.has.at) g.found ∙ g.has.there) given
-            (ap result_of g.has.gep.is))) g.has.gep))
+    no_alloca = alloca_apart k at i there r given (no_alloca_calls i calls)
 
     pub plain_name : IsPlainName x r
-    plain_name = record {
-      name = record { low = result_low k at r i there given; no_root = no_root };
-      no_distance = no_distance;
-    }
+    plain_name = plain_by k at i there r given (no_alloca_calls i calls) (no_distance k at i there r given
+        (no_gep_calls i calls))
