@@ -1,6 +1,7 @@
-pub mod Covered
 pub mod Called
+pub mod Covered
 pub mod Giving
+pub mod Ordinary
 pub mod Others
 pub mod Plain
 pub mod Setting

@@ -1,0 +1,23 @@
+//! Ordinary instructions of coroutines stand as the laws on them ask.
+
+ghost use Rattle.std.specs.Prelude.{◌≡◌, true};
+ghost use Rattle.ir_base.specs.declared.outcome.Outcome.{Outcome};
+ghost use Rattle.ir_model.specs.declared.instr.Instr.{Instr};
+ghost use Rattle.pass_frames_meaning.specs.Ordinary.{MayBeOrdinary};
+ghost use Rattle.pass_frames_meaning.specs.Setting.{KeepsAll, Setting};
+ghost use Rattle.pass_frames_proof.specs.Related.{is_coroutine};
+ghost use Rattle.pass_frames_proof.specs.Stepping.{IsAtOrdinary, IsCommon, IsNotEntering};
+ghost use Rattle.run_source.specs.Source.{context_of};
+ghost use Rattle.run_source.specs.State.{function_of, work_of};
+ghost use Rattle.run_source.specs.declared.state.State.{State as TheState};
+ghost use Rattle.run_states.specs.sound_states.Sound.{IsSound};
+ghost use Rattle.run_step.specs.Step.{AtInstr, Done, Work, fetch, instr_action};
+
+/// What such a law asks of the code comes of the framing and of rules. What is left is in `MayBeOrdinary`.
+pub fn ordinary_instructions_are_ready()
+    ensures { (c : Setting) → KeepsAll c → (s : TheState) → IsSound c.g.given.code s → s.outcome ≡ Outcome.Running
+        → is_coroutine c.b s.top.func ≡ true → IsNotEntering s.top.mode → (i : Instr)
+        → fetch (function_of c.g.given s) s.top.block s.top.at ≡ AtInstr i → IsCommon i → (v : Work)
+        → instr_action (context_of c.g.given s) (work_of s) i ≡ Done v → MayBeOrdinary c s i v
+        → IsAtOrdinary c.b c.g s i v }
+{}
