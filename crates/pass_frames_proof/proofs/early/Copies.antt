@@ -214,8 +214,7 @@ module _ (x : Framing) (k : ℕ) (c : Context) (law : AreByteRights c.rights) (a
         → ((q : Span) → Contains a.slots (record { alloca = s.cell; block = q.block }) → q.block ≢ n)
         → Holds c.rights w.world.memory n o most bytes → Holds c.rights z.world.memory n o most bytes
     stays n o most bytes apart no_cell held =
-        others_stay c.rights law (span ∷ spans) w.world.memory z.world.memory n o most bytes total.fills
-        (
+        others_stay c.rights law (span ∷ spans) w.world.memory z.world.memory n o most bytes total.fills (
           subst (λ (len : ℕ). AreDisjoint block off len n o (length bytes)) (sym p.many) apart,
           elsewhere_apart n o (length bytes) spans
               (each_turns (λ (q : Span). Contains a.slots (record { alloca = s.cell; block = q.block }))
@@ -245,8 +244,7 @@ module _ (x : Framing) (k : ℕ) (c : Context) (law : AreByteRights c.rights) (a
       low_cell = let lt = f.low_cell in omega (arith, lt);
       cell =
           cell_stays c.rights law (span ∷ spans) w.world.memory z.world.memory a w z u.cell ptr Anything total.fills
-          f.cell
-          (
+          f.cell (
             (λ e. elsewhere (record { alloca = u.cell; block = f.cell.block }) f.cell.own (sym e)),
             each_turns (λ (q : Span). Contains a.slots (record { alloca = s.cell; block = q.block }))
                 (λ (q : Span). q.block ≢ f.cell.block)
@@ -340,13 +338,12 @@ module _ (x : Framing) (k : ℕ) (c : Context) (law : AreByteRights c.rights) (a
         over = over_joined c (one_code x k start m s p) (copies_code x k start (m + 2) ss ps.1) m
             (span w m s p h begun old two ∷ mine) r.spans w v r.work one
             (over_fewer c (copies_code x k start (m + 2) ss ps.1) m (m + 2) r.spans v r.work (omega arith) r.over);
-        inside = each_joined (IsFilledThere x a block start (s ∷ ss) ps) (span w m s p h begun old two ∷ mine) r.spans
-            (
-              inl (inl (refl, refl, p.many)),
-              each_turns (λ (q : Span). Contains a.slots (record { alloca = s.cell; block = q.block }))
-                  (IsFilledThere x a block start (s ∷ ss) ps) (λ q co. inl (inr co)) mine
-                  (of_cell w m s p h begun old two),
-            )
+        inside = each_joined (IsFilledThere x a block start (s ∷ ss) ps) (span w m s p h begun old two ∷ mine) r.spans (
+          inl (inl (refl, refl, p.many)),
+          each_turns (λ (q : Span). Contains a.slots (record { alloca = s.cell; block = q.block }))
+              (IsFilledThere x a block start (s ∷ ss) ps) (λ q co. inl (inr co)) mine
+              (of_cell w m s p h begun old two),
+        )
             (each_turns (IsFilledThere x a block start ss ps.1) (IsFilledThere x a block start (s ∷ ss) ps)
             (λ q e. inr e) r.spans r.inside);
         copied = (

@@ -185,8 +185,7 @@ module _ (b : Building) (x : Framing) (is : IsFraming x) (h : AreEntryAllocas b.
           → slice_get (plan x).kept number ≡ o → Each IsNew (stored_one v o)
       one number told None e = tt
       one number told (Some k) e =
-          let z = kept_there v k (record { number = number; told = told; there = e }) in
-          (
+          let z = kept_there v k (record { number = number; told = told; there = e }) in (
             record {
               arg = record { ty = k.ty; value = Operand.Local v };
               name = k.cell;

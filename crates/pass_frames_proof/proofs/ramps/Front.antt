@@ -162,9 +162,10 @@ module _ (x : Framing) (is : IsFraming x) (plain : IsPlainEntry x) where
       → Each (IsCalm x is) (puts_of temporary_of zs)
   puts_calm [] h = tt
   puts_calm (s ∷ zs) h =
-      let high = h s (inl refl) in
-      ((tt, (far_left x is s.temporary high.0, (far_left x is s.cell high.1, tt))),
-      puts_calm zs (λ z l. h z (inr l)))
+      let high = h s (inl refl) in (
+        (tt, (far_left x is s.temporary high.0, (far_left x is s.cell high.1, tt))),
+        puts_calm zs (λ z l. h z (inr l)),
+      )
 
   puts_are : Each (IsCalm x is) (puts_of temporary_of ss)
   puts_are = puts_calm ss (λ s l. slot_high s (listed_contains ss s l))

@@ -110,72 +110,72 @@ module _ (flags : List Bool) where
   -- ---- operands are fetched anew, but those that are flagged
 
   module _ (t : List (Option Fetch)) (plain : (v : ℕ) → flag_at flags v ≡ true → fetch_of t (Operand.Local v) ≡ None)
-      where
-    operand_stays : (n : ℕ) (o : Operand) → is_flagged flags o ≡ true → is_flagged flags (fetched_operand t n o) ≡ true
-    operand_stays n (Operand.Local v) e =
-        ap (λ (f : Option Fetch). is_flagged flags (operand_by n f (Operand.Local v))) (plain v e) ∙ e
-    operand_stays n _ e = absurd (cc)
+    where
+      operand_stays : (n : ℕ) (o : Operand) → is_flagged flags o ≡ true → is_flagged flags (fetched_operand t n o) ≡ true
+      operand_stays n (Operand.Local v) e =
+          ap (λ (f : Option Fetch). is_flagged flags (operand_by n f (Operand.Local v))) (plain v e) ∙ e
+      operand_stays n _ e = absurd (cc)
 
-    args_stay : (n : ℕ) (args : List Arg) → marks_flagged flags args ≡ true
-        → marks_flagged flags (fetched_args t n args) ≡ true
-    args_stay n [] e = absurd (cc)
-    args_stay n (a ∷ []) e = absurd (cc)
-    args_stay n (a ∷ b ∷ args) e = operand_stays (next_after t n a.value) b.value e
+      args_stay : (n : ℕ) (args : List Arg) → marks_flagged flags args ≡ true
+          → marks_flagged flags (fetched_args t n args) ≡ true
+      args_stay n [] e = absurd (cc)
+      args_stay n (a ∷ []) e = absurd (cc)
+      args_stay n (a ∷ b ∷ args) e = operand_stays (next_after t n a.value) b.value e
 
-    start_stays : (n : ℕ) (i : Instr) → is_call_of Intrinsic.LifetimeStart i ≡ true → Stays i
-        → Stays (with_fetched t n i)
-    start_stays n (Instr.Call r must_tail ty (Callee.Intrinsic Intrinsic.LifetimeStart) args) e h = args_stay n args h
-    start_stays n _ e h = absurd (cc)
+      start_stays : (n : ℕ) (i : Instr) → is_call_of Intrinsic.LifetimeStart i ≡ true → Stays i
+          → Stays (with_fetched t n i)
+      start_stays n (Instr.Call r must_tail ty (Callee.Intrinsic Intrinsic.LifetimeStart) args) e h = args_stay n args h
+      start_stays n _ e h = absurd (cc)
 
-    end_stays : (n : ℕ) (i : Instr) → is_call_of Intrinsic.LifetimeEnd i ≡ true → Stays i → Stays (with_fetched t n i)
-    end_stays n (Instr.Call r must_tail ty (Callee.Intrinsic Intrinsic.LifetimeEnd) args) e h = args_stay n args h
-    end_stays n _ e h = absurd (cc)
+      end_stays : (n : ℕ) (i : Instr) → is_call_of Intrinsic.LifetimeEnd i ≡ true → Stays i → Stays (with_fetched t n i)
+      end_stays n (Instr.Call r must_tail ty (Callee.Intrinsic Intrinsic.LifetimeEnd) args) e h = args_stay n args h
+      end_stays n _ e h = absurd (cc)
 
-    with_stays : (n : ℕ) (i : Instr) → Stays i → Stays (with_fetched t n i)
-    with_stays n i h = on (is_call_of Intrinsic.LifetimeStart i) (is_call_of Intrinsic.LifetimeEnd i) refl refl
-      where
-        on : (a b : Bool) → is_call_of Intrinsic.LifetimeStart i ≡ a → is_call_of Intrinsic.LifetimeEnd i ≡ b
-            → Stays (with_fetched t n i)
-        on true b e d = start_stays n i e h
-        on false true e d = end_stays n i d h
-        on false false e d =
-            quiet_stays flags (with_fetched t n i) (same_call t n Intrinsic.LifetimeStart i ∙ e)
-            (same_call t n Intrinsic.LifetimeEnd i ∙ d)
+      with_stays : (n : ℕ) (i : Instr) → Stays i → Stays (with_fetched t n i)
+      with_stays n i h = on (is_call_of Intrinsic.LifetimeStart i) (is_call_of Intrinsic.LifetimeEnd i) refl refl
+        where
+          on : (a b : Bool) → is_call_of Intrinsic.LifetimeStart i ≡ a → is_call_of Intrinsic.LifetimeEnd i ≡ b
+              → Stays (with_fetched t n i)
+          on true b e d = start_stays n i e h
+          on false true e d = end_stays n i d h
+          on false false e d =
+              quiet_stays flags (with_fetched t n i) (same_call t n Intrinsic.LifetimeStart i ∙ e)
+              (same_call t n Intrinsic.LifetimeEnd i ∙ d)
 
-    fetches_stay : (n : ℕ) (os : List Operand) → Each Stays (fetches_of_all t n os)
-    fetches_stay n os = are_quiet (fetches_of_all t n os) (fetches_quiet t n os)
+      fetches_stay : (n : ℕ) (os : List Operand) → Each Stays (fetches_of_all t n os)
+      fetches_stay n os = are_quiet (fetches_of_all t n os) (fetches_quiet t n os)
 
-    instrs_stay : (n : ℕ) (js : List Instr) → Each Stays js → Each Stays (fetched_instrs t n js)
-    instrs_stay n [] h = tt
-    instrs_stay n (j ∷ js) h =
-        each_joined Stays (fetches_of_all t n (instr_operands j) ++ with_fetched t n j ∷ [])
-        (fetched_instrs t (next_after_instr t n j) js)
-        (each_joined Stays (fetches_of_all t n (instr_operands j)) (with_fetched t n j ∷ [])
-        (fetches_stay n (instr_operands j)) (with_stays n j h.0, tt))
-        (instrs_stay (next_after_instr t n j) js h.1)
+      instrs_stay : (n : ℕ) (js : List Instr) → Each Stays js → Each Stays (fetched_instrs t n js)
+      instrs_stay n [] h = tt
+      instrs_stay n (j ∷ js) h =
+          each_joined Stays (fetches_of_all t n (instr_operands j) ++ with_fetched t n j ∷ [])
+          (fetched_instrs t (next_after_instr t n j) js)
+          (each_joined Stays (fetches_of_all t n (instr_operands j)) (with_fetched t n j ∷ [])
+          (fetches_stay n (instr_operands j)) (with_stays n j h.0, tt))
+          (instrs_stay (next_after_instr t n j) js h.1)
 
-    one_fetch : (n : ℕ) (y : Fetch) → Stays (fetch_into n y)
-    one_fetch n (Fetch.Load ty cell) = refl
-    one_fetch n (Fetch.Address base distance) = refl
+      one_fetch : (n : ℕ) (y : Fetch) → Stays (fetch_into n y)
+      one_fetch n (Fetch.Load ty cell) = refl
+      one_fetch n (Fetch.Address base distance) = refl
 
-    blocks_stay : (ends : List (List Instr)) → ((l : ℕ) → Each Stays (end_at ends l)) → (p n : ℕ) (bs : List Block)
-        → AllStay bs → AllStay (fetched_blocks t ends p n bs)
-    blocks_stay ends low p n [] h = tt
-    blocks_stay ends low p n (b ∷ bs) h = (
-      each_joined Stays (fetched_instrs t n b.instrs ++ end_at ends b.label)
-          (fetches_of_all t (next_after_instrs t n b.instrs) (term_operands b.term))
-          (each_joined Stays (fetched_instrs t n b.instrs) (end_at ends b.label) (instrs_stay n b.instrs h.0)
-          (low b.label))
-          (fetches_stay (next_after_instrs t n b.instrs) (term_operands b.term)),
-      blocks_stay ends low (next_after_phis t p b.phis) (next_after_block t n b) bs h.1,
-    )
+      blocks_stay : (ends : List (List Instr)) → ((l : ℕ) → Each Stays (end_at ends l)) → (p n : ℕ) (bs : List Block)
+          → AllStay bs → AllStay (fetched_blocks t ends p n bs)
+      blocks_stay ends low p n [] h = tt
+      blocks_stay ends low p n (b ∷ bs) h = (
+        each_joined Stays (fetched_instrs t n b.instrs ++ end_at ends b.label)
+            (fetches_of_all t (next_after_instrs t n b.instrs) (term_operands b.term))
+            (each_joined Stays (fetched_instrs t n b.instrs) (end_at ends b.label) (instrs_stay n b.instrs h.0)
+            (low b.label))
+            (fetches_stay (next_after_instrs t n b.instrs) (term_operands b.term)),
+        blocks_stay ends low (next_after_phis t p b.phis) (next_after_block t n b) bs h.1,
+      )
 
-    fetched_stay : (f : Function) (word : List ℕ) → AllStay f.blocks → AllStay (with_fetches f t word).blocks
-    fetched_stay f word h =
-        blocks_stay (ends_of_blocks t (length f.names) (replicate (length f.names) []) f.blocks)
-        (ends_each t Stays (λ n o y e. one_fetch n y) (length f.names) (replicate (length f.names) []) f.blocks
-        (no_rows t Stays (length f.names)))
-        (length f.names) (next_after_phis_by t (length f.names) f.blocks) f.blocks h
+      fetched_stay : (f : Function) (word : List ℕ) → AllStay f.blocks → AllStay (with_fetches f t word).blocks
+      fetched_stay f word h =
+          blocks_stay (ends_of_blocks t (length f.names) (replicate (length f.names) []) f.blocks)
+          (ends_each t Stays (λ n o y e. one_fetch n y) (length f.names) (replicate (length f.names) []) f.blocks
+          (no_rows t Stays (length f.names)))
+          (length f.names) (next_after_phis_by t (length f.names) f.blocks) f.blocks h
 
 -- ---- the framed form
 

@@ -53,8 +53,10 @@ module _ (homes : List Home) (bound : ℕ) where
         (sym same)
         (subst (λ (p : Value × Value). IsValue homes p.0 p.1) (λ i. (here i, there i)) e))
         (λ no. subst (λ (p : Value × Value). IsValue homes p.0 p.1)
-        (λ i. (sym (set_elsewhere env name at v (λ d. no (sym d))) i,
-        sym (set_elsewhere other name at u (λ d. no (sym d))) i)) (h.each at)) (is_number at name);
+        (λ i. (
+          sym (set_elsewhere env name at v (λ d. no (sym d))) i,
+          sym (set_elsewhere other name at u (λ d. no (sym d))) i,
+        )) (h.each at)) (is_number at name);
     room = let long = set_length env name v in let a = h.room in omega (arith, long, a);
     room_too = let long = set_length other name u in let a = h.room_too in omega (arith, long, a);
   }
