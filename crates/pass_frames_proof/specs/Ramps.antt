@@ -4,7 +4,6 @@ use Rattle.std.specs.Prelude.{◌≡◌, ◌++◌, ℕ, List, Some, false, lengt
 use Rattle.flow_solver.specs.Paths.{IsListed}
 use Rattle.ir_laws.specs.facts.spelled.Filled.{HasNoEntryPhis}
 use Rattle.ir_laws.specs.paths.woven_rules.Pairs.{AreDifferent}
-use Rattle.ir_model.specs.Layout.{size_of}
 use Rattle.ir_model.specs.Ty.{Ty, int, ptr}
 use Rattle.ir_model.specs.declared.instr.Instr.{Instr}
 use Rattle.ir_model.specs.declared.module.Module.{Module}
@@ -58,11 +57,11 @@ pub record HasAllocasInFront (x : Framing) : Type 0 where
       → IsListed (Instr.Alloca cell (int 64) (value_bytes (int 64))) (front_allocas x)
   pub once : AreDifferent (cells_of (copies x).slots)
 
--- The framed form, a function of a module by its number, breaks no rule (`framed_forms_are_kept`). Sizes are the same
--- in both modules.
+-- The framed form, a function of a module by its number, breaks no rule (`framed_forms_are_kept`). Both modules have
+-- the same types (`IsFramedForm`).
 pub record HasEntryAllocas (m : Module) (func : ℕ) (x : Framing) : Type 0 where
   pub rules : KeepsFunctionRules m func (framed x)
-  pub same : (ty : Ty) → size_of m ty ≡ size_of x.code ty
+  pub types : m.types ≡ x.code.types
 
 -- ---- the parameters
 

@@ -4,12 +4,14 @@ use Rattle.std.specs.Prelude.{map, slice_get, ◌==◌}
 use Rattle.flow_solver.specs.Paths.{IsListed}
 use Rattle.ir_laws.proofs.facts.Members.{each_turns}
 use Rattle.ir_laws.specs.paths.woven_rules.Pairs.{AreDifferent}
+use Rattle.ir_model.specs.Layout.{extent_of, extent_or}
 use Rattle.ir_model.specs.declared.instr.Instr.{Instr}
 use Rattle.ir_model.specs.declared.instr.Terminator.{Terminator}
 use Rattle.ir_model.specs.declared.module.Block.{Block}
 use Rattle.ir_model.specs.declared.module.Function.{Function}
 use Rattle.ir_model.specs.declared.module.Module.{Module}
 use Rattle.ir_model.specs.declared.module.Param.{Param}
+use Rattle.ir_model.specs.declared.module.TypeItem.{TypeItem}
 use Rattle.ir_paths.specs.Windows.{instr_at, instr_in}
 use Rattle.ir_paths.specs.declared.point.Point.{Point}
 use Rattle.pass_frames_proof.proofs.code.Framed.{entry_made}
@@ -154,5 +156,5 @@ module _ (m : Module) (k : ℕ) (x : Framing) (is : IsFraming x) (e : IsPlainEnt
     unmarked = λ cell name.
         let new : length (edged x).names ≤ cell = (entry_name x cell name).new in
         new_unmarked m k x is h.rules cell new;
-    same = h.same;
+    same = λ ty. ap (λ (ts : List TypeItem). (extent_or (extent_of ts ty)).size) h.types;
   }
