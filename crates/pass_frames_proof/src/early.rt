@@ -1,6 +1,7 @@
 //! Slots that are used before begin: what stands right behind it is executed.
 
-ghost use Rattle.std.specs.Prelude.{◌≡◌, ◌+◌, ◌<◌, ◌^◌, ℕ, List, None, false, set};
+ghost use Rattle.std.specs.Prelude.{◌≡◌, ◌≢◌, ◌+◌, ◌<◌, ◌^◌, ℕ, List, None, false, set};
+ghost use Rattle.flow_solver.specs.Paths.{IsListed};
 ghost use Rattle.ir_model.specs.declared.instr.Instr.{Instr};
 ghost use Rattle.ir_model.specs.declared.operand.Operand.{Operand};
 ghost use Rattle.ir_parts.specs.Contents.{instr_operands};
@@ -27,13 +28,15 @@ ghost use Rattle.run_source.specs.declared.state.Activation.{Activation};
 ghost use Rattle.run_step.specs.Step.{Context, Work};
 
 /// Each slot that is used before begin lies in the frame, where it has its place among what is held, and is as large as
-/// its field. No address is made of its temporary or of its cell.
+/// its field. No address is made of its temporary or of its cell, and no cell has the name of a temporary.
 pub fn early_slots_lie_in_frames()
     ensures slots { (x : Framing) → IsFraming x → AreHeldOnce x.contents.held → (start : ℕ)
         → ((n : ℕ) → start + offset_at x.layout n < 2 ^ 64) → Each (IsEarlyInFrame x start) (copies x).slots }
     ensures sizes { (x : Framing) → AreHeldOnce x.contents.held → Each (IsOfField x) (copies x).slots }
     ensures temporaries { (x : Framing) → IsFraming x
         → Each (λ (s : EarlySlot). fetch_of (slot_table x) (Operand.Local s.temporary) ≡ None) (copies x).slots }
+    ensures cells { (x : Framing) (s z : EarlySlot) → IsListed s (copies x).slots → IsListed z (copies x).slots
+        → s.cell ≢ z.temporary }
 {}
 
 /// Right behind begin the bytes of each slot that is used before it are copied from its temporary to its place in the

@@ -1,5 +1,5 @@
 -- Slots that are used before begin lie in the frame, at the offsets of their places among what is held.
-use Rattle.std.proofs.Common.{◌≡◌, ◌+◌, ◌<◌, ◌≤◌, ◌^◌, ◌∙◌, ◌∷◌, ◌++◌, [], Bool, List, None, Option, Some, ap, arith, false, inl, inr, length, refl, replicate, subst, suc, sym, true, zero, ℕ, ⊎_elim}
+use Rattle.std.proofs.Common.{◌≡◌, ◌≢◌, ◌+◌, ◌<◌, ◌≤◌, ◌^◌, ◌∙◌, ◌∷◌, ◌++◌, [], Bool, List, None, Option, Some, ap, arith, false, inl, inr, length, refl, replicate, subst, suc, sym, true, zero, ℕ, ⊎_elim}
 use Rattle.std.specs.Prelude.{flat_map, if◌then◌else◌, option_to_list, slice_get, ◌==◌, ◌||◌}
 use Rattle.flow_solver.specs.Paths.{IsListed}
 use Rattle.frame_classes.specs.declared.class.SlotClass.{SlotClass}
@@ -25,7 +25,7 @@ use Rattle.pass_frames_proof.proofs.code.Left.{Far, far_named, longer}
 use Rattle.pass_frames_proof.proofs.code.Names.{First, blocks_mark, far_left, never, slot_used}
 use Rattle.pass_frames_proof.proofs.from_edges.Front.{listed_contains}
 use Rattle.pass_frames_proof.proofs.offsets.Tables.{slots_told}
-use Rattle.pass_frames_proof.proofs.stepping.Names.{edged_named, named_written, slots_new}
+use Rattle.pass_frames_proof.proofs.stepping.Names.{edged_named, named_written, slots_new, where_is_name}
 use Rattle.pass_frames_proof.specs.Code.{slot_table}
 use Rattle.pass_frames_proof.specs.Framings.{IsFraming}
 use Rattle.pass_frames_proof.specs.FromEdges.{IsEarlyInFrame}
@@ -292,3 +292,10 @@ module _ (x : Framing) (is : IsFraming x) where
   temporaries_unplaced =
       each_listed (λ (s : EarlySlot). fetch_of (slot_table x) (Operand.Local s.temporary) ≡ None) (copies x).slots
       (λ s l. unplaced s.temporary (slots_new x s (listed_contains (copies x).slots s l)).0)
+
+-- no cell has the name of a temporary
+pub cells_apart : (x : Framing) (s z : EarlySlot) → IsListed s (copies x).slots → IsListed z (copies x).slots
+    → s.cell ≢ z.temporary
+cells_apart x s z l k same =
+    (where_is_name x s (listed_contains (copies x).slots s l)).no_temporary z (listed_contains (copies x).slots z k)
+    (sym same)
