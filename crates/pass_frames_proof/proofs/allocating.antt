@@ -9,6 +9,7 @@ pub mod Plain
 pub mod Ramp
 pub mod Rights
 pub mod Room
+pub mod Stands
 pub mod Steps
 pub mod Unseen
 pub mod Whole

@@ -14,7 +14,7 @@ use Rattle.pass_frames_proof.specs.Allocating.{IsAtAlloca}
 use Rattle.pass_frames_proof.specs.Entering.{allocas_up_to, front_allocas}
 use Rattle.pass_frames_proof.specs.Places.{edged, framed, instrs_at, offsets, plan}
 use Rattle.pass_frames_proof.specs.Related.{Anything, Building, IsCell, IsKeptValue}
-use Rattle.pass_frames_proof.specs.Waking.{AreFrontsGood, HasEdgeBlock, StandsInFront}
+use Rattle.pass_frames_proof.specs.Waking.{AreFrontsGood, HasEdgeBlock}
 use Rattle.pass_proofs.specs.addresses.rules.Addresses.{lies_in_frame}
 use Rattle.pass_renewed_proof.specs.Renewed.{RenewedGiven, renewed_from}
 use Rattle.run_framed.specs.Framed.{frame_rights}
@@ -46,7 +46,6 @@ pub record IsAtAnew (b : Building) (g : RenewedGiven) (s : State) (name : ℕ) (
   pub wide : length (edged (b.framing s.top.func)).names ≤ length (framed (b.framing s.top.func)).names
   pub returns : entry (plan (b.framing s.top.func)).returns label ≡ Some order
   pub fronts : AreFrontsGood (b.framing s.top.func)
-  pub stands : StandsInFront (b.framing s.top.func) s.top.at name ty align
 
 -- Another one follows. Of allocas in between, which aren't made anew, nothing is handed on. Names are each that of one
 -- alloca (N1).
@@ -57,7 +56,9 @@ pub record HasNextAnew (b : Building) (g : RenewedGiven) (s : State) (name : ℕ
   pub align : ℕ
   pub is : renewed_from (g.flags s.top.func) (function_at g.given.code s.top.func) (s.top.at + 1)
       ≡ Some (record { block = 0; at = next })
-  pub stands : StandsInFront (b.framing s.top.func) next other ty align
+  pub there : slice_get (instrs_at (b.framing s.top.func) 0) next ≡ Some (Instr.Alloca other ty align)
+  pub unkept : entry (plan (b.framing s.top.func)).places other ≡ None
+  pub outside : lies_in_frame (offsets (b.framing s.top.func)) other ≡ false
   pub apart : other ≢ name
   pub handed : (v : ℕ) → IsListed v (allocas_in (take next (instrs_at (b.framing s.top.func) 0)))
       → IsListed v (allocas_in (take s.top.at (instrs_at (b.framing s.top.func) 0)))

@@ -26,10 +26,11 @@ use Rattle.pass_frames_proof.specs.Followed.{IsOn}
 use Rattle.pass_frames_proof.specs.Meaning.{first_anew, step_cost}
 use Rattle.pass_frames_proof.specs.Operands.{IsAtFetch}
 use Rattle.pass_frames_proof.specs.Passes.{block_at}
-use Rattle.pass_frames_proof.specs.Places.{Framing, copies, edged, framed, instrs_at, is_return, own_place, plan}
+use Rattle.pass_frames_proof.specs.Places.{Framing, copies, edged, framed, instrs_at, is_return, offsets, own_place, plan}
 use Rattle.pass_frames_proof.specs.Related.{AreBuiltOf, AreGone, Building, IsKeptValue, IsSuspendNumber, all_slots, below_place, is_coroutine}
 use Rattle.pass_frames_proof.specs.Stepping.{IsNotEntering, IsUnlocated, state_in}
 use Rattle.pass_kept_proof.specs.Kept.{kept}
+use Rattle.pass_proofs.specs.addresses.rules.Addresses.{lies_in_frame}
 use Rattle.pass_renewed_proof.specs.Renewed.{RenewedGiven, continue_renewed, renewed_from, renewed_step}
 use Rattle.run_agreement.specs.Machines.{iterate}
 use Rattle.run_framed.specs.Framed.{begin_name, continue_framed, framed_step, reentry_values}
@@ -115,7 +116,9 @@ pub record HasFirstAnew (b : Building) (g : RenewedGiven) (func : ℕ) (env : En
   pub align : ℕ
   pub is : renewed_from (g.flags func) (function_at g.given.code func) 0
       ≡ Some (record { block = 0; at = first })
-  pub stands : StandsInFront (b.framing func) first name ty align
+  pub there : slice_get (instrs_at (b.framing func) 0) first ≡ Some (Instr.Alloca name ty align)
+  pub unkept : entry (plan (b.framing func)).places name ≡ None
+  pub outside : lies_in_frame (offsets (b.framing func)) name ≡ false
   pub good : Each IsGoodAlloca (front_allocas (b.framing func))
   pub no_begin : IsListed (begin_of (b.framing func).function) (allocas_in (front_allocas (b.framing func))) → ⊥
   pub unhanded : (v : ℕ) → IsListed v (allocas_in (take first (instrs_at (b.framing func) 0)))

@@ -47,7 +47,7 @@ module _ (x : Framing) (is : IsFraming x) (at name align : ℕ) (ty : Ty)
   n = address_state (state_in x 0 at)
 
   -- it alone, or nothing
-  abbrev left : Bool → List Instr
+  abbrev pub left : Bool → List Instr
   left c = (option_to_list (if c then Some i else None) ++ []) ++ []
 
   unwritten : IsUnwritten (plan x) i
@@ -62,7 +62,7 @@ module _ (x : Framing) (is : IsFraming x) (at name align : ℕ) (ty : Ty)
       grown_one (addressing_layer x 0) n i
       ∙ both_becomes (fetching_at (unmarked x) (slot_table x) 0) (only (lies_outside (offsets x))) n.0 n.1 i
 
-  code_is : becomes (placed_layer x 0) (state_in x 0 at) i ≡ left (lies_outside (offsets x) i)
+  pub code_is : becomes (placed_layer x 0) (state_in x 0 at) i ≡ left (lies_outside (offsets x) i)
   code_is =
       calm_becomes x is 0 at i there tt unwritten refl refl
       ∙ ap (addressed x 0 n) (unmarked_same x i refl refl)

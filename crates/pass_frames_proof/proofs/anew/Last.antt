@@ -27,6 +27,7 @@ use Rattle.pass_frames_proof.proofs.anew.Next.{part_good}
 use Rattle.pass_frames_proof.proofs.entering.Allocas.{to_the_last, up_to_next}
 use Rattle.pass_frames_proof.proofs.entering.Edge.{edge_is, edge_too, no_phis, no_phis_too}
 use Rattle.pass_frames_proof.proofs.entering.Into.{enters, last_behind}
+use Rattle.pass_frames_proof.proofs.allocating.Stands.{stands_in_front}
 use Rattle.pass_frames_proof.proofs.entering.Stand.{all_before, none_behind}
 use Rattle.pass_frames_proof.proofs.stepping.Stands.{top_is, values_of}
 use Rattle.pass_frames_proof.specs.Anew.{HasCellsMade, HasNoneLeft, IsAtAnew, MakesLine}
@@ -39,7 +40,7 @@ use Rattle.pass_frames_proof.specs.Places.{Framing, edged, framed, instrs_at, of
 use Rattle.pass_frames_proof.specs.Related.{Anything, AreActivations, AreBuiltOf, AreCellsThere, AreCoroutines, AreFieldsRight, AreGone, AreNamed, AreWheresThere, Building, HasCells, IsCell, IsHeldAs, IsKeptAs, IsKeptValue, is_coroutine, returned_from, top_place}
 use Rattle.pass_frames_proof.specs.Slotted.{HasSlotsThere}
 use Rattle.pass_frames_proof.specs.Stepping.{AreGiven}
-use Rattle.pass_frames_proof.specs.Waking.{AreFrontsGood, HasEdgeBlock, IsCellMade}
+use Rattle.pass_frames_proof.specs.Waking.{AreFrontsGood, HasEdgeBlock, IsCellMade, StandsInFront}
 use Rattle.pass_proofs.specs.addresses.rules.Addresses.{lies_in_frame}
 use Rattle.pass_renewed_proof.specs.Renewed.{RenewedGiven, in_new_slot, renew_after, renewed_step, renewed_values}
 use Rattle.run_agreement.specs.Machines.{iterate}
@@ -69,8 +70,13 @@ module _ (b : Building) (g : RenewedGiven) (given : AreGiven b g) (s t : State) 
   abbrev first : Instr
   first = Instr.Alloca name ty align
 
+  -- where the alloca stands in the framed form
+  stands_here : StandsInFront X s.top.at name ty align
+  stands_here =
+      stands_in_front X (given.framings s.top.func h.here.coroutine) s.top.at name align ty h.here.there h.unkept h.outside
+
   abbrev line : List Instr
-  line = h.stands.rest
+  line = stands_here.rest
 
   abbrev all : List Instr
   all = first ∷ line
@@ -79,16 +85,16 @@ module _ (b : Building) (g : RenewedGiven) (given : AreGiven b g) (s t : State) 
   before = allocas_up_to X s.top.at
 
   stands : front_allocas X ≡ before ++ (all ++ [])
-  stands = h.stands.is ∙ ap (λ (is : List Instr). before ++ is) (sym (append-nil all))
+  stands = stands_here.is ∙ ap (λ (is : List Instr). before ++ is) (sym (append-nil all))
 
   different : AreDifferent (allocas_in (before ++ all))
-  different = subst (λ (is : List Instr). AreDifferent (allocas_in is)) h.stands.is h.fronts.different
+  different = subst (λ (is : List Instr). AreDifferent (allocas_in is)) stands_here.is h.fronts.different
 
   -- of what stands behind nothing is handed on
   unhanded : (v : ℕ) → IsListed v (allocas_in line) → value_in s.top.values v ≡ Value.Poison
   unhanded v c =
       q.behind v
-      (subst (λ (is : List Instr). IsListed v (allocas_in is)) (sym h.stands.is)
+      (subst (λ (is : List Instr). IsListed v (allocas_in is)) (sym stands_here.is)
       (subst (IsListed v) (sym (allocas_append before all))
       (listed_right v (allocas_in before) (allocas_in all) (inr c))))
       (λ earlier. allocas_apart before all different v earlier (inr c))
@@ -279,7 +285,7 @@ module _ (b : Building) (g : RenewedGiven) (given : AreGiven b g) (s t : State) 
           let within : k.position < length (front_allocas X) =
           get_within (front_allocas X) k.position (Instr.Alloca cell ty' k.align) k.there in
           let whole : length (front_allocas X) ≡ length before + length all =
-          ap length h.stands.is ∙ length-append before all in
+          ap length stands_here.is ∙ length-append before all in
           let at : t.top.at ≡ length before = at_is in
           let behind : v.top.at ≡ t.top.at + length all = (made.all_behind b g l).at in
           omega (arith, within, whole, at, behind)
@@ -372,11 +378,11 @@ module _ (b : Building) (g : RenewedGiven) (given : AreGiven b g) (s t : State) 
   none_left : alloca_from (function_of b.given.given t) (t.top.at + length init + 1) ≡ None
   none_left =
       let front : length (front_allocas X) ≡ length before + length all =
-      ap length h.stands.is ∙ length-append before all in
+      ap length stands_here.is ∙ length-append before all in
       let at : t.top.at ≡ length before = at_is in
       let whole : length all ≡ length init + 1 = long in
       let same : t.top.at + length init + 1 ≡ length (front_allocas X) = omega (arith, front, at, whole) in
-      (λ j. alloca_from (made.framed_is b g l j) (same j)) ∙ none_behind X s.top.at first h.stands.there
+      (λ j. alloca_from (made.framed_is b g l j) (same j)) ∙ none_behind X s.top.at first h.here.there
 
   reached : (n : ℕ) → n ≤ length init → iterate (framed_step b.given) n t ≡ behind_allocas b.given t (take n init)
   reached n le = up_to_next b.given from label t (made.makes b g l) init parts.last init_good last_good stand n le
@@ -406,7 +412,7 @@ module _ (b : Building) (g : RenewedGiven) (given : AreGiven b g) (s t : State) 
       ap (step_cost b g s) h.mode
       ∙ ap (λ (o : Option Point). slot_cost X s.top.at (option_map (λ (p : Point). p.at) o)) q.none
       ∙ ap (λ (n : ℕ). n - length before)
-      (all_before X s.top.at first h.stands.there ∙ ap length h.stands.is ∙ length-append before all)
+      (all_before X s.top.at first h.here.there ∙ ap length stands_here.is ∙ length-append before all)
       ∙ behind (length before) (length all)
     where
       behind : (m n : ℕ) → (m + n) - m ≡ n

@@ -291,7 +291,7 @@ module _ (b : Building) (g : RenewedGiven) (l : MakesAnew b g) where
       (subst (λ (p : Point). StandAt (framed X) 0 p.at (all ++ rest)) (sym place_there)
       (subst (λ (m : ℕ). StandAt (framed X) 0 m (all ++ rest)) (none_before (length before))
       (stand_behind (framed X) 0 0 before (all ++ rest)
-      (subst (StandAt (framed X) 0 0) stands (front_stands X s.top.at (Instr.Alloca name ty align) h.stands.there)))))
+      (subst (StandAt (framed X) 0 0) stands (front_stands X s.top.at (Instr.Alloca name ty align) h.here.there)))))
     where
       none_before : (m : ℕ) → 0 + m ≡ m
       none_before m = omega arith

@@ -15,6 +15,7 @@ use Rattle.ir_paths.specs.Slots.{allocas_in}
 use Rattle.ir_paths.specs.declared.point.Point.{Point}
 use Rattle.pass_cells.specs.Kept.{entry}
 use Rattle.pass_frames.specs.Framed.{begin_of}
+use Rattle.pass_frames_proof.proofs.allocating.Stands.{stands_in_front}
 use Rattle.pass_frames_proof.proofs.anew.Lists.{allocas_append, allocas_apart}
 use Rattle.pass_frames_proof.proofs.anew.Made as made
 use Rattle.pass_frames_proof.proofs.anew.Made.{MakesAnew, allocas_shown}
@@ -22,6 +23,7 @@ use Rattle.pass_frames_proof.proofs.entering.Allocas.{up_to_next}
 use Rattle.pass_frames_proof.proofs.entering.Stand.{between}
 use Rattle.pass_frames_proof.proofs.layers.Standing.{take_whole}
 use Rattle.pass_frames_proof.proofs.stepping.Stands.{values_of}
+use Rattle.pass_frames_proof.specs.Waking.{StandsInFront}
 use Rattle.pass_frames_proof.specs.Anew.{HasNextAnew, IsAtAnew}
 use Rattle.pass_frames_proof.specs.Costs.{slot_cost}
 use Rattle.pass_frames_proof.specs.Entering.{AreAllocasBetween, IsGoodAlloca, allocas_up_to, behind_allocas, front_allocas}
@@ -145,10 +147,19 @@ module _ (b : Building) (g : RenewedGiven) (given : AreGiven b g) (s t : State) 
       let le = renewed_behind (g.flags s.top.func) (function_at g.given.code s.top.func) (s.top.at + 1) q.next q.is in
       omega (arith, le)
 
+  -- where the alloca stands in the framed form
+  stands_here : StandsInFront X s.top.at name ty align
+  stands_here =
+      stands_in_front X (given.framings s.top.func h.here.coroutine) s.top.at name align ty h.here.there h.unkept h.outside
+
+  stands_there : StandsInFront X q.next q.other q.ty q.align
+  stands_there =
+      stands_in_front X (given.framings s.top.func h.here.coroutine) q.next q.other q.align q.ty q.there q.unkept q.outside
+
   to : IsLineTo X s.top.at q.next first second
   to =
-      line_to X s.top.at q.next name q.other align q.align ty q.ty h.stands.rest q.stands.rest
-      (between X s.top.at first h.stands.there s.top.at q.next later) h.stands.is q.stands.is q.apart
+      line_to X s.top.at q.next name q.other align q.align ty q.ty stands_here.rest stands_there.rest
+      (between X s.top.at first h.here.there s.top.at q.next later) stands_here.is stands_there.is q.apart
 
   abbrev line : List Instr
   line = to.line

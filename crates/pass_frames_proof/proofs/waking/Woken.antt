@@ -31,7 +31,7 @@ use Rattle.pass_frames_proof.specs.Framings.{IsFraming}
 use Rattle.pass_frames_proof.specs.Places.{Framing, alloca_place, framed, own_place, plan}
 use Rattle.pass_frames_proof.specs.Related.{AreActivations, AreAllAhead, AreBuiltOf, AreFieldsHeld, AreFieldsRight, AreInstances, AreNamed, Building, HasCells, IsFreeOf, IsHeldAs, IsKeptAs, IsKeptValue, IsOffsetOf, IsStatus, below_place, instance_in, is_coroutine, point_of, slots_below, top_place}
 use Rattle.pass_frames_proof.specs.Stepping.{AreGiven}
-use Rattle.pass_frames_proof.specs.Waking.{AreWoken, HasFirstAnew, IsSleeping, framed_start, renewed_start}
+use Rattle.pass_frames_proof.specs.Waking.{AreWoken, HasFirstAnew, IsSleeping, StandsInFront, framed_start, renewed_start}
 use Rattle.pass_renewed_proof.specs.Renewed.{renew_after, RenewedGiven, renewed_step}
 use Rattle.run_access_worked.specs.Frames.{IsSameFrame}
 use Rattle.run_agreement.specs.Machines.{iterate}
@@ -58,6 +58,7 @@ use Rattle.pass_kept_proof.specs.Kept.{kept}
 use Rattle.run_laws.proofs.transfer.Sets.{set_length as value_length}
 use Rattle.pass_frames_proof.specs.Moved.{IsSamePlace}
 use Rattle.run_access_worked.proofs.Ended.{rights_same as frames_same, set_frames}
+use Rattle.pass_frames_proof.proofs.allocating.Stands.{stands_in_front}
 use Rattle.pass_frames_proof.proofs.followed.Assembly.{events_same}
 use Rattle.pass_frames_proof.proofs.calling.Passed.{ahead_passed, caller_passed, passed_on}
 use Rattle.pass_frames_proof.proofs.returning.Turned.{placed_at}
@@ -149,18 +150,21 @@ module _ (b : Building) (g : RenewedGiven) (given : AreGiven b g) (s t0 : State)
   abbrev next : Instr
   next = Instr.Alloca anew.name anew.ty anew.align
 
+  stands_here : StandsInFront x anew.first anew.name anew.ty anew.align
+  stands_here = stands_in_front x is anew.first anew.name anew.align anew.ty anew.there anew.unkept anew.outside
+
   framed_is : function_at b.given.given.code func ≡ framed x
   framed_is = ap (λ (m : Module). function_at m func) given.code ∙ (given.built.coroutines func h.is_coroutine).is
 
   own_framed : function_of b.given.given u0 ≡ framed x
   own_framed = ap (function_at b.given.given.code) h.coroutine ∙ framed_is
 
-  all_stand : StandAt (framed x) 0 0 (line ++ (next ∷ anew.stands.rest))
+  all_stand : StandAt (framed x) 0 0 (line ++ (next ∷ stands_here.rest))
   all_stand =
-      subst (StandAt (framed x) 0 0) anew.stands.is (front_stands x anew.first next anew.stands.there)
+      subst (StandAt (framed x) 0 0) stands_here.is (front_stands x anew.first next anew.there)
 
-  good : Each IsGoodAlloca (line ++ (next ∷ anew.stands.rest))
-  good = subst (Each IsGoodAlloca) anew.stands.is anew.good
+  good : Each IsGoodAlloca (line ++ (next ∷ stands_here.rest))
+  good = subst (Each IsGoodAlloca) stands_here.is anew.good
 
   line_good : (ks js : List Instr) → Each IsGoodAlloca (ks ++ js) → Each IsGoodAlloca ks × Each IsGoodAlloca js
   line_good [] js e = (tt, e)
@@ -173,7 +177,7 @@ module _ (b : Building) (g : RenewedGiven) (given : AreGiven b g) (s t0 : State)
 
   stand : StandAt (function_of b.given.given u0) 0 0 (line ++ (next ∷ []))
   stand = subst (λ (f : Function). StandAt f 0 0 (line ++ (next ∷ []))) (sym own_framed)
-      (stand_next (framed x) 0 line anew.stands.rest all_stand)
+      (stand_next (framed x) 0 line stands_here.rest all_stand)
 
   makes : IsMaking u0 suspend'.block label
   makes = record { runs = r.outcome ∙ k.runs; mode = refl; entry_block = refl }
@@ -200,7 +204,7 @@ module _ (b : Building) (g : RenewedGiven) (given : AreGiven b g) (s t0 : State)
 
       first_is : alloca_from (function_at b.given.given.code y.coroutine) 0 ≡ Some (record { block = 0; at = 0 })
       first_is =
-          let i = head line anew.stands.rest all_stand good in
+          let i = head line stands_here.rest all_stand good in
           ap (λ (f : Function). alloca_from f 0) own_framed
           ∙ ap (option_map (λ (n : ℕ). record { block = 0; at = n }))
           (alloca_there (slice_get (framed x).blocks 0) 0 i.0 i.1.0 i.1.1)
@@ -208,10 +212,10 @@ module _ (b : Building) (g : RenewedGiven) (given : AreGiven b g) (s t0 : State)
   reached : (n : ℕ) → n ≤ length line → iterate (framed_step b.given) n u0 ≡ behind_allocas b.given u0 (take n line)
   reached n le =
       up_to_next b.given suspend'.block label u0 makes line next
-      (line_good line (next ∷ anew.stands.rest) good).0 refl' stand n le
+      (line_good line (next ∷ stands_here.rest) good).0 refl' stand n le
     where
       refl' : IsGoodAlloca next
-      refl' = (line_good line (next ∷ anew.stands.rest) good).1.0
+      refl' = (line_good line (next ∷ stands_here.rest) good).1.0
 
   -- ---- instances and memory, when some are made
 
@@ -273,7 +277,7 @@ module _ (b : Building) (g : RenewedGiven) (given : AreGiven b g) (s t0 : State)
     w' = behind_allocas b.given u0 (take n line)
 
     m : AreBehind b.given u0 w' (take n line)
-    m = are_behind b.given u0 (take n line) (part_good line n (line_good line (next ∷ anew.stands.rest) good).0)
+    m = are_behind b.given u0 (take n line) (part_good line n (line_good line (next ∷ stands_here.rest) good).0)
 
     abbrev news : List MemoryBlock
     news = made_blocks b.given.given.code (function_of b.given.given u0) (take n line)
@@ -309,7 +313,7 @@ module _ (b : Building) (g : RenewedGiven) (given : AreGiven b g) (s t0 : State)
   -- ---- the relation at the first alloca that is made anew
 
   all_behind : AreBehind b.given u0 (behind_allocas b.given u0 line) line
-  all_behind = are_behind b.given u0 line (line_good line (next ∷ anew.stands.rest) good).0
+  all_behind = are_behind b.given u0 line (line_good line (next ∷ stands_here.rest) good).0
 
   abbrev v : State
   v = behind_allocas b.given u0 line
@@ -352,8 +356,8 @@ module _ (b : Building) (g : RenewedGiven) (given : AreGiven b g) (s t0 : State)
   begin_value =
       all_behind.others (begin_of x.function)
       (λ l. anew.no_begin (subst (λ (is : List Instr). IsListed (begin_of x.function) (allocas_in is))
-      (sym anew.stands.is)
-      (listed_more line (next ∷ anew.stands.rest) l)))
+      (sym stands_here.is)
+      (listed_more line (next ∷ stands_here.rest) l)))
       ∙ start_values
     where
       listed_more : (ks js : List Instr) → IsListed (begin_of x.function) (allocas_in ks)
