@@ -11,6 +11,7 @@ pub mod Lengths
 pub mod Links
 pub mod Once
 pub mod Ordinary
+pub mod Paid
 pub mod Parts
 pub mod Returned
 pub mod Rows

@@ -121,3 +121,18 @@ pub fn jumps_take_few_steps()
         ≤ 3 + 5 * names_of (edged x) + length (block_at (edged x) k).phis
         + length (block_at (edged x) target).phis }
 {}
+
+/// Four times a name, an operand and one pay for what an instruction becomes. What stands behind a call fits beside the
+/// end of a block. Where no instruction stands nothing costs a step.
+pub fn names_pay_for_instructions()
+    ensures cost { (x : Framing) → IsFraming x → (p : Point) (i : Instr)
+        → slice_get (instrs_at x p.block) p.at ≡ Some i
+        → instr_cost x p ≤ 4 * (1 + names_of (edged x) + length (instr_operands i)) }
+    ensures behind { (x : Framing) → IsFraming x → (p : Point) (i : Instr)
+        → slice_get (instrs_at x p.block) p.at ≡ Some i
+        → behind_at x p.block (p.at + 1) + 2 * phis_of_blocks (edged x).blocks
+        ≤ 1 + 4 * names_of (edged x) + 3 * length (instr_operands i) }
+    ensures none { (x : Framing) (p : Point) → slice_get (instrs_at x p.block) p.at ≡ None → instr_cost x p ≡ 0 }
+    ensures none_behind { (x : Framing) (p : Point) → slice_get (instrs_at x p.block) p.at ≡ None
+        → behind_at x p.block (p.at + 1) ≡ 0 }
+{}

@@ -23,7 +23,7 @@ pub args_many : (t : List (Option Fetch)) (n : ℕ) (args : List Arg) → length
 args_many t n [] = refl
 args_many t n (a ∷ args) = ap suc (args_many t (next_after t n a.value) args)
 
-operands_many : (args : List Arg) → length (arg_operands args) ≡ length args
+pub operands_many : (args : List Arg) → length (arg_operands args) ≡ length args
 operands_many [] = refl
 operands_many (a ∷ args) = ap suc (operands_many args)
 

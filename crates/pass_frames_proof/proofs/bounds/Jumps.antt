@@ -1,11 +1,11 @@
 -- A jump takes few steps.
-use Rattle.std.proofs.Common.{◌≡◌, ◌≢◌, ℕ, ◌+◌, ◌*◌, ◌≤◌, Bool, true, false, [], length, refl, ap, ◌∙◌, arith}
+use Rattle.std.proofs.Common.{◌≡◌, ◌≢◌, ℕ, ◌+◌, ◌*◌, ◌≤◌, Bool, true, false, [], length, refl, ap, arith}
 use Rattle.std.specs.Prelude.{Some, slice_get, ◌==◌}
 use Rattle.pass_frames_proof.proofs.bounds.Ends.{end_cost_short, end_short}
 use Rattle.pass_frames_proof.proofs.bounds.Ordinary.{ordinary_place}
 use Rattle.pass_frames_proof.proofs.bounds.Totals.{front_total, phis_same}
 use Rattle.pass_frames_proof.proofs.from_edges.Places.{return_there}
-use Rattle.pass_frames_proof.specs.Costs.{jump_cost, whole}
+use Rattle.pass_frames_proof.specs.Costs.{jump_cost}
 use Rattle.pass_frames_proof.specs.Framings.{IsFraming}
 use Rattle.pass_frames_proof.specs.Numbers.{names_of, phis_of_blocks}
 use Rattle.pass_frames_proof.specs.Passes.{block_at}

@@ -43,10 +43,10 @@ module _ {S : Type 0} (L : Layer S) (is : List Instr) (at : ℕ) where
   abbrev s : S
   s = state_at L is at
 
-  none_next : slice_get is at ≡ None → place_in L is (at + 1) ≡ place_in L is at
+  pub none_next : slice_get is at ≡ None → place_in L is (at + 1) ≡ place_in L is at
   none_next e = ap (λ (js : List Instr). length (L.front ++ grown L L.start js)) (take_none is at e)
 
-  none_own : slice_get is at ≡ None → own_place_in L is at ≡ place_in L is at
+  pub none_own : slice_get is at ≡ None → own_place_in L is at ≡ place_in L is at
   none_own e =
       let a : length (before_of L s (slice_get is at)) ≡ 0 = ap (λ (o : Option Instr). length (before_of L s o)) e in
       omega (arith, a)

@@ -53,7 +53,7 @@ instrs_counted (i ∷ is) =
     let c = instrs_counted is in
     omega (arith, a, b, c)
 
-blocks_counted : (bs : List Block)
+pub blocks_counted : (bs : List Block)
     → length (gep_names_of bs) + allocas_of_blocks bs + phis_of_blocks bs ≤ names_of_blocks bs
 blocks_counted [] = omega arith
 blocks_counted (b ∷ bs) =
@@ -62,7 +62,7 @@ blocks_counted (b ∷ bs) =
     let e = length-append (gep_names b.instrs) (gep_names_of bs) in
     omega (arith, a, c, e)
 
-entry_few : (bs : List Block) → allocas_of_instrs (unwrap_or (slice_get bs 0) no_block).instrs ≤ allocas_of_blocks bs
+pub entry_few : (bs : List Block) → allocas_of_instrs (unwrap_or (slice_get bs 0) no_block).instrs ≤ allocas_of_blocks bs
 entry_few [] = omega arith
 entry_few (b ∷ bs) = omega arith
 
