@@ -4,6 +4,7 @@ pub mod Behind
 pub mod Calls
 pub mod Codes
 pub mod Early
+pub mod Edges
 pub mod Ends
 pub mod Jumps
 pub mod Lean

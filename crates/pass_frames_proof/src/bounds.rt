@@ -2,9 +2,11 @@
 
 ghost use Rattle.std.specs.Prelude.{◌≡◌, ◌≢◌, ◌≤◌, ◌+◌, ◌*◌, ℕ, [], None, Option, Some, false, length, slice_get, true};
 ghost use Rattle.ir_model.specs.declared.instr.Instr.{Instr};
+ghost use Rattle.ir_model.specs.declared.module.Function.{Function};
 ghost use Rattle.ir_parts.specs.Contents.{instr_operands};
 ghost use Rattle.ir_paths.specs.declared.point.Point.{Point};
 ghost use Rattle.pass_cells.specs.Written.{row_at};
+ghost use Rattle.pass_edges.specs.EdgeBlocks.{with_edge_blocks};
 ghost use Rattle.pass_frames_proof.specs.Bounds.{behind_of, more_of};
 ghost use Rattle.pass_frames_proof.specs.Code.{front_code};
 ghost use Rattle.pass_frames_proof.specs.Costs.{allocas_before, call_cost, instr_cost, jump_cost, whole};
@@ -122,8 +124,8 @@ pub fn jumps_take_few_steps()
         + length (block_at (edged x) target).phis }
 {}
 
-/// Four times a name, an operand and one pay for what an instruction becomes. What stands behind a call fits beside the
-/// end of a block. Where no instruction stands nothing costs a step.
+/// Four times a name, an operand and one pay for what an instruction becomes. What stands behind a call fits beside
+/// the end of a block. Where no instruction stands nothing costs a step.
 pub fn names_pay_for_instructions()
     ensures cost { (x : Framing) → IsFraming x → (p : Point) (i : Instr)
         → slice_get (instrs_at x p.block) p.at ≡ Some i
@@ -135,4 +137,9 @@ pub fn names_pay_for_instructions()
     ensures none { (x : Framing) (p : Point) → slice_get (instrs_at x p.block) p.at ≡ None → instr_cost x p ≡ 0 }
     ensures none_behind { (x : Framing) (p : Point) → slice_get (instrs_at x p.block) p.at ≡ None
         → behind_at x p.block (p.at + 1) ≡ 0 }
+{}
+
+/// With blocks on its edges a function has as many names.
+pub fn edges_have_no_names()
+    ensures { (f : Function) → names_of (with_edge_blocks f) ≡ names_of f }
 {}

@@ -43,7 +43,8 @@ more_fits kept early m a b (Instr.Call r must_tail ty _ args) = omega arith
 
 behind_fits : (early m phis : ℕ) → early + phis ≤ m → (i : Instr)
     → behind_by early i + 2 * phis ≤ 4 * m + 3 * length (instr_operands i)
-behind_fits early m phis a (Instr.Gep r inbounds ty base indices) = let e = operands_many indices in omega (arith, a, e)
+behind_fits early m phis a (Instr.Gep r inbounds ty base indices) =
+    let e = operands_many indices in omega (arith, a, e)
 behind_fits early m phis a (Instr.Binary r op flags ty x y) = omega (arith, a)
 behind_fits early m phis a (Instr.Icmp r pred ty x y) = omega (arith, a)
 behind_fits early m phis a (Instr.Select r c x y) = omega (arith, a)

@@ -62,7 +62,8 @@ blocks_counted (b ∷ bs) =
     let e = length-append (gep_names b.instrs) (gep_names_of bs) in
     omega (arith, a, c, e)
 
-pub entry_few : (bs : List Block) → allocas_of_instrs (unwrap_or (slice_get bs 0) no_block).instrs ≤ allocas_of_blocks bs
+pub entry_few : (bs : List Block)
+    → allocas_of_instrs (unwrap_or (slice_get bs 0) no_block).instrs ≤ allocas_of_blocks bs
 entry_few [] = omega arith
 entry_few (b ∷ bs) = omega arith
 
