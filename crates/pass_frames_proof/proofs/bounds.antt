@@ -16,6 +16,7 @@ pub mod Paid
 pub mod Parts
 pub mod Returned
 pub mod Rows
+pub mod Slots
 pub mod Steps
 pub mod Totals
 pub mod Values

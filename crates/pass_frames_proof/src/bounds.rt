@@ -1,7 +1,8 @@
 //! How much is woven in: bounds of the code of a framed form, by numbers of the coroutine with blocks on edges.
 
-ghost use Rattle.std.specs.Prelude.{◌≡◌, ◌≢◌, ◌≤◌, ◌+◌, ◌*◌, ℕ, [], None, Option, Some, false, length, slice_get, true};
+ghost use Rattle.std.specs.Prelude.{◌≡◌, ◌≢◌, ◌≤◌, ◌+◌, ◌*◌, ℕ, Bool, [], None, Option, Some, false, length, slice_get, true};
 ghost use Rattle.ir_model.specs.declared.instr.Instr.{Instr};
+ghost use Rattle.ir_model.specs.declared.module.Block.{Block};
 ghost use Rattle.ir_model.specs.declared.module.Function.{Function};
 ghost use Rattle.ir_parts.specs.Contents.{instr_operands};
 ghost use Rattle.ir_paths.specs.declared.point.Point.{Point};
@@ -9,13 +10,15 @@ ghost use Rattle.pass_cells.specs.Written.{row_at};
 ghost use Rattle.pass_edges.specs.EdgeBlocks.{with_edge_blocks};
 ghost use Rattle.pass_frames_proof.specs.Bounds.{behind_of, more_of};
 ghost use Rattle.pass_frames_proof.specs.Code.{front_code};
-ghost use Rattle.pass_frames_proof.specs.Costs.{allocas_before, call_cost, instr_cost, jump_cost, whole};
+ghost use Rattle.pass_frames_proof.specs.Costs.{allocas_before, call_cost, instr_cost, jump_cost, slot_cost, whole};
 ghost use Rattle.pass_frames_proof.specs.Framings.{IsFraming};
 ghost use Rattle.pass_frames_proof.specs.Meaning.{behind_at, own_cost};
 ghost use Rattle.pass_frames_proof.specs.Numbers.{allocas_of_blocks, allocas_of_instrs, distances_of, gep_names_of, names_of, phis_of_blocks};
 ghost use Rattle.pass_frames_proof.specs.Passes.{block_at};
 ghost use Rattle.pass_frames_proof.specs.Phis.{IsOrdinaryBlock};
 ghost use Rattle.pass_frames_proof.specs.Places.{Framing, copies, edged, fetched, instrs_at, is_return, place, plan};
+ghost use Rattle.pass_renewed_proof.specs.Prices.{slots_in};
+ghost use Rattle.pass_renewed_proof.specs.Renewed.{renewed_in};
 
 /// A suspend has no more values that cross it than are kept.
 pub fn rows_are_short()
@@ -142,4 +145,13 @@ pub fn names_pay_for_instructions()
 /// With blocks on its edges a function has as many names.
 pub fn edges_have_no_names()
     ensures { (f : Function) → names_of (with_edge_blocks f) ≡ names_of f }
+{}
+
+/// The allocas before the first slot that is made anew, and what all these slots cost, are no more than all allocas in
+/// front of the entry.
+pub fn slots_are_paid_by_allocas()
+    ensures { (x : Framing) (at : ℕ) (i : Instr) → slice_get (instrs_at x 0) at ≡ Some i
+        → (flags : ℕ → Bool) (b : Block)
+        → allocas_before x (renewed_in flags (Some b) 0)
+        + slots_in (λ k. slot_cost x k (renewed_in flags (Some b) (k + 1))) flags (Some b) ≤ allocas_before x None }
 {}
