@@ -6,6 +6,7 @@ pub mod Codes
 pub mod Early
 pub mod Edges
 pub mod Ends
+pub mod Entry
 pub mod Jumps
 pub mod Lean
 pub mod Lengths

@@ -155,3 +155,9 @@ pub fn slots_are_paid_by_allocas()
         → allocas_before x (renewed_in flags (Some b) 0)
         + slots_in (λ k. slot_cost x k (renewed_in flags (Some b) (k + 1))) flags (Some b) ≤ allocas_before x None }
 {}
+
+/// No resume or destroy edge leads to the entry of a coroutine.
+pub fn entries_are_no_returns()
+    ensures { (x : Framing) → IsFraming x → slice_get (edged x).blocks 0 ≡ Some (block_at (edged x) 0)
+        → is_return x 0 ≡ false }
+{}
