@@ -93,62 +93,62 @@ unfolding celled
 celled_is x = refl
 
 module _ (x : Framing) (is : IsFraming x) (k : ℕ) (there : slice_get (edged x).blocks k ≡ Some (block_at (edged x) k))
-    where
-  abbrev label : ℕ
-  label = (block_at (edged x) k).label
+  where
+    abbrev label : ℕ
+    label = (block_at (edged x) k).label
 
-  loaded : (d : Block) × (slice_get (with_fetches (named x) (fetches_of (plan x)) (codes "$c.use.")).blocks k ≡ Some d)
-      × IsMadeBy (fetching_at (named x) (fetches_of (plan x)) k) (block_at (edged x) k) d
-  loaded = fetches_made (named x) (fetches_of (plan x)) (codes "$c.use.") k (block_at (edged x) k) there
+    loaded : (d : Block) × (slice_get (with_fetches (named x) (fetches_of (plan x)) (codes "$c.use.")).blocks k ≡ Some d)
+        × IsMadeBy (fetching_at (named x) (fetches_of (plan x)) k) (block_at (edged x) k) d
+    loaded = fetches_made (named x) (fetches_of (plan x)) (codes "$c.use.") k (block_at (edged x) k) there
 
-  loaded_there : slice_get (fetched x).blocks k ≡ Some loaded.0
-  loaded_there = fetched_is (plan x) (edged x) k loaded.0 loaded.1
+    loaded_there : slice_get (fetched x).blocks k ≡ Some loaded.0
+    loaded_there = fetched_is (plan x) (edged x) k loaded.0 loaded.1
 
-  pub loaded_label : (block_at (fetched x) k).label ≡ label
-  loaded_label = ap (λ (b : Block). b.label) (block_is (fetched x) k loaded.0 loaded_there) ∙ loaded.2.label
+    pub loaded_label : (block_at (fetched x) k).label ≡ label
+    loaded_label = ap (λ (b : Block). b.label) (block_is (fetched x) k loaded.0 loaded_there) ∙ loaded.2.label
 
-  pub written_label : (block_at (written x) k).label ≡ label
-  written_label =
-      let c = cells_made x.code (plan x) (fetched x) k loaded.0 loaded_there in
-      ap (λ (b : Block). b.label) (block_is (written x) k c.0 c.1) ∙ c.2.label ∙ loaded.2.label
+    pub written_label : (block_at (written x) k).label ≡ label
+    written_label =
+        let c = cells_made x.code (plan x) (fetched x) k loaded.0 loaded_there in
+        ap (λ (b : Block). b.label) (block_is (written x) k c.0 c.1) ∙ c.2.label ∙ loaded.2.label
 
-  module _ (unreturned : is_return x k ≡ false) where
-    not_listed : IsListed label (return_labels (suspends_of (edged x))) → ⊥
-    not_listed l =
-        let low : label < length (edged x).names =
-        label_low x.code is.position (edged x) is.frameable.rules k (block_at (edged x) k) there in
-        let long = flags_long (length (edged x).names) in
-        let flagged = resumed_flagged (replicate (length (edged x).names) false) (suspends_of (edged x)) label
-        (omega (arith, low, long)) l in
-        let no : true ≡ false = sym flagged ∙ unreturned in
-        absurd (cc)
+    module _ (unreturned : is_return x k ≡ false) where
+      not_listed : IsListed label (return_labels (suspends_of (edged x))) → ⊥
+      not_listed l =
+          let low : label < length (edged x).names =
+          label_low x.code is.position (edged x) is.frameable.rules k (block_at (edged x) k) there in
+          let long = flags_long (length (edged x).names) in
+          let flagged = resumed_flagged (replicate (length (edged x).names) false) (suspends_of (edged x)) label
+          (omega (arith, low, long)) l in
+          let no : true ≡ false = sym flagged ∙ unreturned in
+          absurd (cc)
 
-    same_suspends : suspends_of (written x) ≡ suspends_of (edged x)
-    same_suspends = ap suspends_of (sym (celled_is x)) ∙ is.frameable.suspends
+      same_suspends : suspends_of (written x) ≡ suspends_of (edged x)
+      same_suspends = ap suspends_of (sym (celled_is x)) ∙ is.frameable.suspends
 
-    unflagged : (b : Bool) → flag_at (resumed_at (written x)) label ≡ b → b ≡ false
-    unflagged false e = refl
-    unflagged true e =
-        absurd (not_listed (subst (λ (ss : List SuspendPoint). IsListed label (return_labels ss)) same_suspends
-        (resumed_listed (written x) label e)))
+      unflagged : (b : Bool) → flag_at (resumed_at (written x)) label ≡ b → b ≡ false
+      unflagged false e = refl
+      unflagged true e =
+          absurd (not_listed (subst (λ (ss : List SuspendPoint). IsListed label (return_labels ss)) same_suspends
+          (resumed_listed (written x) label e)))
 
-    untold : (o : Option ℕ) → entry (plan x).returns label ≡ o → o ≡ None
-    untold None e = refl
-    untold (Some j) e =
-        absurd (not_listed (returned_listed (length (edged x).names) (suspends_of (edged x)) label j e))
+      untold : (o : Option ℕ) → entry (plan x).returns label ≡ o → o ≡ None
+      untold None e = refl
+      untold (Some j) e =
+          absurd (not_listed (returned_listed (length (edged x).names) (suspends_of (edged x)) label j e))
 
-    pub unresumed : flag_at (copies x).resumed (block_at (written x) k).label ≡ false
-    unresumed =
-        ap (flag_at (resumed_at (written x))) written_label ∙ unflagged (flag_at (resumed_at (written x)) label) refl
+      pub unresumed : flag_at (copies x).resumed (block_at (written x) k).label ≡ false
+      unresumed =
+          ap (flag_at (resumed_at (written x))) written_label ∙ unflagged (flag_at (resumed_at (written x)) label) refl
 
-    pub none_returned : entry (plan x).returns (block_at (fetched x) k).label ≡ None
-    none_returned = ap (entry (plan x).returns) loaded_label ∙ untold (entry (plan x).returns label) refl
+      pub none_returned : entry (plan x).returns (block_at (fetched x) k).label ≡ None
+      none_returned = ap (entry (plan x).returns) loaded_label ∙ untold (entry (plan x).returns label) refl
 
-    pub ordinary : k ≢ 0 → IsOrdinaryBlock x k
-    ordinary later = record { later = later; unresumed = unresumed; unreturned = none_returned }
+      pub ordinary : k ≢ 0 → IsOrdinaryBlock x k
+      ordinary later = record { later = later; unresumed = unresumed; unreturned = none_returned }
 
-    pub ordinary_place : k ≢ 0 → (place x (record { block = k; at = 0 })).at ≤ length (block_at (fetched x) k).phis
-    ordinary_place later =
-        let a = (front_there x is k there unreturned (ordinary later)).place in
-        let b = phis_short (plan x) (block_at (fetched x) k).phis in
-        omega (arith, a, b)
+      pub ordinary_place : k ≢ 0 → (place x (record { block = k; at = 0 })).at ≤ length (block_at (fetched x) k).phis
+      ordinary_place later =
+          let a = (front_there x is k there unreturned (ordinary later)).place in
+          let b = phis_short (plan x) (block_at (fetched x) k).phis in
+          omega (arith, a, b)

@@ -181,7 +181,7 @@ module _ (t : List (Option Fetch)) where
         let e = weights_append t (saved_one n (slice_get kept at)) (saved_values kept (n + 1) row) in
         omega (arith, a, b, e)
 
--- ---- copies at begin, and addresses that are put into cells
+  -- ---- copies at begin, and addresses that are put into cells
 
   -- no temporary of these slots, and no cell, has an address in the frame
   abbrev pub AreFree : List EarlySlot → Type 0

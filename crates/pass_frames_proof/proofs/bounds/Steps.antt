@@ -114,84 +114,84 @@ module _ {S : Type 0} (L : Layer S) (is : List Instr) (at : ℕ) (i : Instr) whe
 
 module _ (x : Framing) (is : IsFraming x)
     (rows : (o : Option ℕ) → length (row_at (plan x).rows o) ≤ length (plan x).kept)
-    where
-  module _ (k at : ℕ) (i : Instr) (e : slice_get (instrs_at x k) at ≡ Some i) where
-    abbrev few : ℕ
-    few = 2 + length (instr_operands i) + more_of x i
+  where
+    module _ (k at : ℕ) (i : Instr) (e : slice_get (instrs_at x k) at ≡ Some i) where
+      abbrev few : ℕ
+      few = 2 + length (instr_operands i) + more_of x i
 
-    placed_few : length (becomes (placed_layer x k) (state_at (placed_layer x k) (instrs_at x k) at) i) ≤ few
-    placed_few =
-        let a = ap length (instr_code x k (state_at (placed_layer x k) (instrs_at x k) at) i
-        (parts_left x is k at i e)) in
-        let b = codes_short x is rows k at i e in
-        omega (arith, a, b)
+      placed_few : length (becomes (placed_layer x k) (state_at (placed_layer x k) (instrs_at x k) at) i) ≤ few
+      placed_few =
+          let a = ap length (instr_code x k (state_at (placed_layer x k) (instrs_at x k) at) i
+          (parts_left x is k at i e)) in
+          let b = codes_short x is rows k at i e in
+          omega (arith, a, b)
 
-    placed_behind : length ((placed_layer x k).behind (state_at (placed_layer x k) (instrs_at x k) at) i)
-        ≤ 1 + behind_of x i
-    placed_behind =
-        let far = names_far x is k at in
-        behind_short x k (state_at (placed_layer x k) (instrs_at x k) at) i (parts_left x is k at i e) is
-        rows far.0 far.1
+      placed_behind : length ((placed_layer x k).behind (state_at (placed_layer x k) (instrs_at x k) at) i)
+          ≤ 1 + behind_of x i
+      placed_behind =
+          let far = names_far x is k at in
+          behind_short x k (state_at (placed_layer x k) (instrs_at x k) at) i (parts_left x is k at i e) is
+          rows far.0 far.1
 
-  module _ (at : ℕ) (i : Instr) (e : slice_get (instrs_at x 0) at ≡ Some i) where
-    entry_few : length (becomes (entry_layer x) (state_at (entry_layer x) (instrs_at x 0) at) i) ≤ few 0 at i e
-    entry_few =
-        let a = led_short (placed_layer x 0) (instrs_at x 0) at i in
-        let b = placed_few 0 at i e in
-        omega (arith, a, b)
+    module _ (at : ℕ) (i : Instr) (e : slice_get (instrs_at x 0) at ≡ Some i) where
+      entry_few : length (becomes (entry_layer x) (state_at (entry_layer x) (instrs_at x 0) at) i) ≤ few 0 at i e
+      entry_few =
+          let a = led_short (placed_layer x 0) (instrs_at x 0) at i in
+          let b = placed_few 0 at i e in
+          omega (arith, a, b)
 
-    entry_behind : length ((entry_layer x).behind (state_at (entry_layer x) (instrs_at x 0) at) i) ≤ 1 + behind_of x i
-    entry_behind =
-        let a = led_follows (placed_layer x 0) (instrs_at x 0) at i in
-        let b = placed_behind 0 at i e in
-        omega (arith, a, b)
+      entry_behind : length ((entry_layer x).behind (state_at (entry_layer x) (instrs_at x 0) at) i) ≤ 1 + behind_of x i
+      entry_behind =
+          let a = led_follows (placed_layer x 0) (instrs_at x 0) at i in
+          let b = placed_behind 0 at i e in
+          omega (arith, a, b)
 
-  -- by whether a resume or destroy edge leads to the block, and whether it is the entry
-  module _ (k at : ℕ) (i : Instr) (e : slice_get (instrs_at x k) at ≡ Some i) where
-    abbrev n : ℕ
-    n = 2 + length (instr_operands i) + more_of x i
+    -- by whether a resume or destroy edge leads to the block, and whether it is the entry
+    module _ (k at : ℕ) (i : Instr) (e : slice_get (instrs_at x k) at ≡ Some i) where
+      abbrev n : ℕ
+      n = 2 + length (instr_operands i) + more_of x i
 
-    abbrev p : Point
-    p = record { block = k; at = at }
+      abbrev p : Point
+      p = record { block = k; at = at }
 
-    abbrev q : Point
-    q = record { block = k; at = at + 1 }
+      abbrev q : Point
+      q = record { block = k; at = at + 1 }
 
-    at_entry : (k == 0) ≡ true → slice_get (instrs_at x 0) at ≡ Some i
-    at_entry z = subst (λ (j : ℕ). slice_get (instrs_at x j) at ≡ Some i) (equal_numbers k 0 z) e
+      at_entry : (k == 0) ≡ true → slice_get (instrs_at x 0) at ≡ Some i
+      at_entry z = subst (λ (j : ℕ). slice_get (instrs_at x j) at ≡ Some i) (equal_numbers k 0 z) e
 
-    next_by : (r z : Bool) → (k == 0) ≡ z → place_by x q r z ≤ place_by x p r z + n
-    next_by true z d = omega arith
-    next_by false true d =
-        next_short (entry_layer x) (instrs_at x 0) at i (at_entry d) n (entry_few at i (at_entry d))
-    next_by false false d = next_short (placed_layer x k) (instrs_at x k) at i e n (placed_few k at i e)
+      next_by : (r z : Bool) → (k == 0) ≡ z → place_by x q r z ≤ place_by x p r z + n
+      next_by true z d = omega arith
+      next_by false true d =
+          next_short (entry_layer x) (instrs_at x 0) at i (at_entry d) n (entry_few at i (at_entry d))
+      next_by false false d = next_short (placed_layer x k) (instrs_at x k) at i e n (placed_few k at i e)
 
-    pub cost_short : instr_cost x p ≤ n
-    cost_short = let a = next_by (is_return x k) (k == 0) refl in omega (arith, a)
+      pub cost_short : instr_cost x p ≤ n
+      cost_short = let a = next_by (is_return x k) (k == 0) refl in omega (arith, a)
 
-    own_by : (z : Bool) → (k == 0) ≡ z → own_place_by x p z ≤ place_by x p false z + n
-    own_by true d = own_short (entry_layer x) (instrs_at x 0) at i (at_entry d) n (entry_few at i (at_entry d))
-    own_by false d = own_short (placed_layer x k) (instrs_at x k) at i e n (placed_few k at i e)
+      own_by : (z : Bool) → (k == 0) ≡ z → own_place_by x p z ≤ place_by x p false z + n
+      own_by true d = own_short (entry_layer x) (instrs_at x 0) at i (at_entry d) n (entry_few at i (at_entry d))
+      own_by false d = own_short (placed_layer x k) (instrs_at x k) at i e n (placed_few k at i e)
 
-    pub own_few : is_return x k ≡ false → own_cost x p ≤ 3 + length (instr_operands i) + more_of x i
-    own_few r =
-        let a = own_by (k == 0) refl in
-        let b : place_by x p (is_return x k) (k == 0) ≡ place_by x p false (k == 0) =
-        ap (λ (c : Bool). place_by x p c (k == 0)) r in
-        omega (arith, a, b)
+      pub own_few : is_return x k ≡ false → own_cost x p ≤ 3 + length (instr_operands i) + more_of x i
+      own_few r =
+          let a = own_by (k == 0) refl in
+          let b : place_by x p (is_return x k) (k == 0) ≡ place_by x p false (k == 0) =
+          ap (λ (c : Bool). place_by x p c (k == 0)) r in
+          omega (arith, a, b)
 
-    follows_by : (r z : Bool) → (k == 0) ≡ z → place_by x q r z ≤ own_place_by x p z + 1 + (1 + behind_of x i)
-    follows_by true z d = omega arith
-    follows_by false true d =
-        behind_few (entry_layer x) (instrs_at x 0) at i (at_entry d) (1 + behind_of x i)
-        (entry_behind at i (at_entry d))
-    follows_by false false d =
-        behind_few (placed_layer x k) (instrs_at x k) at i e (1 + behind_of x i) (placed_behind k at i e)
+      follows_by : (r z : Bool) → (k == 0) ≡ z → place_by x q r z ≤ own_place_by x p z + 1 + (1 + behind_of x i)
+      follows_by true z d = omega arith
+      follows_by false true d =
+          behind_few (entry_layer x) (instrs_at x 0) at i (at_entry d) (1 + behind_of x i)
+          (entry_behind at i (at_entry d))
+      follows_by false false d =
+          behind_few (placed_layer x k) (instrs_at x k) at i e (1 + behind_of x i) (placed_behind k at i e)
 
-    pub behind_cost_short : behind_at x k (at + 1) ≤ 1 + behind_of x i
-    behind_cost_short =
-        let a = follows_by (is_return x k) (k == 0) refl in
-        let same : at + 1 - 1 ≡ at = omega arith in
-        let b : own_place_by x (record { block = k; at = at + 1 - 1 }) (k == 0) ≡ own_place_by x p (k == 0) =
-        ap (λ (j : ℕ). own_place_by x (record { block = k; at = j }) (k == 0)) same in
-        omega (arith, a, b)
+      pub behind_cost_short : behind_at x k (at + 1) ≤ 1 + behind_of x i
+      behind_cost_short =
+          let a = follows_by (is_return x k) (k == 0) refl in
+          let same : at + 1 - 1 ≡ at = omega arith in
+          let b : own_place_by x (record { block = k; at = at + 1 - 1 }) (k == 0) ≡ own_place_by x p (k == 0) =
+          ap (λ (j : ℕ). own_place_by x (record { block = k; at = j }) (k == 0)) same in
+          omega (arith, a, b)
