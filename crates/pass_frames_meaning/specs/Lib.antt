@@ -6,3 +6,4 @@ pub mod Others
 pub mod Plain
 pub mod Setting
 pub mod Spared
+pub mod Standing

@@ -1,10 +1,17 @@
 //! Ordinary instructions of coroutines stand as the laws on them ask.
 
-ghost use Rattle.std.specs.Prelude.{◌≡◌, true};
+ghost use Rattle.std.specs.Prelude.{◌≡◌, ℕ, None, Some, true};
 ghost use Rattle.ir_base.specs.declared.outcome.Outcome.{Outcome};
 ghost use Rattle.ir_model.specs.declared.instr.Instr.{Instr};
+ghost use Rattle.ir_parts.specs.Contents.{result_of};
+ghost use Rattle.pass_cells.specs.Kept.{entry};
 ghost use Rattle.pass_frames_meaning.specs.Ordinary.{MayBeOrdinary};
+ghost use Rattle.pass_frames_meaning.specs.Plain.{IsNoAlloca};
 ghost use Rattle.pass_frames_meaning.specs.Setting.{KeepsAll, Setting};
+ghost use Rattle.pass_frames_meaning.specs.Standing.{IsStaying, MayStand};
+ghost use Rattle.pass_frames_proof.specs.Here.{IsHere, IsLined};
+ghost use Rattle.pass_frames_proof.specs.Operands.{IsAtFetch};
+ghost use Rattle.pass_frames_proof.specs.Places.{plan};
 ghost use Rattle.pass_frames_proof.specs.Related.{is_coroutine};
 ghost use Rattle.pass_frames_proof.specs.Stepping.{IsAtOrdinary, IsCommon, IsNotEntering};
 ghost use Rattle.run_source.specs.Source.{context_of};
@@ -20,4 +27,19 @@ pub fn ordinary_instructions_are_ready()
         → fetch (function_of c.g.given s) s.top.block s.top.at ≡ AtInstr i → IsCommon i → (v : Work)
         → instr_action (context_of c.g.given s) (work_of s) i ≡ Done v → MayBeOrdinary c s i v
         → IsAtOrdinary c.b c.g s i v }
+{}
+
+/// So is it for instructions whose operands are fetched, but that are calls, say, or are followed on a line. These are no
+/// markers and name no promise.
+pub fn fetched_instructions_are_ready()
+    ensures fetched { (c : Setting) → KeepsAll c → (s : TheState) → IsSound c.g.given.code s
+        → is_coroutine c.b s.top.func ≡ true → IsNotEntering s.top.mode → (i : Instr)
+        → fetch (function_of c.g.given s) s.top.block s.top.at ≡ AtInstr i → IsStaying i → MayStand c s i
+        → IsAtFetch c.b s i }
+    ensures lined { (c : Setting) → KeepsAll c → (s : TheState) → IsSound c.g.given.code s
+        → is_coroutine c.b s.top.func ≡ true → IsNotEntering s.top.mode → (i : Instr)
+        → fetch (function_of c.g.given s) s.top.block s.top.at ≡ AtInstr i → IsStaying i → MayStand c s i
+        → IsNoAlloca i
+        → ((r : ℕ) → result_of i ≡ Some r → entry (plan (c.b.framing s.top.func)).cells r ≡ None)
+        → s.outcome ≡ Outcome.Running → IsLined i → IsHere c.b s i }
 {}

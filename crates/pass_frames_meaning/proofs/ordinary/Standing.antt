@@ -1,0 +1,137 @@
+-- An instruction of a coroutine stands as laws on fetched instructions ask.
+use Rattle.std.proofs.Common.{◌≡◌, ℕ, Bool, true, List, length, Option, Some, None, refl, ap, ◌∙◌}
+use Rattle.std.specs.Prelude.{slice_get}
+use Rattle.ir_base.specs.declared.outcome.Outcome.{Outcome}
+use Rattle.ir_model.specs.Names.{function_at}
+use Rattle.ir_model.specs.Ty.{Ty}
+use Rattle.ir_model.specs.declared.instr.Instr.{Instr}
+use Rattle.ir_model.specs.declared.module.Function.{Function}
+use Rattle.ir_model.specs.declared.operand.Arg.{Arg}
+use Rattle.ir_model.specs.declared.operand.Callee.{Callee}
+use Rattle.ir_model.specs.declared.operand.Intrinsic.{Intrinsic}
+use Rattle.ir_parts.specs.Contents.{result_of}
+use Rattle.pass_addresses.specs.Placing.{stays, without_promise_of}
+use Rattle.pass_cells.specs.Cells.{fetches_of}
+use Rattle.pass_cells.specs.Kept.{entry}
+use Rattle.pass_fetch.specs.Fetching.{callee_by, fetch_of_callee}
+use Rattle.pass_fetch.specs.Instrs.{with_fetched}
+use Rattle.pass_fetch.specs.declared.fetch.Fetch.{Fetch}
+use Rattle.pass_frames_meaning.proofs.begun.Begun.{begin_plain}
+use Rattle.pass_frames_meaning.proofs.order.Order.{names_in_order}
+use Rattle.pass_frames_meaning.proofs.others.Names.{alloca_apart, plain_by, result_low}
+use Rattle.pass_frames_meaning.proofs.others.Returns.{instr_in, no_return}
+use Rattle.pass_frames_meaning.proofs.placed.Placed.{offsets_placed}
+use Rattle.pass_frames_meaning.specs.Plain.{IsNoAlloca}
+use Rattle.pass_frames_meaning.specs.Setting.{KeepsAll, Setting}
+use Rattle.pass_frames_meaning.specs.Standing.{IsStaying, MayStand}
+use Rattle.pass_frames_proof.specs.Code.{load_name}
+use Rattle.pass_frames_proof.specs.Framings.{IsFraming}
+use Rattle.pass_frames_proof.specs.Here.{IsHere, IsLined, IsOnLine}
+use Rattle.pass_frames_proof.specs.Operands.{IsAtFetch}
+use Rattle.pass_frames_proof.specs.Places.{Framing, edged, instrs_at, marked, plan}
+use Rattle.pass_frames_proof.specs.Related.{is_coroutine}
+use Rattle.pass_frames_proof.specs.Stepping.{AreNamesInOrder, IsNotEntering, state_in}
+use Rattle.run_source.specs.State.{function_of}
+use Rattle.run_source.specs.declared.state.State.{State}
+use Rattle.run_states.specs.sound_states.Sound.{IsSound}
+use Rattle.run_step.specs.Step.{AtInstr, fetch}
+
+-- ---- it stays, with what is loaded
+
+call_kept : (m : List Bool) (n v : ℕ) (o : Option Fetch) (r : Option ℕ) (must_tail : Bool) (ty : Option Ty)
+    (args : List Arg) → stays m (Instr.Call r must_tail ty (callee_by n o (Callee.Local v)) args) ≡ true
+call_kept m n v None r must_tail ty args = refl
+call_kept m n v (Some f) r must_tail ty args = refl
+
+call_same : (n v : ℕ) (o : Option Fetch) (r : Option ℕ) (must_tail : Bool) (ty : Option Ty) (args : List Arg)
+    → without_promise_of (Instr.Call r must_tail ty (callee_by n o (Callee.Local v)) args)
+    ≡ Instr.Call r must_tail ty (callee_by n o (Callee.Local v)) args
+call_same n v None r must_tail ty args = refl
+call_same n v (Some f) r must_tail ty args = refl
+
+kept : (m : List Bool) (t : List (Option Fetch)) (n : ℕ) (i : Instr) → IsStaying i
+    → stays m (with_fetched t n i) ≡ true
+kept m t n (Instr.Call r must_tail ty (Callee.Local v) args) h =
+    call_kept m n v (fetch_of_callee t (Callee.Local v)) r must_tail ty _
+kept m t n (Instr.Call r must_tail ty (Callee.Intrinsic Intrinsic.LifetimeStart) args) h = absurd h
+kept m t n (Instr.Call r must_tail ty (Callee.Intrinsic Intrinsic.LifetimeEnd) args) h = absurd h
+kept m t n (Instr.Call r must_tail ty (Callee.Intrinsic Intrinsic.CoroId) args) h = absurd h
+kept m t n _ h = refl
+
+same_there : (t : List (Option Fetch)) (n : ℕ) (i : Instr) → IsStaying i
+    → without_promise_of (with_fetched t n i) ≡ with_fetched t n i
+same_there t n (Instr.Call r must_tail ty (Callee.Local v) args) h =
+    call_same n v (fetch_of_callee t (Callee.Local v)) r must_tail ty _
+same_there t n (Instr.Call r must_tail ty (Callee.Intrinsic Intrinsic.LifetimeStart) args) h = absurd h
+same_there t n (Instr.Call r must_tail ty (Callee.Intrinsic Intrinsic.LifetimeEnd) args) h = absurd h
+same_there t n (Instr.Call r must_tail ty (Callee.Intrinsic Intrinsic.CoroId) args) h = absurd h
+same_there t n _ h = refl
+
+-- ---- the state
+
+module _ (c : Setting) (all : KeepsAll c) (s : State) (sound : IsSound c.g.given.code s)
+    (coroutine : is_coroutine c.b s.top.func ≡ true) (mode : IsNotEntering s.top.mode) (i : Instr)
+    (there : fetch (function_of c.g.given s) s.top.block s.top.at ≡ AtInstr i) (staying : IsStaying i)
+    (o : MayStand c s i) where
+  abbrev x : Framing
+  x = c.b.framing s.top.func
+
+  is : IsFraming x
+  is = all.given.framings s.top.func coroutine
+
+  same : function_at c.g.given.code s.top.func ≡ edged x
+  same = all.given.coroutines s.top.func coroutine
+
+  stands : slice_get (instrs_at x s.top.block) s.top.at ≡ Some i
+  stands = instr_in x (function_at c.g.given.code s.top.func) same s.top.block s.top.at i there
+
+  order : AreNamesInOrder x (state_in x s.top.block s.top.at) i
+  order = names_in_order x is s.top.block s.top.at i stands o.unlocated
+      (kept (marked x) (fetches_of (plan x)) (load_name (state_in x s.top.block s.top.at)) i staying)
+      (same_there (fetches_of (plan x)) (load_name (state_in x s.top.block s.top.at)) i staying)
+
+  room : length s.top.values ≡ length (edged x).names
+  room = sound.top.values ∙ ap (λ (f : Function). length f.names) same
+
+  pub fetch_ready : IsAtFetch c.b s i
+  fetch_ready = record {
+    coroutine = coroutine;
+    mode = mode;
+    there = stands;
+    unreturned = no_return c all s.top.func s.top.block s.top.at i coroutine there;
+    order = order;
+    below = o.below;
+    begin = begin_plain x is;
+    offsets = offsets_placed x is o.position o.rules;
+    room = room;
+    operands = o.operands;
+  }
+
+  module _ (other : IsNoAlloca i)
+      (undistanced : (r : ℕ) → result_of i ≡ Some r → entry (plan (c.b.framing s.top.func)).cells r ≡ None) where
+    pub line_ready : IsOnLine c.b s.top i
+    line_ready = record {
+      coroutine = coroutine;
+      mode = mode;
+      there = stands;
+      unreturned = no_return c all s.top.func s.top.block s.top.at i coroutine there;
+      unmeasured = λ r e. plain_by x is s.top.block s.top.at i stands r e other (undistanced r e);
+      order = order;
+      room = room;
+      allocas = λ at u align ty e. (
+        result_low x is 0 at u (Instr.Alloca u ty align) e refl,
+        λ q. alloca_apart x is s.top.block s.top.at i stands u q other 0 at align ty e,
+      );
+    }
+
+    pub here_ready : s.outcome ≡ Outcome.Running → IsLined i → IsHere c.b s i
+    here_ready runs lined = record {
+      runs = runs;
+      on = line_ready;
+      lined = lined;
+      unlocated = o.unlocated;
+      below = o.below;
+      begin = begin_plain x is;
+      offsets = offsets_placed x is o.position o.rules;
+      operands = o.operands;
+    }
