@@ -1,5 +1,6 @@
 -- What is asked of the two modules between which frames are built, and what is known of states of both runs.
 use Rattle.std.specs.Prelude.{◌≡◌, ◌∷◌, ℕ, Bool, false, true, List, Option}
+use Rattle.ir_laws.specs.facts.sound_states.Named.{AreUsesNamed}
 use Rattle.ir_model.specs.Names.{function_at}
 use Rattle.ir_model.specs.Ty.{Ty}
 use Rattle.ir_model.specs.declared.instr.Instr.{Instr}
@@ -40,6 +41,8 @@ pub record KeepsAll (c : Setting) : Type 0 where
   pub given : AreGiven c.b c.g
   -- no function breaks a rule of functions
   pub rules : AllKeepFunctionRules c.g.given.code
+  -- each operand is a name of the table; blocks on edges keep this
+  pub uses : AreUsesNamed c.g.given.code
   pub steps : (func : ℕ) → KeepsStepRules c.g.given.code (function_at c.g.given.code func)
   pub types : KeepsAllTypes c.g.given.code
   pub same_types : c.b.framed_code.types ≡ c.g.given.code.types

@@ -1,12 +1,10 @@
 -- What instructions of coroutines ask besides rules and what is known of both runs.
-use Rattle.std.specs.Prelude.{ℕ, length}
+use Rattle.std.specs.Prelude.{ℕ}
 use Rattle.ir_model.specs.declared.instr.Instr.{Instr}
 use Rattle.ir_model.specs.declared.operand.Callee.{Callee}
 use Rattle.ir_model.specs.declared.operand.Intrinsic.{Intrinsic}
 use Rattle.ir_parts.specs.Contents.{instr_operands}
 use Rattle.pass_frames_meaning.specs.Setting.{Setting}
-use Rattle.pass_frames_proof.specs.Distances.{IsBelow}
-use Rattle.pass_frames_proof.specs.Places.{edged}
 use Rattle.pass_frames_proof.specs.Stepping.{IsPlacedOperand, IsUnlocated, state_in}
 use Rattle.rule_laws.specs.rules.function_rules.Kept.{KeepsFunctionRules}
 use Rattle.run_laws.specs.changed.Changed.{Each}
@@ -25,7 +23,5 @@ pub record MayStand (c : Setting) (s : State) (i : Instr) : Type 0 where
   pub rules : KeepsFunctionRules (c.b.framing s.top.func).code position (c.b.framing s.top.func).function
   -- it accesses no slot that is used before begin
   pub unlocated : IsUnlocated (c.b.framing s.top.func) (state_in (c.b.framing s.top.func) s.top.block s.top.at) i
-  -- by the rule on uses each operand is a name of the coroutine
-  pub below : Each (IsBelow (length (edged (c.b.framing s.top.func)).names)) (instr_operands i)
   -- the name of a slot has its address, or poison, and begin's value is the instance's frame
   pub operands : Each (IsPlacedOperand (c.b.framing s.top.func) s) (instr_operands i)

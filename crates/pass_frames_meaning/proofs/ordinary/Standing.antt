@@ -1,15 +1,20 @@
 -- An instruction of a coroutine stands as laws on fetched instructions ask.
-use Rattle.std.proofs.Common.{◌≡◌, ℕ, Bool, true, List, length, Option, Some, None, refl, ap, ◌∙◌}
-use Rattle.std.specs.Prelude.{slice_get}
+use Rattle.std.proofs.Common.{◌≡◌, ℕ, Bool, true, List, length, Option, Some, None, refl, sym, ap, ◌∙◌, subst}
+use Rattle.std.specs.Prelude.{slice_get, unwrap_or}
 use Rattle.ir_base.specs.declared.outcome.Outcome.{Outcome}
+use Rattle.ir_laws.proofs.facts.Members.{at_each, each_turns}
+use Rattle.ir_laws.specs.facts.expanded.Tokens.{IsNamed}
+use Rattle.ir_laws.specs.facts.sound_states.Named.{HasNamedUses}
 use Rattle.ir_model.specs.Names.{function_at}
 use Rattle.ir_model.specs.Ty.{Ty}
 use Rattle.ir_model.specs.declared.instr.Instr.{Instr}
+use Rattle.ir_model.specs.declared.module.Block.{Block}
 use Rattle.ir_model.specs.declared.module.Function.{Function}
 use Rattle.ir_model.specs.declared.operand.Arg.{Arg}
 use Rattle.ir_model.specs.declared.operand.Callee.{Callee}
 use Rattle.ir_model.specs.declared.operand.Intrinsic.{Intrinsic}
-use Rattle.ir_parts.specs.Contents.{result_of}
+use Rattle.ir_model.specs.declared.operand.Operand.{Operand}
+use Rattle.ir_parts.specs.Contents.{instr_operands, result_of}
 use Rattle.pass_addresses.specs.Placing.{stays, without_promise_of}
 use Rattle.pass_cells.specs.Cells.{fetches_of}
 use Rattle.pass_cells.specs.Kept.{entry}
@@ -25,12 +30,16 @@ use Rattle.pass_frames_meaning.specs.Plain.{IsNoAlloca}
 use Rattle.pass_frames_meaning.specs.Setting.{KeepsAll, Setting}
 use Rattle.pass_frames_meaning.specs.Standing.{IsStaying, MayStand}
 use Rattle.pass_frames_proof.specs.Code.{load_name}
+use Rattle.pass_frames_proof.specs.Distances.{IsBelow}
 use Rattle.pass_frames_proof.specs.Framings.{IsFraming}
 use Rattle.pass_frames_proof.specs.Here.{IsHere, IsLined, IsOnLine}
 use Rattle.pass_frames_proof.specs.Operands.{IsAtFetch}
+use Rattle.pass_frames_proof.specs.Passes.{no_block}
 use Rattle.pass_frames_proof.specs.Places.{Framing, edged, instrs_at, marked, plan}
 use Rattle.pass_frames_proof.specs.Related.{is_coroutine}
 use Rattle.pass_frames_proof.specs.Stepping.{AreNamesInOrder, IsNotEntering, state_in}
+use Rattle.rule_laws.proofs.rules.renamed.Uses.{operands_spelt}
+use Rattle.run_laws.specs.changed.Changed.{Each, operands_of}
 use Rattle.run_source.specs.State.{function_of}
 use Rattle.run_source.specs.declared.state.State.{State}
 use Rattle.run_states.specs.sound_states.Sound.{IsSound}
@@ -67,6 +76,12 @@ same_there t n (Instr.Call r must_tail ty (Callee.Intrinsic Intrinsic.LifetimeEn
 same_there t n (Instr.Call r must_tail ty (Callee.Intrinsic Intrinsic.CoroId) args) h = absurd h
 same_there t n _ h = refl
 
+-- ---- operands
+
+below_named : (n : ℕ) (o : Operand) → IsNamed n o → IsBelow n o
+below_named n (Operand.Local v) h = h
+below_named n _ h = tt
+
 -- ---- the state
 
 module _ (c : Setting) (all : KeepsAll c) (s : State) (sound : IsSound c.g.given.code s)
@@ -93,6 +108,22 @@ module _ (c : Setting) (all : KeepsAll c) (s : State) (sound : IsSound c.g.given
   room : length s.top.values ≡ length (edged x).names
   room = sound.top.values ∙ ap (λ (f : Function). length f.names) same
 
+  below : Each (IsBelow (length (edged x).names)) (instr_operands i)
+  below = on (slice_get (edged x).blocks s.top.block) refl stands
+    where
+      uses : HasNamedUses (edged x)
+      uses = subst HasNamedUses same (all.uses s.top.func)
+
+      on : (q : Option Block) → slice_get (edged x).blocks s.top.block ≡ q
+          → slice_get (unwrap_or q no_block).instrs s.top.at ≡ Some i
+          → Each (IsBelow (length (edged x).names)) (instr_operands i)
+      on None d h = absurd (cc)
+      on (Some b) d h =
+          subst (λ (os : List Operand). Each (IsBelow (length (edged x).names)) os) (sym (operands_spelt i))
+          (each_turns (IsNamed (length (edged x).names)) (IsBelow (length (edged x).names))
+          (below_named (length (edged x).names)) (operands_of i)
+          (at_each _ b.instrs s.top.at i (at_each _ (edged x).blocks s.top.block b uses.operands d) h))
+
   pub fetch_ready : IsAtFetch c.b s i
   fetch_ready = record {
     coroutine = coroutine;
@@ -100,7 +131,7 @@ module _ (c : Setting) (all : KeepsAll c) (s : State) (sound : IsSound c.g.given
     there = stands;
     unreturned = no_return c all s.top.func s.top.block s.top.at i coroutine there;
     order = order;
-    below = o.below;
+    below = below;
     begin = begin_plain x is;
     offsets = offsets_placed x is o.position o.rules;
     room = room;
@@ -130,7 +161,7 @@ module _ (c : Setting) (all : KeepsAll c) (s : State) (sound : IsSound c.g.given
       on = line_ready;
       lined = lined;
       unlocated = o.unlocated;
-      below = o.below;
+      below = below;
       begin = begin_plain x is;
       offsets = offsets_placed x is o.position o.rules;
       operands = o.operands;
