@@ -140,6 +140,7 @@ pub fn names_pay_for_instructions()
     ensures none { (x : Framing) (p : Point) → slice_get (instrs_at x p.block) p.at ≡ None → instr_cost x p ≡ 0 }
     ensures none_behind { (x : Framing) (p : Point) → slice_get (instrs_at x p.block) p.at ≡ None
         → behind_at x p.block (p.at + 1) ≡ 0 }
+    ensures first_behind { (x : Framing) (block : ℕ) → behind_at x block 0 ≡ 0 }
 {}
 
 /// With blocks on its edges a function has as many names.

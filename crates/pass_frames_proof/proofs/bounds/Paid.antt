@@ -119,3 +119,16 @@ module _ (x : Framing) (k at : ℕ) (e : slice_get (instrs_at x k) at ≡ None) 
       let b : own_place_by x (record { block = k; at = at + 1 - 1 }) (k == 0) ≡ own_place_by x here (k == 0) =
       ap (λ (j : ℕ). own_place_by x (record { block = k; at = j }) (k == 0)) same in
       omega (arith, a, b)
+
+-- in front of the first instruction stands nothing of a call
+module _ (x : Framing) (k : ℕ) where
+  abbrev front : Point
+  front = record { block = k; at = 0 }
+
+  first_by : (r z : Bool) → place_by x front r z ≤ own_place_by x front z
+  first_by true z = omega arith
+  first_by false true = omega arith
+  first_by false false = omega arith
+
+  pub first_behind : behind_at x k 0 ≡ 0
+  first_behind = let a = first_by (is_return x k) (k == 0) in omega (arith, a)

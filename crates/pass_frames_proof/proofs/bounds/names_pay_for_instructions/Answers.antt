@@ -1,4 +1,4 @@
-use Rattle.pass_frames_proof.proofs.bounds.Paid.{behind_paid, instr_paid, none_behind, none_cost}
+use Rattle.pass_frames_proof.proofs.bounds.Paid.{behind_paid, first_behind, instr_paid, none_behind, none_cost}
 use Rattle.pass_frames_proof.proofs.bounds.names_pay_for_instructions.Goals as goal
 
 pub returns-clause-cost : goal.returns-clause-cost
@@ -12,3 +12,6 @@ returns-clause-none c = λ x p e. none_cost x p.block p.at e
 
 pub returns-clause-none_behind : goal.returns-clause-none_behind
 returns-clause-none_behind c = λ x p e. none_behind x p.block p.at e
+
+pub returns-clause-first_behind : goal.returns-clause-first_behind
+returns-clause-first_behind c = first_behind
