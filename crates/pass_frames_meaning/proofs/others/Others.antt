@@ -184,7 +184,8 @@ module _ (c : Setting) (all : KeepsAll c) (s t : State) (r : AreBuiltOf c.b s t)
   no_gift = (calm_by s.top.mode fits).1
 
   spared : AreFieldsSpared c.b s t r
-  spared = fields_spared c.b s t r (listed_slots s k.slots) (slots_listed s k.slots) (slots_apart t k.other_slots) (instances_placed s k.slots) k.fields (no_returns_below c all s k.called.below)
+  spared = fields_spared c.b s t r (listed_slots s k.slots) (slots_listed s k.slots) (slots_apart t k.other_slots)
+      (instances_placed s k.slots) k.fields (no_returns_below c all s k.called.below)
 
   -- K1
   no_window : HasNoWindows c.b c.g s.top.func
@@ -444,7 +445,8 @@ module _ (c : Setting) (all : KeepsAll c) (s t : State) (r : AreBuiltOf c.b s t)
           there = there ∙ ap (λ (o : Option ℕ). AtInstr (Instr.Call o must_tail ty (Callee.Allocator a) args)) none;
           frees = is;
           does = z.1;
-          giving = given_back c.b s t r (listed_slots s k.slots) (slots_listed s k.slots) (instances_placed s k.slots) (frames_owned s k.slots) (no_heap_slots t k.other_slots) may_make.inside
+          giving = given_back c.b s t r (listed_slots s k.slots) (slots_listed s k.slots)
+              (instances_placed s k.slots) (frames_owned s k.slots) (no_heap_slots t k.other_slots) may_make.inside
               (address (nth (arg_values c.g.given.code s.top.values args) 0)) z.0 z.1;
         })
 
@@ -530,10 +532,12 @@ module _ (c : Setting) (all : KeepsAll c) (s t : State) (r : AreBuiltOf c.b s t)
     intrinsics enters Intrinsic.MemcpyI32 there = copies Intrinsic.MemcpyI32 tt refl there
         (quiet_copied (context_of c.g.given s) (work_of s) (arg_values c.g.given.code s.top.values args))
     intrinsics enters Intrinsic.LifetimeStart there = marks true there (inl refl) refl
-        (two_wanted (want Basic.I64 Demand.Number) (any Basic.Ptr) args (args_wanted c.g.given.code (function_at c.g.given.code s.top.func) (all.types s.top.func)
+        (two_wanted (want Basic.I64 Demand.Number) (any Basic.Ptr) args (args_wanted c.g.given.code
+        (function_at c.g.given.code s.top.func) (all.types s.top.func)
         s.top.block s.top.at result must_tail ty Intrinsic.LifetimeStart args there))
     intrinsics enters Intrinsic.LifetimeEnd there = marks false there (inr refl) refl
-        (two_wanted (want Basic.I64 Demand.Number) (any Basic.Ptr) args (args_wanted c.g.given.code (function_at c.g.given.code s.top.func) (all.types s.top.func)
+        (two_wanted (want Basic.I64 Demand.Number) (any Basic.Ptr) args (args_wanted c.g.given.code
+        (function_at c.g.given.code s.top.func) (all.types s.top.func)
         s.top.block s.top.at result must_tail ty Intrinsic.LifetimeEnd args there))
     intrinsics enters Intrinsic.CoroDone there = asks Intrinsic.CoroDone tt there refl
     intrinsics enters Intrinsic.CoroPromise there = asks Intrinsic.CoroPromise tt there refl
