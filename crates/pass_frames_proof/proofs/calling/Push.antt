@@ -1,8 +1,8 @@
 -- A function is entered: its activation is on top, and that of the caller stands right behind its call.
-use Rattle.std.proofs.Common.{◌≡◌, ◌⊎◌, inl, inr, ℕ, ◌+◌, ◌<◌, ◌≤◌, Bool, true, false, List, ◌∷◌, ◌++◌, length, refl, sym, ◌∙◌, subst, arith}
+use Rattle.std.proofs.Common.{◌≡◌, ◌⊎◌, inl, inr, ℕ, ◌+◌, ◌<◌, ◌≤◌, Bool, true, false, List, ◌∷◌, ◌++◌, length, refl, ◌∙◌, arith}
 use Rattle.std.proofs.lemmas.Bool.{cases_lt}
 use Rattle.std.specs.List.{Contains}
-use Rattle.std.specs.Prelude.{Option, map, slice_get}
+use Rattle.std.specs.Prelude.{map, slice_get}
 use Rattle.flow_solver.specs.Paths.{IsListed}
 use Rattle.ir_laws.proofs.facts.Lists.{get_within}
 use Rattle.ir_laws.specs.paths.woven_rules.Pairs.{AreDifferent}
@@ -19,7 +19,7 @@ use Rattle.pass_frames_proof.specs.Stepping.{IsNotEntering}
 use Rattle.run_framed.specs.Framed.{frame_rights}
 use Rattle.run_laws.proofs.transfer.Muted.{muted_length}
 use Rattle.run_laws.specs.access.Lines.{Holds}
-use Rattle.run_laws.specs.memory.Pointers.{Home, home_of}
+use Rattle.run_laws.specs.memory.Pointers.{home_of}
 use Rattle.run_laws.specs.transfer.Muted.{muted}
 use Rattle.run_laws.specs.transfer.Transfer.{AreOver}
 use Rattle.run_memory.specs.Memory.{Rights, owner_rights}
