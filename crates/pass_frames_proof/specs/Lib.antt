@@ -4,11 +4,9 @@ pub mod Calling
 pub mod Allocating
 pub mod Anew
 pub mod Beginning
-pub mod Bounds
 pub mod Code
 pub mod Copying
 pub mod Costs
-pub mod Counts
 pub mod Distanced
 pub mod Distances
 pub mod Edges
@@ -38,7 +36,6 @@ pub mod Marking
 pub mod Meaning
 pub mod Measured
 pub mod Moved
-pub mod Numbers
 pub mod Offsets
 pub mod Operands
 pub mod Ordinary

@@ -7,7 +7,6 @@ pub mod allocating;
 pub mod anew;
 pub mod asking;
 pub mod beginning;
-pub mod bounds;
 pub mod calling;
 pub mod code;
 pub mod copying;

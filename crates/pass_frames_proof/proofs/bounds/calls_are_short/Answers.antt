@@ -1,5 +1,0 @@
-use Rattle.pass_frames_proof.proofs.bounds.Calls.{call_short}
-use Rattle.pass_frames_proof.proofs.bounds.calls_are_short.Goals as goal
-
-pub returns : goal.returns
-returns c = call_short

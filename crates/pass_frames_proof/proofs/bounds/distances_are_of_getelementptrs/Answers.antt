@@ -1,5 +1,0 @@
-use Rattle.pass_frames_proof.proofs.bounds.Links.{distances_few}
-use Rattle.pass_frames_proof.proofs.bounds.distances_are_of_getelementptrs.Goals as goal
-
-pub returns : goal.returns
-returns c = distances_few

@@ -1,5 +1,0 @@
-use Rattle.pass_frames_proof.proofs.bounds.Early.{early_few}
-use Rattle.pass_frames_proof.proofs.bounds.early_slots_are_allocas.Goals as goal
-
-pub returns : goal.returns
-returns c = early_few

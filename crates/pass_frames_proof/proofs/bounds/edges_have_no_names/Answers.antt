@@ -1,5 +1,0 @@
-use Rattle.pass_frames_proof.proofs.bounds.Edges.{edged_names}
-use Rattle.pass_frames_proof.proofs.bounds.edges_have_no_names.Goals as goal
-
-pub returns : goal.returns
-returns c = edged_names

@@ -1,5 +1,0 @@
-use Rattle.pass_frames_proof.proofs.bounds.Entry.{entry_unreturned}
-use Rattle.pass_frames_proof.proofs.bounds.entries_are_no_returns.Goals as goal
-
-pub returns : goal.returns
-returns c = entry_unreturned

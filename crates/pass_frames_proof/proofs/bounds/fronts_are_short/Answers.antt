@@ -1,5 +1,0 @@
-use Rattle.pass_frames_proof.proofs.bounds.Returned.{front_few}
-use Rattle.pass_frames_proof.proofs.bounds.fronts_are_short.Goals as goal
-
-pub returns : goal.returns
-returns c = front_few

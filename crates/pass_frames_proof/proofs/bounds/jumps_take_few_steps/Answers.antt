@@ -1,8 +1,0 @@
-use Rattle.pass_frames_proof.proofs.bounds.Jumps.{other_jump, return_jump}
-use Rattle.pass_frames_proof.proofs.bounds.jumps_take_few_steps.Goals as goal
-
-pub returns-clause-others : goal.returns-clause-others
-returns-clause-others c = other_jump
-
-pub returns-clause-returns : goal.returns-clause-returns
-returns-clause-returns c = return_jump

@@ -1,5 +1,0 @@
-use Rattle.pass_frames_proof.proofs.bounds.Values.{kept_few}
-use Rattle.pass_frames_proof.proofs.bounds.kept_values_are_names.Goals as goal
-
-pub returns : goal.returns
-returns c = kept_few

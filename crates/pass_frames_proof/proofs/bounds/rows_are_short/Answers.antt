@@ -1,5 +1,0 @@
-use Rattle.pass_frames_proof.proofs.bounds.Rows.{row_few}
-use Rattle.pass_frames_proof.proofs.bounds.rows_are_short.Goals as goal
-
-pub returns : goal.returns
-returns c = row_few

@@ -1,5 +1,0 @@
-use Rattle.pass_frames_proof.proofs.bounds.Slots.{slots_paid}
-use Rattle.pass_frames_proof.proofs.bounds.slots_are_paid_by_allocas.Goals as goal
-
-pub returns : goal.returns
-returns c = slots_paid
