@@ -18,7 +18,6 @@ ghost use Rattle.pass_copies.specs.declared.copying.Copying.{Copying};
 ghost use Rattle.pass_fetch.specs.Blocks.{with_fetches};
 ghost use Rattle.pass_fetch.specs.declared.fetch.Fetch.{Fetch};
 ghost use Rattle.pass_frames.specs.Framed.{IsFramedCoroutine};
-ghost use Rattle.pass_front.specs.Front.{with_front_allocas};
 ghost use Rattle.pass_frames_proof.specs.Code.{ArePartsLeft, code_of, end_code, end_term, front_code, last_state};
 ghost use Rattle.pass_frames_proof.specs.Framings.{IsFraming};
 ghost use Rattle.pass_frames_proof.specs.Layers.{IsIdle, becomes, both, each, only, state_at};

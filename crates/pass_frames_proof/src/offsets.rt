@@ -1,6 +1,6 @@
 //! The table of offsets in a frame tells of each slot, and of the field of each kept value, where the layout has it.
 
-ghost use Rattle.std.specs.Prelude.{◌≡◌, ◌<◌, ◌+◌, ℕ, List, None, Option, Some, get_or, length, slice_get, true};
+ghost use Rattle.std.specs.Prelude.{◌≡◌, ◌<◌, ℕ, None, Some, get_or, length, slice_get, true};
 ghost use Rattle.frame_contents.specs.declared.contents.Contents.{Contents};
 ghost use Rattle.frame_contents.specs.declared.held.Holding.{Holding};
 ghost use Rattle.frame_layout.specs.declared.layout.Layout.{Layout};

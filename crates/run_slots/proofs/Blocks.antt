@@ -1,6 +1,6 @@
 -- What an instruction that is done leaves of each block: its kind, its owner, and whether it was killed.
-use Rattle.std.proofs.Common.{◌≡◌, ◌<◌, ◌≤◌, ℕ, zero, suc, Bool, true, false, List, [], ◌∷◌, ◌++◌, length}
-use Rattle.std.proofs.Common.{Option, Some, None, Result, Ok, Err, refl, sym, ap, ◌∙◌, subst, arith}
+use Rattle.std.proofs.Common.{◌≡◌, ◌<◌, ℕ, zero, suc, Bool, true, false, List, [], ◌∷◌, ◌++◌, length}
+use Rattle.std.proofs.Common.{Option, Some, None, refl, sym, ap, subst, arith}
 use Rattle.std.specs.Prelude.{if◌then◌else◌, replicate, slice_get, ◌||◌}
 use Rattle.ir_base.specs.declared.cause.Cause.{Cause}
 use Rattle.ir_model.specs.Layout.{size_of}
@@ -11,7 +11,6 @@ use Rattle.ir_model.specs.declared.operand.Callee.{Callee}
 use Rattle.ir_model.specs.declared.operand.Intrinsic.{Intrinsic}
 use Rattle.run_laws.proofs.embedded.Refills.{step_only}
 use Rattle.run_laws.specs.embedded.Refilled.{AreRefilled, IsRefilled, OnlyRefills}
-use Rattle.run_laws.specs.embedded.Related.{HasNoSlot}
 use Rattle.run_memory.specs.Memory.{end, ended, is_killed, same_kind, started, with_block}
 use Rattle.run_memory.specs.declared.block.Byte.{Byte}
 use Rattle.run_memory.specs.declared.block.Kind.{Kind}

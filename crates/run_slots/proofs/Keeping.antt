@@ -1,15 +1,14 @@
 -- What of slots and frames stays where memories, instances and lists of slots change.
-use Rattle.std.proofs.Common.{◌≡◌, ◌+◌, ◌<◌, ◌≤◌, ◌⊎◌, inl, inr, ℕ, zero, suc, Bool, true, false, List, [], ◌∷◌, ◌++◌, length}
-use Rattle.std.proofs.Common.{Some, Option, None, refl, sym, ap, ◌∙◌, subst, arith}
+use Rattle.std.proofs.Common.{◌≡◌, ◌+◌, ◌≤◌, ◌⊎◌, inl, inr, ℕ, zero, suc, Bool, true, false, List, [], ◌∷◌, ◌++◌, length}
+use Rattle.std.proofs.Common.{Some, None, refl, sym, ap, ◌∙◌, subst, arith}
 use Rattle.std.specs.Prelude.{is_some, slice_get, slice_set, ◌==◌, ◌||◌}
 use Rattle.run_hooks.proofs.alive.Parts.{Here, IsSet, Other, get_set}
 use Rattle.run_memory.specs.Memory.{is_killed, killed, killed_block, same_kind, with_block}
 use Rattle.run_memory.specs.declared.block.Kind.{Kind}
-use Rattle.run_memory.specs.declared.block.Life.{Life}
 use Rattle.run_memory.specs.declared.block.MemoryBlock.{MemoryBlock}
 use Rattle.run_slots.proofs.Blocks.{AreAlike, alloca_alike}
 use Rattle.run_slots.proofs.Times.{Dies, IsLeft, Stays, equal_is, itself, more_back, more_last, more_there, not_equal}
-use Rattle.run_slots.proofs.Times.{same_there, there_at, there_below, times_more, times_one, times_set, with_back}
+use Rattle.run_slots.proofs.Times.{same_there, there_at, there_below, times_more, times_one, times_set}
 use Rattle.run_slots.proofs.Times.{with_other, with_there, without_at, without_back}
 use Rattle.run_slots.specs.Slots.{AreSlotted, IsFrameBlock, IsSlotBlock, is_alloca_block, is_killed_at, is_killed_in}
 use Rattle.run_slots.specs.Slots.{once_if, times, times_in}

@@ -1,6 +1,6 @@
 -- Steps by hooks keep it that each slot is that of an alloca of its function.
 use Rattle.std.proofs.Common.{◌≡◌, ℕ, zero, suc, Bool, true, false, List, [], ◌∷◌, ◌++◌, length}
-use Rattle.std.proofs.Common.{Option, Some, None, Result, Ok, Err, refl, sym, ap, ◌∙◌, subst}
+use Rattle.std.proofs.Common.{Option, Some, None, Result, Ok, Err, refl, sym, ◌∙◌, subst}
 use Rattle.std.specs.Prelude.{if◌then◌else◌, filter, not, slice_get, slice_set, unwrap_or}
 use Rattle.ir_base.specs.declared.cause.Cause.{Cause}
 use Rattle.ir_base.specs.declared.outcome.Outcome.{Outcome}
@@ -28,8 +28,8 @@ use Rattle.run_laws.proofs.embedded.Refills.{step_only}
 use Rattle.run_laws.specs.embedded.Refilled.{OnlyRefills}
 use Rattle.run_memory.specs.declared.block.MemoryBlock.{MemoryBlock}
 use Rattle.run_memory.specs.declared.pointer.Value.{Value}
-use Rattle.run_slots.specs.Made.{AreMade, AreMadeIn, AreMadeOn, IsMadeAt, IsMadeState, KeepsMade, StaysMade}
-use Rattle.run_source.specs.Source.{Sleeper, after_end, branch_leaving, change_own, deallocate, end_of, if_let_go}
+use Rattle.run_slots.specs.Made.{AreMade, AreMadeIn, AreMadeOn, IsMadeState, KeepsMade, StaysMade}
+use Rattle.run_source.specs.Source.{Sleeper, after_end, branch_leaving, change_own, end_of, if_let_go}
 use Rattle.run_source.specs.Source.{first_state, left_windows, let_go, may_be_freed, pop, release, return, returned}
 use Rattle.run_source.specs.Source.{save_for, sleeper_at, sleeper_of, suspend}
 use Rattle.run_source.specs.State.{function_of, gives, instance_at, next, or_undefined, own_instance, point_of}

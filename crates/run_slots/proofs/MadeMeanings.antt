@@ -9,7 +9,7 @@ use Rattle.ir_model.specs.declared.module.Module.{Module}
 use Rattle.ir_model.specs.declared.operand.Callee.{Callee}
 use Rattle.ir_paths.specs.declared.point.Point.{Point}
 use Rattle.pass_kept_proof.specs.Kept.{Keep, kept}
-use Rattle.pass_renewed_proof.specs.Renewed.{RenewedGiven, framed_of, renew_after, renewed_from, renewed_slot, with_life}
+use Rattle.pass_renewed_proof.specs.Renewed.{RenewedGiven, renew_after, renewed_from, renewed_slot, with_life}
 use Rattle.run_framed.specs.Framed.{FramedGiven, alloca_from, are_finished_at, begin_given_at, begin_in_block}
 use Rattle.run_framed.specs.Framed.{begin_in_frame, disown_given, enter_after, enter_given, frame_around}
 use Rattle.run_framed.specs.Framed.{framed_begin, framed_slot, given_call, given_ramp, has_room, has_size}

@@ -1,6 +1,6 @@
 -- The hooks of the four meanings keep slots and frames.
 use Rattle.std.proofs.Common.{◌≡◌, ◌+◌, ◌≤◌, ℕ, Bool, true, false, List, [], ◌∷◌, ◌++◌, length, Option, Some}
-use Rattle.std.proofs.Common.{None, Result, Ok, Err, refl, sym, ap, ◌∙◌, subst, arith}
+use Rattle.std.proofs.Common.{None, Ok, refl, ap, ◌∙◌, subst, arith}
 use Rattle.std.specs.Prelude.{if◌then◌else◌, filter, is_none, is_some, nat_le, not, slice_get, slice_set, ◌&&◌, ◌==◌}
 use Rattle.std.specs.Option.{option_map_or}
 use Rattle.ir_base.specs.declared.cause.Cause.{Cause}
@@ -12,7 +12,7 @@ use Rattle.pass_kept_proof.specs.Kept.{Keep, kept}
 use Rattle.pass_renewed_proof.specs.Renewed.{RenewedGiven, renew_after, renewed_from, renewed_slot, with_life}
 use Rattle.run_framed.specs.Framed.{FramedGiven, alloca_from, disown_given, enter_after, framed_begin, framed_slot}
 use Rattle.run_framed.specs.Framed.{enter_given, given_call, is_stack_block, reentry_values}
-use Rattle.run_hooks.proofs.Reached.{late_instances, own_is}
+use Rattle.run_hooks.proofs.Reached.{own_is}
 use Rattle.run_hooks.proofs.alive.Parts.{set_there}
 use Rattle.run_hooks.specs.Meanings.{framed_hooks, hooks_by, kept_hooks, renewed_hooks, source_hooks}
 use Rattle.run_memory.specs.Memory.{disown, is_killed, is_live, killed, killed_block, may_be_owned, own, owned_to}
@@ -21,17 +21,16 @@ use Rattle.run_memory.specs.Memory.{same_kind, start, started, with_block}
 use Rattle.run_memory.specs.declared.block.Kind.{Kind}
 use Rattle.run_memory.specs.declared.block.Life.{Life}
 use Rattle.run_memory.specs.declared.block.MemoryBlock.{MemoryBlock}
-use Rattle.run_memory.specs.declared.pointer.Offset.{Offset}
 use Rattle.run_memory.specs.declared.pointer.Pointer.{Pointer}
 use Rattle.run_memory.specs.declared.pointer.Value.{Value}
 use Rattle.run_slots.proofs.Blocks.{changed_alike, started_alike}
 use Rattle.run_slots.proofs.Keeping.{alike_slotted, begun_slotted, counted_slotted, dead_slotted, none_more}
 use Rattle.run_slots.proofs.Keeping.{set_slotted, taken_slotted, with_slot}
 use Rattle.run_slots.proofs.Steps.{changed_slotted, finished_slotted, kind_is, status_slotted}
-use Rattle.run_slots.proofs.Times.{equal_is, itself, more_last, not_equal, times_joined, times_split, with_other, with_there}
+use Rattle.run_slots.proofs.Times.{itself, more_last, times_joined, times_split, with_there}
 use Rattle.run_slots.specs.Slots.{AreSlotted, GivesNoFrames, HasNewSlot, IsFrameBlock, IsSlotBlock, IsSlottedState, KeepsSlots}
 use Rattle.run_slots.specs.Slots.{StaysSlotted}
-use Rattle.run_slots.specs.Slots.{is_killed_at, is_killed_in, once_if, times, times_in, times_on}
+use Rattle.run_slots.specs.Slots.{is_killed_in, once_if, times, times_in, times_on}
 use Rattle.run_source.specs.Source.{Continues, begin, begin_at, begun, change_own, continue, is_among, is_over, kill_late}
 use Rattle.run_source.specs.Source.{new_instance, new_slot, push, resumed, slots_of, with_new_slots}
 use Rattle.run_source.specs.State.{frame_address_of, function_of, gives, own_facts, own_frame, own_instance}

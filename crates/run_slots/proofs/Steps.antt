@@ -1,5 +1,5 @@
 -- Steps by hooks keep slots and frames.
-use Rattle.std.proofs.Common.{◌≡◌, ◌+◌, ◌≤◌, ℕ, zero, suc, Bool, true, false, List, [], ◌∷◌, ◌++◌, length}
+use Rattle.std.proofs.Common.{◌≡◌, ◌+◌, ℕ, zero, suc, Bool, true, false, List, [], ◌∷◌, ◌++◌, length}
 use Rattle.std.proofs.Common.{Option, Some, None, Result, Ok, Err, refl, sym, ap, ◌∙◌, subst, arith}
 use Rattle.std.specs.Prelude.{if◌then◌else◌, is_some, map, not, option_and_then, option_map, slice_get, slice_set}
 use Rattle.std.specs.Prelude.{unwrap_or}
@@ -16,7 +16,6 @@ use Rattle.ir_paths.specs.Windows.{operand_at, suspend_of}
 use Rattle.ir_paths.specs.declared.point.Point.{Point}
 use Rattle.ir_paths.specs.declared.point.Window.{Window}
 use Rattle.run_hooks.proofs.Reached.{at_is, own_is}
-use Rattle.run_hooks.proofs.alive.Parts.{set_there}
 use Rattle.run_hooks.specs.Hooks.{Hooks, hooked_act, hooked_advance, hooked_context, hooked_coro, hooked_next}
 use Rattle.run_hooks.specs.Hooks.{hooked_state_at, step_of}
 use Rattle.run_memory.specs.Memory.{disown, disowned, is_killed, is_owned, is_unkilled, kill, killed, killed_block}
@@ -30,14 +29,14 @@ use Rattle.run_slots.proofs.Blocks.{StaysAlike, step_alike}
 use Rattle.run_slots.proofs.Keeping.{added_slotted, alike_slotted, counted_slotted, dead_slotted, frame_apart}
 use Rattle.run_slots.proofs.Keeping.{heap_slotted, none_more}
 use Rattle.run_slots.proofs.Keeping.{in_instance, marked_slotted, over_slotted}
-use Rattle.run_slots.proofs.Times.{Dies, IsLeft, Stays, equal_is, not_equal, same_there, with_back, with_other}
+use Rattle.run_slots.proofs.Times.{Dies, IsLeft, Stays, equal_is, with_back, with_other}
 use Rattle.run_slots.proofs.Times.{with_there, without_at, without_back}
-use Rattle.run_slots.specs.Slots.{AreSlotted, AreUngiven, HasNewSlot, IsFrameBlock, IsSlottedState, KeepsSlots}
+use Rattle.run_slots.specs.Slots.{AreSlotted, AreUngiven, IsFrameBlock, IsSlottedState, KeepsSlots}
 use Rattle.run_slots.specs.Slots.{StaysSlotted, is_alloca_block, once_if, times, times_on}
 use Rattle.run_source.proofs.Indexes.{last-passes}
-use Rattle.run_source.specs.Source.{Sleeper, after_end, branch_leaving, change_own, deallocate, end_of, enter}
-use Rattle.run_source.specs.Source.{finish, if_let_go, is_over, leave, left_windows, let_go, may_be_freed}
-use Rattle.run_source.specs.Source.{first_state, mode_of, pop, release, return, returned, save_for, sleeper_at}
+use Rattle.run_source.specs.Source.{Sleeper, after_end, branch_leaving, change_own, deallocate, end_of}
+use Rattle.run_source.specs.Source.{finish, if_let_go, is_over, left_windows, let_go, may_be_freed}
+use Rattle.run_source.specs.Source.{first_state, pop, release, return, returned, save_for, sleeper_at}
 use Rattle.run_source.specs.Source.{sleeper_of, slots_of, suspend}
 use Rattle.run_source.specs.State.{began_at, function_of, gives, instance_at, is_finished, last_from, last_where, next, numbered}
 use Rattle.run_source.specs.State.{or_undefined, own_instance, point_of, settled, with_instance, with_left, with_memory}

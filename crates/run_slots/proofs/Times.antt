@@ -1,6 +1,6 @@
 -- How many slots have a block, and where blocks stand in memories that change.
 use Rattle.std.proofs.Common.{◌≡◌, ◌+◌, ◌<◌, ◌≤◌, ◌⊎◌, inl, inr, ℕ, zero, suc, Bool, true, false, List, [], ◌∷◌, ◌++◌, length}
-use Rattle.std.proofs.Common.{Option, Some, None, refl, sym, ap, ◌∙◌, subst, arith}
+use Rattle.std.proofs.Common.{Option, Some, refl, sym, ap, ◌∙◌, subst, arith}
 use Rattle.std.specs.Prelude.{if◌then◌else◌, filter, not, slice_get, slice_set, ◌==◌}
 use Rattle.run_memory.specs.Memory.{killed, killed_block, with_block}
 use Rattle.run_memory.specs.declared.block.MemoryBlock.{MemoryBlock}

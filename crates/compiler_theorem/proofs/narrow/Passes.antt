@@ -29,7 +29,7 @@ use Rattle.pass_cells.specs.Plan.{plan_of}
 use Rattle.pass_cells.specs.Written.{after_block as after_written, after_one, again_row, distance_alloca, distance_allocas, distance_behind, distance_from, distance_into, entry_blocks, entry_front, kept_allocas, link_allocas, save_row, stored, stored_at, stored_one, stored_params, stored_phis, stored_result, written_block, written_blocks, written_instrs, written_one}
 use Rattle.pass_cells.specs.declared.plan.KeptValue.{KeptValue}
 use Rattle.pass_cells.specs.declared.plan.Plan.{Plan}
-use Rattle.pass_copies.specs.BeginCopies.{after_block as after_copied, after_instr as after_copied_instr, begin_copies, block_front, copied_block, copied_blocks, copied_function, copied_instr, copied_instrs, copying_of, entry_front as copies_front, is_fetched, puts, slot_allocas, with_begin_copies}
+use Rattle.pass_copies.specs.BeginCopies.{after_block as after_copied, after_instr as after_copied_instr, begin_copies, block_front, copied_block, copied_blocks, copied_instr, copied_instrs, copying_of, entry_front as copies_front, is_fetched, puts, slot_allocas, with_begin_copies}
 use Rattle.pass_copies.specs.BeginCopies as copies
 use Rattle.pass_copies.specs.Slots.{early_slots}
 use Rattle.pass_copies.specs.Uses.{flag_at, is_begin, still_before, used_before}

@@ -1,10 +1,9 @@
 -- One step of the run that hands values on is some steps of the run that makes slots anew, each of which is followed in the
 -- framed run.
-use Rattle.std.proofs.Common.{◌≡◌, ℕ, zero, suc, ◌+◌, ◌-◌, ◌<◌, ◌≤◌, ◌⊎◌, inl, inr, ⊎_elim, List, map, refl, sym, ap, ◌∙◌, subst, arith}
+use Rattle.std.proofs.Common.{◌≡◌, ℕ, zero, suc, ◌+◌, ◌-◌, ◌<◌, ◌≤◌, ◌⊎◌, inl, inr, ⊎_elim, map, refl, sym, ap, ◌∙◌, subst, arith}
 use Rattle.std.proofs.lemmas.Bool.{cases_lt}
 use Rattle.std.specs.Prelude.{slice_get}
 use Rattle.frame_layout.specs.declared.layout.Layouts.{Layouts}
-use Rattle.ir_base.specs.declared.outcome.Event.{Event}
 use Rattle.ir_base.specs.declared.outcome.Outcome.{Outcome}
 use Rattle.ir_model.specs.Names.{function_at}
 use Rattle.pass_frames_meaning.specs.Covered.{AgreesWithFrames, AreCoveredStepsFollowed, IsCovered, Makes, Stands}
@@ -33,7 +32,7 @@ use Rattle.run_agreement.proofs.Shows.{ShowsSame}
 use Rattle.run_agreement.specs.Costs.{Through, cost_from}
 use Rattle.run_agreement.specs.Machines.{IsFine, IsRunning, Machine, iterate}
 use Rattle.run_framed.specs.Framed.{FramedGiven, framed_given, framed_state_at, framed_step}
-use Rattle.run_source.specs.Source.{first_state, step_by}
+use Rattle.run_source.specs.Source.{first_state}
 use Rattle.run_source.specs.declared.state.Activation.{Activation}
 use Rattle.run_source.specs.declared.state.State.{State}
 use Rattle.run_states.specs.moved_states.Beside.{framed_machine}

@@ -1,5 +1,5 @@
 -- What laws on frames ask of the slots and frames of a run holds in each of its states.
-use Rattle.std.proofs.Common.{◌≡◌, ◌+◌, ◌<◌, ◌≤◌, ◌⊎◌, inl, inr, ℕ, zero, suc, Bool, true, false, List, [], ◌∷◌, ◌++◌, length}
+use Rattle.std.proofs.Common.{◌≡◌, ◌+◌, ◌≤◌, ◌⊎◌, inl, inr, ℕ, zero, suc, Bool, true, false, List, [], ◌∷◌}
 use Rattle.std.proofs.Common.{Option, Some, None, refl, sym, ap, ◌∙◌, subst, arith}
 use Rattle.std.specs.List.{Contains}
 use Rattle.std.specs.Option.{option_map_or}
@@ -17,8 +17,8 @@ use Rattle.run_memory.specs.declared.block.Kind.{Kind}
 use Rattle.run_memory.specs.declared.block.Life.{Life}
 use Rattle.run_memory.specs.declared.block.MemoryBlock.{MemoryBlock}
 use Rattle.run_slots.proofs.Times.{equal_is, itself, same_there, there_below, times_joined}
-use Rattle.run_slots.specs.Slots.{IsFrameBlock, IsSlotBlock, IsSlottedState, is_alloca_block, is_killed_at, is_killed_in, once_if, times, times_in, times_on}
-use Rattle.run_source.specs.Source.{is_live_at, is_over}
+use Rattle.run_slots.specs.Slots.{IsSlotBlock, IsSlottedState, is_alloca_block, is_killed_at, is_killed_in, once_if, times, times_in, times_on}
+use Rattle.run_source.specs.Source.{is_live_at}
 use Rattle.run_source.specs.declared.state.Activation.{Activation}
 use Rattle.run_source.specs.declared.state.Instance.{Instance}
 use Rattle.run_source.specs.declared.state.State.{State}

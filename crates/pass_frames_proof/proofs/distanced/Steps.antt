@@ -36,7 +36,7 @@ use Rattle.pass_frames_proof.proofs.stepping.After.{not_set, past_value}
 use Rattle.pass_frames_proof.proofs.stepping.Calm.{IsWoven, woven_others}
 use Rattle.pass_frames_proof.proofs.stepping.Doing.{doing_followed}
 use Rattle.pass_frames_proof.proofs.stepping.Fetch as fetching
-use Rattle.pass_frames_proof.proofs.stepping.Fetch.{named_alike, own_blocks}
+use Rattle.pass_frames_proof.proofs.stepping.Fetch.{own_blocks}
 use Rattle.pass_frames_proof.proofs.stepping.Line.{left}
 use Rattle.pass_frames_proof.proofs.stepping.Names.{slots_new}
 use Rattle.pass_frames_proof.proofs.stepping.Operands.{asked, outside_not, slot_fetch}
