@@ -131,6 +131,12 @@ module _ (m : Module) (rules : KeepsItemRules Stage.Source m) (x : Name) (part :
       (neither (is_some (declaration_named m x)) (is_some (global_named m x))
       (no_declaration (declaration_named m x) refl) (no_global (global_named m x) refl))
 
+-- nothing has the name of a ramp that is given its frame
+pub unknown_ramp : (m : Module) → KeepsItemRules Stage.Source m → (k : ℕ) (f : Function)
+    → slice_get m.functions k ≡ Some f → f.coroutine ≡ true → knows_name m (noalloc_of f.name) ≡ false
+unknown_ramp m rules k f there coroutine =
+    unknown m rules (noalloc_of f.name) (among (noalloc_of f.name) f m.functions k there (part_is_part f coroutine))
+
 -- ---- calls
 
 module _ (n : Module) (k : ℕ) (g : Function) (rules : KeepsFunctionRules n k g) (x : Name)
@@ -160,14 +166,11 @@ module _ (ls : Layouts) (m : Module) (rules : KeepsItemRules Stage.Source m) (sh
     abbrev x : Name
     x = noalloc_of f.name
 
-    part : is_part m x ≡ true
-    part = among x f m.functions k there (part_is_part f coroutine)
-
     unknown_there : knows_name (exits_split m) x ≡ false
     unknown_there =
         ap (λ (o : Option ℕ). is_some o || (is_some (declaration_named m x) || is_some (global_named m x)))
         (named_before ls m rules short x)
-        ∙ unknown m rules x part
+        ∙ unknown_ramp m rules k f there coroutine
 
     pub none_gives : list_any (λ (c : CalledName). same_name x c.name) (called_names (exits_split m).functions) ≡ false
     none_gives =
