@@ -13,3 +13,4 @@ pub mod Rows
 pub mod Slots
 pub mod Stack
 pub mod Whole
+pub mod shown

@@ -4,5 +4,6 @@ pub mod Elision
 pub mod Entries
 pub mod GoodLayouts
 pub mod Lowered
+pub mod Rows
 pub mod SharedBytes
 pub mod Theorem

@@ -16,6 +16,10 @@ ghost use Rattle.pass_frames_proof.specs.Stepping.{AreGiven};
 ghost use Rattle.pass_renewed_proof.specs.Prices.{Prices};
 ghost use Rattle.compiler_theorem.specs.theorem.Theorem.{AreFramesShown, KeepsMeaning, KeepsRuns, Steps, renewing};
 ghost use Rattle.compiler_theorem.specs.theorem.Elision.{ElidedSteps, ElidesCalls};
+ghost use Rattle.compiler_theorem.specs.theorem.Rows.{joined};
+ghost use Rattle.run_laws.specs.memory.Pointers.{AreBytes, Home, IsValue};
+ghost use Rattle.run_memory.specs.declared.block.Byte.{Byte};
+ghost use Rattle.run_memory.specs.declared.pointer.Value.{Value};
 
 /// Relations between states of the framed run and of that where calls are elided.
 pub trait RelatesElided {
@@ -44,6 +48,14 @@ pub fn sources_are_built()
 pub fn sources_give_frames()
     ensures { (l : Lowered) (low : IsLowered l) (a : Anew) (r : Run)
         → AreGiven (building l low.is_framed r.answers) (renewing l a r) }
+{}
+
+/// Bytes and values that stand for others in a row of memories stand for them by the joined homes.
+pub fn homes_in_a_row_join()
+    ensures bytes { (homes more : List Home) (xs ys zs : List Byte) → AreBytes homes xs ys → AreBytes more ys zs
+        → AreBytes (joined homes more) xs zs }
+    ensures values { (homes more : List Home) (u v w : Value) → IsValue homes u v → IsValue more v w
+        → IsValue (joined homes more) u w }
 {}
 
 /// What is printed of a source that breaks no rule agrees with it within its step factor, with frames that share
