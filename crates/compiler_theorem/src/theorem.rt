@@ -9,7 +9,7 @@ ghost use Rattle.compiler_theorem.specs.theorem.Lowered.{AreAllocasFirst, HasFew
 ghost use Rattle.ir_model.specs.declared.module.Module.{Module};
 ghost use Rattle.frame_layout.specs.declared.layout.Layouts.{Layouts};
 ghost use Rattle.pass_frames.specs.Framed.{IsFramedForm};
-ghost use Rattle.std.specs.Prelude.{ℕ, ℤ, List};
+ghost use Rattle.std.specs.Prelude.{◌≡◌, ℕ, ℤ, false, List, true};
 ghost use Rattle.run_types.specs.States.{AreArguments};
 ghost use Rattle.pass_frames_proof.specs.Related.{AreBuilt};
 ghost use Rattle.pass_frames_proof.specs.Stepping.{AreGiven};
@@ -17,6 +17,12 @@ ghost use Rattle.pass_renewed_proof.specs.Prices.{Prices};
 ghost use Rattle.compiler_theorem.specs.theorem.Theorem.{AreFramesShown, KeepsMeaning, KeepsRuns, Steps, renewing};
 ghost use Rattle.compiler_theorem.specs.theorem.Elision.{ElidedSteps, ElidesCalls};
 ghost use Rattle.compiler_theorem.specs.theorem.Rows.{joined};
+ghost use Rattle.frame_classes.specs.Classes.{IsOf};
+ghost use Rattle.frame_classes.specs.declared.class.SlotClass.{SlotClass};
+ghost use Rattle.frame_contents.specs.Frames.{AreContents};
+ghost use Rattle.frame_contents.specs.declared.contents.Contents.{Contents};
+ghost use Rattle.ir_model.specs.Names.{function_at};
+ghost use Rattle.ir_model.specs.declared.module.Function.{Function};
 ghost use Rattle.run_laws.specs.memory.Pointers.{AreBytes, Home, IsValue};
 ghost use Rattle.run_memory.specs.declared.block.Byte.{Byte};
 ghost use Rattle.run_memory.specs.declared.pointer.Value.{Value};
@@ -56,6 +62,21 @@ pub fn homes_in_a_row_join()
         → AreBytes (joined homes more) xs zs }
     ensures values { (homes more : List Home) (u v w : Value) → IsValue homes u v → IsValue more v w
         → IsValue (joined homes more) u w }
+{}
+
+/// What the frame of a coroutine holds is one, and so are the values that cross its suspends.
+pub fn contents_are_one()
+    ensures held { (m : Module) (f : Function) (c d : Contents) → AreContents m f c → AreContents m f d
+        → c.held ≡ d.held }
+    ensures crossing { (m : Module) (f : Function) (c d : Contents) → AreContents m f c → AreContents m f d
+        → c.crossing ≡ d.crossing }
+{}
+
+/// A frame slot of a source isn't made anew.
+pub fn frame_slots_are_made_once()
+    ensures { (l : Lowered) → IsLowered l → (a : Anew) → IsAnewOf (early l) a → (func : ℕ)
+        → (function_at (early l) func).coroutine ≡ true → (v : ℕ)
+        → IsOf (function_at l.source func) v SlotClass.Frame → a.flags func v ≡ false }
 {}
 
 /// What is printed of a source that breaks no rule agrees with it within its step factor, with frames that share

@@ -1,0 +1,148 @@
+-- The fields of a source's frames are those by which its coroutines were framed.
+use Rattle.std.proofs.Common.{◌≡◌, ◌↔◌, ℕ, ◌<◌, Bool, true, false, List, map, Option, Some, None, refl, sym, ap, ◌∙◌, subst}
+use Rattle.std.proofs.lemmas.Option.{slice_get-map}
+use Rattle.std.specs.Prelude.{ℤ, if◌then◌else◌, option_map, slice_get, unwrap_or}
+use Rattle.compiler_theorem.proofs.theorem.Built.{framings, sources_built}
+use Rattle.compiler_theorem.proofs.theorem.Needed.{some_class, stands_at}
+use Rattle.compiler_theorem.proofs.theorem.shown.Contents.{class_once, same_held}
+use Rattle.compiler_theorem.specs.theorem.Anew.{Anew, IsAnewOf, IsSlotOf}
+use Rattle.compiler_theorem.specs.theorem.Built.{building}
+use Rattle.compiler_theorem.specs.theorem.Lowered.{IsLowered, Lowered, early}
+use Rattle.compiler_theorem.specs.theorem.SharedBytes.{HasField}
+use Rattle.frame_classes.specs.Classes.{IsOf}
+use Rattle.frame_classes.specs.declared.class.SlotClass.{SlotClass}
+use Rattle.frame_contents.specs.Frames.{AreContents}
+use Rattle.frame_contents.specs.Held.{position_of}
+use Rattle.frame_contents.specs.declared.held.Holding.{Holding}
+use Rattle.frame_layout.specs.declared.layout.Layout.{Layout}
+use Rattle.ir_laws.proofs.facts.Lists.{below}
+use Rattle.ir_model.specs.Names.{function_at, no_function}
+use Rattle.ir_model.specs.declared.module.Function.{Function}
+use Rattle.ir_model.specs.declared.module.Module.{Module}
+use Rattle.ir_paths.specs.Slots.{allocas_of}
+use Rattle.pass_early.specs.BeginName.{with_begin_name}
+use Rattle.pass_early.specs.Early.{early_function, early_named}
+use Rattle.pass_frames.specs.Tables.{offset_at}
+use Rattle.pass_frames_proof.specs.Places.{Framing}
+use Rattle.pass_kept_proof.proofs.Read.{listed_by_name}
+use Rattle.pass_proofs.proofs.early.frames.Frames.{contents_early}
+use Rattle.pass_proofs.proofs.early.frames.Functions.{StaysUnderEach, stays_under_all}
+use Rattle.pass_proofs.proofs.early.frames.Modules.{named_holds, renamed_holds, saved_holds}
+use Rattle.pass_proofs.proofs.early.frames.NoParams.{accepted_apart}
+use Rattle.pass_proofs.proofs.early.source_rules.Accepted.{all_named_keep}
+use Rattle.pass_proofs.specs.early.renaming.Passes.{renamed_coroutine}
+use Rattle.pass_proofs.specs.early.saves.SavesWritten.{saved_function}
+use Rattle.rule_laws.proofs.rules.sources.Tables.{all_tabled}
+use Rattle.rule_laws.proofs.texts.named_texts.Placed.{locals_named, uses_named}
+use Rattle.run_framed.specs.Framed.{layout_of}
+
+-- a coroutine of the early form is one of the source
+coroutine_was : (fs : List Function) (func : ℕ)
+    → (unwrap_or (slice_get (map early_function fs) func) no_function).coroutine ≡ true
+    → (unwrap_or (slice_get fs func) no_function).coroutine ≡ true
+coroutine_was fs func is = on (slice_get fs func) (ap (λ (o : Option Function). (unwrap_or o no_function).coroutine)
+    (sym (slice_get-map early_function fs func)) ∙ is)
+  where
+    at : (b : Bool) (f : Function) → f.coroutine ≡ b → (if b then early_named (with_begin_name f) else f).coroutine ≡ true → b ≡ true
+    at true f e h = refl
+    at false f e h = sym e ∙ h
+
+    on : (o : Option Function) → (unwrap_or (option_map early_function o) no_function).coroutine ≡ true
+        → (unwrap_or o no_function).coroutine ≡ true
+    on None h = h
+    on (Some f) h = at f.coroutine f refl h
+
+module _ (l : Lowered) (low : IsLowered l) (answers : List ℤ) (func : ℕ)
+    (is : (function_at (early l) func).coroutine ≡ true) where
+  abbrev f : Function
+  f = function_at l.source func
+
+  abbrev g : Function
+  g = function_at (early l) func
+
+  abbrev x : Framing
+  x = (building l low.is_framed answers).framing func
+
+  was : f.coroutine ≡ true
+  was = coroutine_was l.source.functions func is
+
+  same_allocas : allocas_of g ≡ allocas_of f
+  same_allocas =
+      let stays = stays_under_all l.source (locals_named l.text l.source low.source.stands)
+      (uses_named l.text l.source low.source.stands)
+      (all_named_keep l.source low.source.accepted (all_tabled l.text l.source low.source.stands))
+      (accepted_apart l.source low.source.accepted (locals_named l.text l.source low.source.stands))
+      func was (λ (h : Function). allocas_of h ≡ allocas_of f) each in
+      stays.0 refl
+    where
+      by : (h k : Function) → allocas_of k ≡ allocas_of h → (allocas_of h ≡ allocas_of f) ↔ (allocas_of k ≡ allocas_of f)
+      by h k e = ((λ d. e ∙ d), (λ d. sym e ∙ d))
+
+      each : StaysUnderEach (λ (h : Function). allocas_of h ≡ allocas_of f)
+      each = record {
+        named = λ h n u. by h (with_begin_name h) (named_holds l.source l.source refl h n u).allocas;
+        renamed = λ h r ok plain. by h (renamed_coroutine r h) (renamed_holds l.source l.source refl h r ok plain).allocas;
+        saved = λ h n t. by h (saved_function h) (saved_holds l.source l.source refl h n t).allocas;
+      }
+
+  -- what the coroutine was framed by is what the source's frame holds
+  contents_are : AreContents l.source f x.contents
+  contents_are =
+      let built = (sources_built l low answers).coroutines func is in
+      let own = (framings l low answers func is).frameable.contents in
+      (contents_early l.source (locals_named l.text l.source low.source.stands)
+      (uses_named l.text l.source low.source.stands)
+      (all_named_keep l.source low.source.accepted (all_tabled l.text l.source low.source.stands))
+      (accepted_apart l.source low.source.accepted (locals_named l.text l.source low.source.stands)) func was
+      x.contents).1
+      (subst (λ (h : Function). AreContents (early l) h x.contents) built.function
+      (subst (λ (m : Module). AreContents m x.function x.contents) built.code own))
+
+  early_are : AreContents (early l) g x.contents
+  early_are = (contents_early l.source (locals_named l.text l.source low.source.stands)
+      (uses_named l.text l.source low.source.stands)
+      (all_named_keep l.source low.source.accepted (all_tabled l.text l.source low.source.stands))
+      (accepted_apart l.source low.source.accepted (locals_named l.text l.source low.source.stands)) func was
+      x.contents).0 contents_are
+
+  -- a field of the source's frame is one of the framing
+  pub record IsFieldOf (v offset : ℕ) : Type 0 where
+    pub position : ℕ
+    pub position_is : position_of x.contents.held v ≡ Some position
+    pub offset_is : offset_at x.layout position ≡ offset
+
+  pub field_found : (v offset size : ℕ) → HasField l.source f (layout_of l.layouts.coroutines func) v offset size
+      → IsFieldOf v offset
+  field_found v offset size h =
+      let layout = ((sources_built l low answers).coroutines func is).layout in
+      record {
+        position = h.position;
+        position_is = ap (λ (hs : List Holding). position_of hs v)
+            (sym (same_held l.source f h.contents x.contents h.contents_are contents_are)) ∙ h.position_is;
+        offset_is = ap (λ (y : Layout). offset_at y h.position) layout ∙ h.offset_is;
+      }
+
+  -- a frame slot isn't made anew
+  pub frame_unflagged : (a : Anew) → IsAnewOf (early l) a → (v : ℕ) → IsOf f v SlotClass.Frame → a.flags func v ≡ false
+  frame_unflagged a anew v frame = on (a.flags func v) refl
+    where
+      apart : (c : SlotClass) → c ≡ SlotClass.Local → c ≡ SlotClass.Frame → ⊥
+      apart SlotClass.Local d e = absurd (cc)
+      apart SlotClass.Frame d e = absurd (cc)
+      apart SlotClass.Ramp d e = absurd (cc)
+
+      no : IsSlotOf g SlotClass.Local v → ⊥
+      no h =
+          let at = stands_at v (allocas_of g) (listed_by_name (allocas_of g) v h.is_alloca) in
+          let ours = contents_are.classes_are in
+          let theirs = early_are.classes_are in
+          let c = some_class x.contents.classes at.at (subst (λ (n : ℕ). at.at < n) (sym theirs.count)
+          (below (allocas_of g) at.at v at.there)) in
+          let there : slice_get (allocas_of f) at.at ≡ Some v =
+          ap (λ (vs : List ℕ). slice_get vs at.at) (sym same_allocas) ∙ at.there in
+          apart c.0 (class_once g v c.0 SlotClass.Local (theirs.each at.at v c.0 at.there c.1) h.is_of)
+          (class_once f v c.0 SlotClass.Frame (ours.each at.at v c.0 there c.1) frame)
+
+      on : (b : Bool) → a.flags func v ≡ b → a.flags func v ≡ false
+      on false e = e
+      on true e = absurd (no (((anew func).flags_are v).0 e))
