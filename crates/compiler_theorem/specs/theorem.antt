@@ -6,4 +6,5 @@ pub mod GoodLayouts
 pub mod Lowered
 pub mod Rows
 pub mod SharedBytes
+pub mod ShownSlots
 pub mod Theorem

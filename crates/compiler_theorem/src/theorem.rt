@@ -5,18 +5,21 @@ ghost use Rattle.run_source.specs.declared.state.State.{State};
 ghost use Rattle.compiler_theorem.specs.theorem.Anew.{Anew, IsAnewOf};
 ghost use Rattle.compiler_theorem.specs.theorem.Built.{building};
 ghost use Rattle.compiler_theorem.specs.theorem.Entries.{Run, IsEntry};
-ghost use Rattle.compiler_theorem.specs.theorem.Lowered.{AreAllocasFirst, HasFewBytes, Lowered, IsLowered, early, printed_from};
+ghost use Rattle.compiler_theorem.specs.theorem.Lowered.{AreAllocasFirst, HasFewBytes, Lowered, IsLowered, early, edged, printed_from, sizes_of, source_run};
 ghost use Rattle.ir_model.specs.declared.module.Module.{Module};
 ghost use Rattle.frame_layout.specs.declared.layout.Layouts.{Layouts};
 ghost use Rattle.pass_frames.specs.Framed.{IsFramedForm};
 ghost use Rattle.std.specs.Prelude.{◌≡◌, ℕ, ℤ, false, List, true};
 ghost use Rattle.run_types.specs.States.{AreArguments};
-ghost use Rattle.pass_frames_proof.specs.Related.{AreBuilt};
+ghost use Rattle.pass_frames_proof.specs.Related.{AreBuilt, AreBuiltOf};
 ghost use Rattle.pass_frames_proof.specs.Stepping.{AreGiven};
 ghost use Rattle.pass_renewed_proof.specs.Prices.{Prices};
-ghost use Rattle.compiler_theorem.specs.theorem.Theorem.{AreFramesShown, KeepsMeaning, KeepsRuns, Steps, renewing};
+ghost use Rattle.compiler_theorem.specs.theorem.Theorem.{AreFramesShown, AreMadeAnew, KeepsMeaning, KeepsRuns, Steps, renewing};
 ghost use Rattle.compiler_theorem.specs.theorem.Elision.{ElidedSteps, ElidesCalls};
 ghost use Rattle.compiler_theorem.specs.theorem.Rows.{joined};
+ghost use Rattle.compiler_theorem.specs.theorem.ShownSlots.{AreSlotsShown, step_homes};
+ghost use Rattle.pass_proofs.specs.kept.sources.Beside.{IsKeptOf};
+ghost use Rattle.run_agreement.specs.Machines.{state_at};
 ghost use Rattle.frame_classes.specs.Classes.{IsOf};
 ghost use Rattle.frame_classes.specs.declared.class.SlotClass.{SlotClass};
 ghost use Rattle.frame_contents.specs.Frames.{AreContents};
@@ -77,6 +80,16 @@ pub fn frame_slots_are_made_once()
     ensures { (l : Lowered) → IsLowered l → (a : Anew) → IsAnewOf (early l) a → (func : ℕ)
         → (function_at (early l) func).coroutine ≡ true → (v : ℕ)
         → IsOf (function_at l.source func) v SlotClass.Frame → a.flags func v ≡ false }
+{}
+
+/// Where a state of a source's run stands in a row of relations beside one of frames, the frame of each of its
+/// instances is there, and each live frame slot of the instance stands in it, byte for byte, where it lies by the layout.
+pub fn frames_show_live_slots()
+    ensures { (l : Lowered) (low : IsLowered l) (a : Anew) → IsAnewOf (early l) a → (r : Run) (n : ℕ) (v u t : State)
+        → IsKeptOf l.source (sizes_of l) r.answers (state_at (source_run l r) n) v → (made : AreMadeAnew l a v u)
+        → (built : AreBuiltOf (building l low.is_framed r.answers) u t)
+        → AreSlotsShown l.source l.layouts.coroutines (joined (step_homes (edged l) a.flags a.roots v u made)
+        built.homes) (state_at (source_run l r) n) t }
 {}
 
 /// What is printed of a source that breaks no rule agrees with it within its step factor, with frames that share

@@ -1,3 +1,10 @@
 pub mod Contents
+pub mod Dying
 pub mod Fields
 pub mod Homes
+pub mod Kept
+pub mod Placed
+pub mod Renewed
+pub mod Slots
+pub mod Step
+pub mod Whole

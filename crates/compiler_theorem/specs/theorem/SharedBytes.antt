@@ -58,22 +58,37 @@ pub record Frame (t : State) (i : ℕ) : Type 0 where
   pub block : MemoryBlock
   pub held : slice_get t.world.memory instance.block ≡ Some block
 
+-- the live frame slots of an instance stand in a block
+abbrev pub AreSlotsIn : Module → Layout → List Home → State → Instance → ℕ → MemoryBlock → Type 0
+AreSlotsIn m l homes s x start block =
+    (slot : Slot) (y : MemoryBlock) (offset : ℕ) → Contains x.slots slot
+    → IsOf (function_at m x.coroutine) slot.alloca SlotClass.Frame → slice_get s.world.memory slot.block ≡ Some y
+    → is_live y.life ≡ true → HasField m (function_at m x.coroutine) l slot.alloca offset y.size
+    → StandAt homes y.bytes block (start + offset)
+
+-- where it is suspended the values that cross its suspend stand in a block, but for addresses in local slots
+abbrev pub AreValuesIn : Module → Layout → List Home → Instance → ℕ → MemoryBlock → Type 0
+AreValuesIn m l homes x start block =
+    (suspend : Point) (values : Env) (v offset size : ℕ) → x.status ≡ Status.Suspended suspend values
+    → Crosses (function_at m x.coroutine) v suspend → HasField m (function_at m x.coroutine) l v offset size
+    → (IsInLocalSlot (function_at m x.coroutine) v → ⊥)
+    → StandAt homes (encode size (value_in values v)) block (start + offset)
+
+-- of an address in a local slot its distance stands there
+abbrev pub AreDistancesIn : Module → Layout → List Home → Instance → ℕ → MemoryBlock → Type 0
+AreDistancesIn m l homes x start block =
+    (suspend : Point) (values : Env) (v offset size b : ℕ) (o : Offset) → x.status ≡ Status.Suspended suspend values
+    → Crosses (function_at m x.coroutine) v suspend → HasField m (function_at m x.coroutine) l v offset size
+    → IsInLocalSlot (function_at m x.coroutine) v → value_in values v ≡ Value.Ptr (Pointer.At b o)
+    → StandAt homes (digits size o.bits) block (start + offset)
+
 -- the frame of an instance has what the source's instance has: its live frame slots, and where it is suspended the
 -- values that cross its suspend, of an address in a local slot its distance
 pub record IsShown (m : Module) (l : Layout) (homes : List Home) (s : State) (x : Instance) (start : ℕ)
     (block : MemoryBlock) : Type 0 where
-  pub slots : (slot : Slot) (y : MemoryBlock) (offset : ℕ) → Contains x.slots slot
-      → IsOf (function_at m x.coroutine) slot.alloca SlotClass.Frame → slice_get s.world.memory slot.block ≡ Some y
-      → is_live y.life ≡ true → HasField m (function_at m x.coroutine) l slot.alloca offset y.size
-      → StandAt homes y.bytes block (start + offset)
-  pub values : (suspend : Point) (values : Env) (v offset size : ℕ) → x.status ≡ Status.Suspended suspend values
-      → Crosses (function_at m x.coroutine) v suspend → HasField m (function_at m x.coroutine) l v offset size
-      → (IsInLocalSlot (function_at m x.coroutine) v → ⊥)
-      → StandAt homes (encode size (value_in values v)) block (start + offset)
-  pub distances : (suspend : Point) (values : Env) (v offset size b : ℕ) (o : Offset)
-      → x.status ≡ Status.Suspended suspend values → Crosses (function_at m x.coroutine) v suspend
-      → HasField m (function_at m x.coroutine) l v offset size → IsInLocalSlot (function_at m x.coroutine) v
-      → value_in values v ≡ Value.Ptr (Pointer.At b o) → StandAt homes (digits size o.bits) block (start + offset)
+  pub slots : AreSlotsIn m l homes s x start block
+  pub values : AreValuesIn m l homes x start block
+  pub distances : AreDistancesIn m l homes x start block
 
 -- each instance of the source whose block isn't freed is shown
 pub record AreShown (m : Module) (layouts : List Layout) (s t : State) : Type 0 where

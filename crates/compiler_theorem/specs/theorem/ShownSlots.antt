@@ -1,0 +1,23 @@
+-- Which parts of states in a row stand in frames.
+use Rattle.std.specs.Prelude.{◌≡◌, ℕ, List, Some, slice_get}
+use Rattle.compiler_theorem.specs.theorem.SharedBytes.{AreSlotsIn, Frame}
+use Rattle.frame_layout.specs.declared.layout.Layout.{Layout}
+use Rattle.ir_model.specs.declared.module.Module.{Module}
+use Rattle.pass_renewed_meaning.specs.Followed.{AreInStep, Ended, Goes}
+use Rattle.pass_renewed_proof.specs.Renewed.{Flags, Roots}
+use Rattle.run_framed.specs.Framed.{layout_of}
+use Rattle.run_laws.specs.memory.Pointers.{Home}
+use Rattle.run_source.specs.declared.state.Instance.{Instance}
+use Rattle.run_source.specs.declared.state.State.{State}
+
+-- the homes of a state's memory in that of the run that makes slots anew
+abbrev pub step_homes : (m : Module) (flags : Flags) (roots : Roots) (s t : State) → AreInStep m flags roots s t
+    → List Home
+step_homes m flags roots s t (Goes h) = h.ledger.homes
+step_homes m flags roots s t (Ended h) = h.last.beside.ledger.homes
+
+-- the frame of each instance is there, and has its live frame slots
+abbrev pub AreSlotsShown : Module → List Layout → List Home → State → State → Type 0
+AreSlotsShown m layouts homes s t =
+    (i : ℕ) (x : Instance) → slice_get s.instances i ≡ Some x
+    → (y : Frame t i) × AreSlotsIn m (layout_of layouts x.coroutine) homes s x y.instance.start y.block
