@@ -1,4 +1,5 @@
 pub mod Called
+pub mod Coroutines
 pub mod Covered
 pub mod Giving
 pub mod Ordinary

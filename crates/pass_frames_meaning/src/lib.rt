@@ -3,6 +3,7 @@
 
 pub mod begun;
 pub mod called;
+pub mod coroutines;
 pub mod covered;
 pub mod giving;
 pub mod order;

@@ -20,11 +20,11 @@ use Rattle.run_source.specs.declared.state.State.{State}
 use Rattle.run_states.specs.sound_states.Sound.{IsSound}
 use Rattle.run_step.specs.Step.{AtInstr, Done, Work, fetch, instr_action}
 
-no_alloca : (i : Instr) → IsCommon i → IsNoAlloca i
+pub no_alloca : (i : Instr) → IsCommon i → IsNoAlloca i
 no_alloca (Instr.Alloca r ty align) h = h
 no_alloca _ h = tt
 
-staying : (i : Instr) → IsCommon i → IsStaying i
+pub staying : (i : Instr) → IsCommon i → IsStaying i
 staying (Instr.Call r must_tail ty (Callee.Named name) args) h = tt
 staying (Instr.Call r must_tail ty (Callee.Allocator a) args) h = tt
 staying (Instr.Call r must_tail ty (Callee.Intrinsic x) args) h = absurd h

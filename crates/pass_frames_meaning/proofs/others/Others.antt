@@ -84,16 +84,16 @@ use Rattle.run_types.specs.States.{IsMalloc, IsNew, TakesSize}
 
 -- ---- what ordinary instructions do
 
-abbrev IsQuietAction : Action → Type 0
+abbrev pub IsQuietAction : Action → Type 0
 IsQuietAction (Done w) = Unit {0}
 IsQuietAction (Stuck cause) = Unit {0}
 IsQuietAction _ = ⊥
 
-quiet_done : {A : Type 0} (f : A → Work) (r : Result A Cause) → IsQuietAction (done f r)
+pub quiet_done : {A : Type 0} (f : A → Work) (r : Result A Cause) → IsQuietAction (done f r)
 quiet_done f (Err cause) = tt
 quiet_done f (Ok a) = tt
 
-quiet_if : (align : ℕ) (a : Action) → IsQuietAction a → IsQuietAction (if_alignment align a)
+pub quiet_if : (align : ℕ) (a : Action) → IsQuietAction a → IsQuietAction (if_alignment align a)
 quiet_if align a h = on (is_alignment align)
   where
     on : (t : Bool) → IsQuietAction (if t then a else Stuck Cause.Align)
@@ -105,7 +105,7 @@ quiet_length (Value.Int y) f h = h y.bits
 quiet_length Value.Poison f h = tt
 quiet_length (Value.Ptr p) f h = tt
 
-quiet_compared : (c : Context) (w : Work) (name : ℕ) (pred : Pred) (ty : Ty) (a b : Value)
+pub quiet_compared : (c : Context) (w : Work) (name : ℕ) (pred : Pred) (ty : Ty) (a b : Value)
     → IsQuietAction (compared c w name pred ty a b)
 quiet_compared c w name pred (int n) a b = tt
 quiet_compared c w name pred ptr a b = quiet_done _ (compare c.rights w.world.memory (address a) (address b))
@@ -114,13 +114,13 @@ quiet_compared c w name pred (array n ty) a b = quiet_done _ (compare c.rights w
 quiet_compared c w name pred (structure ts) a b = quiet_done _ (compare c.rights w.world.memory (address a) (address b))
 quiet_compared c w name pred (named n) a b = quiet_done _ (compare c.rights w.world.memory (address a) (address b))
 
-quiet_observed : (c : Context) (w : Work) (d : ℕ) (ty : Option Ty) (result : Option ℕ) (args : Option (List Word))
+pub quiet_observed : (c : Context) (w : Work) (d : ℕ) (ty : Option Ty) (result : Option ℕ) (args : Option (List Word))
     → IsQuietAction (observed c w d ty result args)
 quiet_observed c w d ty result None = tt
 quiet_observed c w d None result (Some args) = tt
 quiet_observed c w d (Some ty) result (Some args) = tt
 
-quiet_copied : (c : Context) (w : Work) (vs : List Value) → IsQuietAction (copied_bytes c w vs)
+pub quiet_copied : (c : Context) (w : Work) (vs : List Value) → IsQuietAction (copied_bytes c w vs)
 quiet_copied c w vs = quiet_length (nth vs 2) (λ n. done (set_memory w) (copy c.rights w.world.memory (address (nth vs 0))
     (address (nth vs 1)) n)) (λ n. quiet_done (set_memory w) (copy c.rights w.world.memory (address (nth vs 0))
     (address (nth vs 1)) n))
@@ -128,7 +128,7 @@ quiet_copied c w vs = quiet_length (nth vs 2) (λ n. done (set_memory w) (copy c
 same_ok : (s t : State) → ◌≡◌ {A = Result State Cause} (Ok s) (Ok t) → s ≡ t
 same_ok s t e = cc
 
-no_ok : (cause : Cause) (t : State) → ◌≡◌ {A = Result State Cause} (Err cause) (Ok t) → ⊥
+pub no_ok : (cause : Cause) (t : State) → ◌≡◌ {A = Result State Cause} (Err cause) (Ok t) → ⊥
 no_ok cause t e = cc
 
 -- ---- the activation

@@ -102,7 +102,7 @@ instr_in x f same k at i e =
 -- ---- activations below
 
 module _ (c : Setting) (all : KeepsAll c) where
-  none_by : (x : Framing) (a : Activation) (mode : Mode) → IsCalm mode → is_return x a.block ≡ false
+  pub none_by : (x : Framing) (a : Activation) (mode : Mode) → IsCalm mode → is_return x a.block ≡ false
       → returned_from x a mode ≡ None
   none_by x a Mode.Plain h e = ap (λ (b : Bool). if b then entry (plan x).returns (block_at (edged x) a.block).label
       else None) e

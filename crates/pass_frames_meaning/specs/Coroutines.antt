@@ -1,0 +1,81 @@
+-- Steps of coroutines: what is open of the states, and which steps are other cases.
+use Rattle.std.specs.Prelude.{◌≡◌, ◌⊎◌, ℕ, Bool, true, Some, Option, List}
+use Rattle.ir_model.specs.Ty.{Ty}
+use Rattle.ir_model.specs.declared.instr.Instr.{Instr}
+use Rattle.ir_model.specs.declared.instr.Terminator.{Terminator}
+use Rattle.ir_model.specs.declared.operand.Arg.{Arg}
+use Rattle.ir_model.specs.declared.operand.Callee.{Callee}
+use Rattle.ir_model.specs.declared.operand.Intrinsic.{Intrinsic}
+use Rattle.ir_model.specs.declared.operand.Operand.{Operand}
+use Rattle.ir_parts.specs.Contents.{instr_operands}
+use Rattle.pass_cells.specs.Kept.{entry}
+use Rattle.pass_cells.specs.declared.plan.KeptValue.{KeptValue}
+use Rattle.pass_copies.specs.Uses.{is_access}
+use Rattle.pass_frames_meaning.specs.Setting.{Setting}
+use Rattle.pass_frames_meaning.specs.Standing.{IsStaying}
+use Rattle.pass_frames_proof.specs.Followed.{IsFollowed}
+use Rattle.pass_frames_proof.specs.Lines.{IsStorable}
+use Rattle.pass_frames_proof.specs.Places.{plan}
+use Rattle.pass_frames_proof.specs.Related.{IsKeptValue, is_coroutine}
+use Rattle.pass_frames_proof.specs.Stepping.{IsPlacedOperand, IsUnlocated, state_in}
+use Rattle.pass_renewed_proof.specs.Renewed.{renewed_step}
+use Rattle.rule_laws.specs.rules.function_rules.Kept.{KeepsFunctionRules}
+use Rattle.run_laws.specs.changed.Changed.{Each}
+use Rattle.run_source.specs.State.{function_of}
+use Rattle.run_source.specs.declared.state.State.{State}
+use Rattle.run_step.specs.Step.{AtInstr, AtTerm, fetch}
+use Rattle.run_step.specs.Values.{value_in}
+
+-- what a kept name of the coroutine on top has fits the type in which it is kept
+abbrev pub HasStorables : Setting → State → Type 0
+HasStorables c s =
+    is_coroutine c.b s.top.func ≡ true → (r : ℕ) (k : KeptValue) → IsKeptValue (c.b.framing s.top.func) r k
+    → IsStorable k.ty (value_in s.top.values r)
+
+-- No access of an instruction goes by the address of a slot that is used before begin.
+abbrev pub IsUnlocatedHere : Setting → State → Instr → Type 0
+IsUnlocatedHere c s i =
+    IsUnlocated (c.b.framing s.top.func) (state_in (c.b.framing s.top.func) s.top.block s.top.at) i
+
+-- What isn't derived yet of a state of a coroutine.
+pub record MayFollow (c : Setting) (s : State) : Type 0 where
+  -- acceptance of the source: without blocks on edges the coroutine breaks no rule
+  pub position : ℕ
+  pub rules : KeepsFunctionRules (c.b.framing s.top.func).code position (c.b.framing s.top.func).function
+  -- an invariant of the run: the name of a slot has its address, or poison, and begin's value is the instance's frame
+  pub operands : (i : Instr) → fetch (function_of c.g.given s) s.top.block s.top.at ≡ AtInstr i → IsStaying i
+      → IsUnlocatedHere c s i → Each (IsPlacedOperand (c.b.framing s.top.func) s) (instr_operands i)
+  -- an invariant of the run, of each state: a name of a pointer's type has a pointer or poison
+  pub storables : HasStorables c (renewed_step c.g s)
+
+-- intrinsics each of which is a case of its own
+abbrev pub IsOwnKind : Intrinsic → Type 0
+IsOwnKind Intrinsic.LifetimeStart = Unit {0}
+IsOwnKind Intrinsic.LifetimeEnd = Unit {0}
+IsOwnKind Intrinsic.CoroId = Unit {0}
+IsOwnKind Intrinsic.CoroBegin = Unit {0}
+IsOwnKind Intrinsic.CoroSave = Unit {0}
+IsOwnKind Intrinsic.CoroSuspend = Unit {0}
+IsOwnKind Intrinsic.CoroEnd = Unit {0}
+IsOwnKind _ = ⊥
+
+-- Steps of coroutines that are other cases.
+pub record AreOthersFollowed (c : Setting) (s t : State) : Type 0 where
+  -- accesses of slots that are used before begin, where they go by their cells' addresses
+  pub located : (i : Instr) → fetch (function_of c.g.given s) s.top.block s.top.at ≡ AtInstr i → is_access i ≡ true
+      → IsUnlocatedHere c s i ⊎ IsFollowed c.b c.g s t
+  -- getelementptrs whose distance is kept
+  pub measured : (r : ℕ) (inbounds : Bool) (ty : Ty) (base : Operand) (indices : List Arg) (cell : ℕ)
+      → fetch (function_of c.g.given s) s.top.block s.top.at ≡ AtInstr (Instr.Gep r inbounds ty base indices)
+      → entry (plan (c.b.framing s.top.func)).cells r ≡ Some cell → IsFollowed c.b c.g s t
+  pub allocas : (r : ℕ) (ty : Ty) (align : ℕ)
+      → fetch (function_of c.g.given s) s.top.block s.top.at ≡ AtInstr (Instr.Alloca r ty align)
+      → IsFollowed c.b c.g s t
+  -- markers, coro.id, begin, saves, suspends and coro.end
+  pub intrinsics : (x : Intrinsic) → IsOwnKind x → (result : Option ℕ) (must_tail : Bool) (ty : Option Ty)
+      (args : List Arg)
+      → fetch (function_of c.g.given s) s.top.block s.top.at
+      ≡ AtInstr (Instr.Call result must_tail ty (Callee.Intrinsic x) args) → IsFollowed c.b c.g s t
+  -- jumps, branches, switches and returns
+  pub ends : (e : Terminator) → fetch (function_of c.g.given s) s.top.block s.top.at ≡ AtTerm e
+      → IsFollowed c.b c.g s t

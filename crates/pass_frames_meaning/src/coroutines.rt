@@ -1,0 +1,43 @@
+//! Steps of coroutines are followed.
+//!
+//! What stands at the place, and facts of runs, are premises of the laws of `pass_frames_proof`. Here they follow of
+//! invariants of both runs and of rules, but for what is in `MayFollow`.
+
+ghost use Rattle.std.specs.Prelude.{◌≡◌, ℕ, Bool, None, Option, List, Some, true};
+ghost use Rattle.ir_base.specs.declared.outcome.Outcome.{Outcome};
+ghost use Rattle.ir_model.specs.Ty.{Ty};
+ghost use Rattle.ir_model.specs.declared.instr.Instr.{Instr};
+ghost use Rattle.ir_model.specs.declared.operand.Arg.{Arg};
+ghost use Rattle.ir_model.specs.declared.operand.Operand.{Operand};
+ghost use Rattle.ir_parts.specs.Contents.{result_of};
+ghost use Rattle.pass_cells.specs.Kept.{entry};
+ghost use Rattle.pass_frames_meaning.specs.Coroutines.{IsUnlocatedHere, MayFollow};
+ghost use Rattle.pass_frames_meaning.specs.Setting.{AreOfRuns, KeepsAll, Setting};
+ghost use Rattle.pass_frames_proof.specs.Followed.{IsFollowed};
+ghost use Rattle.pass_frames_proof.specs.Led.{LeavesMemory};
+ghost use Rattle.pass_frames_proof.specs.Places.{plan};
+ghost use Rattle.pass_frames_proof.specs.Related.{AreBuiltOf, is_coroutine};
+ghost use Rattle.pass_frames_proof.specs.Stepping.{IsCommon, IsNotEntering};
+ghost use Rattle.pass_renewed_proof.specs.Renewed.{renewed_step};
+ghost use Rattle.run_agreement.specs.Machines.{IsFine};
+ghost use Rattle.run_source.specs.Source.{context_of};
+ghost use Rattle.run_source.specs.State.{function_of};
+ghost use Rattle.run_source.specs.declared.state.State.{State as TheState};
+ghost use Rattle.run_step.specs.Step.{AtInstr, fetch};
+
+/// An instruction that changes no memory is followed, and a store, where no access goes by the address of a slot that is
+/// used before begin. Of a getelementptr no distance is kept.
+pub fn ordinary_instructions_of_coroutines_are_followed()
+    ensures quiet { (c : Setting) → KeepsAll c → (s t : TheState) (r : AreBuiltOf c.b s t) → AreOfRuns c s t r
+        → s.outcome ≡ Outcome.Running → IsFine (renewed_step c.g s).outcome → is_coroutine c.b s.top.func ≡ true
+        → IsNotEntering s.top.mode → MayFollow c s → (i : Instr)
+        → fetch (function_of c.g.given s) s.top.block s.top.at ≡ AtInstr i → IsCommon i
+        → LeavesMemory (context_of c.g.given s) i → IsUnlocatedHere c s i
+        → ((r : ℕ) → result_of i ≡ Some r → entry (plan (c.b.framing s.top.func)).cells r ≡ None)
+        → IsFollowed c.b c.g s t }
+    ensures store { (c : Setting) → KeepsAll c → (s t : TheState) (r : AreBuiltOf c.b s t) → AreOfRuns c s t r
+        → s.outcome ≡ Outcome.Running → IsFine (renewed_step c.g s).outcome → is_coroutine c.b s.top.func ≡ true
+        → IsNotEntering s.top.mode → MayFollow c s → (arg : Arg) (p : Operand) (align : ℕ)
+        → fetch (function_of c.g.given s) s.top.block s.top.at ≡ AtInstr (Instr.Store arg p align)
+        → IsUnlocatedHere c s (Instr.Store arg p align) → IsFollowed c.b c.g s t }
+{}
