@@ -5,14 +5,21 @@
 
 ghost use Rattle.std.specs.Prelude.{◌≡◌, ℕ, Bool, None, Option, List, Some, true};
 ghost use Rattle.ir_base.specs.declared.outcome.Outcome.{Outcome};
+ghost use Rattle.ir_base.specs.declared.name.Name.{Name};
 ghost use Rattle.ir_model.specs.Ty.{Ty};
 ghost use Rattle.ir_model.specs.declared.instr.Instr.{Instr};
 ghost use Rattle.ir_model.specs.declared.operand.Arg.{Arg};
+ghost use Rattle.ir_model.specs.declared.operand.Allocator.{Allocator};
+ghost use Rattle.ir_model.specs.declared.operand.Callee.{Callee};
+ghost use Rattle.ir_model.specs.declared.operand.Intrinsic.{Intrinsic};
 ghost use Rattle.ir_model.specs.declared.operand.Operand.{Operand};
 ghost use Rattle.ir_parts.specs.Contents.{result_of};
 ghost use Rattle.pass_cells.specs.Kept.{entry};
 ghost use Rattle.pass_frames_meaning.specs.Coroutines.{IsUnlocatedHere, MayFollow};
+ghost use Rattle.pass_frames_meaning.specs.Others.{EntersCoroutines};
 ghost use Rattle.pass_frames_meaning.specs.Setting.{AreOfRuns, KeepsAll, Setting};
+ghost use Rattle.pass_frames_proof.specs.Asking.{IsAsking};
+ghost use Rattle.pass_frames_proof.specs.Copying.{IsCopying};
 ghost use Rattle.pass_frames_proof.specs.Followed.{IsFollowed};
 ghost use Rattle.pass_frames_proof.specs.Led.{LeavesMemory};
 ghost use Rattle.pass_frames_proof.specs.Places.{plan};
@@ -25,8 +32,8 @@ ghost use Rattle.run_source.specs.State.{function_of};
 ghost use Rattle.run_source.specs.declared.state.State.{State as TheState};
 ghost use Rattle.run_step.specs.Step.{AtInstr, fetch};
 
-/// An instruction that changes no memory is followed, and a store, where no access goes by the address of a slot that is
-/// used before begin. Of a getelementptr no distance is kept.
+/// An instruction that changes no memory is followed, and a store, where no access goes by the address of a slot that
+/// is used before begin. Of a getelementptr no distance is kept.
 pub fn ordinary_instructions_of_coroutines_are_followed()
     ensures quiet { (c : Setting) → KeepsAll c → (s t : TheState) (r : AreBuiltOf c.b s t) → AreOfRuns c s t r
         → s.outcome ≡ Outcome.Running → IsFine (renewed_step c.g s).outcome → is_coroutine c.b s.top.func ≡ true
@@ -40,4 +47,41 @@ pub fn ordinary_instructions_of_coroutines_are_followed()
         → IsNotEntering s.top.mode → MayFollow c s → (arg : Arg) (p : Operand) (align : ℕ)
         → fetch (function_of c.g.given s) s.top.block s.top.at ≡ AtInstr (Instr.Store arg p align)
         → IsUnlocatedHere c s (Instr.Store arg p align) → IsFollowed c.b c.g s t }
+{}
+
+/// So is a call of a function by its name that enters no coroutine, one of an allocator or a deallocator, and one of an
+/// intrinsic that copies, asks or frees.
+pub fn calls_of_coroutines_are_followed()
+    ensures named { (c : Setting) → KeepsAll c → (s t : TheState) (r : AreBuiltOf c.b s t) → AreOfRuns c s t r
+        → s.outcome ≡ Outcome.Running → IsFine (renewed_step c.g s).outcome → is_coroutine c.b s.top.func ≡ true
+        → IsNotEntering s.top.mode → MayFollow c s → EntersCoroutines c s t → (result : Option ℕ) (must_tail : Bool)
+        (ty : Option Ty) (args : List Arg) (n : Name)
+        → fetch (function_of c.g.given s) s.top.block s.top.at
+        ≡ AtInstr (Instr.Call result must_tail ty (Callee.Named n) args) → IsFollowed c.b c.g s t }
+    ensures allocators { (c : Setting) → KeepsAll c → (s t : TheState) (r : AreBuiltOf c.b s t) → AreOfRuns c s t r
+        → s.outcome ≡ Outcome.Running → IsFine (renewed_step c.g s).outcome → is_coroutine c.b s.top.func ≡ true
+        → IsNotEntering s.top.mode → MayFollow c s → (result : Option ℕ) (must_tail : Bool) (ty : Option Ty)
+        (args : List Arg) (a : Allocator)
+        → fetch (function_of c.g.given s) s.top.block s.top.at
+        ≡ AtInstr (Instr.Call result must_tail ty (Callee.Allocator a) args) → IsFollowed c.b c.g s t }
+    ensures asking { (c : Setting) → KeepsAll c → (s t : TheState) (r : AreBuiltOf c.b s t) → AreOfRuns c s t r
+        → s.outcome ≡ Outcome.Running → IsFine (renewed_step c.g s).outcome → is_coroutine c.b s.top.func ≡ true
+        → IsNotEntering s.top.mode → MayFollow c s → (result : Option ℕ) (must_tail : Bool) (ty : Option Ty)
+        (args : List Arg) (x : Intrinsic) → IsAsking x
+        → fetch (function_of c.g.given s) s.top.block s.top.at
+        ≡ AtInstr (Instr.Call result must_tail ty (Callee.Intrinsic x) args) → IsFollowed c.b c.g s t }
+    ensures frees { (c : Setting) → KeepsAll c → (s t : TheState) (r : AreBuiltOf c.b s t) → AreOfRuns c s t r
+        → s.outcome ≡ Outcome.Running → IsFine (renewed_step c.g s).outcome → is_coroutine c.b s.top.func ≡ true
+        → IsNotEntering s.top.mode → MayFollow c s → (result : Option ℕ) (must_tail : Bool) (ty : Option Ty)
+        (args : List Arg)
+        → fetch (function_of c.g.given s) s.top.block s.top.at
+        ≡ AtInstr (Instr.Call result must_tail ty (Callee.Intrinsic Intrinsic.CoroFree) args)
+        → IsFollowed c.b c.g s t }
+    ensures copies { (c : Setting) → KeepsAll c → (s t : TheState) (r : AreBuiltOf c.b s t) → AreOfRuns c s t r
+        → s.outcome ≡ Outcome.Running → IsFine (renewed_step c.g s).outcome → is_coroutine c.b s.top.func ≡ true
+        → IsNotEntering s.top.mode → MayFollow c s → (result : Option ℕ) (must_tail : Bool) (ty : Option Ty)
+        (args : List Arg) (x : Intrinsic) → IsCopying x
+        → fetch (function_of c.g.given s) s.top.block s.top.at
+        ≡ AtInstr (Instr.Call result must_tail ty (Callee.Intrinsic x) args)
+        → IsUnlocatedHere c s (Instr.Call result must_tail ty (Callee.Intrinsic x) args) → IsFollowed c.b c.g s t }
 {}

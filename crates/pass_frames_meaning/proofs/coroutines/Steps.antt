@@ -1,5 +1,5 @@
 -- Steps of a coroutine are followed, by what stands at the place.
-use Rattle.std.proofs.Common.{◌≡◌, ℕ, Bool, true, false, List, Option, Some, None, Result, Ok, Err, refl, sym, ap, ◌∙◌, subst, if◌then◌else◌}
+use Rattle.std.proofs.Common.{◌≡◌, ℕ, Bool, true, false, Option, Some, None, Result, Ok, Err, refl, sym, ap, ◌∙◌, subst, if◌then◌else◌}
 use Rattle.ir_base.specs.declared.cause.Cause.{Cause}
 use Rattle.ir_base.specs.declared.outcome.Outcome.{Outcome}
 use Rattle.ir_model.specs.Names.{declaration_named, function_at}
@@ -34,7 +34,7 @@ use Rattle.run_source.specs.declared.state.State.{State}
 use Rattle.run_step.specs.Step.{Action, AtInstr, Coro, Deallocate, Done, Enter, Fetched, GoTo, NewSlot, Return, Stuck, Work, action_of, fetch, instr_action, named_call, words_of}
 use Rattle.run_step.specs.Values.{arg_values, value_in}
 
-same_ok : (s t : State) → ◌≡◌ {A = Result State Cause} (Ok s) (Ok t) → s ≡ t
+pub same_ok : (s t : State) → ◌≡◌ {A = Result State Cause} (Ok s) (Ok t) → s ≡ t
 same_ok s t e = cc
 
 -- no marker and no call
@@ -150,7 +150,7 @@ module _ (c : Setting) (all : KeepsAll c) (s t : State) (r : AreBuiltOf c.b s t)
     }
 
     -- what it gives fits
-    storable : (v : Work) → instr_action (context_of c.g.given s) (work_of s) i ≡ Done v → (q : ℕ) (kept : KeptValue)
+    pub storable : (v : Work) → instr_action (context_of c.g.given s) (work_of s) i ≡ Done v → (q : ℕ) (kept : KeptValue)
         → IsKeptValue x q kept → IsStorable kept.ty (value_in v.values q)
     storable v e =
         let z = acts_as (Done v) e in
