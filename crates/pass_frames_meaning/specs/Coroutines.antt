@@ -59,6 +59,10 @@ IsOwnKind Intrinsic.CoroSuspend = Unit {0}
 IsOwnKind Intrinsic.CoroEnd = Unit {0}
 IsOwnKind _ = ⊥
 
+abbrev pub IsEnding : Terminator → Type 0
+IsEnding Terminator.Unreachable = ⊥
+IsEnding _ = Unit {0}
+
 -- Steps of coroutines that are other cases.
 pub record AreOthersFollowed (c : Setting) (s t : State) : Type 0 where
   -- accesses of slots that are used before begin, where they go by their cells' addresses
@@ -77,5 +81,5 @@ pub record AreOthersFollowed (c : Setting) (s t : State) : Type 0 where
       → fetch (function_of c.g.given s) s.top.block s.top.at
       ≡ AtInstr (Instr.Call result must_tail ty (Callee.Intrinsic x) args) → IsFollowed c.b c.g s t
   -- jumps, branches, switches and returns
-  pub ends : (e : Terminator) → fetch (function_of c.g.given s) s.top.block s.top.at ≡ AtTerm e
+  pub ends : (e : Terminator) → IsEnding e → fetch (function_of c.g.given s) s.top.block s.top.at ≡ AtTerm e
       → IsFollowed c.b c.g s t

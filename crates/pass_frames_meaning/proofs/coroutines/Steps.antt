@@ -94,12 +94,12 @@ module _ (c : Setting) (all : KeepsAll c) (s t : State) (r : AreBuiltOf c.b s t)
 
   -- ---- the step
 
-  record IsNext (y : Fetched) : Type 0 where
-    after : State
-    acts : renewed_act c.g s (action_of (context_of c.g.given s) (work_of s) y) ≡ Ok after
-    steps : renewed_step c.g s ≡ after
+  pub record IsNext (y : Fetched) : Type 0 where
+    pub after : State
+    pub acts : renewed_act c.g s (action_of (context_of c.g.given s) (work_of s) y) ≡ Ok after
+    pub steps : renewed_step c.g s ≡ after
 
-  next_is : (y : Fetched) → fetch (function_at c.g.given.code s.top.func) s.top.block s.top.at ≡ y
+  pub next_is : (y : Fetched) → fetch (function_at c.g.given.code s.top.func) s.top.block s.top.at ≡ y
       → is_idle (c.g.flags s.top.func) y ≡ false → IsNext y
   next_is y e awake = on (renewed_act c.g s (action_of (context_of c.g.given s) (work_of s) y)) refl
     where
