@@ -1,6 +1,6 @@
 //! Ends of coroutines, from state to state: the instance is over in both runs, where the activation hasn't left.
 
-ghost use Rattle.std.specs.Prelude.{◌≡◌, ℕ, Bool, List, Option, None};
+ghost use Rattle.std.specs.Prelude.{ℕ, Bool, List, Option};
 ghost use Rattle.ir_model.specs.Ty.{Ty};
 ghost use Rattle.ir_model.specs.declared.operand.Arg.{Arg};
 ghost use Rattle.pass_frames_proof.specs.Ending.{GoesOnPast, IsAtEnd, LeadsBack};
@@ -17,7 +17,7 @@ pub fn ends_of_coroutines_are_followed()
     ensures resumed { (b : Building) (g : RenewedGiven) → AreGiven b g → (s t : State) → AreBuiltOf b s t
         → (result : Option ℕ) (must_tail : Bool) (ty : Option Ty) (args : List Arg)
         → IsAtEnd b g s result must_tail ty args → (a : Activation) (more : List Activation) → LeadsBack b s t a more
-        → result ≡ None → IsFollowed b g s t }
+        → IsFollowed b g s t }
     ensures ramps { (b : Building) (g : RenewedGiven) → AreGiven b g → (s t : State) → AreBuiltOf b s t
         → (result : Option ℕ) (must_tail : Bool) (ty : Option Ty) (args : List Arg)
         → IsAtEnd b g s result must_tail ty args → GoesOnPast b s result → IsFollowed b g s t }

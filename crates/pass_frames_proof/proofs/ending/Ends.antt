@@ -6,7 +6,6 @@ use Rattle.std.specs.Option.{option_map_or}
 use Rattle.std.specs.Prelude.{None, Ok, Option, Some, slice_get, slice_set, option_and_then, option_map, ◌&&◌, ◌==◌, if◌then◌else◌}
 use Rattle.flow_solver.specs.Paths.{IsListed}
 use Rattle.ir_laws.proofs.facts.Truth.{is_number}
-use Rattle.pass_cells.specs.Written.{stored_result}
 use Rattle.pass_frames_proof.proofs.returning.Deaths.{WasThere, dead_there, is_among, kept_there, was_there}
 use Rattle.run_memory.specs.Memory.{is_killed, killed_block}
 use Rattle.ir_base.specs.declared.outcome.Outcome.{Outcome}
@@ -27,7 +26,7 @@ use Rattle.pass_frames_proof.proofs.returning.Owned.{slots_owned}
 use Rattle.pass_frames_proof.proofs.stepping.Doing.{at_place, code_framed, fetched_is}
 use Rattle.pass_frames_proof.proofs.stepping.Fronted as fronted
 use Rattle.pass_frames_proof.proofs.stepping.Landing.{landed}
-use Rattle.pass_frames_proof.proofs.stepping.Onward.{EndsUp, onward_followed, onward_within}
+use Rattle.pass_frames_proof.proofs.stepping.Onward.{EndsUp, onward_within}
 use Rattle.pass_renewed_proof.proofs.Listing.{set_here, set_other}
 use Rattle.pass_frames_proof.proofs.stepping.Stands.{cost_is, renewed_does}
 use Rattle.pass_frames_proof.specs.Code.{address_state, load_name, slot_table}
@@ -343,7 +342,7 @@ module _ (b : Building) (g : RenewedGiven) (given : AreGiven b g) (s t : State) 
 
   -- ---- of a resumed activation
 
-  module _ (a : Activation) (more : List Activation) (q : LeadsBack b s t a more) (none : result ≡ None) where
+  module _ (a : Activation) (more : List Activation) (q : LeadsBack b s t a more) where
     same : s.top.at ≤ s.top.at
     same = omega arith
 
@@ -390,21 +389,18 @@ module _ (b : Building) (g : RenewedGiven) (given : AreGiven b g) (s t : State) 
         ∙ ap (or_undefined b.given.given last)
         (back.target_is (t.top.at + length front) work.values work.world refl)
 
-    cost : step_cost b g s s.top.mode ≡ length front + 1 + back.ends.steps
-    cost =
-        cost_all
-        ∙ ap (λ (n : ℕ). n - (place x here).at + behind_cost b s.below) code.next
-        ∙ ap (λ (o : Option ℕ). (own_place x here).at + 1 + length (stored_result (plan x) o) - (place x here).at
-        + behind_cost b s.below) none
-        ∙ (λ j. code.own j + 1 + 0 - (place x here).at + back.cost j)
-        ∙ far (place x here).at (length front) back.ends.steps
-      where
-        far : (p n e : ℕ) → p + n + 1 + 0 - p + e ≡ n + 1 + e
-        far p n e = omega arith
+    -- what its result would be stored by is paid for too
+    paid : length front + 1 + back.ends.steps ≤ step_cost b g s s.top.mode
+    paid =
+        let one = cost_all in
+        let two = back.cost in
+        let own = code.own in
+        let after = code.next in
+        omega (arith, one, two, own, after)
 
     pub resumed_end_followed : IsFollowed b g s t
     resumed_end_followed =
-        onward_followed b g s t back.ends (length front) last leads line_shown last_on next source cost
+        onward_within b g s t back.ends (length front) last leads line_shown last_on next source paid
 
   -- ---- of a ramp
 
