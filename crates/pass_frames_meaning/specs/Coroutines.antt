@@ -1,5 +1,5 @@
 -- Steps of coroutines: what is open of the states, and which steps are other cases.
-use Rattle.std.specs.Prelude.{◌≡◌, ◌⊎◌, ℕ, Bool, true, Some, Option, List}
+use Rattle.std.specs.Prelude.{◌≡◌, ◌⊎◌, ◌∷◌, ℕ, Bool, true, Some, Option, List}
 use Rattle.ir_model.specs.Ty.{Ty}
 use Rattle.ir_model.specs.declared.instr.Instr.{Instr}
 use Rattle.ir_model.specs.declared.instr.Terminator.{Terminator}
@@ -16,12 +16,14 @@ use Rattle.pass_frames_meaning.specs.Standing.{IsStaying}
 use Rattle.pass_frames_proof.specs.Followed.{IsFollowed}
 use Rattle.pass_frames_proof.specs.Lines.{IsStorable}
 use Rattle.pass_frames_proof.specs.Places.{plan}
-use Rattle.pass_frames_proof.specs.Related.{IsKeptValue, is_coroutine}
+use Rattle.pass_frames_proof.specs.Related.{IsKeptValue, is_coroutine, is_first}
 use Rattle.pass_frames_proof.specs.Stepping.{IsPlacedOperand, IsUnlocated, state_in}
 use Rattle.pass_renewed_proof.specs.Renewed.{renewed_step}
 use Rattle.rule_laws.specs.rules.function_rules.Kept.{KeepsFunctionRules}
 use Rattle.run_laws.specs.changed.Changed.{Each}
 use Rattle.run_source.specs.State.{function_of}
+use Rattle.run_source.specs.declared.state.Activation.{Activation}
+use Rattle.run_source.specs.declared.state.Mode.{Mode}
 use Rattle.run_source.specs.declared.state.State.{State}
 use Rattle.run_step.specs.Step.{AtInstr, AtTerm, fetch}
 use Rattle.run_step.specs.Values.{value_in}
@@ -48,6 +50,15 @@ pub record MayFollow (c : Setting) (s : State) : Type 0 where
   -- an invariant of the run, of each state: a name of a pointer's type has a pointer or poison
   pub storables : HasStorables c (renewed_step c.g s)
 
+-- What isn't derived yet where coro.end stands at the place.
+pub record MayEnd (s : State) : Type 0 where
+  -- each path to it leads over begin, so the activation has an instance
+  pub number : ℕ
+  pub own : s.top.instance ≡ Some number
+  -- a coroutine's activation is a ramp's, or is pushed by a resume or destroy onto another one
+  pub from : (is_first s.top.mode ≡ true)
+      ⊎ ((s.top.mode ≡ Mode.Resumed) × (a : Activation) × (more : List Activation) × (s.below ≡ a ∷ more))
+
 -- intrinsics each of which is a case of its own
 abbrev pub IsOwnKind : Intrinsic → Type 0
 IsOwnKind Intrinsic.LifetimeStart = Unit {0}
@@ -56,7 +67,6 @@ IsOwnKind Intrinsic.CoroId = Unit {0}
 IsOwnKind Intrinsic.CoroBegin = Unit {0}
 IsOwnKind Intrinsic.CoroSave = Unit {0}
 IsOwnKind Intrinsic.CoroSuspend = Unit {0}
-IsOwnKind Intrinsic.CoroEnd = Unit {0}
 IsOwnKind _ = ⊥
 
 abbrev pub IsEnding : Terminator → Type 0
@@ -75,11 +85,15 @@ pub record AreOthersFollowed (c : Setting) (s t : State) : Type 0 where
   pub allocas : (r : ℕ) (ty : Ty) (align : ℕ)
       → fetch (function_of c.g.given s) s.top.block s.top.at ≡ AtInstr (Instr.Alloca r ty align)
       → IsFollowed c.b c.g s t
-  -- markers, coro.id, begin, saves, suspends and coro.end
+  -- markers, coro.id, begin, saves and suspends
   pub intrinsics : (x : Intrinsic) → IsOwnKind x → (result : Option ℕ) (must_tail : Bool) (ty : Option Ty)
       (args : List Arg)
       → fetch (function_of c.g.given s) s.top.block s.top.at
       ≡ AtInstr (Instr.Call result must_tail ty (Callee.Intrinsic x) args) → IsFollowed c.b c.g s t
+  -- coro.end, where this is known
+  pub end_calls : (result : Option ℕ) (must_tail : Bool) (ty : Option Ty) (args : List Arg)
+      → fetch (function_of c.g.given s) s.top.block s.top.at
+      ≡ AtInstr (Instr.Call result must_tail ty (Callee.Intrinsic Intrinsic.CoroEnd) args) → MayEnd s
   -- jumps, branches, switches and returns
   pub ends : (e : Terminator) → IsEnding e → fetch (function_of c.g.given s) s.top.block s.top.at ≡ AtTerm e
       → IsFollowed c.b c.g s t

@@ -15,7 +15,7 @@ ghost use Rattle.ir_model.specs.declared.operand.Intrinsic.{Intrinsic};
 ghost use Rattle.ir_model.specs.declared.operand.Operand.{Operand};
 ghost use Rattle.ir_parts.specs.Contents.{result_of};
 ghost use Rattle.pass_cells.specs.Kept.{entry};
-ghost use Rattle.pass_frames_meaning.specs.Coroutines.{AreOthersFollowed, IsUnlocatedHere, MayFollow};
+ghost use Rattle.pass_frames_meaning.specs.Coroutines.{AreOthersFollowed, IsUnlocatedHere, MayEnd, MayFollow};
 ghost use Rattle.pass_frames_meaning.specs.Others.{EntersCoroutines};
 ghost use Rattle.pass_frames_meaning.specs.Setting.{AreOfRuns, KeepsAll, Setting};
 ghost use Rattle.pass_frames_proof.specs.Asking.{IsAsking};
@@ -84,6 +84,17 @@ pub fn calls_of_coroutines_are_followed()
         → fetch (function_of c.g.given s) s.top.block s.top.at
         ≡ AtInstr (Instr.Call result must_tail ty (Callee.Intrinsic x) args)
         → IsUnlocatedHere c s (Instr.Call result must_tail ty (Callee.Intrinsic x) args) → IsFollowed c.b c.g s t }
+{}
+
+/// So is coro.end, in a ramp and in an activation that was resumed.
+pub fn ends_of_coroutines_are_led_back()
+    ensures { (c : Setting) → KeepsAll c → (s t : TheState) (r : AreBuiltOf c.b s t) → AreOfRuns c s t r
+        → s.outcome ≡ Outcome.Running → IsFine (renewed_step c.g s).outcome → is_coroutine c.b s.top.func ≡ true
+        → IsNotEntering s.top.mode → MayFollow c s → MayEnd s → (result : Option ℕ) (must_tail : Bool)
+        (ty : Option Ty) (args : List Arg)
+        → fetch (function_of c.g.given s) s.top.block s.top.at
+        ≡ AtInstr (Instr.Call result must_tail ty (Callee.Intrinsic Intrinsic.CoroEnd) args)
+        → IsFollowed c.b c.g s t }
 {}
 
 /// So each step of a coroutine is followed, where the other kinds are.

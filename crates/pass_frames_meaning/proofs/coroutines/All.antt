@@ -14,6 +14,7 @@ use Rattle.ir_parts.specs.Contents.{result_of}
 use Rattle.pass_cells.specs.Kept.{entry}
 use Rattle.pass_copies.specs.Uses.{is_access}
 use Rattle.pass_frames_meaning.proofs.coroutines.Calls.{allocator_followed, asking_followed, copying_followed, free_followed, named_followed}
+use Rattle.pass_frames_meaning.proofs.coroutines.Ends.{end_followed}
 use Rattle.pass_frames_meaning.proofs.coroutines.Steps.{next_is, quiet_followed, store_followed}
 use Rattle.pass_frames_meaning.proofs.others.AtPlace.{called_by_name, function_there}
 use Rattle.pass_frames_meaning.proofs.others.Names.{no_distance}
@@ -136,7 +137,9 @@ module _ (c : Setting) (all : KeepsAll c) (s t : State) (r : AreBuiltOf c.b s t)
     intrinsics Intrinsic.CoroFrame there = asks Intrinsic.CoroFrame tt there
     intrinsics Intrinsic.CoroSave there = others.intrinsics Intrinsic.CoroSave tt result must_tail ty args there
     intrinsics Intrinsic.CoroSuspend there = others.intrinsics Intrinsic.CoroSuspend tt result must_tail ty args there
-    intrinsics Intrinsic.CoroEnd there = others.intrinsics Intrinsic.CoroEnd tt result must_tail ty args there
+    intrinsics Intrinsic.CoroEnd there =
+        end_followed c all s t r k runs fine coroutine mode o (others.end_calls result must_tail ty args there) result
+        must_tail ty args there
 
     called : (callee : Callee) → Stands (Instr.Call result must_tail ty callee args) → Follows
     called (Callee.Named n) there =

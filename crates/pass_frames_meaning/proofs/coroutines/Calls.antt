@@ -141,7 +141,7 @@ asked_unaccessed Intrinsic.CoroDone h result must_tail ty args = refl
 asked_unaccessed Intrinsic.CoroPromise h result must_tail ty args = refl
 asked_unaccessed _ h result must_tail ty args = absurd h
 
-released_top : (s : State) (f : Instance → Instance) (o : Option (ℕ × Instance)) → (change_own s f o).top ≡ s.top
+pub released_top : (s : State) (f : Instance → Instance) (o : Option (ℕ × Instance)) → (change_own s f o).top ≡ s.top
 released_top s f None = refl
 released_top s f (Some p) = refl
 

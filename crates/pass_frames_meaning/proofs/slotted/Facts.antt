@@ -60,7 +60,7 @@ times_among n ss c = let k = times_slot n ss c in in_map ss k.slot k.listed k.is
     in_map (s ∷ ss) slot (inl d) e = inl (sym e ∙ ap (λ (x : Slot). x.block) d)
     in_map (s ∷ ss) slot (inr l) e = inr (in_map ss slot l e)
 
-among_times : (n : ℕ) (ss : List Slot) → IsAmong n ss → 1 ≤ times n ss
+pub among_times : (n : ℕ) (ss : List Slot) → IsAmong n ss → 1 ≤ times n ss
 among_times n [] l = absurd l
 among_times n (s ∷ ss) (inl e) =
     let k : once_if (s.block == n) ≡ 1 = ap (λ (b : ℕ). once_if (s.block == b)) e ∙ ap once_if (itself s.block) in
