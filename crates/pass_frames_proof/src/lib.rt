@@ -35,6 +35,7 @@ pub mod moved;
 pub mod offsets;
 pub mod ordinary;
 pub mod phis;
+pub mod priced;
 pub mod ramps;
 pub mod reached;
 pub mod returning;

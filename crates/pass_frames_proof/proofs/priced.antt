@@ -1,0 +1,4 @@
+pub mod Acts
+pub mod Jumps
+pub mod Paid
+pub mod Steps

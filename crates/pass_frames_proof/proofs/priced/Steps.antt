@@ -1,0 +1,237 @@
+-- What steps of a coroutine cost is at most their price, each by what stands at its place.
+use Rattle.std.proofs.Common.{◌≡◌, ◌≢◌, ℕ, zero, suc, ◌+◌, ◌-◌, ◌*◌, ◌<◌, ◌≤◌, Bool, true, false, List, [], length}
+use Rattle.std.proofs.Common.{Option, Some, None, refl, sym, ap, ◌∙◌, subst, arith}
+use Rattle.std.proofs.lemmas.Option.{slice_get_within}
+use Rattle.std.specs.Prelude.{not, slice_get, unwrap_or, ◌&&◌, ◌==◌}
+use Rattle.flow_solver.specs.Paths.{IsListed}
+use Rattle.ir_laws.proofs.facts.Truth.{equal_numbers}
+use Rattle.ir_model.specs.Names.{position_of}
+use Rattle.ir_model.specs.declared.instr.Instr.{Instr}
+use Rattle.ir_model.specs.declared.instr.Phi.{Phi}
+use Rattle.ir_model.specs.declared.instr.Terminator.{Terminator}
+use Rattle.ir_model.specs.declared.module.Block.{Block}
+use Rattle.ir_model.specs.declared.module.Function.{Function}
+use Rattle.ir_paths.specs.Paths.{targets}
+use Rattle.ir_paths.specs.declared.point.Point.{Point}
+use Rattle.pass_frames_proof.proofs.bounds.Ends.{end_cost_short}
+use Rattle.pass_frames_proof.proofs.bounds.Entry.{entry_unreturned}
+use Rattle.pass_frames_proof.proofs.bounds.Jumps.{other_jump, return_jump}
+use Rattle.pass_frames_proof.proofs.bounds.Paid.{behind_paid, first_behind, instr_paid, none_behind}
+use Rattle.pass_frames_proof.proofs.bounds.Rows.{row_few}
+use Rattle.pass_frames_proof.proofs.bounds.Steps.{cost_short, own_few}
+use Rattle.pass_frames_proof.proofs.bounds.Totals.{blocks_counted, call_total}
+use Rattle.pass_frames_proof.proofs.code.Passes.{block_is}
+use Rattle.pass_frames_proof.proofs.priced.Jumps.{bare}
+use Rattle.pass_frames_proof.proofs.ramps.Plain.{entry_there}
+use Rattle.pass_frames_proof.specs.Bounds.{more_of}
+use Rattle.pass_frames_proof.specs.Costs.{call_cost, instr_cost, jump_cost, whole}
+use Rattle.pass_frames_proof.specs.FramePrices.{IsWithin, coroutine_price, credit, full_price, goes_on, price_by}
+use Rattle.pass_frames_proof.specs.FramePrices.{returns_by}
+use Rattle.pass_frames_proof.specs.Framings.{IsFraming}
+use Rattle.pass_frames_proof.specs.Meaning.{behind_at, own_cost}
+use Rattle.pass_frames_proof.specs.Numbers.{names_of, phis_of_blocks}
+use Rattle.pass_frames_proof.specs.Passes.{block_at, no_block}
+use Rattle.pass_frames_proof.specs.Places.{Framing, edged, instrs_at, is_return, place}
+use Rattle.rule_laws.proofs.frames.crossing.Entries.{none_enters}
+use Rattle.rule_laws.proofs.rules.sources.Places.{IsEnd}
+use Rattle.rule_laws.proofs.rules.threaded.Labels.{HasBlock, target_there}
+use Rattle.rule_laws.specs.frames.rows.Returns.{HaveOwnReturns}
+
+-- ---- prices
+
+least : (names operands : ℕ) (r g : Bool)
+    → full_price names operands - credit names ≤ price_by (full_price names operands) (credit names) r g
+least names operands true g = omega arith
+least names operands false true = omega arith
+least names operands false false = omega arith
+
+all_of : (full left : ℕ) (r g : Bool) → g ≡ false → full ≤ price_by full left r g
+all_of full left true g e = omega arith
+all_of full left false true e = absurd (cc)
+all_of full left false false e = omega arith
+
+none_in : (at : ℕ) (is : List Instr) (i : Instr) → is ≡ [] → slice_get is at ≡ Some i → ⊥
+none_in at is i e d = let no : None ≡ Some i = sym (ap (λ (js : List Instr). slice_get js at) e) ∙ d in absurd (cc)
+
+apart : (at n : ℕ) → at < n → (at == n) ≡ false
+apart at n lt = on (at == n) refl
+  where
+    on : (b : Bool) → (at == n) ≡ b → b ≡ false
+    on false e = refl
+    on true e = let same = equal_numbers at n e in absurd (omega (arith, lt, same))
+
+both_none : (a b : Bool) → b ≡ true → (a && not b) ≡ false
+both_none true true e = refl
+both_none true false e = absurd (cc)
+both_none false b e = refl
+
+module _ (x : Framing) (is : IsFraming x) where
+  abbrev f : Function
+  f = edged x
+
+  abbrev phis : ℕ
+  phis = phis_of_blocks (edged x).blocks
+
+  pub phis_few : phis ≤ names_of (edged x)
+  phis_few = let a = blocks_counted (edged x).blocks in omega (arith, a)
+
+  -- a call of the ramp
+  pub call_few : call_cost x ≤ 4 * names_of (edged x)
+  call_few = call_total x is (entry_there x is) (entry_unreturned x is (entry_there x is))
+
+  later : (k : ℕ) → is_return x k ≡ true → k ≢ 0
+  later k e same =
+      let no : true ≡ false = sym e ∙ ap (is_return x) same ∙ entry_unreturned x is (entry_there x is) in absurd (cc)
+
+  module _ (names operands : ℕ) (within : IsWithin names operands x) where
+    abbrev full : ℕ
+    full = full_price names operands
+
+    -- ---- what stands behind a call
+
+    behind_by : (k at : ℕ) (o : Option Instr) → slice_get (instrs_at x k) at ≡ o
+        → behind_at x k (at + 1) + 2 * phis ≤ 1 + 4 * names_of (edged x) + 3 * operands
+    behind_by k at None e =
+        let a = none_behind x k at e in
+        let b = phis_few in
+        omega (arith, a, b)
+    behind_by k at (Some i) e =
+        let a = behind_paid x is (record { block = k; at = at }) i e in
+        let b = within.operand k at i e in
+        omega (arith, a, b)
+
+    pub behind_few : (k at : ℕ) → behind_at x k at + 2 * phis ≤ 1 + 4 * names_of (edged x) + 3 * operands
+    behind_few k zero =
+        let a = first_behind x k in
+        let b = phis_few in
+        omega (arith, a, b)
+    behind_few k (suc at) =
+        let same : at + 1 ≡ suc at = omega arith in
+        subst (λ (n : ℕ). behind_at x k n + 2 * phis ≤ 1 + 4 * names_of (edged x) + 3 * operands) same
+        (behind_by k at (slice_get (instrs_at x k) at) refl)
+
+    module _ (own : HaveOwnReturns (edged x)) (k at : ℕ) where
+      abbrev p : Point
+      p = record { block = k; at = at }
+
+      abbrev price : ℕ
+      price = coroutine_price full (credit names) x k at
+
+      -- ---- where an instruction stands
+
+      module _ (i : Instr) (there : slice_get (instrs_at x k) at ≡ Some i) where
+        block_there : slice_get f.blocks k ≡ Some (block_at f k)
+        block_there = on (slice_get f.blocks k) refl
+          where
+            on : (o : Option Block) → slice_get f.blocks k ≡ o → o ≡ Some (unwrap_or o no_block)
+            on (Some b) e = refl
+            on None e =
+                absurd (none_in at (instrs_at x k) i
+                (ap (λ (o : Option Block). (unwrap_or o no_block).instrs) e) there)
+
+        unreturned : is_return x k ≡ false
+        unreturned = on (is_return x k) refl
+          where
+            on : (b : Bool) → is_return x k ≡ b → b ≡ false
+            on false e = refl
+            on true e = absurd (none_in at (instrs_at x k) i (bare x is own k block_there e).no_instrs there)
+
+        pub instr_price : full ≤ price
+        instr_price =
+            let lt = slice_get_within (instrs_at x k) at i there in
+            all_of full (credit names) (is_return x k) (goes_on x k at)
+            (ap (λ (t : Bool). t && not (returns_by (block_at f k).term)) (apart at (length (instrs_at x k)) lt))
+
+        pub instr_few : instr_cost x p ≤ full
+        instr_few =
+            let a = instr_paid x is p i there in
+            let b = within.operand k at i there in
+            let c = within.few in
+            omega (arith, a, b, c)
+
+        pub end_few : more_of x i ≡ 0 → instr_cost x p ≤ 2 + operands
+        end_few none =
+            let a = cost_short x is (row_few x is) k at i there in
+            let b = within.operand k at i there in
+            omega (arith, a, b, none)
+
+        pub own_paid : more_of x i ≡ 0 → own_cost x p ≤ 3 + operands
+        own_paid none =
+            let a = own_few x is (row_few x is) k at i there unreturned in
+            let b = within.operand k at i there in
+            omega (arith, a, b, none)
+
+      -- ---- where the terminator stands
+
+      module _ (t : Terminator) (e : IsEnd f k at t) where
+        own_is : block_at f k ≡ e.own
+        own_is = block_is f k e.own e.got
+
+        there : slice_get f.blocks k ≡ Some (block_at f k)
+        there = e.got ∙ ap Some (sym own_is)
+
+        term_is : (block_at f k).term ≡ t
+        term_is = ap (λ (b : Block). b.term) own_is ∙ e.is
+
+        last : at ≡ length (instrs_at x k)
+        last = e.last ∙ ap (λ (b : Block). length b.instrs) (sym own_is)
+
+        module _ (label : ℕ) (l : IsListed label (targets t)) where
+          listed : IsListed label (targets e.own.term)
+          listed = subst (λ (z : Terminator). IsListed label (targets z)) (sym e.is) l
+
+          abbrev target : ℕ
+          target = position_of f label
+
+          block : HasBlock f label
+          block =
+              target_there x.code is.position f is.frameable.rules.definitions is.frameable.rules.known k e.own label
+              e.got listed
+
+          goal : slice_get f.blocks target ≡ Some (block_at f target)
+          goal = block.there ∙ ap Some (sym (block_is f target block.block block.there))
+
+          behind : target ≢ 0
+          behind same = none_enters x.code is.position f is.frameable.rules k e.own label e.got listed same
+
+          jump_by : (b : Bool) → is_return x k ≡ b
+              → jump_cost x k target ≤ price_by full (credit names) b (goes_on x k at)
+          jump_by false d =
+              let a = other_jump x is target goal behind k there d in
+              let b = phis_few in
+              let c = within.few in
+              let h = within.phi target in
+              let j = least names operands false (goes_on x k at) in
+              omega (arith, a, b, c, h, j)
+          jump_by true d =
+              let z = bare x is own k there d in
+              let a = return_jump x is target goal behind k there d (later k d) z.no_instrs in
+              let b : length (block_at f k).phis ≡ 0 = ap (λ (ps : List Phi). length ps) z.no_phis in
+              let c = within.few in
+              let h = within.phi target in
+              omega (arith, a, b, c, h)
+
+          pub jump_few : jump_cost x k target ≤ price
+          jump_few = jump_by (is_return x k) refl
+
+        module _ (r : returns_by t ≡ true) where
+          pub return_price : full ≤ price
+          return_price =
+              all_of full (credit names) (is_return x k) (goes_on x k at)
+              (both_none (at == length (instrs_at x k)) (returns_by (block_at f k).term) (ap returns_by term_is ∙ r))
+
+          returning : is_return x k ≡ false
+          returning = on (is_return x k) refl
+            where
+              on : (b : Bool) → is_return x k ≡ b → b ≡ false
+              on false d = refl
+              on true d =
+                  let z = bare x is own k there d in
+                  let no : false ≡ true = sym (ap returns_by z.jump) ∙ ap returns_by term_is ∙ r in absurd (cc)
+
+          pub return_few : whole x k - (place x p).at ≤ 2 * phis + 3
+          return_few =
+              let a = end_cost_short x is k there returning in
+              let b : (place x p).at ≡ (place x (record { block = k; at = length (instrs_at x k) })).at =
+              ap (λ (n : ℕ). (place x (record { block = k; at = n })).at) last in
+              omega (arith, a, b)
