@@ -1,4 +1,5 @@
 pub mod Anew
+pub mod Asked
 pub mod Built
 pub mod Elision
 pub mod Entries

@@ -3,6 +3,7 @@
 
 ghost use Rattle.run_source.specs.declared.state.State.{State};
 ghost use Rattle.compiler_theorem.specs.theorem.Anew.{Anew, IsAnewOf};
+ghost use Rattle.compiler_theorem.specs.theorem.Asked.{ArePromisesLaid, asking};
 ghost use Rattle.compiler_theorem.specs.theorem.Built.{building};
 ghost use Rattle.compiler_theorem.specs.theorem.Entries.{Run, IsEntry};
 ghost use Rattle.compiler_theorem.specs.theorem.Lowered.{AreAllocasFirst, HasFewBytes, Lowered, IsLowered, early, edged, printed_from, sizes_of, source_run};
@@ -11,6 +12,7 @@ ghost use Rattle.frame_layout.specs.declared.layout.Layouts.{Layouts};
 ghost use Rattle.pass_frames.specs.Framed.{IsFramedForm};
 ghost use Rattle.std.specs.Prelude.{◌≡◌, ℕ, ℤ, false, List, true};
 ghost use Rattle.run_types.specs.States.{AreArguments};
+ghost use Rattle.pass_frames_meaning.specs.Setting.{KeepsAll};
 ghost use Rattle.pass_frames_proof.specs.Related.{AreBuilt, AreBuiltOf};
 ghost use Rattle.pass_frames_proof.specs.Stepping.{AreGiven};
 ghost use Rattle.pass_renewed_proof.specs.Prices.{Prices};
@@ -57,6 +59,12 @@ pub fn sources_are_built()
 pub fn sources_give_frames()
     ensures { (l : Lowered) (low : IsLowered l) (a : Anew) (r : Run)
         → AreGiven (building l low.is_framed r.answers) (renewing l a r) }
+{}
+
+/// What laws on single steps of frames ask of the two modules holds, besides where layouts have promises.
+pub fn sources_keep_rules_of_frames()
+    ensures { (l : Lowered) (low : IsLowered l) → HasFewBytes l → (a : Anew) → IsAnewOf (early l) a → (r : Run)
+        → ArePromisesLaid l low r → KeepsAll (asking l low a r) }
 {}
 
 /// Bytes and values that stand for others in a row of memories stand for them by the joined homes.

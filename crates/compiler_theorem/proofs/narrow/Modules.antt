@@ -27,6 +27,7 @@ use Rattle.pass_proofs.proofs.frames.unnamed.Positions.{Becomes, FramedBy, Uncha
 use Rattle.pass_proofs.proofs.kept.sources.Whole.{split_rules}
 use Rattle.pass_proofs.specs.edges.states.MovedState.{edge_function}
 use Rattle.pass_proofs.specs.exits.states.Exits.{exits_split}
+use Rattle.pass_split_proof.specs.ready.Fields.{AreInnerIndices}
 use Rattle.rule_laws.specs.rules.function_rules.Kept.{KeepsFunctionRules}
 use Rattle.run_laws.specs.changed.Changed.{Each}
 use Rattle.run_step.specs.Step.{AtInstr, fetch}
@@ -69,18 +70,24 @@ module _ (l : Lowered) (low : IsLowered l) (few : HasFewBytes l) where
     functions = each_by (IsNarrowFunction (length l.text)) (edged l).functions edged_one;
   }
 
-  -- indices into structures are literals there
-  pub edged_steady : (func : ℕ) → HaveSteadyIndices (edged l) (function_at (edged l) func)
-  edged_steady func = on (slice_get (edged l).functions func) refl
+  pub edged_inner : (func block at name : ℕ) (inbounds : Bool) (ty : Ty) (base : Operand) (indices : List Arg)
+      → fetch (function_at (edged l) func) block at ≡ AtInstr (Instr.Gep name inbounds ty base indices)
+      → AreInnerIndices (edged l) ty indices
+  edged_inner func block at name inbounds ty base indices = on (slice_get (edged l).functions func) refl
     where
       on : (o : Option Function) → slice_get (edged l).functions func ≡ o
-          → HaveSteadyIndices (edged l) (unwrap_or o no_function)
-      on None e name block at inbounds ty base indices there = absurd (cc)
-      on (Some f) e name block at inbounds ty base indices there =
-          steady_indices (edged l) ty indices
-          (fields_small (length l.text) few (edged l) edged_narrow func f
+          → fetch (unwrap_or o no_function) block at ≡ AtInstr (Instr.Gep name inbounds ty base indices)
+          → AreInnerIndices (edged l) ty indices
+      on None e there = absurd (cc)
+      on (Some f) e there =
+          fields_small (length l.text) few (edged l) edged_narrow func f
           (split_rules l.text l.source low.source.stands low.source.accepted func f e) e block at name inbounds ty base
-          indices there)
+          indices there
+
+  -- indices into structures are literals there
+  pub edged_steady : (func : ℕ) → HaveSteadyIndices (edged l) (function_at (edged l) func)
+  edged_steady func name block at inbounds ty base indices there =
+      steady_indices (edged l) ty indices (edged_inner func block at name inbounds ty base indices there)
 
   -- ---- framed forms, with blocks on edges that leave windows
 
