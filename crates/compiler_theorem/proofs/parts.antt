@@ -9,6 +9,8 @@ pub mod EarlyTokens
 pub mod Found
 pub mod FramedTokens
 pub mod Globals
+pub mod Held
+pub mod FirstCalls
 pub mod Index
 pub mod Lengths
 pub mod Light

@@ -3,7 +3,7 @@
 
 ghost use Rattle.run_source.specs.declared.state.State.{State};
 ghost use Rattle.compiler_theorem.specs.theorem.Anew.{Anew, IsAnewOf};
-ghost use Rattle.compiler_theorem.specs.theorem.Asked.{ArePromisesLaid, asking};
+ghost use Rattle.compiler_theorem.specs.theorem.Asked.{asking};
 ghost use Rattle.compiler_theorem.specs.theorem.Built.{building};
 ghost use Rattle.compiler_theorem.specs.theorem.Entries.{Run, IsEntry};
 ghost use Rattle.compiler_theorem.specs.theorem.Lowered.{AreAllocasFirst, HasFewBytes, Lowered, IsLowered, early, edged, printed_from, sizes_of, source_run};
@@ -61,10 +61,10 @@ pub fn sources_give_frames()
         → AreGiven (building l low.is_framed r.answers) (renewing l a r) }
 {}
 
-/// What laws on single steps of frames ask of the two modules holds, besides where layouts have promises.
+/// What laws on single steps of frames ask of the two modules holds of an accepted source.
 pub fn sources_keep_rules_of_frames()
     ensures { (l : Lowered) (low : IsLowered l) → HasFewBytes l → (a : Anew) → IsAnewOf (early l) a → (r : Run)
-        → ArePromisesLaid l low r → KeepsAll (asking l low a r) }
+        → KeepsAll (asking l low a r) }
 {}
 
 /// Bytes and values that stand for others in a row of memories stand for them by the joined homes.

@@ -3,19 +3,16 @@ use Rattle.std.proofs.Common.{◌≡◌, ℕ, zero, suc, ◌+◌, ◌<◌, Bool,
 use Rattle.std.proofs.lemmas.Bool.{false≢true, lt-ltb}
 use Rattle.std.proofs.lemmas.List.Elements.{Contains-append_left, Contains-append_right}
 use Rattle.std.specs.List.{Contains, position, position_or_len}
-use Rattle.std.specs.Prelude.{None, Option, Some, map, nat_lt, not, option_to_list, slice_get, if◌then◌else◌, ◌||◌, ◌&&◌}
-use Rattle.frame_contents.specs.Held.{field_of, fields_of, held_blocks, held_by, held_instr, held_instrs, held_params, held_phis, if_result, if_value, index_field, slot_held, value_held}
+use Rattle.std.specs.Prelude.{None, Some, map, nat_lt, not, option_to_list, slice_get, if◌then◌else◌, ◌||◌, ◌&&◌}
+use Rattle.compiler_theorem.proofs.parts.Held.{held_each}
+use Rattle.frame_contents.specs.Held.{field_of, fields_of, held_by, index_field, slot_held}
 use Rattle.frame_contents.specs.declared.held.Holding.{Holding}
 use Rattle.frame_layout.specs.Conflicts.{conflict, field_conflicts, is_apart, is_apart_at, pairs_from, pairs_of}
 use Rattle.frame_layout.specs.Layouts.{is_index}
 use Rattle.frame_layout.specs.declared.layout.Field.{Field}
 use Rattle.frame_layout.specs.declared.layout.FieldKind.{FieldKind}
-use Rattle.ir_model.specs.declared.instr.Instr.{Instr}
-use Rattle.ir_model.specs.declared.instr.Phi.{Phi}
-use Rattle.ir_model.specs.declared.module.Block.{Block}
 use Rattle.ir_model.specs.declared.module.Function.{Function}
 use Rattle.ir_model.specs.declared.module.Module.{Module}
-use Rattle.ir_model.specs.declared.module.Param.{Param}
 use Rattle.ir_paths.specs.Slots.{has_name, promise_of}
 use Rattle.ir_model.specs.Ty.{Ty}
 use Rattle.run_laws.specs.changed.Changed.{Each}
@@ -25,73 +22,15 @@ use Rattle.run_laws.specs.changed.Changed.{Each}
 abbrev NoIndex : Holding → Type 0
 NoIndex h = is_index h.kind ≡ false
 
-each_more : {A : Type 0} (P : A → Type 0) (xs ys : List A) → Each P xs → Each P ys → Each P (xs ++ ys)
-each_more P [] ys a b = b
-each_more P (x ∷ xs) ys a b = (a.0, each_more P xs ys a.1 b)
-
-value_kinds : (test : ℕ → Bool) (v size : ℕ) → Each NoIndex (if_value test v size)
-value_kinds test v size = on (test v)
-  where
-    on : (b : Bool) → Each NoIndex (if b then value_held v size ∷ [] else [])
-    on true = (refl, tt)
-    on false = tt
-
-result_kinds : (test : ℕ → Bool) (o : Option ℕ) (size : ℕ) → Each NoIndex (if_result test o size)
-result_kinds test None size = tt
-result_kinds test (Some v) size = value_kinds test v size
-
-param_kinds : (test : ℕ → Bool) (ps : List Param) → Each NoIndex (held_params test ps)
-param_kinds test [] = tt
-param_kinds test (p ∷ ps) = each_more NoIndex (if_value test p.name _) (held_params test ps) (value_kinds test p.name _)
-    (param_kinds test ps)
-
-phi_kinds : (test : ℕ → Bool) (ps : List Phi) → Each NoIndex (held_phis test ps)
-phi_kinds test [] = tt
-phi_kinds test (p ∷ ps) = each_more NoIndex (if_value test p.result _) (held_phis test ps)
-    (value_kinds test p.result _) (phi_kinds test ps)
-
-module _ (m : Module) (promise : Option ℕ) (values slots : ℕ → Bool) where
-  slot_kind_is : (r : ℕ) (ty : Ty) (align : ℕ) → NoIndex (slot_held m promise r ty align)
-  slot_kind_is r ty align = on (has_name (option_to_list promise) r) refl
-    where
-      on : (c : Bool) → has_name (option_to_list promise) r ≡ c → NoIndex (slot_held m promise r ty align)
-      on true is = ap (λ (b : Bool). is_index (if b then FieldKind.Promise else FieldKind.Slot)) is
-      on false is = ap (λ (b : Bool). is_index (if b then FieldKind.Promise else FieldKind.Slot)) is
-
-  slot_kinds : (r : ℕ) (ty : Ty) (align : ℕ) (b : Bool)
-      → Each NoIndex (if b then slot_held m promise r ty align ∷ [] else [])
-  slot_kinds r ty align true = (slot_kind_is r ty align, tt)
-  slot_kinds r ty align false = tt
-
-  instr_kinds : (i : Instr) → Each NoIndex (held_instr m promise values slots i)
-  instr_kinds (Instr.Alloca r ty align) = slot_kinds r ty align (slots r)
-  instr_kinds (Instr.Binary r op flags ty left right) = result_kinds values (Some r) _
-  instr_kinds (Instr.Icmp r pred ty left right) = result_kinds values (Some r) _
-  instr_kinds (Instr.Select r c a b) = result_kinds values (Some r) _
-  instr_kinds (Instr.Cast r op nneg arg to) = result_kinds values (Some r) _
-  instr_kinds (Instr.Load r ty address align) = result_kinds values (Some r) _
-  instr_kinds (Instr.Store arg address align) = tt
-  instr_kinds (Instr.Gep r inbounds ty base indices) = result_kinds values (Some r) _
-  instr_kinds (Instr.Call r must_tail ty callee args) = result_kinds values r _
-
-  instrs_kinds : (is : List Instr) → Each NoIndex (held_instrs m promise values slots is)
-  instrs_kinds [] = tt
-  instrs_kinds (i ∷ is) = each_more NoIndex (held_instr m promise values slots i)
-      (held_instrs m promise values slots is) (instr_kinds i) (instrs_kinds is)
-
-  blocks_kinds : (bs : List Block) → Each NoIndex (held_blocks m promise values slots bs)
-  blocks_kinds [] = tt
-  blocks_kinds (b ∷ bs) =
-      each_more NoIndex (held_phis values b.phis ++ held_instrs m promise values slots b.instrs)
-      (held_blocks m promise values slots bs)
-      (each_more NoIndex (held_phis values b.phis) (held_instrs m promise values slots b.instrs) (phi_kinds values b.phis)
-      (instrs_kinds b.instrs))
-      (blocks_kinds bs)
-
 pub held_kinds : (m : Module) (f : Function) (values slots : ℕ → Bool) → Each NoIndex (held_by m f values slots)
-held_kinds m f values slots =
-    each_more NoIndex (held_params values f.params) (held_blocks m (promise_of f) values slots f.blocks)
-    (param_kinds values f.params) (blocks_kinds m (promise_of f) values slots f.blocks)
+held_kinds m f values slots = held_each m f values slots NoIndex (λ v size e. refl) of_slot
+  where
+    of_slot : (r : ℕ) (ty : Ty) (align : ℕ) → NoIndex (slot_held m (promise_of f) r ty align)
+    of_slot r ty align = on (has_name (option_to_list (promise_of f)) r)
+      where
+        on : (b : Bool) → is_index (if b then FieldKind.Promise else FieldKind.Slot) ≡ false
+        on true = refl
+        on false = refl
 
 -- ---- the index is last
 

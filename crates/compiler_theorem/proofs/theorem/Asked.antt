@@ -5,10 +5,11 @@ use Rattle.std.proofs.lemmas.Option.{slice_get-map}
 use Rattle.std.specs.Prelude.{None, Option, Some, is_some, map, option_map, slice_get, unwrap_or, ◌&&◌, ◌||◌}
 use Rattle.compiler.proofs.whole.lowered_sources.Sources.{early_items, early_others, early_rules}
 use Rattle.compiler_theorem.proofs.narrow.Modules.{edged_inner}
-use Rattle.compiler_theorem.proofs.theorem.Built.{sources_built}
+use Rattle.compiler_theorem.proofs.theorem.Built.{coroutine_there, sources_built}
 use Rattle.compiler_theorem.proofs.theorem.Framing.{sources_given}
+use Rattle.compiler_theorem.proofs.theorem.Promises.{promises_laid}
 use Rattle.compiler_theorem.specs.theorem.Anew.{Anew, IsAnewOf}
-use Rattle.compiler_theorem.specs.theorem.Asked.{ArePromisesLaid, asking}
+use Rattle.compiler_theorem.specs.theorem.Asked.{asking}
 use Rattle.compiler_theorem.specs.theorem.Entries.{Run}
 use Rattle.compiler_theorem.specs.theorem.Lowered.{HasFewBytes, IsLowered, Lowered, early, edged}
 use Rattle.ir_base.specs.declared.name.Name.{Name}
@@ -169,19 +170,10 @@ module _ (l : Lowered) (low : IsLowered l) where
 
   -- ---- resume and destroy edges have blocks of their own
 
-  coroutine_there : (func : ℕ) → (function_at e func).coroutine ≡ true
-      → slice_get e.functions func ≡ Some (function_at e func)
-  coroutine_there func c = on (slice_get e.functions func) refl c
-    where
-      on : (o : Option Function) → slice_get e.functions func ≡ o → (unwrap_or o no_function).coroutine ≡ true
-          → o ≡ Some (unwrap_or o no_function)
-      on None d k = absurd (false≢true k)
-      on (Some f) d k = refl
-
   own_returns : (func : ℕ) → (function_at e func).coroutine ≡ true
       → HaveOwnReturns (with_edge_blocks (function_at e func))
   own_returns func c =
-      let there = coroutine_there func c in
+      let there = coroutine_there l low [] func c in
       suspend_blocks e func (function_at e func)
       (early_rules l.text l.source low.source.stands low.source.accepted func (function_at e func) there) c
       ((early_others l.text l.source low.source.stands low.source.accepted).shape func (function_at e func) there).switches
@@ -203,8 +195,8 @@ module _ (l : Lowered) (low : IsLowered l) where
         on false d = refl
         on true d = absurd (not_both (function_at e func).coroutine plain (((anew func).flags_are v).0 d).coroutine)
 
-    pub asked_kept : ArePromisesLaid l low r → KeepsAll (asking l low a r)
-    asked_kept laid = record {
+    pub asked_kept : KeepsAll (asking l low a r)
+    asked_kept = record {
       given = sources_given l low a r;
       rules = split_rules l.text l.source low.source.stands low.source.accepted;
       uses = uses;
@@ -218,6 +210,6 @@ module _ (l : Lowered) (low : IsLowered l) where
       framed_windows = λ func. windows_are l.framed func framed_facts (λ f. refl);
       returns = λ func c. subst (λ (f : Function). HaveOwnReturns (with_edge_blocks f))
           (sym ((sources_built l low r.answers).coroutines func c).function) (own_returns func c);
-      laid = laid;
+      laid = promises_laid l low r;
       frames = λ func. refl;
     }

@@ -175,8 +175,8 @@ module _ (l : Lowered) (low : IsLowered l) (answers : List ℤ) where
   abbrev ls : List Layout
   ls = l.layouts.coroutines
 
-  coroutine_there : (func : ℕ) → (function_at e func).coroutine ≡ true
-      → slice_get e.functions func ≡ Some (function_at e func)
+  pub coroutine_there : (func : ℕ) → (function_at (early l) func).coroutine ≡ true
+      → slice_get (early l).functions func ≡ Some (function_at (early l) func)
   coroutine_there func c = on (slice_get e.functions func) refl c
     where
       on : (o : Option Function) → slice_get e.functions func ≡ o → (unwrap_or o no_function).coroutine ≡ true

@@ -1,0 +1,78 @@
+-- What holds of each value and each slot that a frame may hold holds of all that it holds.
+use Rattle.std.proofs.Common.{◌≡◌, ℕ, Bool, true, false, List, [], ◌∷◌, ◌++◌, refl}
+use Rattle.std.specs.Prelude.{None, Option, Some, if◌then◌else◌}
+use Rattle.frame_contents.specs.Held.{held_blocks, held_by, held_instr, held_instrs, held_params, held_phis, if_result, if_value, slot_held, value_held}
+use Rattle.frame_contents.specs.declared.held.Holding.{Holding}
+use Rattle.ir_model.specs.Ty.{Ty}
+use Rattle.ir_model.specs.declared.instr.Instr.{Instr}
+use Rattle.ir_model.specs.declared.instr.Phi.{Phi}
+use Rattle.ir_model.specs.declared.module.Block.{Block}
+use Rattle.ir_model.specs.declared.module.Function.{Function}
+use Rattle.ir_model.specs.declared.module.Module.{Module}
+use Rattle.ir_model.specs.declared.module.Param.{Param}
+use Rattle.ir_paths.specs.Slots.{promise_of}
+use Rattle.run_laws.specs.changed.Changed.{Each}
+
+each_more : {A : Type 0} (P : A → Type 0) (xs ys : List A) → Each P xs → Each P ys → Each P (xs ++ ys)
+each_more P [] ys a b = b
+each_more P (x ∷ xs) ys a b = (a.0, each_more P xs ys a.1 b)
+
+module _ (m : Module) (f : Function) (values slots : ℕ → Bool) (P : Holding → Type 0)
+    (of_value : (v size : ℕ) → values v ≡ true → P (value_held v size))
+    (of_slot : (r : ℕ) (ty : Ty) (align : ℕ) → P (slot_held m (promise_of f) r ty align)) where
+  value_each : (v size : ℕ) → Each P (if_value values v size)
+  value_each v size = on (values v) refl
+    where
+      on : (b : Bool) → values v ≡ b → Each P (if b then value_held v size ∷ [] else [])
+      on true e = (of_value v size e, tt)
+      on false e = tt
+
+  result_each : (o : Option ℕ) (size : ℕ) → Each P (if_result values o size)
+  result_each None size = tt
+  result_each (Some v) size = value_each v size
+
+  params_each : (ps : List Param) → Each P (held_params values ps)
+  params_each [] = tt
+  params_each (p ∷ ps) =
+      each_more P (if_value values p.name _) (held_params values ps) (value_each p.name _) (params_each ps)
+
+  phis_each : (ps : List Phi) → Each P (held_phis values ps)
+  phis_each [] = tt
+  phis_each (p ∷ ps) =
+      each_more P (if_value values p.result _) (held_phis values ps) (value_each p.result _) (phis_each ps)
+
+  slot_each : (r : ℕ) (ty : Ty) (align : ℕ) (b : Bool)
+      → Each P (if b then slot_held m (promise_of f) r ty align ∷ [] else [])
+  slot_each r ty align true = (of_slot r ty align, tt)
+  slot_each r ty align false = tt
+
+  instr_each : (i : Instr) → Each P (held_instr m (promise_of f) values slots i)
+  instr_each (Instr.Alloca r ty align) = slot_each r ty align (slots r)
+  instr_each (Instr.Binary r op flags ty left right) = result_each (Some r) _
+  instr_each (Instr.Icmp r pred ty left right) = result_each (Some r) _
+  instr_each (Instr.Select r c a b) = result_each (Some r) _
+  instr_each (Instr.Cast r op nneg arg to) = result_each (Some r) _
+  instr_each (Instr.Load r ty address align) = result_each (Some r) _
+  instr_each (Instr.Store arg address align) = tt
+  instr_each (Instr.Gep r inbounds ty base indices) = result_each (Some r) _
+  instr_each (Instr.Call r must_tail ty callee args) = result_each r _
+
+  instrs_each : (is : List Instr) → Each P (held_instrs m (promise_of f) values slots is)
+  instrs_each [] = tt
+  instrs_each (i ∷ is) =
+      each_more P (held_instr m (promise_of f) values slots i) (held_instrs m (promise_of f) values slots is)
+      (instr_each i) (instrs_each is)
+
+  blocks_each : (bs : List Block) → Each P (held_blocks m (promise_of f) values slots bs)
+  blocks_each [] = tt
+  blocks_each (b ∷ bs) =
+      each_more P (held_phis values b.phis ++ held_instrs m (promise_of f) values slots b.instrs)
+      (held_blocks m (promise_of f) values slots bs)
+      (each_more P (held_phis values b.phis) (held_instrs m (promise_of f) values slots b.instrs) (phis_each b.phis)
+      (instrs_each b.instrs))
+      (blocks_each bs)
+
+  pub held_each : Each P (held_by m f values slots)
+  held_each =
+      each_more P (held_params values f.params) (held_blocks m (promise_of f) values slots f.blocks)
+      (params_each f.params) (blocks_each f.blocks)
