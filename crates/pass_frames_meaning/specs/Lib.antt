@@ -2,6 +2,7 @@ pub mod Called
 pub mod Coroutines
 pub mod Covered
 pub mod Giving
+pub mod Led
 pub mod Ordinary
 pub mod Others
 pub mod Plain

@@ -6,6 +6,7 @@ pub mod called;
 pub mod coroutines;
 pub mod covered;
 pub mod giving;
+pub mod led;
 pub mod order;
 pub mod ordinary;
 pub mod others;

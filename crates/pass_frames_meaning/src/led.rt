@@ -1,0 +1,60 @@
+//! An alloca's name leads to its slot, and begin's to the activation's own frame, in each state of a run by hooks.
+
+ghost use Rattle.std.specs.Prelude.{◌≡◌, ◌⊎◌, ℕ, Bool, List, Some, true};
+ghost use Rattle.std.specs.List.{Contains};
+ghost use Rattle.ir_base.specs.declared.outcome.Outcome.{Outcome};
+ghost use Rattle.ir_base.specs.declared.outcome.Word.{Word};
+ghost use Rattle.pass_frames_meaning.specs.Called.{IsCalledState};
+ghost use Rattle.pass_frames_meaning.specs.Led.{IsLed, IsLedState, KeepAllNames, KeepsLed, KeepsLedTables};
+ghost use Rattle.pass_renewed_proof.specs.Renewed.{RenewedGiven, renewed_step};
+ghost use Rattle.run_framed.specs.Framed.{begin_name};
+ghost use Rattle.run_hooks.specs.Away.{KeepsAllPlaceRules};
+ghost use Rattle.run_hooks.specs.Hooks.{Hooks, step_of};
+ghost use Rattle.run_hooks.specs.Meanings.{renewed_hooks};
+ghost use Rattle.run_hooks.specs.Reached.{AllHaveSwitches, IsReachedState};
+ghost use Rattle.run_memory.specs.declared.pointer.Value.{Value};
+ghost use Rattle.run_source.specs.Source.{first_state};
+ghost use Rattle.run_source.specs.State.{address_in, function_of};
+ghost use Rattle.run_source.specs.declared.state.Instance.{Instance};
+ghost use Rattle.run_source.specs.declared.state.State.{State as TheState};
+ghost use Rattle.run_states.specs.sound_states.Sound.{HasValues};
+ghost use Rattle.run_step.specs.Runs.{iterate};
+ghost use Rattle.run_step.specs.Values.{pointer_to, value_in};
+ghost use Rattle.run_step.specs.declared.world.Slot.{Slot as TheSlot};
+ghost use Rattle.run_types.specs.Rules.{KeepsAllTypes};
+ghost use Rattle.std.specs.Prelude.{slice_get};
+
+/// A step keeps it by hooks that place slots, begin and hand on values as the clauses of `KeepsLed` say. Hooks of a run
+/// that makes slots anew do.
+pub fn led_states_stay()
+    ensures step { (h : Hooks) (counts : ℕ → ℕ → Bool) → KeepsLed h counts → KeepAllNames h.given counts
+        → KeepsAllTypes h.given.code → (s : TheState) → IsReachedState h.given s → IsCalledState h.given.code s
+        → HasValues h.given.code s.top.func s.top.values → IsLedState h.given.code counts s
+        → IsLedState h.given.code counts (step_of h s) }
+    ensures renewed { (g : RenewedGiven) (counts : ℕ → ℕ → Bool) → KeepAllNames g.given counts
+        → KeepsLedTables g counts → KeepsLed (renewed_hooks g) counts }
+{}
+
+/// So it is in each state of a run that makes slots anew.
+pub fn names_of_runs_lead_to_slots()
+    ensures { (g : RenewedGiven) (counts : ℕ → ℕ → Bool) (entry : ℕ) (args : List Word) → AllHaveSwitches g.given.code
+        → KeepsAllPlaceRules g.given → KeepsAllTypes g.given.code → KeepAllNames g.given counts
+        → KeepsLedTables g counts
+        → ((k : ℕ) → HasValues g.given.code (iterate (renewed_step g) k (first_state g.given.code entry args)).top.func
+        (iterate (renewed_step g) k (first_state g.given.code entry args)).top.values)
+        → (n : ℕ) → IsLedState g.given.code counts (iterate (renewed_step g) n (first_state g.given.code entry args)) }
+{}
+
+/// What laws on frames ask of slots in a frame: where an activation has an instance, begin's value is the address of that,
+/// and the name of an alloca has the address of one of its slots, or poison.
+pub fn led_activations_have_their_frame()
+    ensures begun { (g : RenewedGiven) (counts : ℕ → ℕ → Bool) (s : TheState) → IsLed g.given.code counts s
+        → (number : ℕ) (x : Instance) → s.top.instance ≡ Some number → slice_get s.instances number ≡ Some x → (v : ℕ)
+        → begin_name (function_of g.given s) ≡ Some v → value_in s.top.values v ≡ address_in x.block x.start }
+    ensures leads { (g : RenewedGiven) (counts : ℕ → ℕ → Bool) (s : TheState) → IsLed g.given.code counts s
+        → (number : ℕ) (x : Instance) → s.top.instance ≡ Some number → slice_get s.instances number ≡ Some x → (v : ℕ)
+        → counts s.top.func v ≡ true
+        → (value_in s.top.values v ≡ Value.Poison)
+        ⊎ ((slot : TheSlot) × Contains x.slots slot × (slot.alloca ≡ v)
+        × (value_in s.top.values v ≡ pointer_to slot.block)) }
+{}
