@@ -2,3 +2,6 @@ pub mod Values
 pub mod Names
 pub mod Led
 pub mod LedHooks
+pub mod Entered
+pub mod Sound
+pub mod SoundRuns

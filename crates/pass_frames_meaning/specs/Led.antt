@@ -129,7 +129,8 @@ pub record KeepsNames (counts : ℕ → Bool) (f : Function) (ramp_slots : List 
       → begin_name f ≡ result
 
 abbrev pub KeepAllNames : Given → (ℕ → ℕ → Bool) → Type 0
-KeepAllNames g counts = (func : ℕ) → KeepsNames (counts func) (function_at g.code func) (facts_at g.facts func).ramp_slots
+KeepAllNames g counts = (func : ℕ) → KeepsNames (counts func) (function_at g.code func)
+    (facts_at g.facts func).ramp_slots
 
 -- ---- what it asks of hooks
 

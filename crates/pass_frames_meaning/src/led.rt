@@ -4,6 +4,7 @@ ghost use Rattle.std.specs.Prelude.{◌≡◌, ◌⊎◌, ℕ, Bool, List, Some,
 ghost use Rattle.std.specs.List.{Contains};
 ghost use Rattle.ir_base.specs.declared.outcome.Outcome.{Outcome};
 ghost use Rattle.ir_base.specs.declared.outcome.Word.{Word};
+ghost use Rattle.ir_laws.specs.facts.sound_states.Named.{AreLocalsNamed};
 ghost use Rattle.pass_frames_meaning.specs.Called.{IsCalledState};
 ghost use Rattle.pass_frames_meaning.specs.Led.{IsLed, IsLedState, KeepAllNames, KeepsLed, KeepsLedTables};
 ghost use Rattle.pass_renewed_proof.specs.Renewed.{RenewedGiven, renewed_step};
@@ -17,15 +18,15 @@ ghost use Rattle.run_source.specs.Source.{first_state};
 ghost use Rattle.run_source.specs.State.{address_in, function_of};
 ghost use Rattle.run_source.specs.declared.state.Instance.{Instance};
 ghost use Rattle.run_source.specs.declared.state.State.{State as TheState};
-ghost use Rattle.run_states.specs.sound_states.Sound.{HasValues};
+ghost use Rattle.run_states.specs.sound_states.Sound.{HasValues, IsSound};
 ghost use Rattle.run_step.specs.Runs.{iterate};
 ghost use Rattle.run_step.specs.Values.{pointer_to, value_in};
 ghost use Rattle.run_step.specs.declared.world.Slot.{Slot as TheSlot};
 ghost use Rattle.run_types.specs.Rules.{KeepsAllTypes};
 ghost use Rattle.std.specs.Prelude.{slice_get};
 
-/// A step keeps it by hooks that place slots, begin and hand on values as the clauses of `KeepsLed` say. Hooks of a run
-/// that makes slots anew do.
+/// A step keeps it by hooks that place slots, begin and hand on values as `KeepsLed` says. Those of a run that makes
+/// slots anew do.
 pub fn led_states_stay()
     ensures step { (h : Hooks) (counts : ℕ → ℕ → Bool) → KeepsLed h counts → KeepAllNames h.given counts
         → KeepsAllTypes h.given.code → (s : TheState) → IsReachedState h.given s → IsCalledState h.given.code s
@@ -35,18 +36,24 @@ pub fn led_states_stay()
         → KeepsLedTables g counts → KeepsLed (renewed_hooks g) counts }
 {}
 
-/// So it is in each state of a run that makes slots anew.
+/// Such a run has sound states: each name of a function has a value or none, and instances are of their activations'
+/// functions.
+pub fn runs_that_make_slots_anew_stay_sound()
+    ensures { (g : RenewedGiven) (entry : ℕ) (args : List Word) → AllHaveSwitches g.given.code
+        → KeepsAllPlaceRules g.given → KeepsAllTypes g.given.code → AreLocalsNamed g.given.code
+        → (n : ℕ) → IsSound g.given.code (iterate (renewed_step g) n (first_state g.given.code entry args)) }
+{}
+
+/// Names lead there in each state of a run that makes slots anew.
 pub fn names_of_runs_lead_to_slots()
     ensures { (g : RenewedGiven) (counts : ℕ → ℕ → Bool) (entry : ℕ) (args : List Word) → AllHaveSwitches g.given.code
-        → KeepsAllPlaceRules g.given → KeepsAllTypes g.given.code → KeepAllNames g.given counts
-        → KeepsLedTables g counts
-        → ((k : ℕ) → HasValues g.given.code (iterate (renewed_step g) k (first_state g.given.code entry args)).top.func
-        (iterate (renewed_step g) k (first_state g.given.code entry args)).top.values)
+        → KeepsAllPlaceRules g.given → KeepsAllTypes g.given.code → AreLocalsNamed g.given.code
+        → KeepAllNames g.given counts → KeepsLedTables g counts
         → (n : ℕ) → IsLedState g.given.code counts (iterate (renewed_step g) n (first_state g.given.code entry args)) }
 {}
 
-/// What laws on frames ask of slots in a frame: where an activation has an instance, begin's value is the address of that,
-/// and the name of an alloca has the address of one of its slots, or poison.
+/// What laws on frames ask of slots in a frame. Begin's value is the address of the activation's instance, if it has
+/// one. The name of an alloca has the address of one of that instance's slots, or poison.
 pub fn led_activations_have_their_frame()
     ensures begun { (g : RenewedGiven) (counts : ℕ → ℕ → Bool) (s : TheState) → IsLed g.given.code counts s
         → (number : ℕ) (x : Instance) → s.top.instance ≡ Some number → slice_get s.instances number ≡ Some x → (v : ℕ)

@@ -20,8 +20,10 @@ use Rattle.ir_paths.specs.Windows.{operand_at, suspend_of}
 use Rattle.ir_paths.specs.declared.point.Point.{Point}
 use Rattle.ir_paths.specs.declared.point.Window.{Window}
 use Rattle.pass_frames_meaning.proofs.called.Comes.{Comes, comes}
-use Rattle.pass_frames_meaning.proofs.led.Names.{IsFree, IsMaker, IsOfAlloca, alloca_apart, calm_still, entry_poison}
-use Rattle.pass_frames_meaning.proofs.led.Names.{free_at, maker_at, none_free, of_alloca, returned_free, same_entered}
+use Rattle.pass_frames_meaning.proofs.led.Names.{IsFree, IsMaker, IsMaking, alloca_apart, alloca_is, calm_still}
+use Rattle.pass_frames_meaning.proofs.led.Names.{entry_poison}
+use Rattle.pass_frames_meaning.proofs.led.Names.{free_at, maker_at, making, none_free, of_alloca, returned_free}
+use Rattle.pass_frames_meaning.proofs.led.Names.{same_entered}
 use Rattle.pass_frames_meaning.proofs.led.Names.{same_result, set_led}
 use Rattle.pass_frames_meaning.proofs.led.Values.{AreSame, IsMore, asleep_at, asleep_set, on_later, poison_led}
 use Rattle.pass_frames_meaning.proofs.led.Values.{set_more, still_at, with_like}
@@ -147,7 +149,8 @@ module _ (m : Module) (counts : ℕ → ℕ → Bool) where
       where
         by : (below : List Activation) → AreLedOn m counts s.instances below → AreBehindCalls m s.top.result below
             → StaysLed m counts (pop (returned s) v below)
-        by [] k c = then_led (outcome_of v) (λ outcome. Ok (record (returned s) { outcome = outcome })) (λ outcome e running.
+        by [] k c = then_led (outcome_of v) (λ outcome. Ok (record (returned s) { outcome = outcome }))
+            (λ outcome e running.
             absurd (over v outcome e running))
         by (a ∷ below) k c = λ running. record {
           stack = (
@@ -160,7 +163,8 @@ module _ (m : Module) (counts : ℕ → ℕ → Bool) where
             k.1,
           );
           instances = h.instances;
-          entering = still_at (counts a.func) (fetch (function_at m a.func) a.block a.at) a.mode (calm_still a.mode c.0.calm);
+          entering = still_at (counts a.func) (fetch (function_at m a.func) a.block a.at) a.mode
+              (calm_still a.mode c.0.calm);
         }
 
     after_led : (types : KeepsAllTypes m) (s : State) (result : Option ℕ) (mode : Mode) → IsLed m counts s
@@ -208,14 +212,16 @@ module _ (m : Module) (counts : ℕ → ℕ → Bool) where
     pub own_led : (t : Instance → Instance)
         → ((x : Instance) → IsMore x (t x) × (IsLedInstance m counts x → IsLedInstance m counts (t x)))
         → (o : Option (ℕ × Instance))
-        → ((i : ℕ) (x : Instance) → o ≡ Some (i, x) → slice_get s.instances i ≡ Some x) → IsLed m counts (change_own s t o)
+        → ((i : ℕ) (x : Instance) → o ≡ Some (i, x) → slice_get s.instances i ≡ Some x) → IsLed m counts
+        (change_own s t o)
     own_led t k None is = h
     own_led t k (Some p) is =
         changed_led s h p.0 p.1 (t p.1) (is p.0 p.1 refl) (k p.1).0
         ((k p.1).1 (asleep_at m counts s.instances p.0 p.1 (is p.0 p.1 refl) h.instances))
 
     let_go_led : (o : Option (ℕ × Instance))
-        → ((i : ℕ) (x : Instance) → o ≡ Some (i, x) → slice_get s.instances i ≡ Some x) → IsLed m counts (if_let_go s o)
+        → ((i : ℕ) (x : Instance) → o ≡ Some (i, x) → slice_get s.instances i ≡ Some x) → IsLed m counts
+        (if_let_go s o)
     let_go_led None is = h
     let_go_led (Some p) is = on (may_be_freed p.1)
       where
@@ -231,7 +237,8 @@ module _ (m : Module) (counts : ℕ → ℕ → Bool) where
     own_there p e = on (own_instance s) (λ i x d. own_is s i x d) e
       where
         on : (o : Option (ℕ × Instance))
-            → ((i : ℕ) (x : Instance) → o ≡ Some (i, x) → slice_get s.instances i ≡ Some x) → found Cause.State o ≡ Ok p
+            → ((i : ℕ) (x : Instance) → o ≡ Some (i, x) → slice_get s.instances i ≡ Some x) → found Cause.State o ≡
+            Ok p
             → slice_get s.instances p.0 ≡ Some p.1
         on None is k = absurd (cc)
         on (Some q) is k =
@@ -257,7 +264,8 @@ module _ (m : Module) (counts : ℕ → ℕ → Bool) where
 
 -- ---- steps
 
-module _ (hooks : Hooks) (counts : ℕ → ℕ → Bool) (keeps : KeepsLed hooks counts) (rules : KeepAllNames hooks.given counts)
+module _ (hooks : Hooks) (counts : ℕ → ℕ → Bool) (keeps : KeepsLed hooks counts)
+    (rules : KeepAllNames hooks.given counts)
     (types : KeepsAllTypes hooks.given.code) (s : State) (r : IsReachedState hooks.given s)
     (c : IsCalledState hooks.given.code s) (room : HasValues hooks.given.code s.top.func s.top.values)
     (h : IsLed hooks.given.code counts s) where
@@ -271,7 +279,8 @@ module _ (hooks : Hooks) (counts : ℕ → ℕ → Bool) (keeps : KeepsLed hooks
   ramp func = (facts_at hooks.given.facts func).ramp_slots
 
   abbrev Free : Option ℕ → Type 0
-  Free result = IsFreeIn hooks.given.code counts (λ func. (facts_at hooks.given.facts func).ramp_slots) rules s.top.func
+  Free result = IsFreeIn hooks.given.code counts (λ func. (facts_at hooks.given.facts func).ramp_slots) rules
+      s.top.func
       result
 
   gave : (t : State) (result : Option ℕ) (v : Value) → IsLed hooks.given.code counts t → IsNotEntering t.top.mode
@@ -300,7 +309,8 @@ module _ (hooks : Hooks) (counts : ℕ → ℕ → Bool) (keeps : KeepsLed hooks
     save_led k u go then' = on (own_instance s) refl
       where
         by : (p : ℕ × Instance) → own_instance s ≡ Some p → (b : Bool)
-            → StaysLed hooks.given.code counts (and_then (ok_if b Cause.State (with_left (with_instance s p.0 (record p.1 {
+            → StaysLed hooks.given.code counts (and_then (ok_if b Cause.State
+            (with_left (with_instance s p.0 (record p.1 {
               status = Status.Suspended u s.top.values;
               last_save = Some (record { depth = length s.below; save = k });
             })) true)) go)
@@ -310,7 +320,8 @@ module _ (hooks : Hooks) (counts : ℕ → ℕ → Bool) (keeps : KeepsLed hooks
               status = Status.Suspended u s.top.values;
               last_save = Some (record { depth = length s.below; save = k });
             } in
-            let q = changed_led m counts s h p.0 p.1 x (own_is s p.0 p.1 e) (record { slots = λ v z q. q; frame = refl })
+            let q = changed_led m counts s h p.0 p.1 x (own_is s p.0 p.1 e)
+            (record { slots = λ v z q. q; frame = refl })
             (subst (λ (func : ℕ). AreLed (counts func) (function_at hooks.given.code func) p.1.slots
             (frame_address_of p.1) s.top.values) (sym (own_function hooks.given s r p.0 p.1 e))
             (saved m counts s h p.0 p.1 e)) in
@@ -328,7 +339,8 @@ module _ (hooks : Hooks) (counts : ℕ → ℕ → Bool) (keeps : KeepsLed hooks
         on (Some p) e = by p e (not p.1.freed)
 
     free_in : (t : State) (result : Option ℕ) → t.top.func ≡ s.top.func → Free result
-        → IsFreeIn hooks.given.code counts (λ func. (facts_at hooks.given.facts func).ramp_slots) rules t.top.func result
+        → IsFreeIn hooks.given.code counts (λ func. (facts_at hooks.given.facts func).ramp_slots) rules t.top.func
+        result
     free_in t result e free = subst (λ (func : ℕ). IsFreeIn hooks.given.code counts
         (λ func. (facts_at hooks.given.facts func).ramp_slots) rules func result) (sym e) free
 
@@ -389,10 +401,14 @@ module _ (hooks : Hooks) (counts : ℕ → ℕ → Bool) (keeps : KeepsLed hooks
 
       coro_led : (i : Intrinsic) → Stands i → StaysLed hooks.given.code counts (hooked_coro hooks s i args vs result)
       coro_led Intrinsic.CoroId e = λ running. gave s None Value.Poison h still none
-      coro_led Intrinsic.CoroSizeI32 e = λ running. gave s result _ h still (free Intrinsic.CoroSizeI32 e refl (λ z. z))
-      coro_led Intrinsic.CoroSizeI64 e = λ running. gave s result _ h still (free Intrinsic.CoroSizeI64 e refl (λ z. z))
-      coro_led Intrinsic.CoroAlignI32 e = λ running. gave s result _ h still (free Intrinsic.CoroAlignI32 e refl (λ z. z))
-      coro_led Intrinsic.CoroAlignI64 e = λ running. gave s result _ h still (free Intrinsic.CoroAlignI64 e refl (λ z. z))
+      coro_led Intrinsic.CoroSizeI32 e = λ running. gave s result _ h still
+          (free Intrinsic.CoroSizeI32 e refl (λ z. z))
+      coro_led Intrinsic.CoroSizeI64 e = λ running. gave s result _ h still
+          (free Intrinsic.CoroSizeI64 e refl (λ z. z))
+      coro_led Intrinsic.CoroAlignI32 e = λ running. gave s result _ h still
+          (free Intrinsic.CoroAlignI32 e refl (λ z. z))
+      coro_led Intrinsic.CoroAlignI64 e = λ running. gave s result _ h still
+          (free Intrinsic.CoroAlignI64 e refl (λ z. z))
       coro_led Intrinsic.CoroAlloc e = λ running. gave s result _ h still (free Intrinsic.CoroAlloc e refl (λ z. z))
       coro_led Intrinsic.CoroFrame e = λ running. gave s result _ h still (free Intrinsic.CoroFrame e refl (λ z. z))
       coro_led Intrinsic.LifetimeStart e = λ running. gave s None Value.Poison h still none
@@ -435,16 +451,6 @@ module _ (hooks : Hooks) (counts : ℕ → ℕ → Bool) (keeps : KeepsLed hooks
   abbrev Doing : Fetched → Action → Type 0
   Doing x a = action_of (hooked_context hooks s) (work_of s) x ≡ a
 
-  abbrev IsMaking : Action → Type 0
-  IsMaking (NewSlot w slot) = Unit {0}
-  IsMaking (Stuck cause) = Unit {0}
-  IsMaking _ = ⊥
-
-  making : (w : Work) (name : ℕ) (a : Action) → IsOfAlloca w name a → IsMaking a
-  making w name (NewSlot x slot) k = tt
-  making w name (Stuck cause) k = tt
-  making w name _ k = absurd k
-
   -- what makes allocas again is at one
   is_still : (x : Fetched) → fetch (function_at hooks.given.code s.top.func) s.top.block s.top.at ≡ x → (a : Action)
       → Doing x a → (IsMaking a → ⊥) → IsNotEntering s.top.mode
@@ -468,18 +474,6 @@ module _ (hooks : Hooks) (counts : ℕ → ℕ → Bool) (keeps : KeepsLed hooks
   not_done (Instr.Call result must_tail ty (Callee.Intrinsic Intrinsic.CoroBegin) args) w d k = absurd (cc)
   not_done _ w d k = absurd k
 
-  alloca_is : (i : Instr) → is_alloca i ≡ true
-      → (name : ℕ) × (ty : Ty) × (align : ℕ) × (i ≡ Instr.Alloca name ty align)
-  alloca_is (Instr.Alloca name ty align) e = (name, ty, align, refl)
-  alloca_is (Instr.Binary name op flags ty a b) e = absurd (false≢true e)
-  alloca_is (Instr.Icmp name pred ty a b) e = absurd (false≢true e)
-  alloca_is (Instr.Select name x a b) e = absurd (false≢true e)
-  alloca_is (Instr.Cast name op nneg arg to) e = absurd (false≢true e)
-  alloca_is (Instr.Load name ty p align) e = absurd (false≢true e)
-  alloca_is (Instr.Store arg p align) e = absurd (false≢true e)
-  alloca_is (Instr.Gep name inbounds ty base indices) e = absurd (false≢true e)
-  alloca_is (Instr.Call result must_tail ty callee args) e = absurd (false≢true e)
-
   module _ (i : Instr) (e : fetch (function_at hooks.given.code s.top.func) s.top.block s.top.at ≡ AtInstr i) where
     abbrev StillFor : Action → Type 0
     StillFor a = Doing (AtInstr i) a → (IsMaking a → ⊥) → IsNotEntering s.top.mode
@@ -489,7 +483,8 @@ module _ (hooks : Hooks) (counts : ℕ → ℕ → Bool) (keeps : KeepsLed hooks
 
     done_led : (w : Work) → Doing (AtInstr i) (Done w) → IsLed hooks.given.code counts (settled s w)
     done_led w d =
-        let k = moved_led m counts s h (still_for (Done w) d (λ z. z)) s.top.block (s.top.at + 1) w.values (λ v watched.
+        let k = moved_led m counts s h (still_for (Done w) d (λ z. z)) s.top.block (s.top.at + 1) w.values
+        (λ v watched.
         sets v (λ g. not_done i w d (maker_at (counts s.top.func) f (ramp s.top.func) (rules s.top.func) s.top.block
         s.top.at i e v watched g))) in
         record { stack = k.stack; instances = k.instances; entering = k.entering }
@@ -516,7 +511,8 @@ module _ (hooks : Hooks) (counts : ℕ → ℕ → Bool) (keeps : KeepsLed hooks
               instances = h.instances;
               counted = λ v counted. named v name made.0 made.1 (name == v) refl;
               begun = λ v b. ap (λ (z : Env). value_in z v) made.1 ∙ set_elsewhere s.top.values name v _ (λ same.
-                  alloca_apart (counts s.top.func) f (ramp s.top.func) (rules s.top.func) s.top.block s.top.at name align
+                  alloca_apart (counts s.top.func) f (ramp s.top.func) (rules s.top.func) s.top.block s.top.at name
+                  align
                   ty there (b ∙ ap Some (sym same)));
               again = on name made.0 s.top.mode h.entering ty align there;
             })
@@ -554,7 +550,8 @@ module _ (hooks : Hooks) (counts : ℕ → ℕ → Bool) (keeps : KeepsLed hooks
     called_mode true = tt
     called_mode false = tt
 
-    instr_led : (a : Action) → Comes i a → Doing (AtInstr i) a → StaysLed hooks.given.code counts (hooked_act hooks s a)
+    instr_led : (a : Action) → Comes i a → Doing (AtInstr i) a → StaysLed hooks.given.code counts
+        (hooked_act hooks s a)
     instr_led (Stuck cause) q d = tt
     instr_led (Done w) q d = λ running. done_led w d
     instr_led (NewSlot w slot) q d = λ running. slot_led w slot d

@@ -79,7 +79,8 @@ new_counted counts f slots handle slot old values counted begun h = record {
     on v c (inr k) = led_left (slot ∷ []) slots v (value_in values v) k
 
 -- one that doesn't count changes nothing
-new_uncounted : (counts : ℕ → Bool) (f : Function) (slots : List Slot) (handle : Value) (slot : Slot) (old values : Env)
+new_uncounted : (counts : ℕ → Bool) (f : Function) (slots : List Slot) (handle : Value) (slot : Slot)
+    (old values : Env)
     → ((v : ℕ) → counts v ≡ true → (value_in values v ≡ value_in old v) ⊎ IsLedBy (slot ∷ []) v (value_in values v))
     → ((v : ℕ) → begin_name f ≡ Some v → value_in values v ≡ value_in old v) → counts slot.alloca ≡ false
     → AreLed counts f slots handle old → AreLed counts f slots handle values
@@ -160,7 +161,10 @@ module _ (g : Given) (counts : ℕ → ℕ → Bool) (rules : KeepAllNames g cou
           }
 
           ys : List Instance
-          ys = slice_set s.instances i (record x { slots = filter (λ z. not (is_among ramp z)) (slot ∷ []) ++ x.slots })
+          ys = slice_set s.instances i (record x {
+            slots = filter (λ z. not (is_among ramp z)) (slot ∷ []) ++
+                x.slots;
+          })
 
           top : AreLedWith c f (slice_set s.instances i (record x {
             slots = filter (λ z. not (is_among ramp z))
@@ -183,7 +187,10 @@ module _ (g : Given) (counts : ℕ → ℕ → Bool) (rules : KeepAllNames g cou
               (set_more s.instances i x y there more) n.below
 
           instances : AreLedAsleep g.code counts
-              (slice_set s.instances i (record x { slots = filter (λ z. not (is_among ramp z)) (slot ∷ []) ++ x.slots }))
+              (slice_set s.instances i (record x {
+                slots = filter (λ z. not (is_among ramp z)) (slot ∷ []) ++
+                    x.slots;
+              }))
           instances = asleep_set g.code counts s.instances i y
               (status_more (counts x.coroutine) (function_at g.code x.coroutine) x y x.status more
               (asleep_at g.code counts s.instances i x there n.instances)) n.instances
@@ -547,7 +554,8 @@ module _ (g : RenewedGiven) (counts : ℕ → ℕ → Bool) (rules : KeepAllName
   resumes_led s i x at values label r h there asleep =
       let k = changed_led g.given.code counts s h i x (record x { status = Status.Running }) there
       (record { slots = λ v z q. q; frame = refl }) tt in
-      renews_led (push (with_status s i x Status.Running) (resumed i x at (kept (g.keep x.coroutine at) values))) at.block
+      renews_led (push (with_status s i x Status.Running) (resumed i x at (kept (g.keep x.coroutine at) values)))
+      at.block
       label (renewed_from (g.flags x.coroutine) (function_at g.given.code x.coroutine) 0) (record {
         stack = (
           (

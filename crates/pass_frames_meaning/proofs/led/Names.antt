@@ -1,6 +1,7 @@
 -- What gives the names of allocas that count and of begin.
 use Rattle.std.proofs.Common.{◌≡◌, inl, inr, ℕ, zero, suc, Bool, true, false, List, [], ◌∷◌, length, Option, Some}
 use Rattle.std.proofs.Common.{None, refl, sym, ap, ◌∙◌, subst, if◌then◌else◌, arith, ◌==◌}
+use Rattle.std.proofs.lemmas.Bool.{false≢true}
 use Rattle.std.specs.List.{list_any}
 use Rattle.std.specs.Prelude.{replicate, slice_get}
 use Rattle.ir_base.specs.declared.cause.Cause.{Cause}
@@ -28,6 +29,7 @@ use Rattle.run_hooks.proofs.alive.Changes.{phis_other}
 use Rattle.run_memory.specs.declared.pointer.Value.{Value}
 use Rattle.run_source.specs.declared.state.Activation.{Activation}
 use Rattle.run_source.specs.declared.state.Mode.{Mode}
+use Rattle.run_step.specs.Effects.{is_alloca}
 use Rattle.run_step.specs.Step.{Action, AtInstr, Context, NewSlot, Stuck, Work, action_of, alloca, entry_values, fetch}
 use Rattle.run_step.specs.Step.{is_alignment, phis_of, values_in, with_params}
 use Rattle.run_step.specs.Values.{Env, pointer_to, value_in, with_result, with_value}
@@ -174,6 +176,29 @@ of_alloca c w name align ty a e = subst (IsOfAlloca w name) e (on (is_alignment 
         Cause.Align)
     on true = (refl, refl)
     on false = tt
+
+-- it makes a slot, or is undefined
+abbrev pub IsMaking : Action → Type 0
+IsMaking (NewSlot w slot) = Unit {0}
+IsMaking (Stuck cause) = Unit {0}
+IsMaking _ = ⊥
+
+pub making : (w : Work) (name : ℕ) (a : Action) → IsOfAlloca w name a → IsMaking a
+making w name (NewSlot x slot) k = tt
+making w name (Stuck cause) k = tt
+making w name _ k = absurd k
+
+pub alloca_is : (i : Instr) → is_alloca i ≡ true
+    → (name : ℕ) × (ty : Ty) × (align : ℕ) × (i ≡ Instr.Alloca name ty align)
+alloca_is (Instr.Alloca name ty align) e = (name, ty, align, refl)
+alloca_is (Instr.Binary name op flags ty a b) e = absurd (false≢true e)
+alloca_is (Instr.Icmp name pred ty a b) e = absurd (false≢true e)
+alloca_is (Instr.Select name x a b) e = absurd (false≢true e)
+alloca_is (Instr.Cast name op nneg arg to) e = absurd (false≢true e)
+alloca_is (Instr.Load name ty p align) e = absurd (false≢true e)
+alloca_is (Instr.Store arg p align) e = absurd (false≢true e)
+alloca_is (Instr.Gep name inbounds ty base indices) e = absurd (false≢true e)
+alloca_is (Instr.Call result must_tail ty callee args) e = absurd (false≢true e)
 
 -- the address of the new slot, or poison where there is no room
 pub set_led : (env : Env) (name : ℕ) (s : Slot) → s.alloca ≡ name

@@ -130,7 +130,8 @@ push_more (x ∷ xs) y zero z d = record { instance = z; there = d; more = itsel
 push_more (x ∷ xs) y (suc j) z d =
     let r = push_more xs y j z d in record { instance = r.instance; there = r.there; more = r.more }
 
-pub with_later : (counts : ℕ → Bool) (f : Function) (xs ys : List Instance) (o : Option ℕ) (slots : List Slot) (env : Env)
+pub with_later : (counts : ℕ → Bool) (f : Function) (xs ys : List Instance) (o : Option ℕ) (slots : List Slot)
+    (env : Env)
     → AreMore xs ys → AreLedWith counts f xs o slots env → AreLedWith counts f ys o slots env
 with_later counts f xs ys None slots env more h = h
 with_later counts f xs ys (Some i) slots env more h =

@@ -14,7 +14,8 @@ own : (m : Module) (counts : ℕ → ℕ → Bool) (s : State) → IsLed m count
     → s.top.instance ≡ Some i → slice_get s.instances i ≡ Some x
     → AreLed (counts s.top.func) (function_at m s.top.func) x.slots (frame_address_of x) s.top.values
 own m counts s h i x e there =
-    let k = subst (λ (o : Option ℕ). AreLedWith (counts s.top.func) (function_at m s.top.func) s.instances o s.top.slots
+    let k = subst (λ (o : Option ℕ). AreLedWith (counts s.top.func) (function_at m s.top.func) s.instances o
+    s.top.slots
     s.top.values) e h.stack.0 in
     let both : Some k.0 ≡ Some x = sym k.1 ∙ there in
     let same : k.0 ≡ x = cc in

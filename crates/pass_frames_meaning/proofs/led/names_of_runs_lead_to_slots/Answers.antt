@@ -1,6 +1,7 @@
 use Rattle.std.proofs.Common.{◌≡◌, ℕ, subst, sym}
 use Rattle.pass_frames_meaning.proofs.called.CalledHooks.{renewed_keeps_called, states_called}
 use Rattle.pass_frames_meaning.proofs.led.LedHooks.{renewed_keeps_led, states_led}
+use Rattle.pass_frames_meaning.proofs.led.SoundRuns.{runs_sound}
 use Rattle.pass_frames_meaning.proofs.led.names_of_runs_lead_to_slots.Goals as goal
 use Rattle.pass_frames_meaning.specs.Led.{IsLedState}
 use Rattle.pass_renewed_proof.specs.Renewed.{renewed_step}
@@ -18,7 +19,7 @@ use Rattle.run_step.specs.Runs.{iterate}
 
 pub returns : goal.returns
 returns c =
-    λ g counts entry args ok places types rules tables room n.
+    λ g counts entry args ok places types names rules tables n.
     let first = first_state g.given.code entry args in
     let e : (k : ℕ) → iterate (renewed_step g) k first ≡ iterate (step_of (renewed_hooks g)) k first =
     λ k. same_runs (renewed_step g) (step_of (renewed_hooks g)) (renewed_steps g) k first in
@@ -27,4 +28,5 @@ returns c =
     (λ k. states_reached (renewed_hooks g) ok (renewed_keeps g) entry args k)
     (λ k. states_called (renewed_hooks g) (renewed_keeps_called g) types entry args
     (λ j. states_placed (renewed_hooks g) ok (renewed_keeps g) places (renewed_keeps_placed g) entry args j) k)
-    (λ k. subst (λ (s : State). HasValues g.given.code s.top.func s.top.values) (e k) (room k)) n)
+    (λ k. subst (λ (s : State). HasValues g.given.code s.top.func s.top.values) (e k)
+    (runs_sound g entry args ok places types names k).top.values) n)
