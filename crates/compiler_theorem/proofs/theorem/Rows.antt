@@ -9,11 +9,15 @@ use Rattle.run_agreement.specs.Machines.{IsFine, Machine, at, state_at}
 use Rattle.run_source.specs.declared.state.State.{State}
 use Rattle.compiler_theorem.proofs.theorem.Framing.{framing}
 use Rattle.compiler_theorem.proofs.theorem.Needed.{split_needed}
+use Rattle.compiler_theorem.proofs.theorem.shown.Slots.{slots_shown}
 use Rattle.compiler_theorem.specs.theorem.Anew.{Anew}
 use Rattle.compiler_theorem.specs.theorem.Built.{building}
 use Rattle.compiler_theorem.specs.theorem.Entries.{IsEntryCall, Run}
-use Rattle.compiler_theorem.specs.theorem.Lowered.{HasFewBytes, IsLowered, Lowered, framed_run, kept_run, price_kept, sizes_of, source_run}
+use Rattle.compiler_theorem.specs.theorem.Lowered.{HasFewBytes, IsLowered, Lowered, edged, framed_run, kept_run, price_kept, sizes_of, source_run}
 use Rattle.pass_renewed_proof.specs.Prices.{Prices}
+use Rattle.compiler_theorem.specs.theorem.Rows.{joined}
+use Rattle.compiler_theorem.specs.theorem.SharedBytes.{AreShown}
+use Rattle.compiler_theorem.specs.theorem.ShownSlots.{step_homes}
 use Rattle.compiler_theorem.specs.theorem.Theorem.{AreFramesShown, AreMadeAnew, IsSomewhereShown, Steps}
 use Rattle.pass_frames_proof.specs.Related.{AreBuiltOf, AreShownAlike}
 use Rattle.pass_renewed_meaning.specs.Followed.{AreAlike}
@@ -64,6 +68,18 @@ module _ (a : Anew) (p : Prices) (l : Lowered) (low : IsLowered l) (few : HasFew
       (framed_run l l.framed r) (λ t. 1) (4 * size_factor l.source)
       (λ n fine. h.paid r n call fine) (at_least (framed_run l l.framed r)) to_framed)
 
+  -- slots and fields
+  both_shown : AreFramesShown a l low → (n : ℕ) (v u t : State) → Handed (state_at (source_run l r) n) v
+      → AreMadeAnew l a v u → Framed u t
+      → AreShown l.source l.layouts.coroutines (state_at (source_run l r) n) t
+  both_shown shown n v u t kept made built = record {
+    homes = joined (step_homes (edged l) a.flags a.roots v u made) built.homes;
+    each = λ i x e unfreed.
+        let slots = slots_shown l low a h.anew r n v u t kept made built i x e in
+        let fields = shown r n v u t kept made built i x e unfreed slots.0 in
+        (slots.0, record { slots = slots.1; values = fields.0; distances = fields.1 });
+  }
+
   -- what is shown in frames
   pub somewhere_shown : AreFramesShown a l low → (n : ℕ) → IsFine (at (source_run l r) n).outcome → IsSomewhereShown l r n
   somewhere_shown shown n fine =
@@ -71,6 +87,6 @@ module _ (a : Anew) (p : Prices) (l : Lowered) (low : IsLowered l) (few : HasFew
       let y = to_framed.forward x.steps (x.unstuck x.steps (omega arith)) in
       record {
         steps = y.steps;
-        shown = shown r (state_at (source_run l r) n)
-            (state_at (framed_run l l.framed r) y.steps) (state_at (kept_run l a r) x.steps, x.related, y.related);
+        shown = both_shown shown n (state_at (kept_run l a r) x.steps) y.related.0
+            (state_at (framed_run l l.framed r) y.steps) x.related y.related.1 y.related.2;
       }

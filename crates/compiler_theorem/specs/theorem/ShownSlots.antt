@@ -1,6 +1,6 @@
 -- Which parts of states in a row stand in frames.
-use Rattle.std.specs.Prelude.{◌≡◌, ℕ, List, Some, slice_get}
-use Rattle.compiler_theorem.specs.theorem.SharedBytes.{AreSlotsIn, Frame}
+use Rattle.std.specs.Prelude.{◌≡◌, ℕ, false, List, Some, slice_get}
+use Rattle.compiler_theorem.specs.theorem.SharedBytes.{AreDistancesIn, AreSlotsIn, AreValuesIn, Frame}
 use Rattle.frame_layout.specs.declared.layout.Layout.{Layout}
 use Rattle.ir_model.specs.declared.module.Module.{Module}
 use Rattle.pass_renewed_meaning.specs.Followed.{AreInStep, Ended, Goes}
@@ -21,3 +21,10 @@ abbrev pub AreSlotsShown : Module → List Layout → List Home → State → St
 AreSlotsShown m layouts homes s t =
     (i : ℕ) (x : Instance) → slice_get s.instances i ≡ Some x
     → (y : Frame t i) × AreSlotsIn m (layout_of layouts x.coroutine) homes s x y.instance.start y.block
+
+-- the frame of each instance whose block isn't freed has the values that cross its suspend, and the distances
+abbrev pub AreFieldsShown : Module → List Layout → List Home → State → State → Type 0
+AreFieldsShown m layouts homes s t =
+    (i : ℕ) (x : Instance) → slice_get s.instances i ≡ Some x → x.freed ≡ false → (y : Frame t i)
+    → AreValuesIn m (layout_of layouts x.coroutine) homes x y.instance.start y.block
+    × AreDistancesIn m (layout_of layouts x.coroutine) homes x y.instance.start y.block

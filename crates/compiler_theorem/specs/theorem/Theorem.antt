@@ -3,7 +3,7 @@
 use Rattle.std.specs.Prelude.{ℕ, ◌*◌, ◌≤◌}
 use Rattle.run_hooks.specs.alive.Apart.{LiveAreApart}
 use Rattle.run_agreement.specs.Agreements.{Agrees, AgreesWithin}
-use Rattle.run_agreement.specs.Costs.{Through, cost_at}
+use Rattle.run_agreement.specs.Costs.{cost_at}
 use Rattle.run_agreement.specs.Factor.{size_factor, step_factor}
 use Rattle.run_agreement.specs.Machines.{IsFine, at, state_at}
 use Rattle.text_canonical.specs.canonical.Items.{module_text}
@@ -19,7 +19,9 @@ use Rattle.pass_frames_proof.specs.Meaning.{PaysForFrames}
 use Rattle.pass_frames_proof.specs.Related.{AreBuiltOf}
 use Rattle.pass_renewed_proof.specs.Prices.{Prices}
 use Rattle.pass_renewed_proof.specs.Renewed.{RenewedGiven, renewed_given}
+use Rattle.compiler_theorem.specs.theorem.Rows.{joined}
 use Rattle.compiler_theorem.specs.theorem.SharedBytes.{AreShown}
+use Rattle.compiler_theorem.specs.theorem.ShownSlots.{AreFieldsShown, step_homes}
 use Rattle.text_grammar.specs.Text.{StandsFor}
 use Rattle.pass_proofs.specs.kept.sources.Beside.{IsKeptOf}
 use Rattle.pass_renewed_meaning.specs.Followed.{AreInStep}
@@ -65,12 +67,14 @@ pub record Steps (a : Anew) (p : Prices) (l : Lowered) (low : IsLowered l) : Typ
   pub paid : (r : Run) (n : ℕ) → IsEntryCall l.source r → IsFine (at (kept_run l a r) n).outcome
       → cost_at (kept_run l a r) (price_kept l a r p) n ≤ (4 * size_factor l.source) * n
 
--- waits for: the relations of these steps over those that stand, byte for byte
+-- waits for: the values that cross suspends and the distances, in the fields of instances that are suspended. Live frame
+-- slots stand in frames (`frames_show_live_slots`)
 abbrev pub AreFramesShown : Anew → (l : Lowered) → IsLowered l → Type 0
 AreFramesShown a l low =
-    (r : Run) (s t : State) → Through (IsKeptOf l.source (sizes_of l) r.answers)
-    (Through (AreMadeAnew l a) (AreBuiltOf (building l low.is_framed r.answers))) s t
-    → AreShown l.source l.layouts.coroutines s t
+    (r : Run) (n : ℕ) (v u t : State) → IsKeptOf l.source (sizes_of l) r.answers (state_at (source_run l r) n) v
+    → (made : AreMadeAnew l a v u) (built : AreBuiltOf (building l low.is_framed r.answers) u t)
+    → AreFieldsShown l.source l.layouts.coroutines (joined (step_homes (edged l) a.flags a.roots v u made) built.homes)
+    (state_at (source_run l r) n) t
 
 -- a state of the framed run in which the slots and values of a state of the source stand
 pub record IsSomewhereShown (l : Lowered) (r : Run) (n : ℕ) : Type 0 where
