@@ -10,7 +10,7 @@ ghost use Rattle.compiler_theorem.specs.theorem.Lowered.{AreAllocasFirst, HasFew
 ghost use Rattle.ir_model.specs.declared.module.Module.{Module};
 ghost use Rattle.frame_layout.specs.declared.layout.Layouts.{Layouts};
 ghost use Rattle.pass_frames.specs.Framed.{IsFramedForm};
-ghost use Rattle.std.specs.Prelude.{◌≡◌, ℕ, ℤ, false, List, true};
+ghost use Rattle.std.specs.Prelude.{◌≡◌, ℕ, ℤ, false, List, length, true};
 ghost use Rattle.run_types.specs.States.{AreArguments};
 ghost use Rattle.pass_frames_meaning.specs.Setting.{KeepsAll};
 ghost use Rattle.pass_frames_proof.specs.Related.{AreBuilt, AreBuiltOf};
@@ -30,7 +30,10 @@ ghost use Rattle.ir_model.specs.Names.{function_at};
 ghost use Rattle.ir_model.specs.declared.module.Function.{Function};
 ghost use Rattle.run_laws.specs.memory.Pointers.{AreBytes, Home, IsValue};
 ghost use Rattle.run_memory.specs.declared.block.Byte.{Byte};
+ghost use Rattle.run_memory.specs.Memory.{decode, digits, encode};
+ghost use Rattle.run_memory.specs.declared.pointer.Access.{Access};
 ghost use Rattle.run_memory.specs.declared.pointer.Value.{Value};
+ghost use Rattle.run_types.specs.Fitting as fitting;
 
 /// Relations between states of the framed run and of that where calls are elided.
 pub trait RelatesElided {
@@ -73,6 +76,17 @@ pub fn homes_in_a_row_join()
         → AreBytes (joined homes more) xs zs }
     ensures values { (homes more : List Home) (u v w : Value) → IsValue homes u v → IsValue more v w
         → IsValue (joined homes more) u w }
+{}
+
+/// Bytes from which what stands for a value is loaded stand for what is stored for it, and those from which a distance is
+/// loaded are its digits.
+pub fn loaded_bytes_stand()
+    ensures values { (homes : List Home) (what : Access) (v : Value) (size : ℕ) (bytes : List Byte)
+        → fitting.AreBytes bytes → length bytes ≡ size → IsValue homes v (decode what bytes)
+        → AreBytes homes (encode size v) bytes }
+    ensures distances { (homes : List Home) (size bits : ℕ) (bytes : List Byte) → fitting.AreBytes bytes
+        → length bytes ≡ size → decode (Access.Int 64) bytes ≡ Value.Int (record { width = 64; bits = bits })
+        → AreBytes homes (digits size bits) bytes }
 {}
 
 /// What the frame of a coroutine holds is one, and so are the values that cross its suspends.

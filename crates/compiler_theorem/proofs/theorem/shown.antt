@@ -1,5 +1,6 @@
 pub mod Contents
 pub mod Dying
+pub mod Encoded
 pub mod Fields
 pub mod Homes
 pub mod Kept
