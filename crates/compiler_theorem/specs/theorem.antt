@@ -8,4 +8,5 @@ pub mod Lowered
 pub mod Rows
 pub mod SharedBytes
 pub mod ShownSlots
+pub mod Suspended
 pub mod Theorem

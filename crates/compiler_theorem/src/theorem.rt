@@ -20,7 +20,11 @@ ghost use Rattle.compiler_theorem.specs.theorem.Theorem.{AreFramesShown, AreMade
 ghost use Rattle.compiler_theorem.specs.theorem.Elision.{ElidedSteps, ElidesCalls};
 ghost use Rattle.compiler_theorem.specs.theorem.Rows.{joined};
 ghost use Rattle.compiler_theorem.specs.theorem.ShownSlots.{AreSlotsShown, step_homes};
+ghost use Rattle.compiler_theorem.specs.theorem.Suspended.{IsSuspendedAlike, IsSuspendedAs};
+ghost use Rattle.ir_model.specs.declared.module.Frame.{Frame};
+ghost use Rattle.ir_paths.specs.declared.point.Point.{Point};
 ghost use Rattle.pass_proofs.specs.kept.sources.Beside.{IsKeptOf};
+ghost use Rattle.run_step.specs.Values.{Env};
 ghost use Rattle.run_agreement.specs.Machines.{state_at};
 ghost use Rattle.frame_classes.specs.Classes.{IsOf};
 ghost use Rattle.frame_classes.specs.declared.class.SlotClass.{SlotClass};
@@ -102,6 +106,14 @@ pub fn frame_slots_are_made_once()
     ensures { (l : Lowered) → IsLowered l → (a : Anew) → IsAnewOf (early l) a → (func : ℕ)
         → (function_at (early l) func).coroutine ≡ true → (v : ℕ)
         → IsOf (function_at l.source func) v SlotClass.Frame → a.flags func v ≡ false }
+{}
+
+/// Where an instance of a source is suspended it is so where resumes hand on less, at the same suspend. The names that
+/// are needed behind it have their values.
+pub fn suspended_instances_keep_values()
+    ensures { (m : Module) (sizes : List Frame) (answers : List ℤ) (s t : State) → IsKeptOf m sizes answers s t
+        → (i func : ℕ) (suspend : Point) (values : Env) → IsSuspendedAs s.instances i func suspend values
+        → IsSuspendedAlike m t.instances i func suspend values }
 {}
 
 /// Where a state of a source's run stands in a row of relations beside one of frames, the frame of each of its

@@ -4,6 +4,7 @@ pub mod Encoded
 pub mod Fields
 pub mod Homes
 pub mod Kept
+pub mod KeptStatus
 pub mod Placed
 pub mod Renewed
 pub mod Slots

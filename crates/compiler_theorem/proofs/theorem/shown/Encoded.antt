@@ -10,7 +10,6 @@ use Rattle.run_memory.specs.declared.block.Byte.{Byte}
 use Rattle.run_memory.specs.declared.pointer.Access.{Access}
 use Rattle.run_memory.specs.declared.pointer.Pointer.{Pointer}
 use Rattle.run_memory.specs.declared.pointer.Value.{Value}
-
 use Rattle.run_types.specs.Fitting as fitting
 
 -- ---- numbers
