@@ -1,5 +1,5 @@
 -- Steps of coroutines: what is open of the states, and which steps are other cases.
-use Rattle.std.specs.Prelude.{◌≡◌, ◌⊎◌, ◌∷◌, ℕ, Bool, true, Some, Option, List}
+use Rattle.std.specs.Prelude.{◌≡◌, ◌⊎◌, ◌∷◌, ℕ, Bool, false, true, None, Some, Option, List}
 use Rattle.ir_model.specs.Ty.{Ty}
 use Rattle.ir_model.specs.declared.instr.Instr.{Instr}
 use Rattle.ir_model.specs.declared.instr.Terminator.{Terminator}
@@ -8,16 +8,20 @@ use Rattle.ir_model.specs.declared.operand.Callee.{Callee}
 use Rattle.ir_model.specs.declared.operand.Intrinsic.{Intrinsic}
 use Rattle.ir_model.specs.declared.operand.Operand.{Operand}
 use Rattle.ir_parts.specs.Contents.{instr_operands}
+use Rattle.pass_cells.specs.Cells.{fetches_of}
 use Rattle.pass_cells.specs.Kept.{entry}
 use Rattle.pass_cells.specs.declared.plan.KeptValue.{KeptValue}
 use Rattle.pass_copies.specs.Uses.{is_access}
+use Rattle.pass_fetch.specs.Fetching.{fetch_of}
 use Rattle.pass_frames_meaning.specs.Setting.{Setting}
 use Rattle.pass_frames_meaning.specs.Standing.{IsStaying}
+use Rattle.pass_frames_proof.specs.Code.{slot_table}
 use Rattle.pass_frames_proof.specs.Followed.{IsFollowed}
 use Rattle.pass_frames_proof.specs.Lines.{IsStorable}
-use Rattle.pass_frames_proof.specs.Places.{plan}
+use Rattle.pass_frames_proof.specs.Places.{Framing, offsets, plan}
 use Rattle.pass_frames_proof.specs.Related.{IsKeptValue, is_coroutine, is_first}
 use Rattle.pass_frames_proof.specs.Stepping.{IsPlacedOperand, IsUnlocated, state_in}
+use Rattle.pass_proofs.specs.addresses.rules.Addresses.{lies_in_frame}
 use Rattle.pass_renewed_proof.specs.Renewed.{renewed_step}
 use Rattle.rule_laws.specs.rules.function_rules.Kept.{KeepsFunctionRules}
 use Rattle.run_laws.specs.changed.Changed.{Each}
@@ -38,6 +42,13 @@ HasStorables c s =
 abbrev pub IsUnlocatedHere : Setting → State → Instr → Type 0
 IsUnlocatedHere c s i =
     IsUnlocated (c.b.framing s.top.func) (state_in (c.b.framing s.top.func) s.top.block s.top.at) i
+
+-- The name is kept in no cell and lies in no frame. So nothing is fetched for it.
+pub record IsNowhere (x : Framing) (v : ℕ) : Type 0 where
+  pub unkept : entry (plan x).places v ≡ None
+  pub outside : lies_in_frame (offsets x) v ≡ false
+  pub loaded : fetch_of (fetches_of (plan x)) (Operand.Local v) ≡ None
+  pub placed : fetch_of (slot_table x) (Operand.Local v) ≡ None
 
 -- What isn't derived yet of a state of a coroutine.
 pub record MayFollow (c : Setting) (s : State) : Type 0 where

@@ -6,7 +6,7 @@
 ghost use Rattle.std.specs.Prelude.{◌≡◌, ℕ, Bool, None, Option, List, Some, true};
 ghost use Rattle.ir_base.specs.declared.outcome.Outcome.{Outcome};
 ghost use Rattle.ir_base.specs.declared.name.Name.{Name};
-ghost use Rattle.ir_model.specs.Ty.{Ty};
+ghost use Rattle.ir_model.specs.Ty.{Ty, token};
 ghost use Rattle.ir_model.specs.declared.instr.Instr.{Instr};
 ghost use Rattle.ir_model.specs.declared.operand.Arg.{Arg};
 ghost use Rattle.ir_model.specs.declared.operand.Allocator.{Allocator};
@@ -15,17 +15,20 @@ ghost use Rattle.ir_model.specs.declared.operand.Intrinsic.{Intrinsic};
 ghost use Rattle.ir_model.specs.declared.operand.Operand.{Operand};
 ghost use Rattle.ir_parts.specs.Contents.{result_of};
 ghost use Rattle.pass_cells.specs.Kept.{entry};
-ghost use Rattle.pass_frames_meaning.specs.Coroutines.{AreOthersFollowed, IsUnlocatedHere, MayEnd, MayFollow};
+ghost use Rattle.pass_frames_meaning.specs.Coroutines.{AreOthersFollowed, IsNowhere, IsUnlocatedHere, MayEnd, MayFollow};
 ghost use Rattle.pass_frames_meaning.specs.Others.{EntersCoroutines};
 ghost use Rattle.pass_frames_meaning.specs.Setting.{AreOfRuns, KeepsAll, Setting};
 ghost use Rattle.pass_frames_proof.specs.Asking.{IsAsking};
 ghost use Rattle.pass_frames_proof.specs.Copying.{IsCopying};
 ghost use Rattle.pass_frames_proof.specs.Followed.{IsFollowed};
+ghost use Rattle.pass_frames_proof.specs.Framings.{IsFraming};
 ghost use Rattle.pass_frames_proof.specs.Led.{LeavesMemory};
-ghost use Rattle.pass_frames_proof.specs.Places.{plan};
+ghost use Rattle.pass_frames_proof.specs.Places.{Framing, edged, plan};
 ghost use Rattle.pass_frames_proof.specs.Related.{AreBuiltOf, is_coroutine};
 ghost use Rattle.pass_frames_proof.specs.Stepping.{IsCommon, IsNotEntering};
 ghost use Rattle.pass_renewed_proof.specs.Renewed.{renewed_step};
+ghost use Rattle.rule_values.specs.Fits.{fits_kind};
+ghost use Rattle.rule_values.specs.Kinds.{value_kind};
 ghost use Rattle.run_agreement.specs.Machines.{IsFine};
 ghost use Rattle.run_source.specs.Source.{context_of};
 ghost use Rattle.run_source.specs.State.{function_of};
@@ -95,6 +98,11 @@ pub fn ends_of_coroutines_are_led_back()
         → fetch (function_of c.g.given s) s.top.block s.top.at
         ≡ AtInstr (Instr.Call result must_tail ty (Callee.Intrinsic Intrinsic.CoroEnd) args)
         → IsFollowed c.b c.g s t }
+{}
+
+/// A token is kept in no cell, and lies in no frame.
+pub fn tokens_have_no_place()
+    ensures { (x : Framing) → IsFraming x → (v : ℕ) → fits_kind (value_kind (edged x) v) token ≡ true → IsNowhere x v }
 {}
 
 /// So each step of a coroutine is followed, where the other kinds are.

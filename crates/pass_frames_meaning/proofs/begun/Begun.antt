@@ -69,7 +69,7 @@ module _ (x : Framing) (is : IsFraming x) where
   abbrev Count : ℕ
   Count = length (values_kept (edged x) x.contents.crossing).values
 
-  first : first_result Intrinsic.CoroBegin (edged x) ≡ Some begin
+  pub first : first_result Intrinsic.CoroBegin (edged x) ≡ Some begin
   first = same_begin x.function ∙ is.frameable.begins
 
   S : StandsAt (edged x) Intrinsic.CoroBegin begin
