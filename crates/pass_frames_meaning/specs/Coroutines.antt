@@ -8,6 +8,7 @@ use Rattle.ir_model.specs.declared.operand.Callee.{Callee}
 use Rattle.ir_model.specs.declared.operand.Intrinsic.{Intrinsic}
 use Rattle.ir_model.specs.declared.operand.Operand.{Operand}
 use Rattle.ir_parts.specs.Contents.{instr_operands}
+use Rattle.ir_paths.specs.Windows.{operand_at}
 use Rattle.pass_cells.specs.Cells.{fetches_of}
 use Rattle.pass_cells.specs.Kept.{entry}
 use Rattle.pass_cells.specs.declared.plan.KeptValue.{KeptValue}
@@ -61,6 +62,16 @@ pub record MayFollow (c : Setting) (s : State) : Type 0 where
   -- an invariant of the run, of each state: a name of a pointer's type has a pointer or poison
   pub storables : HasStorables c (renewed_step c.g s)
 
+-- What isn't derived yet where a suspend stands at the place.
+pub record MaySuspend (c : Setting) (s : State) (result : Option ℕ) (args : List Arg) : Type 0 where
+  -- it takes the token of its own save, and has a result for its switch (K2, K3)
+  pub token : ℕ
+  pub takes : operand_at args 0 ≡ Operand.Local token
+  pub name : ℕ
+  pub named : result ≡ Some name
+  -- its result is used by its switch alone (K3), so it crosses no suspend
+  pub unkept : entry (plan (c.b.framing s.top.func)).places name ≡ None
+
 -- What isn't derived yet where coro.end stands at the place.
 pub record MayEnd (s : State) : Type 0 where
   -- each path to it leads over begin, so the activation has an instance
@@ -77,7 +88,6 @@ IsOwnKind Intrinsic.LifetimeEnd = Unit {0}
 IsOwnKind Intrinsic.CoroId = Unit {0}
 IsOwnKind Intrinsic.CoroBegin = Unit {0}
 IsOwnKind Intrinsic.CoroSave = Unit {0}
-IsOwnKind Intrinsic.CoroSuspend = Unit {0}
 IsOwnKind _ = ⊥
 
 abbrev pub IsEnding : Terminator → Type 0
@@ -96,11 +106,16 @@ pub record AreOthersFollowed (c : Setting) (s t : State) : Type 0 where
   pub allocas : (r : ℕ) (ty : Ty) (align : ℕ)
       → fetch (function_of c.g.given s) s.top.block s.top.at ≡ AtInstr (Instr.Alloca r ty align)
       → IsFollowed c.b c.g s t
-  -- markers, coro.id, begin, saves and suspends
+  -- markers, coro.id, begin and saves
   pub intrinsics : (x : Intrinsic) → IsOwnKind x → (result : Option ℕ) (must_tail : Bool) (ty : Option Ty)
       (args : List Arg)
       → fetch (function_of c.g.given s) s.top.block s.top.at
       ≡ AtInstr (Instr.Call result must_tail ty (Callee.Intrinsic x) args) → IsFollowed c.b c.g s t
+  -- suspends, where this is known
+  pub suspends : (result : Option ℕ) (must_tail : Bool) (ty : Option Ty) (args : List Arg)
+      → fetch (function_of c.g.given s) s.top.block s.top.at
+      ≡ AtInstr (Instr.Call result must_tail ty (Callee.Intrinsic Intrinsic.CoroSuspend) args)
+      → MaySuspend c s result args
   -- coro.end, where this is known
   pub end_calls : (result : Option ℕ) (must_tail : Bool) (ty : Option Ty) (args : List Arg)
       → fetch (function_of c.g.given s) s.top.block s.top.at

@@ -15,7 +15,7 @@ ghost use Rattle.ir_model.specs.declared.operand.Intrinsic.{Intrinsic};
 ghost use Rattle.ir_model.specs.declared.operand.Operand.{Operand};
 ghost use Rattle.ir_parts.specs.Contents.{result_of};
 ghost use Rattle.pass_cells.specs.Kept.{entry};
-ghost use Rattle.pass_frames_meaning.specs.Coroutines.{AreOthersFollowed, IsNowhere, IsUnlocatedHere, MayEnd, MayFollow};
+ghost use Rattle.pass_frames_meaning.specs.Coroutines.{AreOthersFollowed, IsNowhere, IsUnlocatedHere, MayEnd, MayFollow, MaySuspend};
 ghost use Rattle.pass_frames_meaning.specs.Others.{EntersCoroutines};
 ghost use Rattle.pass_frames_meaning.specs.Setting.{AreOfRuns, KeepsAll, Setting};
 ghost use Rattle.pass_frames_proof.specs.Asking.{IsAsking};
@@ -103,6 +103,16 @@ pub fn ends_of_coroutines_are_led_back()
 /// A token is kept in no cell, and lies in no frame.
 pub fn tokens_have_no_place()
     ensures { (x : Framing) → IsFraming x → (v : ℕ) → fits_kind (value_kind (edged x) v) token ≡ true → IsNowhere x v }
+{}
+
+/// So a suspend is followed that takes the token of its save.
+pub fn suspends_of_coroutines_are_followed()
+    ensures { (c : Setting) → KeepsAll c → (s t : TheState) (r : AreBuiltOf c.b s t) → AreOfRuns c s t r
+        → s.outcome ≡ Outcome.Running → is_coroutine c.b s.top.func ≡ true → IsNotEntering s.top.mode
+        → (result : Option ℕ) (must_tail : Bool) (ty : Option Ty) (args : List Arg) → MaySuspend c s result args
+        → fetch (function_of c.g.given s) s.top.block s.top.at
+        ≡ AtInstr (Instr.Call result must_tail ty (Callee.Intrinsic Intrinsic.CoroSuspend) args)
+        → IsFollowed c.b c.g s t }
 {}
 
 /// So each step of a coroutine is followed, where the other kinds are.

@@ -16,6 +16,7 @@ use Rattle.pass_copies.specs.Uses.{is_access}
 use Rattle.pass_frames_meaning.proofs.coroutines.Calls.{allocator_followed, asking_followed, copying_followed, free_followed, named_followed}
 use Rattle.pass_frames_meaning.proofs.coroutines.Ends.{end_followed}
 use Rattle.pass_frames_meaning.proofs.coroutines.Steps.{next_is, quiet_followed, store_followed}
+use Rattle.pass_frames_meaning.proofs.coroutines.Suspends.{suspend_at}
 use Rattle.pass_frames_meaning.proofs.others.AtPlace.{called_by_name, function_there}
 use Rattle.pass_frames_meaning.proofs.others.Names.{no_distance}
 use Rattle.pass_frames_meaning.proofs.others.Others.{no_ok}
@@ -136,7 +137,9 @@ module _ (c : Setting) (all : KeepsAll c) (s t : State) (r : AreBuiltOf c.b s t)
         free_followed c all s t r k runs fine coroutine mode o result must_tail ty args there
     intrinsics Intrinsic.CoroFrame there = asks Intrinsic.CoroFrame tt there
     intrinsics Intrinsic.CoroSave there = others.intrinsics Intrinsic.CoroSave tt result must_tail ty args there
-    intrinsics Intrinsic.CoroSuspend there = others.intrinsics Intrinsic.CoroSuspend tt result must_tail ty args there
+    intrinsics Intrinsic.CoroSuspend there =
+        suspend_at c all s t r k runs coroutine mode result must_tail ty args
+        (others.suspends result must_tail ty args there) there
     intrinsics Intrinsic.CoroEnd there =
         end_followed c all s t r k runs fine coroutine mode o (others.end_calls result must_tail ty args there) result
         must_tail ty args there
