@@ -16,13 +16,14 @@ use Rattle.pass_copies.specs.Uses.{is_access}
 use Rattle.pass_fetch.specs.Fetching.{fetch_of}
 use Rattle.pass_frames_meaning.specs.Setting.{Setting}
 use Rattle.pass_frames_meaning.specs.Standing.{IsStaying}
-use Rattle.pass_frames_proof.specs.Code.{slot_table}
+use Rattle.pass_frames_proof.specs.Code.{is_ahead, loaded, slot_table}
 use Rattle.pass_frames_proof.specs.Followed.{IsFollowed}
 use Rattle.pass_frames_proof.specs.Lines.{IsStorable}
-use Rattle.pass_frames_proof.specs.Places.{Framing, offsets, plan}
+use Rattle.pass_frames_proof.specs.Places.{Framing, copies, offsets, plan}
 use Rattle.pass_frames_proof.specs.Related.{IsKeptValue, is_coroutine, is_first}
 use Rattle.pass_frames_proof.specs.Stepping.{IsPlacedOperand, IsUnlocated, state_in}
 use Rattle.pass_proofs.specs.addresses.rules.Addresses.{lies_in_frame}
+use Rattle.pass_proofs.specs.fetch.rules.Fetches.{AreUnfetched}
 use Rattle.pass_renewed_proof.specs.Renewed.{renewed_step}
 use Rattle.rule_laws.specs.rules.function_rules.Kept.{KeepsFunctionRules}
 use Rattle.run_laws.specs.changed.Changed.{Each}
@@ -96,9 +97,11 @@ IsEnding _ = Unit {0}
 
 -- Steps of coroutines that are other cases.
 pub record AreOthersFollowed (c : Setting) (s t : State) : Type 0 where
-  -- accesses of slots that are used before begin, where they go by their cells' addresses
+  -- accesses before begin of slots that are used there, which go by the addresses in their cells
   pub located : (i : Instr) → fetch (function_of c.g.given s) s.top.block s.top.at ≡ AtInstr i → is_access i ≡ true
-      → IsUnlocatedHere c s i ⊎ IsFollowed c.b c.g s t
+      → is_ahead (state_in (c.b.framing s.top.func) s.top.block s.top.at) ≡ true
+      → (AreUnfetched (copies (c.b.framing s.top.func)).fetches (instr_operands (loaded (c.b.framing s.top.func)
+      (state_in (c.b.framing s.top.func) s.top.block s.top.at) i)) → ⊥) → IsFollowed c.b c.g s t
   -- getelementptrs whose distance is kept
   pub measured : (r : ℕ) (inbounds : Bool) (ty : Ty) (base : Operand) (indices : List Arg) (cell : ℕ)
       → fetch (function_of c.g.given s) s.top.block s.top.at ≡ AtInstr (Instr.Gep r inbounds ty base indices)

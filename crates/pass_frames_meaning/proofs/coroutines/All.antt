@@ -1,5 +1,5 @@
 -- Each step of a coroutine is followed, where the steps that are other cases are.
-use Rattle.std.proofs.Common.{◌≡◌, ◌⊎◌, inl, inr, ℕ, Bool, true, false, List, Option, Some, None, refl, sym, ap, ◌∙◌, subst}
+use Rattle.std.proofs.Common.{◌≡◌, ◌⊎◌, inl, inr, ℕ, Bool, true, false, List, [], ◌∷◌, Option, Some, None, refl, sym, ap, ◌∙◌, subst}
 use Rattle.ir_base.specs.declared.cause.Cause.{Cause}
 use Rattle.ir_base.specs.declared.outcome.Outcome.{Outcome}
 use Rattle.ir_model.specs.Names.{function_at}
@@ -10,9 +10,11 @@ use Rattle.ir_model.specs.declared.operand.Arg.{Arg}
 use Rattle.ir_model.specs.declared.operand.Callee.{Callee}
 use Rattle.ir_model.specs.declared.operand.Intrinsic.{Intrinsic}
 use Rattle.ir_model.specs.declared.operand.Operand.{Operand}
-use Rattle.ir_parts.specs.Contents.{result_of}
+use Rattle.ir_parts.specs.Contents.{instr_operands, result_of}
 use Rattle.pass_cells.specs.Kept.{entry}
 use Rattle.pass_copies.specs.Uses.{is_access}
+use Rattle.pass_fetch.specs.Fetching.{fetch_of}
+use Rattle.pass_fetch.specs.declared.fetch.Fetch.{Fetch}
 use Rattle.pass_frames_meaning.proofs.coroutines.Calls.{allocator_followed, asking_followed, copying_followed, free_followed, named_followed}
 use Rattle.pass_frames_meaning.proofs.coroutines.Ends.{end_followed}
 use Rattle.pass_frames_meaning.proofs.coroutines.Steps.{next_is, quiet_followed, store_followed}
@@ -21,19 +23,22 @@ use Rattle.pass_frames_meaning.proofs.others.AtPlace.{called_by_name, function_t
 use Rattle.pass_frames_meaning.proofs.others.Names.{no_distance}
 use Rattle.pass_frames_meaning.proofs.others.Others.{no_ok}
 use Rattle.pass_frames_meaning.proofs.others.Returns.{instr_in}
-use Rattle.pass_frames_meaning.proofs.others.Unlocated.{unaccessed}
+use Rattle.pass_frames_meaning.proofs.others.Unlocated.{begun_unlocated, unaccessed}
+use Rattle.pass_frames_proof.proofs.early.Unlocated.{unused_unlocated}
 use Rattle.pass_frames_meaning.specs.Coroutines.{AreOthersFollowed, IsUnlocatedHere, MayFollow}
 use Rattle.pass_frames_meaning.specs.Others.{EntersCoroutines}
 use Rattle.pass_frames_meaning.specs.Plain.{IsNoGep}
 use Rattle.pass_frames_meaning.specs.Setting.{AreOfRuns, KeepsAll, Setting}
 use Rattle.pass_frames_proof.specs.Asking.{IsAsking}
+use Rattle.pass_frames_proof.specs.Code.{is_ahead, loaded}
 use Rattle.pass_frames_proof.specs.Copying.{IsCopying}
 use Rattle.pass_frames_proof.specs.Followed.{IsFollowed}
 use Rattle.pass_frames_proof.specs.Framings.{IsFraming}
 use Rattle.pass_frames_proof.specs.Led.{LeavesMemory}
-use Rattle.pass_frames_proof.specs.Places.{Framing, plan}
+use Rattle.pass_frames_proof.specs.Places.{Framing, copies, plan}
 use Rattle.pass_frames_proof.specs.Related.{AreBuiltOf, is_coroutine}
 use Rattle.pass_frames_proof.specs.Stepping.{IsCommon, IsNotEntering, state_in}
+use Rattle.pass_proofs.specs.fetch.rules.Fetches.{AreUnfetched}
 use Rattle.pass_renewed_proof.specs.Renewed.{is_idle, renewed_act, renewed_step}
 use Rattle.run_agreement.specs.Machines.{IsFine}
 use Rattle.run_source.specs.Source.{context_of}
@@ -43,6 +48,16 @@ use Rattle.run_step.specs.Step.{AtInstr, AtTerm, Fetched, Nowhere, Stuck, action
 
 same_name : (p q : ℕ) → Some p ≡ Some q → p ≡ q
 same_name p q e = cc
+
+unfetched_or_not : (t : List (Option Fetch)) (os : List Operand) → AreUnfetched t os ⊎ (AreUnfetched t os → ⊥)
+unfetched_or_not t [] = inl tt
+unfetched_or_not t (a ∷ os) = on (fetch_of t a) refl (unfetched_or_not t os)
+  where
+    on : (q : Option Fetch) → fetch_of t a ≡ q → AreUnfetched t os ⊎ (AreUnfetched t os → ⊥)
+        → AreUnfetched t (a ∷ os) ⊎ (AreUnfetched t (a ∷ os) → ⊥)
+    on None e (inl h) = inl (e, h)
+    on None e (inr some) = inr (λ z. some z.1)
+    on (Some y) e rest = inr (λ z. let both : Some y ≡ None = sym e ∙ z.0 in absurd (cc))
 
 module _ (c : Setting) (all : KeepsAll c) (s t : State) (r : AreBuiltOf c.b s t) (k : AreOfRuns c s t r)
     (runs : s.outcome ≡ Outcome.Running) (fine : IsFine (renewed_step c.g s).outcome)
@@ -74,8 +89,24 @@ module _ (c : Setting) (all : KeepsAll c) (s t : State) (r : AreBuiltOf c.b s t)
       quiet_followed c all s t r k runs fine coroutine mode o i there common leaves (plain i unaccessing)
       (undistanced i there no_gep)
 
+  -- behind begin no access goes by a cell's address, nor does one of another slot
+  accesses : (i : Instr) → Stands i → is_access i ≡ true → IsUnlocatedHere c s i ⊎ Follows
+  accesses i there access = on (is_ahead (state_in x s.top.block s.top.at)) refl
+    where
+      by : is_ahead (state_in x s.top.block s.top.at) ≡ true
+          → AreUnfetched (copies x).fetches (instr_operands (loaded x (state_in x s.top.block s.top.at) i))
+          ⊎ (AreUnfetched (copies x).fetches (instr_operands (loaded x (state_in x s.top.block s.top.at) i)) → ⊥)
+          → IsUnlocatedHere c s i ⊎ Follows
+      by e (inl h) = inl (unused_unlocated x (state_in x s.top.block s.top.at) i h)
+      by e (inr some) = inr (others.located i there access e some)
+
+      on : (b : Bool) → is_ahead (state_in x s.top.block s.top.at) ≡ b → IsUnlocatedHere c s i ⊎ Follows
+      on false e = inl (begun_unlocated x (state_in x s.top.block s.top.at) i e)
+      on true e = by e (unfetched_or_not (copies x).fetches
+          (instr_operands (loaded x (state_in x s.top.block s.top.at) i)))
+
   loads : (r : ℕ) (ty : Ty) (p : Operand) (align : ℕ) → Stands (Instr.Load r ty p align) → Follows
-  loads r' ty p align there = on (others.located (Instr.Load r' ty p align) there refl)
+  loads r' ty p align there = on (accesses (Instr.Load r' ty p align) there refl)
     where
       on : IsUnlocatedHere c s (Instr.Load r' ty p align) ⊎ Follows → Follows
       on (inl u) = quiet_followed c all s t r k runs fine coroutine mode o (Instr.Load r' ty p align) there tt tt u
@@ -83,7 +114,7 @@ module _ (c : Setting) (all : KeepsAll c) (s t : State) (r : AreBuiltOf c.b s t)
       on (inr f) = f
 
   stores : (arg : Arg) (p : Operand) (align : ℕ) → Stands (Instr.Store arg p align) → Follows
-  stores arg p align there = on (others.located (Instr.Store arg p align) there refl)
+  stores arg p align there = on (accesses (Instr.Store arg p align) there refl)
     where
       on : IsUnlocatedHere c s (Instr.Store arg p align) ⊎ Follows → Follows
       on (inl u) = store_followed c all s t r k runs fine coroutine mode o arg p align there u
@@ -104,19 +135,19 @@ module _ (c : Setting) (all : KeepsAll c) (s t : State) (r : AreBuiltOf c.b s t)
     asks y asking there =
         asking_followed c all s t r k runs fine coroutine mode o result must_tail ty args y asking there
 
-    copies : (y : Intrinsic) → IsCopying y
+    memcpys : (y : Intrinsic) → IsCopying y
         → is_access (Instr.Call result must_tail ty (Callee.Intrinsic y) args) ≡ true
         → Stands (Instr.Call result must_tail ty (Callee.Intrinsic y) args) → Follows
-    copies y copying accesses there =
-        on (others.located (Instr.Call result must_tail ty (Callee.Intrinsic y) args) there accesses)
+    memcpys y copying is_one there =
+        on (accesses (Instr.Call result must_tail ty (Callee.Intrinsic y) args) there is_one)
       where
         on : IsUnlocatedHere c s (Instr.Call result must_tail ty (Callee.Intrinsic y) args) ⊎ Follows → Follows
         on (inl u) = copying_followed c all s t r k runs fine coroutine mode o result must_tail ty args y copying there u
         on (inr f) = f
 
     intrinsics : (y : Intrinsic) → Stands (Instr.Call result must_tail ty (Callee.Intrinsic y) args) → Follows
-    intrinsics Intrinsic.MemcpyI64 there = copies Intrinsic.MemcpyI64 tt refl there
-    intrinsics Intrinsic.MemcpyI32 there = copies Intrinsic.MemcpyI32 tt refl there
+    intrinsics Intrinsic.MemcpyI64 there = memcpys Intrinsic.MemcpyI64 tt refl there
+    intrinsics Intrinsic.MemcpyI32 there = memcpys Intrinsic.MemcpyI32 tt refl there
     intrinsics Intrinsic.LifetimeStart there =
         others.intrinsics Intrinsic.LifetimeStart tt result must_tail ty args there
     intrinsics Intrinsic.LifetimeEnd there = others.intrinsics Intrinsic.LifetimeEnd tt result must_tail ty args there
