@@ -21,7 +21,7 @@ use Rattle.pass_frames_proof.specs.Followed.{IsFollowed}
 use Rattle.pass_frames_proof.specs.Lines.{IsStorable}
 use Rattle.pass_frames_proof.specs.Places.{Framing, copies, offsets, plan}
 use Rattle.pass_frames_proof.specs.Related.{IsKeptValue, is_coroutine, is_first}
-use Rattle.pass_frames_proof.specs.Stepping.{IsPlacedOperand, IsUnlocated, state_in}
+use Rattle.pass_frames_proof.specs.Stepping.{IsNotEntering, IsPlacedOperand, IsUnlocated, state_in}
 use Rattle.pass_proofs.specs.addresses.rules.Addresses.{lies_in_frame}
 use Rattle.pass_proofs.specs.fetch.rules.Fetches.{AreUnfetched}
 use Rattle.pass_renewed_proof.specs.Renewed.{renewed_step}
@@ -126,3 +126,10 @@ pub record AreOthersFollowed (c : Setting) (s t : State) : Type 0 where
   -- jumps, branches, switches and returns
   pub ends : (e : Terminator) → IsEnding e → fetch (function_of c.g.given s) s.top.block s.top.at ≡ AtTerm e
       → IsFollowed c.b c.g s t
+
+-- What is asked where a coroutine's activation is on top.
+pub record AreCoroutinesReady (c : Setting) (s t : State) : Type 0 where
+  pub may : IsNotEntering s.top.mode → MayFollow c s
+  pub others : IsNotEntering s.top.mode → AreOthersFollowed c s t
+  -- a resumed activation that makes slots anew
+  pub entering : (from label : ℕ) → s.top.mode ≡ Mode.Entering from label → IsFollowed c.b c.g s t

@@ -15,7 +15,7 @@ ghost use Rattle.ir_model.specs.declared.operand.Intrinsic.{Intrinsic};
 ghost use Rattle.ir_model.specs.declared.operand.Operand.{Operand};
 ghost use Rattle.ir_parts.specs.Contents.{result_of};
 ghost use Rattle.pass_cells.specs.Kept.{entry};
-ghost use Rattle.pass_frames_meaning.specs.Coroutines.{AreOthersFollowed, IsNowhere, IsUnlocatedHere, MayEnd, MayFollow, MaySuspend};
+ghost use Rattle.pass_frames_meaning.specs.Coroutines.{AreCoroutinesReady, AreOthersFollowed, IsNowhere, IsUnlocatedHere, MayEnd, MayFollow, MaySuspend};
 ghost use Rattle.pass_frames_meaning.specs.Others.{EntersCoroutines};
 ghost use Rattle.pass_frames_meaning.specs.Setting.{AreOfRuns, KeepsAll, Setting};
 ghost use Rattle.pass_frames_proof.specs.Asking.{IsAsking};
@@ -121,4 +121,11 @@ pub fn steps_of_coroutines_are_followed()
         → s.outcome ≡ Outcome.Running → IsFine (renewed_step c.g s).outcome → is_coroutine c.b s.top.func ≡ true
         → IsNotEntering s.top.mode → MayFollow c s → EntersCoroutines c s t → AreOthersFollowed c s t
         → IsFollowed c.b c.g s t }
+{}
+
+/// So each step of any function is followed, where calls of ramps, resumes, destroys and the other kinds are.
+pub fn steps_of_functions_are_followed()
+    ensures { (c : Setting) → KeepsAll c → (s t : TheState) (r : AreBuiltOf c.b s t) → AreOfRuns c s t r
+        → s.outcome ≡ Outcome.Running → IsFine (renewed_step c.g s).outcome → EntersCoroutines c s t
+        → (is_coroutine c.b s.top.func ≡ true → AreCoroutinesReady c s t) → IsFollowed c.b c.g s t }
 {}
