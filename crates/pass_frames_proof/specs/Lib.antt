@@ -19,7 +19,6 @@ pub mod Entry
 pub mod Fetched
 pub mod Followed
 pub mod Framings
-pub mod FramePrices
 pub mod FromEdges
 pub mod Geps
 pub mod Givens

@@ -35,7 +35,6 @@ pub mod moved;
 pub mod offsets;
 pub mod ordinary;
 pub mod phis;
-pub mod priced;
 pub mod ramps;
 pub mod reached;
 pub mod returning;

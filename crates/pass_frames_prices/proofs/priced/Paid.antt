@@ -10,19 +10,19 @@ use Rattle.ir_model.specs.declared.instr.Terminator.{Terminator}
 use Rattle.ir_model.specs.declared.module.Block.{Block}
 use Rattle.ir_model.specs.declared.module.Function.{Function}
 use Rattle.ir_model.specs.declared.operand.Intrinsic.{Intrinsic}
-use Rattle.pass_frames_proof.proofs.bounds.Paid.{none_cost}
-use Rattle.pass_frames_proof.proofs.priced.Acts.{added}
-use Rattle.pass_frames_proof.proofs.priced.Jumps.{leads}
-use Rattle.pass_frames_proof.proofs.priced.Steps.{behind_few, call_few, end_few, instr_few, instr_price, jump_few}
-use Rattle.pass_frames_proof.proofs.priced.Steps.{own_paid, phis_few, return_few, return_price}
-use Rattle.pass_frames_proof.specs.Bounds.{more_of}
+use Rattle.pass_frames_prices.proofs.bounds.Paid.{none_cost}
+use Rattle.pass_frames_prices.proofs.priced.Acts.{added}
+use Rattle.pass_frames_prices.proofs.priced.Jumps.{leads}
+use Rattle.pass_frames_prices.proofs.priced.Steps.{behind_few, call_few, end_few, instr_few, instr_price, jump_few}
+use Rattle.pass_frames_prices.proofs.priced.Steps.{own_paid, phis_few, return_few, return_price}
+use Rattle.pass_frames_prices.specs.Bounds.{more_of}
 use Rattle.pass_frames_proof.specs.Costs.{allocas_before, call_cost, instr_cost, jump_cost, whole}
-use Rattle.pass_frames_proof.specs.FramePrices.{AreWithin, IsWithin, coroutine_price, credit, first_flagged}
-use Rattle.pass_frames_proof.specs.FramePrices.{frame_prices, full_price}
+use Rattle.pass_frames_prices.specs.FramePrices.{AreWithin, IsWithin, coroutine_price, credit, first_flagged}
+use Rattle.pass_frames_prices.specs.FramePrices.{frame_prices, full_price}
 use Rattle.pass_frames_proof.specs.Framings.{IsFraming}
 use Rattle.pass_frames_proof.specs.Meaning.{PaysForFrames, action_at, behind_at, behind_cost, coroutine_cost}
 use Rattle.pass_frames_proof.specs.Meaning.{entered_cost, other_cost, own_cost, step_cost, woken_cost}
-use Rattle.pass_frames_proof.specs.Numbers.{names_of, phis_of_blocks}
+use Rattle.pass_frames_prices.specs.Numbers.{names_of, phis_of_blocks}
 use Rattle.pass_frames_proof.specs.Passes.{block_at, no_block}
 use Rattle.pass_frames_proof.specs.Places.{Framing, copies, edged, instrs_at, place, plan}
 use Rattle.pass_frames_proof.specs.Related.{Building, is_coroutine, point_of}

@@ -12,7 +12,7 @@ use Rattle.ir_model.specs.declared.operand.Allocator.{Allocator}
 use Rattle.ir_model.specs.declared.operand.Arg.{Arg}
 use Rattle.ir_model.specs.declared.operand.Callee.{Callee}
 use Rattle.ir_model.specs.declared.operand.Intrinsic.{Intrinsic}
-use Rattle.pass_frames_proof.specs.Counts.{more_by}
+use Rattle.pass_frames_prices.specs.Counts.{more_by}
 use Rattle.run_memory.specs.Memory.{compare}
 use Rattle.run_memory.specs.declared.pointer.Pointer.{Pointer}
 use Rattle.run_memory.specs.declared.pointer.Value.{Value}

@@ -8,7 +8,7 @@ use Rattle.ir_model.specs.declared.module.Module.{Module}
 use Rattle.ir_parts.specs.Contents.{instr_operands}
 use Rattle.ir_paths.specs.declared.point.Point.{Point}
 use Rattle.pass_frames_proof.specs.Costs.{allocas_before, slot_cost}
-use Rattle.pass_frames_proof.specs.Numbers.{names_of}
+use Rattle.pass_frames_prices.specs.Numbers.{names_of}
 use Rattle.pass_frames_proof.specs.Passes.{block_at}
 use Rattle.pass_frames_proof.specs.Places.{Framing, edged, instrs_at, is_return}
 use Rattle.pass_frames_proof.specs.Related.{Building, is_coroutine}

@@ -4,7 +4,7 @@ ghost use Rattle.std.specs.Prelude.{◌≡◌, ◌+◌, ◌*◌, ℕ, None, Some
 ghost use Rattle.ir_model.specs.declared.module.Function.{Function};
 ghost use Rattle.ir_model.specs.declared.module.Module.{Module};
 ghost use Rattle.pass_early.specs.Early.{early_module};
-ghost use Rattle.pass_frames_proof.specs.FramePrices.{AreWithin, frame_prices, full_price};
+ghost use Rattle.pass_frames_prices.specs.FramePrices.{AreWithin, frame_prices, full_price};
 ghost use Rattle.pass_frames_proof.specs.Meaning.{PaysForFrames};
 ghost use Rattle.pass_frames_proof.specs.Places.{edged};
 ghost use Rattle.pass_frames_proof.specs.Related.{AreBuilt, Building, is_coroutine};

@@ -8,11 +8,11 @@ use Rattle.ir_model.specs.declared.module.Function.{Function}
 use Rattle.ir_model.specs.declared.module.Module.{Module}
 use Rattle.pass_early.specs.Early.{early_function, early_module}
 use Rattle.pass_edges.specs.EdgeBlocks.{with_edge_blocks}
-use Rattle.pass_frames_proof.proofs.bounds.Edges.{edged_names}
-use Rattle.pass_frames_proof.proofs.priced.Names.{counted_both, counted_in, early_function_names, names_counted}
-use Rattle.pass_frames_proof.proofs.priced.Short.{IsShort, edged_short, operands_in, operands_low, phis_in, phis_low}
-use Rattle.pass_frames_proof.specs.FramePrices.{AreWithin}
-use Rattle.pass_frames_proof.specs.Numbers.{names_of}
+use Rattle.pass_frames_prices.proofs.bounds.Edges.{edged_names}
+use Rattle.pass_frames_prices.proofs.priced.Names.{counted_both, counted_in, early_function_names, names_counted}
+use Rattle.pass_frames_prices.proofs.priced.Short.{IsShort, edged_short, operands_in, operands_low, phis_in, phis_low}
+use Rattle.pass_frames_prices.specs.FramePrices.{AreWithin}
+use Rattle.pass_frames_prices.specs.Numbers.{names_of}
 use Rattle.pass_frames_proof.specs.Places.{edged}
 use Rattle.pass_frames_proof.specs.Related.{AreBuilt, Building, is_coroutine}
 use Rattle.rule_types.specs.Signatures.{first_otherwise}

@@ -1,6 +1,6 @@
 use Rattle.std.proofs.Common.{refl}
-use Rattle.pass_frames_proof.proofs.priced.Within.{within}
-use Rattle.pass_frames_proof.proofs.priced.size_factors_bound_coroutines.Goals as goal
+use Rattle.pass_frames_prices.proofs.priced.Within.{within}
+use Rattle.pass_frames_prices.proofs.priced.size_factors_bound_coroutines.Goals as goal
 
 pub returns-clause-within : goal.returns-clause-within
 returns-clause-within c = within

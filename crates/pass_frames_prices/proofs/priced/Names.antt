@@ -19,7 +19,7 @@ use Rattle.pass_early.specs.Early.{after_instrs, after_one, early_blocks, early_
 use Rattle.pass_early.specs.Early.{early_one, is_none, save_call, saved}
 use Rattle.pass_early.specs.Renaming.{renamed_instr, renamed_phi}
 use Rattle.pass_early.specs.declared.renaming.Renaming.{Renaming}
-use Rattle.pass_frames_proof.specs.Numbers.{name_of_instr, names_of, names_of_blocks, names_of_instrs}
+use Rattle.pass_frames_prices.specs.Numbers.{name_of_instr, names_of, names_of_blocks, names_of_instrs}
 use Rattle.rule_laws.proofs.rules.path_rules.Holding.{of_parts}
 use Rattle.rule_laws.proofs.rules.renamed.Switches.{none_part}
 use Rattle.rule_types.specs.Signatures.{are_wanted, calls_otherwise, first_otherwise, is_result}

@@ -13,23 +13,23 @@ use Rattle.ir_model.specs.declared.module.Block.{Block}
 use Rattle.ir_model.specs.declared.module.Function.{Function}
 use Rattle.ir_paths.specs.Paths.{targets}
 use Rattle.ir_paths.specs.declared.point.Point.{Point}
-use Rattle.pass_frames_proof.proofs.bounds.Ends.{end_cost_short}
-use Rattle.pass_frames_proof.proofs.bounds.Entry.{entry_unreturned}
-use Rattle.pass_frames_proof.proofs.bounds.Jumps.{other_jump, return_jump}
-use Rattle.pass_frames_proof.proofs.bounds.Paid.{behind_paid, first_behind, instr_paid, none_behind}
-use Rattle.pass_frames_proof.proofs.bounds.Rows.{row_few}
-use Rattle.pass_frames_proof.proofs.bounds.Steps.{cost_short, own_few}
-use Rattle.pass_frames_proof.proofs.bounds.Totals.{blocks_counted, call_total}
+use Rattle.pass_frames_prices.proofs.bounds.Ends.{end_cost_short}
+use Rattle.pass_frames_prices.proofs.bounds.Entry.{entry_unreturned}
+use Rattle.pass_frames_prices.proofs.bounds.Jumps.{other_jump, return_jump}
+use Rattle.pass_frames_prices.proofs.bounds.Paid.{behind_paid, first_behind, instr_paid, none_behind}
+use Rattle.pass_frames_prices.proofs.bounds.Rows.{row_few}
+use Rattle.pass_frames_prices.proofs.bounds.Steps.{cost_short, own_few}
+use Rattle.pass_frames_prices.proofs.bounds.Totals.{blocks_counted, call_total}
 use Rattle.pass_frames_proof.proofs.code.Passes.{block_is}
-use Rattle.pass_frames_proof.proofs.priced.Jumps.{bare}
+use Rattle.pass_frames_prices.proofs.priced.Jumps.{bare}
 use Rattle.pass_frames_proof.proofs.ramps.Plain.{entry_there}
-use Rattle.pass_frames_proof.specs.Bounds.{more_of}
+use Rattle.pass_frames_prices.specs.Bounds.{more_of}
 use Rattle.pass_frames_proof.specs.Costs.{call_cost, instr_cost, jump_cost, whole}
-use Rattle.pass_frames_proof.specs.FramePrices.{IsWithin, coroutine_price, credit, full_price, goes_on, price_by}
-use Rattle.pass_frames_proof.specs.FramePrices.{returns_by}
+use Rattle.pass_frames_prices.specs.FramePrices.{IsWithin, coroutine_price, credit, full_price, goes_on, price_by}
+use Rattle.pass_frames_prices.specs.FramePrices.{returns_by}
 use Rattle.pass_frames_proof.specs.Framings.{IsFraming}
 use Rattle.pass_frames_proof.specs.Meaning.{behind_at, own_cost}
-use Rattle.pass_frames_proof.specs.Numbers.{names_of, phis_of_blocks}
+use Rattle.pass_frames_prices.specs.Numbers.{names_of, phis_of_blocks}
 use Rattle.pass_frames_proof.specs.Passes.{block_at, no_block}
 use Rattle.pass_frames_proof.specs.Places.{Framing, edged, instrs_at, is_return, place}
 use Rattle.rule_laws.proofs.frames.crossing.Entries.{none_enters}

@@ -1,5 +1,0 @@
-use Rattle.pass_frames_proof.proofs.priced.Paid.{pays}
-use Rattle.pass_frames_proof.proofs.priced.prices_pay_for_frames.Goals as goal
-
-pub returns : goal.returns
-returns c = pays
