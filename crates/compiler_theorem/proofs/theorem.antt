@@ -6,6 +6,7 @@ pub mod Facts
 pub mod Framing
 pub mod Fronts
 pub mod Needed
+pub mod Paid
 pub mod Promises
 pub mod Renewing
 pub mod Tables

@@ -15,7 +15,6 @@ ghost use Rattle.run_types.specs.States.{AreArguments};
 ghost use Rattle.pass_frames_meaning.specs.Setting.{KeepsAll};
 ghost use Rattle.pass_frames_proof.specs.Related.{AreBuilt, AreBuiltOf};
 ghost use Rattle.pass_frames_proof.specs.Stepping.{AreGiven};
-ghost use Rattle.pass_renewed_proof.specs.Prices.{Prices};
 ghost use Rattle.compiler_theorem.specs.theorem.Theorem.{AreFramesShown, AreMadeAnew, KeepsMeaning, KeepsRuns, Steps, renewing};
 ghost use Rattle.compiler_theorem.specs.theorem.Elision.{ElidedSteps, ElidesCalls};
 ghost use Rattle.compiler_theorem.specs.theorem.Rows.{joined};
@@ -129,14 +128,14 @@ pub fn frames_show_live_slots()
 /// What is printed of a source that breaks no rule agrees with it within its step factor, with frames that share
 /// bytes and with plain ones, where no call is elided. The text has fewer bytes than an index can count.
 pub fn lowered_runs_agree()
-    ensures { (a : Anew) (p : Prices) (l : Lowered) (low : IsLowered l) → HasFewBytes l → Steps a p l low
+    ensures { (a : Anew) (l : Lowered) (low : IsLowered l) → HasFewBytes l → Steps a l low
         → (r : Run) (other : ℕ) → IsEntry l.source (printed_from l l.framed) r.entry other
         → AreArguments l.source r.entry r.args → KeepsRuns l r other }
 {}
 
 /// And where frames show the slots and values that stand in them, they stand where they lie by the layouts.
 pub fn lowering_keeps_meaning()
-    ensures { (a : Anew) (p : Prices) (l : Lowered) (low : IsLowered l) → HasFewBytes l → Steps a p l low
+    ensures { (a : Anew) (l : Lowered) (low : IsLowered l) → HasFewBytes l → Steps a l low
         → AreFramesShown a l low → (r : Run) (other : ℕ)
         → IsEntry l.source (printed_from l l.framed) r.entry other → AreArguments l.source r.entry r.args
         → KeepsMeaning l r other }
@@ -145,7 +144,7 @@ pub fn lowering_keeps_meaning()
 /// What is printed agrees with the source where calls are elided, too, with the most sites of one function in the step
 /// factor. It makes so many allocator calls less.
 pub fn elision_keeps_meaning<Q: RelatesElided>()
-    ensures { (a : Anew) (p : Prices) (l : Lowered) (low : IsLowered l) → HasFewBytes l → Steps a p l low
+    ensures { (a : Anew) (l : Lowered) (low : IsLowered l) → HasFewBytes l → Steps a l low
         → (n : Module) (sites : ℕ)
         → ElidedSteps Q.elided Q.eliding l n sites → (r : Run) (other : ℕ)
         → IsEntry l.source (printed_from l n) r.entry other → AreArguments l.source r.entry r.args

@@ -170,8 +170,8 @@ module _ (l : Lowered) (low : IsLowered l) where
 
   -- ---- resume and destroy edges have blocks of their own
 
-  own_returns : (func : ℕ) → (function_at e func).coroutine ≡ true
-      → HaveOwnReturns (with_edge_blocks (function_at e func))
+  pub own_returns : (func : ℕ) → (function_at (early l) func).coroutine ≡ true
+      → HaveOwnReturns (with_edge_blocks (function_at (early l) func))
   own_returns func c =
       let there = coroutine_there l low [] func c in
       suspend_blocks e func (function_at e func)

@@ -17,7 +17,6 @@ use Rattle.compiler_theorem.specs.theorem.Anew.{Anew}
 use Rattle.compiler_theorem.specs.theorem.Elision.{CountsElided, ElidedSteps, ElidesCalls, NamesNoPart, given_frames, uncounted}
 use Rattle.compiler_theorem.specs.theorem.Entries.{IsEntry, IsEntryCall, Run}
 use Rattle.compiler_theorem.specs.theorem.Lowered.{HasFewBytes, IsLowered, Lowered, framed_run, lowered_from, plain_run, printed_from, source_run, split_from}
-use Rattle.pass_renewed_proof.specs.Prices.{Prices}
 use Rattle.compiler_theorem.specs.theorem.Theorem.{Steps}
 use Rattle.ir_model.specs.declared.module.Module.{Module}
 use Rattle.run_types.specs.States.{AreArguments}
@@ -52,8 +51,8 @@ composed j k a b c g h =
     let none : k * 0 + 0 ≤ 0 = omega arith in
     weaken (j * k) (k * 0 + 0) (j * k) 0 a c (omega arith) none (compose j 0 k 0 a b c g h)
 
-module _ (X Y : Lowered → Module → Run → State → State → Type 0) (a : Anew) (p : Prices) (l : Lowered) (low : IsLowered l)
-    (few : HasFewBytes l) (h : Steps a p l low) (n : Module) (sites : ℕ) (g : ElidedSteps X Y l n sites) (r : Run) (other : ℕ)
+module _ (X Y : Lowered → Module → Run → State → State → Type 0) (a : Anew) (l : Lowered) (low : IsLowered l)
+    (few : HasFewBytes l) (h : Steps a l low) (n : Module) (sites : ℕ) (g : ElidedSteps X Y l n sites) (r : Run) (other : ℕ)
     (entry : IsEntry l.source (printed_from l n) r.entry other) (fits : AreArguments l.source r.entry r.args) where
   call : IsEntryCall l.source r
   call = record { callable = entry.callable; fits = fits }
@@ -77,7 +76,7 @@ module _ (X Y : Lowered → Module → Run → State → State → Type 0) (a : 
   f = 4 * (4 * size_factor l.source)
 
   first : AgreesWithin f source framed
-  first = framed_within a p l low few h r call
+  first = framed_within a l low few h r call
 
   second : Agrees (1 + sites) 0 framed elided
   second =

@@ -14,11 +14,11 @@ use Rattle.compiler_theorem.specs.theorem.Anew.{Anew}
 use Rattle.compiler_theorem.specs.theorem.Built.{building}
 use Rattle.compiler_theorem.specs.theorem.Entries.{IsEntryCall, Run}
 use Rattle.compiler_theorem.specs.theorem.Lowered.{HasFewBytes, IsLowered, Lowered, edged, framed_run, kept_run, price_kept, sizes_of, source_run}
-use Rattle.pass_renewed_proof.specs.Prices.{Prices}
 use Rattle.compiler_theorem.specs.theorem.Rows.{joined}
 use Rattle.compiler_theorem.specs.theorem.SharedBytes.{AreShown}
 use Rattle.compiler_theorem.specs.theorem.ShownSlots.{step_homes}
-use Rattle.compiler_theorem.specs.theorem.Theorem.{AreFramesShown, AreMadeAnew, IsSomewhereShown, Steps}
+use Rattle.compiler_theorem.specs.theorem.Theorem.{AreFramesShown, AreMadeAnew, IsSomewhereShown, Steps, prices_of}
+use Rattle.compiler_theorem.proofs.theorem.Paid.{frames_paid}
 use Rattle.pass_frames_proof.specs.Related.{AreBuiltOf, AreShownAlike}
 use Rattle.pass_renewed_meaning.specs.Followed.{AreAlike}
 use Rattle.pass_proofs.proofs.kept.sources.States.{split_corresponds}
@@ -31,7 +31,7 @@ at_least b n = least n (cost_at b (λ t. 1) n) (cost_above b.step (λ t. 1) 1 (�
     least : (n x : ℕ) → 1 * n ≤ x → n ≤ x
     least n x h = omega arith
 
-module _ (a : Anew) (p : Prices) (l : Lowered) (low : IsLowered l) (few : HasFewBytes l) (h : Steps a p l low) (r : Run)
+module _ (a : Anew) (l : Lowered) (low : IsLowered l) (few : HasFewBytes l) (h : Steps a l low) (r : Run)
     (call : IsEntryCall l.source r) where
   -- what frames are built of
   abbrev Framed : State → State → Type 0
@@ -53,8 +53,8 @@ module _ (a : Anew) (p : Prices) (l : Lowered) (low : IsLowered l) (few : HasFew
 
   -- Kept to Framed
   pub to_framed : AgreesBy (Through (AreMadeAnew l a) Framed) (Through AreAlike NearlyFramed) (kept_run l a r)
-      (price_kept l a r p) (framed_run l l.framed r) (λ t. 1)
-  to_framed = framing l low few a h.anew p r call (h.followed r call) (h.pays r call)
+      (price_kept l a r (prices_of l low a)) (framed_run l l.framed r) (λ t. 1)
+  to_framed = framing l low few a h.anew (prices_of l low a) r call (h.followed r call) (frames_paid l low a r)
 
   -- Source to Framed
   pub framed_within : AgreesWithin (4 * (4 * size_factor l.source)) (at (source_run l r))
@@ -64,7 +64,7 @@ module _ (a : Anew) (p : Prices) (l : Lowered) (low : IsLowered l) (few : HasFew
       (at (framed_run l l.framed r))
       (agrees_within_by_steps Handed NearlyHanded (source_run l r) (λ s. 4) (kept_run l a r) (λ t. 1) 4
       (λ s. omega arith) (λ t. omega arith) to_kept)
-      (agrees_within (Through (AreMadeAnew l a) Framed) (Through AreAlike NearlyFramed) (kept_run l a r) (price_kept l a r p)
+      (agrees_within (Through (AreMadeAnew l a) Framed) (Through AreAlike NearlyFramed) (kept_run l a r) (price_kept l a r (prices_of l low a))
       (framed_run l l.framed r) (λ t. 1) (4 * size_factor l.source)
       (λ n fine. h.paid r n call fine) (at_least (framed_run l l.framed r)) to_framed)
 

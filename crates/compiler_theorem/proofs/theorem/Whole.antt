@@ -12,7 +12,6 @@ use Rattle.compiler_theorem.proofs.theorem.Rows.{framed_within, somewhere_shown}
 use Rattle.compiler_theorem.specs.theorem.Anew.{Anew}
 use Rattle.compiler_theorem.specs.theorem.Entries.{IsEntry, IsEntryCall, Run}
 use Rattle.compiler_theorem.specs.theorem.Lowered.{HasFewBytes, IsLowered, Lowered, framed_run, lowered_from, plain_run, printed_from, source_run, split_from}
-use Rattle.pass_renewed_proof.specs.Prices.{Prices}
 use Rattle.compiler_theorem.specs.theorem.Theorem.{AreFramesShown, KeepsMeaning, KeepsRuns, Steps}
 use Rattle.ir_model.specs.declared.module.Module.{Module}
 use Rattle.run_types.specs.States.{AreArguments}
@@ -32,7 +31,7 @@ entry_split l n entry other e =
 whole_factor : (s : ℕ) → (((4 * (4 * s)) * 4) * 1) * 1 ≡ 64 * s * (1 + 0)
 whole_factor s = grind arith
 
-module _ (a : Anew) (p : Prices) (l : Lowered) (low : IsLowered l) (few : HasFewBytes l) (h : Steps a p l low) (r : Run) (other : ℕ)
+module _ (a : Anew) (l : Lowered) (low : IsLowered l) (few : HasFewBytes l) (h : Steps a l low) (r : Run) (other : ℕ)
     (entry : IsEntry l.source (printed_from l l.framed) r.entry other) (fits : AreArguments l.source r.entry r.args) where
   call : IsEntryCall l.source r
   call = record { callable = entry.callable; fits = fits }
@@ -55,7 +54,7 @@ module _ (a : Anew) (p : Prices) (l : Lowered) (low : IsLowered l) (few : HasFew
       (at (plain_run (lowered_from l l.framed) r other))
       (compose_within f 4 (at (source_run l r)) (at (framed_run l l.framed r))
       (at (plain_run (split_from l l.framed) r other))
-      (framed_within a p l low few h r call)
+      (framed_within a l low few h r call)
       (framed_agrees l low (good_layouts l low) ready few r other call split_entry))
       (cleaned_agrees l.text l.source low.source.stands low.source.accepted l.share l.layouts low.laid l.framed
       low.is_framed other
@@ -80,11 +79,11 @@ module _ (a : Anew) (p : Prices) (l : Lowered) (low : IsLowered l) (few : HasFew
     agrees = within;
   }
 
-pub keeps_meaning : (a : Anew) (p : Prices) (l : Lowered) (low : IsLowered l) → HasFewBytes l → Steps a p l low
+pub keeps_meaning : (a : Anew) (l : Lowered) (low : IsLowered l) → HasFewBytes l → Steps a l low
     → AreFramesShown a l low → (r : Run) (other : ℕ) → IsEntry l.source (printed_from l l.framed) r.entry other
     → AreArguments l.source r.entry r.args → KeepsMeaning l r other
-keeps_meaning a p l low few h shown r other entry fits = record {
-  runs = keeps_runs a p l low few h r other entry fits;
-  shared = somewhere_shown a p l low few h r (record { callable = entry.callable; fits = fits }) shown;
+keeps_meaning a l low few h shown r other entry fits = record {
+  runs = keeps_runs a l low few h r other entry fits;
+  shared = somewhere_shown a l low few h r (record { callable = entry.callable; fits = fits }) shown;
   apart = λ n fine. live_apart l low.source r n;
 }

@@ -1,9 +1,10 @@
 -- What is lowered of a source agrees with it: one row for each pass. Those that stand are cited in the proof, the
 -- others are premises here.
-use Rattle.std.specs.Prelude.{ℕ, ◌*◌, ◌≤◌}
+use Rattle.std.specs.Prelude.{ℕ, ◌+◌, ◌*◌, ◌≤◌, []}
 use Rattle.run_hooks.specs.alive.Apart.{LiveAreApart}
 use Rattle.run_agreement.specs.Agreements.{Agrees, AgreesWithin}
 use Rattle.run_agreement.specs.Costs.{cost_at}
+use Rattle.run_agreement.specs.Factor.{most_operands_of_functions, most_phis_of_functions, names_of_functions}
 use Rattle.run_agreement.specs.Factor.{size_factor, step_factor}
 use Rattle.run_agreement.specs.Machines.{IsFine, at, state_at}
 use Rattle.text_canonical.specs.canonical.Items.{module_text}
@@ -12,10 +13,10 @@ use Rattle.compiler_theorem.specs.theorem.Anew.{Anew, IsAnewOf}
 use Rattle.compiler_theorem.specs.theorem.Entries.{IsEntryCall, Run}
 use Rattle.compiler_theorem.specs.theorem.Built.{building}
 use Rattle.compiler_theorem.specs.theorem.Lowered.{IsLowered, Lowered, early, edged, framed_run, kept_run, lowered_from}
-use Rattle.compiler_theorem.specs.theorem.Lowered.{plain_run, price_kept, price_renewed, printed_from, sizes_of}
+use Rattle.compiler_theorem.specs.theorem.Lowered.{plain_run, price_kept, printed_from, sizes_of}
 use Rattle.compiler_theorem.specs.theorem.Lowered.{source_run}
 use Rattle.pass_frames_meaning.specs.Covered.{AreCoveredStepsFollowed}
-use Rattle.pass_frames_proof.specs.Meaning.{PaysForFrames}
+use Rattle.pass_frames_prices.specs.FramePrices.{frame_prices}
 use Rattle.pass_frames_proof.specs.Related.{AreBuiltOf}
 use Rattle.pass_renewed_proof.specs.Prices.{Prices}
 use Rattle.pass_renewed_proof.specs.Renewed.{RenewedGiven, renewed_given}
@@ -48,24 +49,28 @@ AreMadeAnew l a = AreInStep (edged l) a.flags a.roots
 abbrev pub renewing : Lowered → Anew → Run → RenewedGiven
 renewing l a r = renewed_given (edged l) a.keep a.flags a.roots (sizes_of l) r.answers
 
+-- the prices of steps: 4 for each name and operand that the step factor counts, and 4
+abbrev pub prices_of : (l : Lowered) → IsLowered l → Anew → Prices
+prices_of l low a =
+    frame_prices (building l low.is_framed []) a.flags (edged l) (names_of_functions l.source.functions)
+    (most_operands_of_functions l.source.functions + most_phis_of_functions l.source.functions)
+
 -- | Pass | from | to | costs | |
 -- | saves written out, edges with blocks, what is needed handed on | Source | Kept | 4 | stands |
 -- | slots made anew and frames built, by prices that fit | Kept | Framed | 4 * (1 + p + q), on average | by `followed` |
 -- | functions split | Framed | Plain | 4 | stands |
 -- | calls of coro.id gone, then names in order | Plain | Plain | 1 | stands |
-pub record Steps (a : Anew) (p : Prices) (l : Lowered) (low : IsLowered l) : Type 0 where
+pub record Steps (a : Anew) (l : Lowered) (low : IsLowered l) : Type 0 where
   -- such tables there are (`sources_have_tables`)
   pub anew : IsAnewOf (early l) a
   -- waits for: the steps of the simulation of frames, from states of runs that are covered. By it the two runs agree
   -- (`kept_runs_agree_with_framed_ones`)
   pub followed : (r : Run) → IsEntryCall l.source r
       → AreCoveredStepsFollowed (setting l a r) (building l low.is_framed r.answers)
-  -- waits for: prices by places
-  pub pays : (r : Run) → IsEntryCall l.source r
-      → PaysForFrames (building l low.is_framed r.answers) (renewing l a r) (price_renewed l a r p)
-  -- waits for: prices counted by names and operands, a resume with the jump behind it
+  -- waits for: a resume with the jump behind it, and a suspend with the one before it. By each step's price the run in
+  -- which slots are made anew pays for the framed one (`prices_pay_for_frames`)
   pub paid : (r : Run) (n : ℕ) → IsEntryCall l.source r → IsFine (at (kept_run l a r) n).outcome
-      → cost_at (kept_run l a r) (price_kept l a r p) n ≤ (4 * size_factor l.source) * n
+      → cost_at (kept_run l a r) (price_kept l a r (prices_of l low a)) n ≤ (4 * size_factor l.source) * n
 
 -- waits for: the values that cross suspends and the distances, in the fields of instances that are suspended. Live frame
 -- slots stand in frames (`frames_show_live_slots`)

@@ -16,7 +16,6 @@ use Rattle.pass_proofs.specs.early.saves.SavesWritten.{save_count}
 use Rattle.pass_proofs.specs.early.saves.Spots.{back_of}
 use Rattle.pass_proofs.specs.edges.states.MovedState.{edge_count, edges_split, moved_instance, moved_status, moved_values}
 use Rattle.pass_proofs.specs.kept.sources.Beside.{IsKeptOf}
-
 use Rattle.run_source.specs.Source.{given}
 use Rattle.run_source.specs.declared.state.Instance.{Instance}
 use Rattle.run_source.specs.declared.state.State.{State}
