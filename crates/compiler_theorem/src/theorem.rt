@@ -10,7 +10,7 @@ ghost use Rattle.compiler_theorem.specs.theorem.Lowered.{AreAllocasFirst, HasFew
 ghost use Rattle.ir_model.specs.declared.module.Module.{Module};
 ghost use Rattle.frame_layout.specs.declared.layout.Layouts.{Layouts};
 ghost use Rattle.pass_frames.specs.Framed.{IsFramedForm};
-ghost use Rattle.std.specs.Prelude.{◌≡◌, ℕ, ℤ, false, List, length, true};
+ghost use Rattle.std.specs.Prelude.{◌≡◌, ◌+◌, ◌<◌, ◌^◌, ℕ, ℤ, false, List, Some, length, slice_get, true};
 ghost use Rattle.run_types.specs.States.{AreArguments};
 ghost use Rattle.pass_frames_meaning.specs.Setting.{KeepsAll};
 ghost use Rattle.pass_frames_proof.specs.Related.{AreBuilt, AreBuiltOf};
@@ -18,12 +18,18 @@ ghost use Rattle.pass_frames_proof.specs.Stepping.{AreGiven};
 ghost use Rattle.compiler_theorem.specs.theorem.Theorem.{AreFramesShown, AreMadeAnew, KeepsMeaning, KeepsRuns, Steps, renewing};
 ghost use Rattle.compiler_theorem.specs.theorem.Elision.{ElidedSteps, ElidesCalls};
 ghost use Rattle.compiler_theorem.specs.theorem.Rows.{joined};
+ghost use Rattle.compiler_theorem.specs.theorem.SharedBytes.{HasField, StandAt};
+ghost use Rattle.compiler_theorem.specs.theorem.SharedBytes as shown;
+ghost use Rattle.pass_cells.specs.declared.plan.KeptValue.{KeptValue};
+ghost use Rattle.run_framed.specs.Framed.{layout_of};
+ghost use Rattle.run_memory.specs.declared.pointer.Offset.{Offset};
+ghost use Rattle.run_memory.specs.declared.pointer.Pointer.{Pointer};
 ghost use Rattle.compiler_theorem.specs.theorem.ShownSlots.{AreSlotsShown, step_homes};
-ghost use Rattle.compiler_theorem.specs.theorem.Suspended.{IsSuspendedAlike, IsSuspendedAs};
+ghost use Rattle.compiler_theorem.specs.theorem.Suspended.{IsDistanceKept, IsFieldKept, IsSuspendedAlike, IsSuspendedAs, IsValueKept};
 ghost use Rattle.ir_model.specs.declared.module.Frame.{Frame};
 ghost use Rattle.ir_paths.specs.declared.point.Point.{Point};
 ghost use Rattle.pass_proofs.specs.kept.sources.Beside.{IsKeptOf};
-ghost use Rattle.run_step.specs.Values.{Env};
+ghost use Rattle.run_step.specs.Values.{Env, value_in};
 ghost use Rattle.run_agreement.specs.Machines.{state_at};
 ghost use Rattle.frame_classes.specs.Classes.{IsOf};
 ghost use Rattle.frame_classes.specs.declared.class.SlotClass.{SlotClass};
@@ -33,7 +39,9 @@ ghost use Rattle.ir_model.specs.Names.{function_at};
 ghost use Rattle.ir_model.specs.declared.module.Function.{Function};
 ghost use Rattle.run_laws.specs.memory.Pointers.{AreBytes, Home, IsValue};
 ghost use Rattle.run_memory.specs.declared.block.Byte.{Byte};
-ghost use Rattle.run_memory.specs.Memory.{decode, digits, encode};
+ghost use Rattle.run_memory.specs.Memory.{Rights, decode, digits, encode};
+ghost use Rattle.run_memory.specs.declared.block.MemoryBlock.{MemoryBlock};
+ghost use Rattle.run_laws.specs.access.Lines.{Holds};
 ghost use Rattle.run_memory.specs.declared.pointer.Access.{Access};
 ghost use Rattle.run_memory.specs.declared.pointer.Value.{Value};
 ghost use Rattle.run_types.specs.Fitting as fitting;
@@ -92,6 +100,20 @@ pub fn loaded_bytes_stand()
         → AreBytes homes (digits size bits) bytes }
 {}
 
+/// A range of a frame's block from which what stands for a value is loaded stands for the value's bytes, and one from
+/// which a distance is loaded has its digits.
+pub fn held_values_stand()
+    ensures values { (rights : Rights) (memory : List MemoryBlock) (b o most : ℕ) (bytes : List Byte)
+        (block : MemoryBlock) → fitting.HaveBytes memory → Holds rights memory b o most bytes
+        → slice_get memory b ≡ Some block → (homes : List Home) (what : Access) (v : Value) (size : ℕ)
+        → length bytes ≡ size → IsValue homes v (decode what bytes) → StandAt homes (encode size v) block o }
+    ensures distances { (rights : Rights) (memory : List MemoryBlock) (b o most : ℕ) (bytes : List Byte)
+        (block : MemoryBlock) → fitting.HaveBytes memory → Holds rights memory b o most bytes
+        → slice_get memory b ≡ Some block → (homes : List Home) (size bits : ℕ) → length bytes ≡ size
+        → decode (Access.Int 64) bytes ≡ Value.Int (record { width = 64; bits = bits })
+        → StandAt homes (digits size bits) block o }
+{}
+
 /// What the frame of a coroutine holds is one, and so are the values that cross its suspends.
 pub fn contents_are_one()
     ensures held { (m : Module) (f : Function) (c d : Contents) → AreContents m f c → AreContents m f d
@@ -123,6 +145,32 @@ pub fn frames_show_live_slots()
         → (built : AreBuiltOf (building l low.is_framed r.answers) u t)
         → AreSlotsShown l.source l.layouts.coroutines (joined (step_homes (edged l) a.flags a.roots v u made)
         built.homes) (state_at (source_run l r) n) t }
+{}
+
+/// The field of a value that crosses a suspend shows the value, or its distance from its slot, where the source's instance
+/// is suspended there. What is asked of the value is told by its coroutine and by what that was framed by.
+pub fn fields_show_values()
+    ensures values { (l : Lowered) (low : IsLowered l) (a : Anew) (r : Run) (s v u t : State)
+        → IsKeptOf l.source (sizes_of l) r.answers s v → (made : AreMadeAnew l a v u)
+        → (built : AreBuiltOf (building l low.is_framed r.answers) u t) → fitting.HaveBytes t.world.memory
+        → (i func : ℕ) (p : Point) (values : Env) → IsSuspendedAs s.instances i func p values → (f : shown.Frame t i)
+        → (n offset size : ℕ) (k : KeptValue)
+        → IsFieldKept l.source ((building l low.is_framed r.answers).framing func) func p n size k
+        → HasField l.source (function_at l.source func) (layout_of l.layouts.coroutines func) n offset size
+        → IsValueKept (a.roots func) n k
+        → StandAt (joined (step_homes (edged l) a.flags a.roots v u made) built.homes)
+        (encode size (value_in values n)) f.block (f.instance.start + offset) }
+    ensures distances { (l : Lowered) (low : IsLowered l) (a : Anew) (r : Run) (s v u t : State)
+        → IsKeptOf l.source (sizes_of l) r.answers s v → (made : AreMadeAnew l a v u)
+        → (built : AreBuiltOf (building l low.is_framed r.answers) u t) → fitting.HaveBytes t.world.memory
+        → (i func : ℕ) (p : Point) (values : Env) → IsSuspendedAs s.instances i func p values → (f : shown.Frame t i)
+        → (n offset size : ℕ) (k : KeptValue)
+        → IsFieldKept l.source ((building l low.is_framed r.answers).framing func) func p n size k
+        → HasField l.source (function_at l.source func) (layout_of l.layouts.coroutines func) n offset size
+        → IsDistanceKept (a.roots func) n k → (at : ℕ) (o : Offset)
+        → value_in values n ≡ Value.Ptr (Pointer.At at o) → o.bits < 2 ^ 64
+        → StandAt (joined (step_homes (edged l) a.flags a.roots v u made) built.homes)
+        (digits size o.bits) f.block (f.instance.start + offset) }
 {}
 
 /// What is printed of a source that breaks no rule agrees with it within its step factor, with frames that share

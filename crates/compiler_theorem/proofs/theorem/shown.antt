@@ -8,5 +8,7 @@ pub mod KeptStatus
 pub mod Placed
 pub mod Renewed
 pub mod Slots
+pub mod Status
 pub mod Step
+pub mod Values
 pub mod Whole

@@ -1,5 +1,5 @@
 -- Where an instance of a source is suspended it is so where resumes hand on less, with the values that are needed.
-use Rattle.std.proofs.Common.{◌≡◌, inl, inr, ℕ, zero, suc, List, [], ◌∷◌, ◌++◌, Some, None, map, length, take, replicate, refl, sym, ap, ◌∙◌, subst}
+use Rattle.std.proofs.Common.{false, ◌≡◌, inl, inr, ℕ, zero, suc, List, [], ◌∷◌, ◌++◌, Some, None, map, length, take, replicate, refl, sym, ap, ◌∙◌, subst}
 use Rattle.std.proofs.lemmas.Option.{slice_get-map}
 use Rattle.std.specs.Prelude.{ℤ, option_map, slice_get}
 use Rattle.ir_model.specs.Names.{function_at}
@@ -54,12 +54,14 @@ record HasOther (ys : List Instance) (i c : ℕ) (p : Point) (values : Env) : Ty
 mapped_as : (f : Instance → Instance) (xs ys : List Instance) → ys ≡ map f xs → (i c : ℕ) (p q : Point)
     (values others : Env) → ((x : Instance) → (f x).coroutine ≡ x.coroutine)
     → ((x : Instance) → x.coroutine ≡ c → x.status ≡ Status.Suspended p values
-    → (f x).status ≡ Status.Suspended q others) → IsSuspendedAs xs i c p values → IsSuspendedAs ys i c q others
-mapped_as f xs ys is i c p q values others own status h = record {
+    → (f x).status ≡ Status.Suspended q others) → ((x : Instance) → (f x).freed ≡ x.freed)
+    → IsSuspendedAs xs i c p values → IsSuspendedAs ys i c q others
+mapped_as f xs ys is i c p q values others own status freed h = record {
   instance = f h.instance;
   there = ap (λ (zs : List Instance). slice_get zs i) is ∙ slice_get-map f xs i ∙ ap (option_map f) h.there;
   coroutine = own h.instance ∙ h.coroutine;
   status = status h.instance h.coroutine h.status;
+  unfreed = freed h.instance ∙ h.unfreed;
 }
 
 uncut : (m : Module) (xs ys : List Instance) → xs ≡ map (short_instance m) ys → (i c : ℕ) (p : Point) (values : Env)
@@ -70,7 +72,7 @@ uncut m xs ys is i c p values h =
     let own : z.0.coroutine ≡ c = ap (λ (u : Instance). u.coroutine) (sym z.1.1) ∙ h.coroutine in
     let status : short_status m z.0.coroutine z.0.status ≡ Status.Suspended p values =
     ap (λ (u : Instance). u.status) (sym z.1.1) ∙ h.status in
-    on z.0 z.1.0 own z.0.status refl status
+    on z.0 z.1.0 own (ap (λ (u : Instance). u.freed) (sym z.1.1) ∙ h.unfreed) z.0.status refl status
   where
     point_of : Status → Point
     point_of (Status.Suspended q env) = q
@@ -82,11 +84,11 @@ uncut m xs ys is i c p values h =
     env_of Status.Running = values
     env_of Status.Finished = values
 
-    on : (z : Instance) → slice_get ys i ≡ Some z → z.coroutine ≡ c → (u : Status) → z.status ≡ u
+    on : (z : Instance) → slice_get ys i ≡ Some z → z.coroutine ≡ c → z.freed ≡ false → (u : Status) → z.status ≡ u
         → short_status m z.coroutine u ≡ Status.Suspended p values → HasOther ys i c p values
-    on z there own Status.Running e d = absurd (cc)
-    on z there own Status.Finished e d = absurd (cc)
-    on z there own (Status.Suspended q env) e d =
+    on z there own unfreed Status.Running e d = absurd (cc)
+    on z there own unfreed Status.Finished e d = absurd (cc)
+    on z there own unfreed (Status.Suspended q env) e d =
         let at : q ≡ p = ap point_of d in
         let cuts : cut m z.coroutine env ≡ values = ap env_of d in
         record {
@@ -96,6 +98,7 @@ uncut m xs ys is i c p values h =
             there = there;
             coroutine = own;
             status = e ∙ ap (λ (k : Point). Status.Suspended k env) at;
+            unfreed = unfreed;
           };
           each = λ v. subst (λ (w : Env). HasValue w env v) cuts
               (value_uncut (length (function_at m z.coroutine).names) env v);
@@ -108,8 +111,9 @@ record HasNeeded (g : Given) (ys : List Instance) (i c : ℕ) (p : Point) (value
   each : (v : ℕ) → IsNeededBehind (function_at g.code c) p v → HasValue values others v
 
 needed_on : (g : Given) (x y : Instance) (ys : List Instance) (i c : ℕ) (p : Point) (values : Env) → IsInstance g x y
-    → slice_get ys i ≡ Some y → x.coroutine ≡ c → x.status ≡ Status.Suspended p values → HasNeeded g ys i c p values
-needed_on g x y ys i c p values h there own e =
+    → slice_get ys i ≡ Some y → x.coroutine ≡ c → x.status ≡ Status.Suspended p values → x.freed ≡ false
+    → HasNeeded g ys i c p values
+needed_on g x y ys i c p values h there own e unfreed =
     let is = subst (λ (u : Status). IsStatus (function_at g.code x.coroutine) u h.0) e h.2 in
     record {
       others = is.0;
@@ -118,24 +122,31 @@ needed_on g x y ys i c p values h there own e =
         there = there;
         coroutine = ap (λ (u : Instance). u.coroutine) h.1 ∙ own;
         status = ap (λ (u : Instance). u.status) h.1 ∙ is.1;
+        unfreed = ap (λ (u : Instance). u.freed) h.1 ∙ unfreed;
       };
       each = λ v n. inr (is.2.each v (subst (λ (k : ℕ). IsNeededBehind (function_at g.code k) p v) (sym own) n));
     }
 
 needed : (g : Given) (xs ys : List Instance) → AreInstances g xs ys → (i c : ℕ) (p : Point) (values : Env)
     (x : Instance) → slice_get xs i ≡ Some x → x.coroutine ≡ c → x.status ≡ Status.Suspended p values
-    → HasNeeded g ys i c p values
-needed g [] ys h i c p values x there own e = absurd (cc)
-needed g (z ∷ xs) [] h i c p values x there own e = absurd h
-needed g (z ∷ xs) (y ∷ ys) h zero c p values x there own e =
+    → x.freed ≡ false → HasNeeded g ys i c p values
+needed g [] ys h i c p values x there own e f = absurd (cc)
+needed g (z ∷ xs) [] h i c p values x there own e f = absurd h
+needed g (z ∷ xs) (y ∷ ys) h zero c p values x there own e f =
     let same : z ≡ x = cc in
-    needed_on g x y (y ∷ ys) zero c p values (subst (λ (u : Instance). IsInstance g u y) same h.0) refl own e
-needed g (z ∷ xs) (y ∷ ys) h (suc i) c p values x there own e =
-    let r = needed g xs ys h.1 i c p values x there own e in
+    needed_on g x y (y ∷ ys) zero c p values (subst (λ (u : Instance). IsInstance g u y) same h.0) refl own e f
+needed g (z ∷ xs) (y ∷ ys) h (suc i) c p values x there own e f =
+    let r = needed g xs ys h.1 i c p values x there own e f in
     let is = r.own in
     record {
       others = r.others;
-      own = record { instance = is.instance; there = is.there; coroutine = is.coroutine; status = is.status };
+      own = record {
+        instance = is.instance;
+        there = is.there;
+        coroutine = is.coroutine;
+        status = is.status;
+        unfreed = is.unfreed;
+      };
       each = r.each;
     }
 
@@ -167,7 +178,7 @@ module _ (m : Module) (sizes : List Frame) (answers : List ℤ) (s t : State) (k
   saved_as : IsSuspendedAs saved.instances i c (back_of (function_at bare c) p) saved_env
   saved_as = mapped_as (saved_instance bare) full.instances saved.instances
       (ap (λ (u : State). u.instances) kept.1.1.2.is) i c p (back_of (function_at bare c) p) longer.others saved_env
-      (λ x. refl) (λ x own e. λ j. saved_status (function_at bare (own j)) (e j)) longer.own
+      (λ x. refl) (λ x own e. λ j. saved_status (function_at bare (own j)) (e j)) (λ x. refl) longer.own
 
   abbrev split_env : Env
   split_env = moved_values (function_at (early_module m) c) saved_env
@@ -175,12 +186,13 @@ module _ (m : Module) (sizes : List Frame) (answers : List ℤ) (s t : State) (k
   split_as : IsSuspendedAs split.instances i c (kept_place m c p) split_env
   split_as = mapped_as (moved_instance (early_module m)) saved.instances split.instances
       (ap (λ (u : State). u.instances) kept.1.2.is) i c (back_of (function_at bare c) p) (kept_place m c p) saved_env
-      split_env (λ x. refl) (λ x own e. λ j. moved_status (function_at (early_module m) (own j)) (e j)) saved_as
+      split_env (λ x. refl) (λ x own e. λ j. moved_status (function_at (early_module m) (own j)) (e j)) (λ x. refl)
+      saved_as
 
   kept_as : HasNeeded g t.instances i c (kept_place m c p) split_env
   kept_as = needed g split.instances t.instances (subst (AreInstances g split.instances)
       (sym (ap (λ (u : State). u.instances) kept.2.0.is)) kept.2.0.insts) i c (kept_place m c p) split_env
-      split_as.instance split_as.there split_as.coroutine split_as.status
+      split_as.instance split_as.there split_as.coroutine split_as.status split_as.unfreed
 
   pub kept_suspended : IsSuspendedAlike m t.instances i c p values
   kept_suspended = record {
