@@ -4,6 +4,7 @@ pub mod Built
 pub mod Elision
 pub mod Entries
 pub mod GoodLayouts
+pub mod KeptFields
 pub mod Lowered
 pub mod Rows
 pub mod SharedBytes

@@ -19,12 +19,13 @@ ghost use Rattle.compiler_theorem.specs.theorem.Theorem.{AreFramesShown, AreMade
 ghost use Rattle.compiler_theorem.specs.theorem.Elision.{ElidedSteps, ElidesCalls};
 ghost use Rattle.compiler_theorem.specs.theorem.Rows.{joined};
 ghost use Rattle.compiler_theorem.specs.theorem.SharedBytes.{HasField, StandAt};
+ghost use Rattle.compiler_theorem.specs.theorem.KeptFields.{AreFieldsKept, KeepSmallOffsets};
 ghost use Rattle.compiler_theorem.specs.theorem.SharedBytes as shown;
 ghost use Rattle.pass_cells.specs.declared.plan.KeptValue.{KeptValue};
 ghost use Rattle.run_framed.specs.Framed.{layout_of};
 ghost use Rattle.run_memory.specs.declared.pointer.Offset.{Offset};
 ghost use Rattle.run_memory.specs.declared.pointer.Pointer.{Pointer};
-ghost use Rattle.compiler_theorem.specs.theorem.ShownSlots.{AreSlotsShown, step_homes};
+ghost use Rattle.compiler_theorem.specs.theorem.ShownSlots.{AreFieldsShown, AreSlotsShown, step_homes};
 ghost use Rattle.compiler_theorem.specs.theorem.Suspended.{IsDistanceKept, IsFieldKept, IsSuspendedAlike, IsSuspendedAs, IsValueKept};
 ghost use Rattle.ir_model.specs.declared.module.Frame.{Frame};
 ghost use Rattle.ir_paths.specs.declared.point.Point.{Point};
@@ -171,6 +172,16 @@ pub fn fields_show_values()
         → value_in values n ≡ Value.Ptr (Pointer.At at o) → o.bits < 2 ^ 64
         → StandAt (joined (step_homes (edged l) a.flags a.roots v u made) built.homes)
         (digits size o.bits) f.block (f.instance.start + offset) }
+{}
+
+/// So frames show all fields of suspended instances, where what crosses a suspend of the source has its field, and offsets
+/// of addresses are of 64 bits.
+pub fn frames_show_fields()
+    ensures { (l : Lowered) (low : IsLowered l) (a : Anew) (r : Run) (s v u t : State)
+        → AreFieldsKept a l low r.answers → KeepSmallOffsets s → IsKeptOf l.source (sizes_of l) r.answers s v
+        → (made : AreMadeAnew l a v u) (built : AreBuiltOf (building l low.is_framed r.answers) u t)
+        → fitting.HaveBytes t.world.memory → AreFieldsShown l.source l.layouts.coroutines
+        (joined (step_homes (edged l) a.flags a.roots v u made) built.homes) s t }
 {}
 
 /// What is printed of a source that breaks no rule agrees with it within its step factor, with frames that share

@@ -7,6 +7,7 @@ pub mod Kept
 pub mod KeptStatus
 pub mod Placed
 pub mod Renewed
+pub mod Shown
 pub mod Slots
 pub mod Status
 pub mod Step

@@ -63,7 +63,7 @@ module _ (l : Lowered) (low : IsLowered l) (answers : List ℤ) (func : ℕ)
   abbrev x : Framing
   x = (building l low.is_framed answers).framing func
 
-  was : f.coroutine ≡ true
+  pub was : f.coroutine ≡ true
   was = coroutine_was l.source.functions func is
 
   same_allocas : allocas_of g ≡ allocas_of f

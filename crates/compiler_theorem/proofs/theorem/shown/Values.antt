@@ -112,12 +112,16 @@ module _ (l : Lowered) (low : IsLowered l) (a : Anew) (r : Run) (s v u t : State
   status = subst (λ (z : Status). IsStatus b built.homes t renewed.own.instance f.instance z f.instance.status)
       renewed.own.status instances.status
 
-  coroutine : (function_at (early l) func).coroutine ≡ true
+  pub coroutine : (function_at (early l) func).coroutine ≡ true
   coroutine = ap (λ (k : ℕ). (function_at (early l) k).coroutine) (sym renewed.own.coroutine) ∙ instances.is_coroutine
 
   number : IsSuspendNumber x status.1 (kept_place l.source func p)
   number = subst (λ (k : ℕ). IsSuspendNumber (b.framing k) status.1 (kept_place l.source func p)) renewed.own.coroutine
       status.3
+
+  -- the suspend has a number
+  pub at_number : (j : ℕ) × IsSuspendNumber x j (kept_place l.source func p)
+  at_number = (status.1, number)
 
   fields : AreFieldsRight x built.homes rights t.world.memory status.1 renewed.others f.instance.block f.instance.start
   fields = subst (λ (k : ℕ). AreFieldsRight (b.framing k) built.homes rights t.world.memory status.1 renewed.others
