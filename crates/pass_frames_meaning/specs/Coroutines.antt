@@ -19,20 +19,23 @@ use Rattle.pass_frames_meaning.specs.Standing.{IsStaying}
 use Rattle.pass_frames_proof.specs.Code.{is_ahead, loaded, slot_table}
 use Rattle.pass_frames_proof.specs.Followed.{IsFollowed}
 use Rattle.pass_frames_proof.specs.Lines.{IsStorable}
+use Rattle.pass_frames_proof.specs.Marking.{IsBeforeBegin, IsBehindBegin, IsEarlyMarked, IsKeptMarker, IsUnmarked, IsWholeMarked, marking}
 use Rattle.pass_frames_proof.specs.Places.{Framing, copies, offsets, plan}
-use Rattle.pass_frames_proof.specs.Related.{IsKeptValue, is_coroutine, is_first}
+use Rattle.pass_frames_proof.specs.Related.{AreBuiltOf, IsKeptValue, is_coroutine, is_first}
 use Rattle.pass_frames_proof.specs.Stepping.{IsNotEntering, IsPlacedOperand, IsUnlocated, state_in}
 use Rattle.pass_proofs.specs.addresses.rules.Addresses.{lies_in_frame}
 use Rattle.pass_proofs.specs.fetch.rules.Fetches.{AreUnfetched}
 use Rattle.pass_renewed_proof.specs.Renewed.{renewed_step}
 use Rattle.rule_laws.specs.rules.function_rules.Kept.{KeepsFunctionRules}
 use Rattle.run_laws.specs.changed.Changed.{Each}
+use Rattle.run_memory.specs.declared.pointer.Value.{Value}
 use Rattle.run_source.specs.State.{function_of}
 use Rattle.run_source.specs.declared.state.Activation.{Activation}
 use Rattle.run_source.specs.declared.state.Mode.{Mode}
 use Rattle.run_source.specs.declared.state.State.{State}
 use Rattle.run_step.specs.Step.{AtInstr, AtTerm, fetch}
 use Rattle.run_step.specs.Values.{value_in}
+use Rattle.run_step.specs.declared.world.Slot.{Slot}
 
 -- what a kept name of the coroutine on top has fits the type in which it is kept
 abbrev pub HasStorables : Setting → State → Type 0
@@ -73,6 +76,31 @@ pub record MaySuspend (c : Setting) (s : State) (result : Option ℕ) (args : Li
   -- its result is used by its switch alone (K3), so it crosses no suspend
   pub unkept : entry (plan (c.b.framing s.top.func)).places name ≡ None
 
+-- The slot of a marker of a coroutine: the name of an alloca has its slot's address, or poison (an invariant of the run).
+-- A slot that is made anew has no marker left.
+pub data IsMarkedHere (c : Setting) (s t : State) (r : AreBuiltOf c.b s t) (i : Instr) (slot : ℕ) : Type 0 where
+  Anew : IsUnmarked c.b s i → c.g.flags s.top.func slot ≡ true → IsMarkedHere c s t r i slot
+  Unmade : IsUnmarked c.b s i → c.g.flags s.top.func slot ≡ false → value_in s.top.values slot ≡ Value.Poison
+      → IsMarkedHere c s t r i slot
+  Before : IsUnmarked c.b s i → c.g.flags s.top.func slot ≡ false → IsBeforeBegin c.b s slot
+      → IsMarkedHere c s t r i slot
+  Early : IsUnmarked c.b s i → c.g.flags s.top.func slot ≡ false → IsEarlyMarked c.b s t r slot
+      → IsMarkedHere c s t r i slot
+  Behind : IsUnmarked c.b s i → c.g.flags s.top.func slot ≡ false → IsBehindBegin c.b s slot
+      → IsMarkedHere c s t r i slot
+  Whole : IsKeptMarker c.b s i slot → c.g.flags s.top.func slot ≡ false → (z : Slot) → IsWholeMarked c.b s slot z
+      → IsMarkedHere c s t r i slot
+
+-- What isn't derived yet where a marker stands at the place.
+pub record MayMark (c : Setting) (s t : State) (r : AreBuiltOf c.b s t) (starts : Bool) : Type 0 where
+  pub each : (must_tail : Bool) (ty : Option Ty) (size : Arg) (u : Ty) (slot : ℕ)
+      → fetch (function_of c.g.given s) s.top.block s.top.at ≡ AtInstr (marking starts must_tail ty size u slot)
+      → IsMarkedHere c s t r (marking starts must_tail ty size u slot) slot
+  -- no alloca is a value that crosses (`AreCellsFor`)
+  pub unkept : (must_tail : Bool) (ty : Option Ty) (size : Arg) (u : Ty) (slot : ℕ)
+      → fetch (function_of c.g.given s) s.top.block s.top.at ≡ AtInstr (marking starts must_tail ty size u slot)
+      → entry (plan (c.b.framing s.top.func)).places slot ≡ None
+
 -- What isn't derived yet where coro.end stands at the place.
 pub record MayEnd (s : State) : Type 0 where
   -- each path to it leads over begin, so the activation has an instance
@@ -84,8 +112,6 @@ pub record MayEnd (s : State) : Type 0 where
 
 -- intrinsics each of which is a case of its own
 abbrev pub IsOwnKind : Intrinsic → Type 0
-IsOwnKind Intrinsic.LifetimeStart = Unit {0}
-IsOwnKind Intrinsic.LifetimeEnd = Unit {0}
 IsOwnKind Intrinsic.CoroId = Unit {0}
 IsOwnKind Intrinsic.CoroBegin = Unit {0}
 IsOwnKind Intrinsic.CoroSave = Unit {0}
@@ -109,11 +135,13 @@ pub record AreOthersFollowed (c : Setting) (s t : State) : Type 0 where
   pub allocas : (r : ℕ) (ty : Ty) (align : ℕ)
       → fetch (function_of c.g.given s) s.top.block s.top.at ≡ AtInstr (Instr.Alloca r ty align)
       → IsFollowed c.b c.g s t
-  -- markers, coro.id, begin and saves
+  -- coro.id, begin and saves
   pub intrinsics : (x : Intrinsic) → IsOwnKind x → (result : Option ℕ) (must_tail : Bool) (ty : Option Ty)
       (args : List Arg)
       → fetch (function_of c.g.given s) s.top.block s.top.at
       ≡ AtInstr (Instr.Call result must_tail ty (Callee.Intrinsic x) args) → IsFollowed c.b c.g s t
+  -- markers, where this is known
+  pub marks : (r : AreBuiltOf c.b s t) (starts : Bool) → MayMark c s t r starts
   -- suspends, where this is known
   pub suspends : (result : Option ℕ) (must_tail : Bool) (ty : Option Ty) (args : List Arg)
       → fetch (function_of c.g.given s) s.top.block s.top.at

@@ -15,7 +15,7 @@ ghost use Rattle.ir_model.specs.declared.operand.Intrinsic.{Intrinsic};
 ghost use Rattle.ir_model.specs.declared.operand.Operand.{Operand};
 ghost use Rattle.ir_parts.specs.Contents.{result_of};
 ghost use Rattle.pass_cells.specs.Kept.{entry};
-ghost use Rattle.pass_frames_meaning.specs.Coroutines.{AreCoroutinesReady, AreOthersFollowed, IsNowhere, IsUnlocatedHere, MayEnd, MayFollow, MaySuspend};
+ghost use Rattle.pass_frames_meaning.specs.Coroutines.{AreCoroutinesReady, AreOthersFollowed, IsNowhere, IsUnlocatedHere, MayEnd, MayFollow, MayMark, MaySuspend};
 ghost use Rattle.pass_frames_meaning.specs.Others.{EntersCoroutines};
 ghost use Rattle.pass_frames_meaning.specs.Setting.{AreOfRuns, KeepsAll, Setting};
 ghost use Rattle.pass_frames_proof.specs.Asking.{IsAsking};
@@ -23,6 +23,7 @@ ghost use Rattle.pass_frames_proof.specs.Copying.{IsCopying};
 ghost use Rattle.pass_frames_proof.specs.Followed.{IsFollowed};
 ghost use Rattle.pass_frames_proof.specs.Framings.{IsFraming};
 ghost use Rattle.pass_frames_proof.specs.Led.{LeavesMemory};
+ghost use Rattle.pass_frames_proof.specs.Marking.{marker};
 ghost use Rattle.pass_frames_proof.specs.Places.{Framing, edged, plan};
 ghost use Rattle.pass_frames_proof.specs.Related.{AreBuiltOf, is_coroutine};
 ghost use Rattle.pass_frames_proof.specs.Stepping.{IsCommon, IsNotEntering};
@@ -98,6 +99,16 @@ pub fn ends_of_coroutines_are_led_back()
         → fetch (function_of c.g.given s) s.top.block s.top.at
         ≡ AtInstr (Instr.Call result must_tail ty (Callee.Intrinsic Intrinsic.CoroEnd) args)
         → IsFollowed c.b c.g s t }
+{}
+
+/// So is a marker, by how its slot stands.
+pub fn markers_of_coroutines_are_followed()
+    ensures { (c : Setting) → KeepsAll c → (s t : TheState) (r : AreBuiltOf c.b s t) → AreOfRuns c s t r
+        → s.outcome ≡ Outcome.Running → is_coroutine c.b s.top.func ≡ true → IsNotEntering s.top.mode
+        → (starts : Bool) → MayMark c s t r starts → (result : Option ℕ) (must_tail : Bool) (ty : Option Ty)
+        (args : List Arg)
+        → fetch (function_of c.g.given s) s.top.block s.top.at
+        ≡ AtInstr (Instr.Call result must_tail ty (Callee.Intrinsic (marker starts)) args) → IsFollowed c.b c.g s t }
 {}
 
 /// A token is kept in no cell, and lies in no frame.

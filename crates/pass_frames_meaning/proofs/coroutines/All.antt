@@ -17,6 +17,7 @@ use Rattle.pass_fetch.specs.Fetching.{fetch_of}
 use Rattle.pass_fetch.specs.declared.fetch.Fetch.{Fetch}
 use Rattle.pass_frames_meaning.proofs.coroutines.Calls.{allocator_followed, asking_followed, copying_followed, free_followed, named_followed}
 use Rattle.pass_frames_meaning.proofs.coroutines.Ends.{end_followed}
+use Rattle.pass_frames_meaning.proofs.coroutines.Marks.{marker_at}
 use Rattle.pass_frames_meaning.proofs.coroutines.Steps.{next_is, quiet_followed, store_followed}
 use Rattle.pass_frames_meaning.proofs.coroutines.Suspends.{suspend_at}
 use Rattle.pass_frames_meaning.proofs.others.AtPlace.{called_by_name, function_there}
@@ -148,9 +149,10 @@ module _ (c : Setting) (all : KeepsAll c) (s t : State) (r : AreBuiltOf c.b s t)
     intrinsics : (y : Intrinsic) → Stands (Instr.Call result must_tail ty (Callee.Intrinsic y) args) → Follows
     intrinsics Intrinsic.MemcpyI64 there = memcpys Intrinsic.MemcpyI64 tt refl there
     intrinsics Intrinsic.MemcpyI32 there = memcpys Intrinsic.MemcpyI32 tt refl there
-    intrinsics Intrinsic.LifetimeStart there =
-        others.intrinsics Intrinsic.LifetimeStart tt result must_tail ty args there
-    intrinsics Intrinsic.LifetimeEnd there = others.intrinsics Intrinsic.LifetimeEnd tt result must_tail ty args there
+    intrinsics Intrinsic.LifetimeStart there = marker_at c all s t r k runs coroutine mode true (others.marks r true)
+        result must_tail ty args there
+    intrinsics Intrinsic.LifetimeEnd there = marker_at c all s t r k runs coroutine mode false (others.marks r false)
+        result must_tail ty args there
     intrinsics Intrinsic.CoroDone there = asks Intrinsic.CoroDone tt there
     intrinsics Intrinsic.CoroPromise there = asks Intrinsic.CoroPromise tt there
     intrinsics Intrinsic.CoroResume there =
