@@ -76,7 +76,7 @@ pub record MaySuspend (c : Setting) (s : State) (result : Option ℕ) (args : Li
   -- its result is used by its switch alone (K3), so it crosses no suspend
   pub unkept : entry (plan (c.b.framing s.top.func)).places name ≡ None
 
--- The slot of a marker of a coroutine: the name of an alloca has its slot's address, or poison (an invariant of the run).
+-- The slot of a marker of a coroutine: the name of an alloca has its slot's address, or poison (the run's invariant).
 -- A slot that is made anew has no marker left.
 pub data IsMarkedHere (c : Setting) (s t : State) (r : AreBuiltOf c.b s t) (i : Instr) (slot : ℕ) : Type 0 where
   Anew : IsUnmarked c.b s i → c.g.flags s.top.func slot ≡ true → IsMarkedHere c s t r i slot

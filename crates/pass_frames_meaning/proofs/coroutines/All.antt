@@ -143,7 +143,8 @@ module _ (c : Setting) (all : KeepsAll c) (s t : State) (r : AreBuiltOf c.b s t)
         on (accesses (Instr.Call result must_tail ty (Callee.Intrinsic y) args) there is_one)
       where
         on : IsUnlocatedHere c s (Instr.Call result must_tail ty (Callee.Intrinsic y) args) ⊎ Follows → Follows
-        on (inl u) = copying_followed c all s t r k runs fine coroutine mode o result must_tail ty args y copying there u
+        on (inl u) =
+            copying_followed c all s t r k runs fine coroutine mode o result must_tail ty args y copying there u
         on (inr f) = f
 
     intrinsics : (y : Intrinsic) → Stands (Instr.Call result must_tail ty (Callee.Intrinsic y) args) → Follows

@@ -398,7 +398,8 @@ module _ (c : Setting) (all : KeepsAll c) (s t : State) (r : AreBuiltOf c.b s t)
     copies y copying void unmarked staying lined there unlocated q =
         let none : result ≡ None = void_intrinsic c.g.given.code (function_at c.g.given.code s.top.func)
         (all.types s.top.func) s.top.block s.top.at result must_tail ty y args there void in
-        done_by c all s t r k runs fine coroutine mode o (Instr.Call result must_tail ty (Callee.Intrinsic y) args) there
+        done_by c all s t r k runs fine coroutine mode o (Instr.Call result must_tail ty (Callee.Intrinsic y) args)
+        there
         (no_marker_idle (c.g.flags s.top.func) (Callee.Intrinsic y) result must_tail ty args unmarked) q (λ v e.
         coroutine_copied c.b c.g all.given s t r y must_tail ty args v (record {
           here = here None must_tail ty args (Callee.Intrinsic y)

@@ -217,8 +217,8 @@ module _ (c : Setting) (all : KeepsAll c) (s t : State) (r : AreBuiltOf c.b s t)
   -- false fits, as the next state says
   fits : is_first s.top.mode ≡ true → FitsResult x result (truth_value false)
   fits first q kept given is_kept =
-      let z = acts_as c all s t r k runs fine coroutine mode o call there refl (Coro Intrinsic.CoroEnd args result) refl in
-      let u : State = if s.top.has_left then s else finish s in
+      let z = acts_as c all s t r k runs fine coroutine mode o call there refl (Coro Intrinsic.CoroEnd args result)
+      refl in
       let goes = sym (ramp_after (if s.top.has_left then s else finish s) result s.top.mode first) ∙ z.1 in
       on (if s.top.has_left then s else finish s) (either_top s s.top.has_left)
       (subst (HasStorables c) (z.2 ∙ sym (same_ok (gives (if s.top.has_left then s else finish s) result

@@ -93,7 +93,8 @@ module _ (c : Setting) (all : KeepsAll c) (s t : State) (r : AreBuiltOf c.b s t)
     literal : IsNoLocal two.first.value
     literal = number_literal two.first.value
         (and_parts (is_basic Basic.I64 two.first.ty) (meets Demand.Number two.first.value)
-        (and_parts _ _ (ap (are_wanted (want Basic.I64 Demand.Number ∷ any Basic.Ptr ∷ [])) (sym two.are) ∙ wanted)).0).1
+        (and_parts _ _
+        (ap (are_wanted (want Basic.I64 Demand.Number ∷ any Basic.Ptr ∷ [])) (sym two.are) ∙ wanted)).0).1
 
     by_slot : IsFollowed c.b c.g s t
     by_slot =

@@ -150,8 +150,8 @@ module _ (c : Setting) (all : KeepsAll c) (s t : State) (r : AreBuiltOf c.b s t)
     }
 
     -- what it gives fits
-    pub storable : (v : Work) → instr_action (context_of c.g.given s) (work_of s) i ≡ Done v → (q : ℕ) (kept : KeptValue)
-        → IsKeptValue x q kept → IsStorable kept.ty (value_in v.values q)
+    pub storable : (v : Work) → instr_action (context_of c.g.given s) (work_of s) i ≡ Done v → (q : ℕ)
+        (kept : KeptValue) → IsKeptValue x q kept → IsStorable kept.ty (value_in v.values q)
     storable v e =
         let z = acts_as (Done v) e in
         subst (HasStorables c) (z.2 ∙ sym (same_ok (settled s v) z.0 z.1)) o.storables coroutine

@@ -132,7 +132,8 @@ module _ (c : Setting) (all : KeepsAll c) (s t : State) (r : AreBuiltOf c.b s t)
   shaped = two.are ∙ ap (λ (a : Operand). record { ty = two.first.ty; value = a } ∷ two.second ∷ []) value
 
   here : fetch f s.top.block s.top.at ≡ AtInstr call
-  here = there ∙ (λ j. AtInstr (Instr.Call (m.named j) must_tail ty (Callee.Intrinsic Intrinsic.CoroSuspend) (shaped j)))
+  here = there
+      ∙ (λ j. AtInstr (Instr.Call (m.named j) must_tail ty (Callee.Intrinsic Intrinsic.CoroSuspend) (shaped j)))
 
   stands : slice_get (instrs_at x s.top.block) s.top.at ≡ Some call
   stands = instr_in x f same s.top.block s.top.at call here
