@@ -4,4 +4,5 @@ pub mod Led
 pub mod LedHooks
 pub mod Entered
 pub mod Sound
+pub mod Tables
 pub mod SoundRuns

@@ -1,13 +1,18 @@
 //! An alloca's name leads to its slot, and begin's to the activation's own frame, in each state of a run by hooks.
 
-ghost use Rattle.std.specs.Prelude.{◌≡◌, ◌⊎◌, ℕ, Bool, List, Some, true};
+ghost use Rattle.std.specs.Prelude.{◌≡◌, ◌⊎◌, ℕ, Bool, List, Some, false, true};
 ghost use Rattle.std.specs.List.{Contains};
 ghost use Rattle.ir_base.specs.declared.outcome.Outcome.{Outcome};
 ghost use Rattle.ir_base.specs.declared.outcome.Word.{Word};
 ghost use Rattle.ir_laws.specs.facts.sound_states.Named.{AreLocalsNamed};
+ghost use Rattle.ir_model.specs.Names.{function_at};
+ghost use Rattle.ir_model.specs.declared.operand.Intrinsic.{Intrinsic};
+ghost use Rattle.ir_paths.specs.declared.point.Point.{Point};
 ghost use Rattle.pass_frames_meaning.specs.Called.{IsCalledState};
 ghost use Rattle.pass_frames_meaning.specs.Led.{IsLed, IsLedState, KeepAllNames, KeepsLed, KeepsLedTables};
+ghost use Rattle.pass_kept_proof.specs.SuspendRules.{IsCallAt};
 ghost use Rattle.pass_renewed_proof.specs.Renewed.{RenewedGiven, renewed_step};
+ghost use Rattle.pass_renewed_proof.specs.SlotRules.{KeepsAllSlots};
 ghost use Rattle.run_framed.specs.Framed.{begin_name};
 ghost use Rattle.run_hooks.specs.Away.{KeepsAllPlaceRules};
 ghost use Rattle.run_hooks.specs.Hooks.{Hooks, step_of};
@@ -34,6 +39,15 @@ pub fn led_states_stay()
         → IsLedState h.given.code counts (step_of h s) }
     ensures renewed { (g : RenewedGiven) (counts : ℕ → ℕ → Bool) → KeepAllNames g.given counts
         → KeepsLedTables g counts → KeepsLed (renewed_hooks g) counts }
+{}
+
+/// What it asks of tables comes of what is asked of slots that are made anew, but for two things. What counts isn't
+/// flagged, and a resume hands on begin's value.
+pub fn tables_of_slots_keep_names()
+    ensures { (g : RenewedGiven) (counts : ℕ → ℕ → Bool) → KeepsAllSlots g.given.code g.keep g.flags g.roots
+        → KeepAllNames g.given counts → ((func v : ℕ) → counts func v ≡ true → g.flags func v ≡ false)
+        → ((func : ℕ) (u : Point) (v : ℕ) → IsCallAt Intrinsic.CoroSuspend (function_at g.given.code func) u
+        → begin_name (function_at g.given.code func) ≡ Some v → g.keep func u v ≡ true) → KeepsLedTables g counts }
 {}
 
 /// Such a run has sound states: each name of a function has a value or none, and instances are of their activations'

@@ -1,0 +1,106 @@
+-- No name of an alloca that counts, and no value of begin, is an address in a slot that is made anew.
+use Rattle.std.proofs.Common.{◌≡◌, ℕ, Bool, true, false, List, Option, Some, None, refl, sym, ap, ◌∙◌}
+use Rattle.std.proofs.lemmas.Bool.{false≢true}
+use Rattle.std.specs.Prelude.{option_and_then, slice_get}
+use Rattle.ir_model.specs.Names.{function_at}
+use Rattle.ir_model.specs.Ty.{Ty}
+use Rattle.ir_model.specs.declared.instr.Instr.{Instr}
+use Rattle.ir_model.specs.declared.module.Function.{Function}
+use Rattle.ir_model.specs.declared.operand.Arg.{Arg}
+use Rattle.ir_model.specs.declared.operand.Callee.{Callee}
+use Rattle.ir_model.specs.declared.operand.Intrinsic.{Intrinsic}
+use Rattle.ir_model.specs.declared.operand.Operand.{Operand}
+use Rattle.ir_paths.specs.Windows.{call_result, instr_at, is_call_of, points_where}
+use Rattle.ir_paths.specs.declared.point.Point.{Point}
+use Rattle.pass_frames_meaning.specs.Led.{KeepAllNames, KeepsLedTables}
+use Rattle.pass_kept_proof.proofs.Rules.{where_is}
+use Rattle.pass_kept_proof.specs.Needed.{given_by}
+use Rattle.pass_kept_proof.specs.SuspendRules.{IsCallAt}
+use Rattle.pass_renewed_proof.proofs.Left.{instr_there}
+use Rattle.pass_renewed_proof.specs.Renewed.{RenewedGiven}
+use Rattle.pass_renewed_proof.specs.SlotRules.{IsAddressOf, IsMadeOnce, Itself, KeepsAllSlots, Part}
+use Rattle.pass_renewed_proof.specs.Steps.{given_at}
+use Rattle.run_framed.specs.Framed.{begin_name}
+use Rattle.run_step.specs.Step.{AtInstr, fetch}
+
+-- where begin stands that gives the name
+record HasBegin (f : Function) (v : ℕ) : Type 0 where
+  point : Point
+  instr : Instr
+  stands : fetch f point.block point.at ≡ AtInstr instr
+  gives : given_by instr ≡ Some v
+
+begin_gives : (i : Instr) (v : ℕ) → is_call_of Intrinsic.CoroBegin i ≡ true → call_result i ≡ Some v
+    → given_by i ≡ Some v
+begin_gives (Instr.Call result must_tail ty (Callee.Intrinsic Intrinsic.CoroBegin) args) v is e = e
+begin_gives _ v is e = absurd (cc)
+
+has_begin : (f : Function) (v : ℕ) → begin_name f ≡ Some v → HasBegin f v
+has_begin f v e = on (slice_get (points_where (is_call_of Intrinsic.CoroBegin) f) 0) refl e
+  where
+    on : (o : Option Point) → slice_get (points_where (is_call_of Intrinsic.CoroBegin) f) 0 ≡ o
+        → option_and_then call_result (option_and_then (instr_at f) o) ≡ Some v → HasBegin f v
+    on None eo j = absurd (cc)
+    on (Some p) eo j =
+        let r = where_is (is_call_of Intrinsic.CoroBegin) f p eo in
+        record {
+          point = p;
+          instr = r.0;
+          stands = r.1;
+          gives = begin_gives r.0 v r.2
+              (ap (option_and_then call_result) (sym (instr_there f p r.0 r.1)) ∙ j);
+        }
+
+no_gep : (v align : ℕ) (t : Ty) (w : ℕ) (inbounds : Bool) (ty : Ty) (u : ℕ) (indices : List Arg)
+    → AtInstr (Instr.Alloca v t align) ≡ AtInstr (Instr.Gep w inbounds ty (Operand.Local u) indices) → ⊥
+no_gep v align t w inbounds ty u indices e = absurd (cc)
+
+module _ (g : RenewedGiven) (counts : ℕ → ℕ → Bool) (slots : KeepsAllSlots g.given.code g.keep g.flags g.roots)
+    (rules : KeepAllNames g.given counts)
+    (unflagged : (func v : ℕ) → counts func v ≡ true → g.flags func v ≡ false) where
+  unrooted : (func v : ℕ) → counts func v ≡ true → g.roots func v ≡ None
+  unrooted func v c = on (g.roots func v) refl
+    where
+      on : (o : Option ℕ) → g.roots func v ≡ o → o ≡ None
+      on None e = refl
+      on (Some a) e = absurd (by ((slots.each func).given v a 0 made.at e (ap given_at made.stands)))
+        where
+          made : IsMadeOnce (function_at g.given.code func) v
+          made = (rules func).made v c
+
+          by : IsAddressOf (function_at g.given.code func) (g.roots func) a v 0 made.at → ⊥
+          by (Itself same) =
+              let flagged = ((slots.each func).rooted v a e).0 in
+              false≢true (sym (unflagged func v c) ∙ ap (g.flags func) same ∙ flagged)
+          by (Part inbounds ty u indices stands root) =
+              no_gep v made.align made.ty v inbounds ty u indices (sym made.stands ∙ stands)
+
+  unmoved : (func v : ℕ) → begin_name (function_at g.given.code func) ≡ Some v → g.roots func v ≡ None
+  unmoved func v b = on (g.roots func v) refl
+    where
+      on : (o : Option ℕ) → g.roots func v ≡ o → o ≡ None
+      on None e = refl
+      on (Some a) e =
+          absurd (by ((slots.each func).given v a begin.point.block begin.point.at e
+          (ap given_at begin.stands ∙ begin.gives)))
+        where
+          begin : HasBegin (function_at g.given.code func) v
+          begin = has_begin (function_at g.given.code func) v b
+
+          by : IsAddressOf (function_at g.given.code func) (g.roots func) a v begin.point.block begin.point.at → ⊥
+          by (Itself same) =
+              let made = (slots.each func).made a ((slots.each func).rooted v a e).0 in
+              ((rules func).begins v b).alone 0 made.at (Instr.Alloca a made.ty made.align) made.stands
+              (ap Some (sym same))
+          by (Part inbounds ty u indices stands root) =
+              ((rules func).begins v b).alone begin.point.block begin.point.at
+              (Instr.Gep v inbounds ty (Operand.Local u) indices) stands refl
+
+  pub tables_led : ((func : ℕ) (u : Point) (v : ℕ) → IsCallAt Intrinsic.CoroSuspend (function_at g.given.code func) u
+      → begin_name (function_at g.given.code func) ≡ Some v → g.keep func u v ≡ true) → KeepsLedTables g counts
+  tables_led handed = record {
+    unflagged = unflagged;
+    unrooted = unrooted;
+    unmoved = unmoved;
+    handed = handed;
+  }
