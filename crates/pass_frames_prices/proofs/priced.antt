@@ -1,7 +1,9 @@
 pub mod Acts
 pub mod Jumps
+pub mod Left
 pub mod Names
 pub mod Paid
 pub mod Short
 pub mod Steps
+pub mod Sums
 pub mod Within

@@ -14,6 +14,7 @@ use Rattle.pass_frames_proof.specs.Places.{Framing, edged, instrs_at, is_return}
 use Rattle.pass_frames_proof.specs.Related.{Building, is_coroutine}
 use Rattle.pass_renewed_proof.specs.Prices.{Prices}
 use Rattle.pass_renewed_proof.specs.Renewed.{Flags, renewed_from}
+use Rattle.run_source.specs.declared.state.State.{State}
 
 -- ---- by code
 
@@ -46,7 +47,8 @@ price_by full left false true = full - left
 price_by full left false false = full
 
 abbrev pub coroutine_price : (full left : ℕ) → Framing → ℕ → ℕ → ℕ
-coroutine_price full left x block at = price_by full left (is_return x block) (goes_on x block at)
+coroutine_price full left x block at =
+    price_by full left (is_return x block && (at == 0)) (goes_on x block at)
 
 -- a resume has the price of its own step and of the allocas before the first slot that is made anew
 abbrev pub frame_prices : Building → Flags → Module → (names operands : ℕ) → Prices
@@ -72,3 +74,17 @@ pub record AreWithin (b : Building) (names operands : ℕ) : Type 0 where
   pub each : (func : ℕ) → is_coroutine b func ≡ true → IsWithin names operands (b.framing func)
   pub two : (func other : ℕ) → is_coroutine b func ≡ true → is_coroutine b other ≡ true → func ≢ other
       → names_of (edged (b.framing func)) + names_of (edged (b.framing other)) ≤ names
+
+-- ---- what is left for a jump from a block on a resume or destroy edge
+
+-- the activation on top is in front of such a jump
+abbrev pub is_before_jump : Building → State → Bool
+is_before_jump b s =
+    is_coroutine b s.top.func && (is_return (b.framing s.top.func) s.top.block && (s.top.at == 0))
+
+abbrev pub left_at : Building → (names : ℕ) → State → ℕ
+left_at b names s = if is_before_jump b s then credit names else 0
+
+-- a step and what is left behind it cost no more than what is full and what was left before it
+abbrev pub IsAfforded : (full : ℕ) → (left price : State → ℕ) → (s t : State) → Type 0
+IsAfforded full left price s t = price s + left t ≤ full + left s

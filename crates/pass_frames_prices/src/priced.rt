@@ -1,20 +1,31 @@
 //! Prices that pay for frames: each step of a coroutine, and of its caller, pays for the steps of the framed form.
 
-ghost use Rattle.std.specs.Prelude.{◌≡◌, ◌+◌, ◌*◌, ℕ, None, Some, slice_get, true};
+ghost use Rattle.std.specs.Prelude.{◌≡◌, ◌<◌, ◌≤◌, ◌+◌, ◌-◌, ◌*◌, ℕ, false, None, Some, slice_get, true};
+ghost use Rattle.flow_solver.specs.Paths.{IsListed};
+ghost use Rattle.ir_model.specs.Names.{function_at, position_of};
+ghost use Rattle.ir_model.specs.declared.instr.Instr.{Instr};
 ghost use Rattle.ir_model.specs.declared.module.Function.{Function};
 ghost use Rattle.ir_model.specs.declared.module.Module.{Module};
+ghost use Rattle.ir_paths.specs.Paths.{targets};
 ghost use Rattle.pass_early.specs.Early.{early_module};
-ghost use Rattle.pass_frames_prices.specs.FramePrices.{AreWithin, frame_prices, full_price};
+ghost use Rattle.pass_frames_proof.specs.Costs.{allocas_before, slot_cost};
+ghost use Rattle.pass_frames_prices.specs.FramePrices.{AreWithin, IsAfforded, IsWithin, credit, first_flagged};
+ghost use Rattle.pass_frames_prices.specs.FramePrices.{frame_prices, full_price, left_at};
+ghost use Rattle.pass_frames_proof.specs.Framings.{IsFraming};
 ghost use Rattle.pass_frames_proof.specs.Meaning.{PaysForFrames};
-ghost use Rattle.pass_frames_proof.specs.Places.{edged};
+ghost use Rattle.pass_frames_proof.specs.Passes.{block_at};
+ghost use Rattle.pass_frames_proof.specs.Places.{Framing, edged, instrs_at, is_return};
 ghost use Rattle.pass_frames_proof.specs.Related.{AreBuilt, Building, is_coroutine};
 ghost use Rattle.pass_frames_proof.specs.Stepping.{AreGiven};
-ghost use Rattle.pass_renewed_proof.specs.Prices.{renewed_price};
-ghost use Rattle.pass_renewed_proof.specs.Renewed.{RenewedGiven};
+ghost use Rattle.pass_renewed_proof.specs.Prices.{renewed_price, slots_in};
+ghost use Rattle.pass_renewed_proof.specs.Renewed.{Flags, RenewedGiven};
 ghost use Rattle.rule_laws.specs.frames.rows.Returns.{HaveOwnReturns};
 ghost use Rattle.rule_types.specs.Signatures.{first_otherwise};
+ghost use Rattle.run_agreement.specs.Costs.{cost_at};
 ghost use Rattle.run_agreement.specs.Factor.{most_operands_of_functions, most_phis_of_functions, names_of_functions};
 ghost use Rattle.run_agreement.specs.Factor.{size_factor};
+ghost use Rattle.run_agreement.specs.Machines.{Machine, state_at};
+ghost use Rattle.run_source.specs.declared.state.State.{State};
 
 /// Each step's price is what it costs at least, in all states. Blocks on resume and destroy edges are jumps alone,
 /// which the pass of edges gives. Names and operands are counted by the step factor.
@@ -35,4 +46,37 @@ pub fn size_factors_bound_coroutines()
     ensures price { (m : Module)
         → full_price (names_of_functions m.functions)
         (most_operands_of_functions m.functions + most_phis_of_functions m.functions) ≡ 4 * size_factor m }
+{}
+
+/// A jump from a block on a resume or destroy edge leads to no such block: a suspend's block alone leads to one.
+pub fn returns_lead_to_no_returns()
+    ensures { (x : Framing) → IsFraming x → HaveOwnReturns (edged x) → (k label : ℕ)
+        → slice_get (edged x).blocks k ≡ Some (block_at (edged x) k)
+        → IsListed label (targets (block_at (edged x) k).term) → is_return x k ≡ true
+        → is_return x (position_of (edged x) label) ≡ false }
+{}
+
+/// A resume with all slots that it makes anew costs what an average step may, less a credit.
+pub fn resumes_leave_credit()
+    ensures { (x : Framing) → IsFraming x → (names operands : ℕ) → IsWithin names operands x → (at : ℕ) (i : Instr)
+        → slice_get (instrs_at x 0) at ≡ Some i → (code : Module) (func : ℕ) → function_at code func ≡ edged x
+        → (flags : Flags)
+        → 3 + operands + allocas_before x (first_flagged flags code func 0)
+        + slots_in (λ k. slot_cost x k (first_flagged flags code func (k + 1))) (flags func)
+        (slice_get (function_at code func).blocks 0) ≤ full_price names operands - credit names }
+{}
+
+/// The price of a place, where no coroutine is resumed, is at most what is full and what is left there.
+pub fn places_cost_what_is_left()
+    ensures { (b : Building) (flags : Flags) (code : Module) (names operands : ℕ) (s : State)
+        → (frame_prices b flags code names operands).step s.top.func s.top.block s.top.at
+        ≤ full_price names operands + left_at b names s }
+{}
+
+/// Where each step is afforded by the full price and what is left, n steps from a start at which nothing is left cost
+/// at most n times the full price.
+pub fn afforded_runs_are_paid()
+    ensures { (a : Machine State) (full : ℕ) (left price : State → ℕ) → left a.start ≡ 0 → (n : ℕ)
+        → ((k : ℕ) → k < n → IsAfforded full left price (state_at a k) (state_at a (k + 1)))
+        → cost_at a price n ≤ full * n }
 {}

@@ -139,7 +139,7 @@ module _ (x : Framing) (is : IsFraming x) where
         pub instr_price : full ≤ price
         instr_price =
             let lt = slice_get_within (instrs_at x k) at i there in
-            all_of full (credit names) (is_return x k) (goes_on x k at)
+            all_of full (credit names) (is_return x k && (at == 0)) (goes_on x k at)
             (ap (λ (t : Bool). t && not (returns_by (block_at f k).term)) (apart at (length (instrs_at x k)) lt))
 
         pub instr_few : instr_cost x p ≤ full
@@ -195,7 +195,7 @@ module _ (x : Framing) (is : IsFraming x) where
           behind same = none_enters x.code is.position f is.frameable.rules k e.own label e.got listed same
 
           jump_by : (b : Bool) → is_return x k ≡ b
-              → jump_cost x k target ≤ price_by full (credit names) b (goes_on x k at)
+              → jump_cost x k target ≤ price_by full (credit names) (b && (at == 0)) (goes_on x k at)
           jump_by false d =
               let a = other_jump x is target goal behind k there d in
               let b = phis_few in
@@ -209,7 +209,9 @@ module _ (x : Framing) (is : IsFraming x) where
               let b : length (block_at f k).phis ≡ 0 = ap (λ (ps : List Phi). length ps) z.no_phis in
               let c = within.few in
               let h = within.phi target in
-              omega (arith, a, b, c, h)
+              let first : at ≡ 0 = last ∙ ap (λ (js : List Instr). length js) z.no_instrs in
+              subst (λ (t : Bool). jump_cost x k target ≤ price_by full (credit names) t (goes_on x k at))
+              (sym (ap (λ (n : ℕ). n == 0) first)) (omega (arith, a, b, c, h))
 
           pub jump_few : jump_cost x k target ≤ price
           jump_few = jump_by (is_return x k) refl
@@ -217,7 +219,7 @@ module _ (x : Framing) (is : IsFraming x) where
         module _ (r : returns_by t ≡ true) where
           pub return_price : full ≤ price
           return_price =
-              all_of full (credit names) (is_return x k) (goes_on x k at)
+              all_of full (credit names) (is_return x k && (at == 0)) (goes_on x k at)
               (both_none (at == length (instrs_at x k)) (returns_by (block_at f k).term) (ap returns_by term_is ∙ r))
 
           returning : is_return x k ≡ false
