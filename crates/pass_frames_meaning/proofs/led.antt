@@ -4,5 +4,6 @@ pub mod Led
 pub mod LedHooks
 pub mod Entered
 pub mod Sound
+pub mod Begins
 pub mod Tables
 pub mod SoundRuns

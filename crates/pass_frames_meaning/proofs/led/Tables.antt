@@ -1,55 +1,21 @@
 -- No name of an alloca that counts, and no value of begin, is an address in a slot that is made anew.
 use Rattle.std.proofs.Common.{◌≡◌, ℕ, Bool, true, false, List, Option, Some, None, refl, sym, ap, ◌∙◌}
 use Rattle.std.proofs.lemmas.Bool.{false≢true}
-use Rattle.std.specs.Prelude.{option_and_then, slice_get}
 use Rattle.ir_model.specs.Names.{function_at}
 use Rattle.ir_model.specs.Ty.{Ty}
 use Rattle.ir_model.specs.declared.instr.Instr.{Instr}
-use Rattle.ir_model.specs.declared.module.Function.{Function}
 use Rattle.ir_model.specs.declared.operand.Arg.{Arg}
-use Rattle.ir_model.specs.declared.operand.Callee.{Callee}
 use Rattle.ir_model.specs.declared.operand.Intrinsic.{Intrinsic}
 use Rattle.ir_model.specs.declared.operand.Operand.{Operand}
-use Rattle.ir_paths.specs.Windows.{call_result, instr_at, is_call_of, points_where}
 use Rattle.ir_paths.specs.declared.point.Point.{Point}
+use Rattle.pass_frames_meaning.proofs.led.Begins.{HasBegin, has_begin}
 use Rattle.pass_frames_meaning.specs.Led.{KeepAllNames, KeepsLedTables}
-use Rattle.pass_kept_proof.proofs.Rules.{where_is}
-use Rattle.pass_kept_proof.specs.Needed.{given_by}
 use Rattle.pass_kept_proof.specs.SuspendRules.{IsCallAt}
-use Rattle.pass_renewed_proof.proofs.Left.{instr_there}
 use Rattle.pass_renewed_proof.specs.Renewed.{RenewedGiven}
 use Rattle.pass_renewed_proof.specs.SlotRules.{IsAddressOf, IsMadeOnce, Itself, KeepsAllSlots, Part}
 use Rattle.pass_renewed_proof.specs.Steps.{given_at}
 use Rattle.run_framed.specs.Framed.{begin_name}
-use Rattle.run_step.specs.Step.{AtInstr, fetch}
-
--- where begin stands that gives the name
-record HasBegin (f : Function) (v : ℕ) : Type 0 where
-  point : Point
-  instr : Instr
-  stands : fetch f point.block point.at ≡ AtInstr instr
-  gives : given_by instr ≡ Some v
-
-begin_gives : (i : Instr) (v : ℕ) → is_call_of Intrinsic.CoroBegin i ≡ true → call_result i ≡ Some v
-    → given_by i ≡ Some v
-begin_gives (Instr.Call result must_tail ty (Callee.Intrinsic Intrinsic.CoroBegin) args) v is e = e
-begin_gives _ v is e = absurd (cc)
-
-has_begin : (f : Function) (v : ℕ) → begin_name f ≡ Some v → HasBegin f v
-has_begin f v e = on (slice_get (points_where (is_call_of Intrinsic.CoroBegin) f) 0) refl e
-  where
-    on : (o : Option Point) → slice_get (points_where (is_call_of Intrinsic.CoroBegin) f) 0 ≡ o
-        → option_and_then call_result (option_and_then (instr_at f) o) ≡ Some v → HasBegin f v
-    on None eo j = absurd (cc)
-    on (Some p) eo j =
-        let r = where_is (is_call_of Intrinsic.CoroBegin) f p eo in
-        record {
-          point = p;
-          instr = r.0;
-          stands = r.1;
-          gives = begin_gives r.0 v r.2
-              (ap (option_and_then call_result) (sym (instr_there f p r.0 r.1)) ∙ j);
-        }
+use Rattle.run_step.specs.Step.{AtInstr}
 
 no_gep : (v align : ℕ) (t : Ty) (w : ℕ) (inbounds : Bool) (ty : Ty) (u : ℕ) (indices : List Arg)
     → AtInstr (Instr.Alloca v t align) ≡ AtInstr (Instr.Gep w inbounds ty (Operand.Local u) indices) → ⊥
@@ -82,7 +48,7 @@ module _ (g : RenewedGiven) (counts : ℕ → ℕ → Bool) (slots : KeepsAllSlo
       on None e = refl
       on (Some a) e =
           absurd (by ((slots.each func).given v a begin.point.block begin.point.at e
-          (ap given_at begin.stands ∙ begin.gives)))
+          (ap given_at begin.stands ∙ begin.given)))
         where
           begin : HasBegin (function_at g.given.code func) v
           begin = has_begin (function_at g.given.code func) v b
