@@ -1,4 +1,5 @@
 pub mod Acts
+pub mod Afforded
 pub mod Jumps
 pub mod Left
 pub mod Names

@@ -1,6 +1,7 @@
 //! Prices that pay for frames: each step of a coroutine, and of its caller, pays for the steps of the framed form.
 
-ghost use Rattle.std.specs.Prelude.{◌≡◌, ◌<◌, ◌≤◌, ◌+◌, ◌-◌, ◌*◌, ℕ, false, None, Some, slice_get, true};
+ghost use Rattle.std.specs.Prelude.{◌≡◌, ◌<◌, ◌≤◌, ◌+◌, ◌-◌, ◌*◌, ℕ, false, length, None, Some, slice_get, true};
+ghost use Rattle.std.specs.Prelude.{◌&&◌, ◌==◌, if◌then◌else◌};
 ghost use Rattle.flow_solver.specs.Paths.{IsListed};
 ghost use Rattle.ir_model.specs.Names.{function_at, position_of};
 ghost use Rattle.ir_model.specs.declared.instr.Instr.{Instr};
@@ -9,7 +10,7 @@ ghost use Rattle.ir_model.specs.declared.module.Module.{Module};
 ghost use Rattle.ir_paths.specs.Paths.{targets};
 ghost use Rattle.pass_early.specs.Early.{early_module};
 ghost use Rattle.pass_frames_proof.specs.Costs.{allocas_before, slot_cost};
-ghost use Rattle.pass_frames_prices.specs.FramePrices.{AreWithin, IsAfforded, IsWithin, credit, first_flagged};
+ghost use Rattle.pass_frames_prices.specs.FramePrices.{AreWithin, IsAfforded, IsWithin, coroutine_price, credit, first_flagged};
 ghost use Rattle.pass_frames_prices.specs.FramePrices.{frame_prices, full_price, left_at};
 ghost use Rattle.pass_frames_proof.specs.Framings.{IsFraming};
 ghost use Rattle.pass_frames_proof.specs.Meaning.{PaysForFrames};
@@ -64,6 +65,17 @@ pub fn resumes_leave_credit()
         → 3 + operands + allocas_before x (first_flagged flags code func 0)
         + slots_in (λ k. slot_cost x k (first_flagged flags code func (k + 1))) (flags func)
         (slice_get (function_at code func).blocks 0) ≤ full_price names operands - credit names }
+{}
+
+/// The price of a jump, and the credit where it leads to a block on a resume or destroy edge, are at most what is full
+/// and what is left in front of it.
+pub fn jumps_are_afforded()
+    ensures { (x : Framing) → IsFraming x → HaveOwnReturns (edged x) → (names operands k label : ℕ)
+        → slice_get (edged x).blocks k ≡ Some (block_at (edged x) k)
+        → IsListed label (targets (block_at (edged x) k).term)
+        → coroutine_price (full_price names operands) (credit names) x k (length (instrs_at x k))
+        + (if is_return x (position_of (edged x) label) then credit names else 0)
+        ≤ full_price names operands + (if is_return x k && (length (instrs_at x k) == 0) then credit names else 0) }
 {}
 
 /// The price of a place, where no coroutine is resumed, is at most what is full and what is left there.
