@@ -90,8 +90,8 @@ pub fn homes_in_a_row_join()
         → IsValue (joined homes more) u w }
 {}
 
-/// Bytes from which what stands for a value is loaded stand for what is stored for it, and those from which a distance is
-/// loaded are its digits.
+/// Bytes from which what stands for a value is loaded stand for what is stored for it, and those from which a
+/// distance is loaded are its digits.
 pub fn loaded_bytes_stand()
     ensures values { (homes : List Home) (what : Access) (v : Value) (size : ℕ) (bytes : List Byte)
         → fitting.AreBytes bytes → length bytes ≡ size → IsValue homes v (decode what bytes)
@@ -139,7 +139,8 @@ pub fn suspended_instances_keep_values()
 {}
 
 /// Where a state of a source's run stands in a row of relations beside one of frames, the frame of each of its
-/// instances is there, and each live frame slot of the instance stands in it, byte for byte, where it lies by the layout.
+/// instances is there, and each live frame slot of the instance stands in it, byte for byte, where it lies by the
+/// layout.
 pub fn frames_show_live_slots()
     ensures { (l : Lowered) (low : IsLowered l) (a : Anew) → IsAnewOf (early l) a → (r : Run) (n : ℕ) (v u t : State)
         → IsKeptOf l.source (sizes_of l) r.answers (state_at (source_run l r) n) v → (made : AreMadeAnew l a v u)
@@ -148,8 +149,8 @@ pub fn frames_show_live_slots()
         built.homes) (state_at (source_run l r) n) t }
 {}
 
-/// The field of a value that crosses a suspend shows the value, or its distance from its slot, where the source's instance
-/// is suspended there. What is asked of the value is told by its coroutine and by what that was framed by.
+/// The field of a value that crosses a suspend shows the value, or its distance from its slot, where the source's
+/// instance is suspended there. What is asked of the value is told by its coroutine and by what that was framed by.
 pub fn fields_show_values()
     ensures values { (l : Lowered) (low : IsLowered l) (a : Anew) (r : Run) (s v u t : State)
         → IsKeptOf l.source (sizes_of l) r.answers s v → (made : AreMadeAnew l a v u)
@@ -174,8 +175,8 @@ pub fn fields_show_values()
         (digits size o.bits) f.block (f.instance.start + offset) }
 {}
 
-/// So frames show all fields of suspended instances, where what crosses a suspend of the source has its field, and offsets
-/// of addresses are of 64 bits.
+/// So frames show all fields of suspended instances, where what crosses a suspend of the source has its field, and
+/// offsets of addresses are of 64 bits.
 pub fn frames_show_fields()
     ensures { (l : Lowered) (low : IsLowered l) (a : Anew) (r : Run) (s v u t : State)
         → AreFieldsKept a l low r.answers → KeepSmallOffsets s → IsKeptOf l.source (sizes_of l) r.answers s v

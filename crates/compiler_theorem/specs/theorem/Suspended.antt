@@ -46,8 +46,8 @@ pub record IsSuspendedAlike (m : Module) (ys : List Instance) (i func : ℕ) (su
 
 -- ---- fields
 
--- what is known of a value that crosses a suspend of a source, by what its coroutine was framed by: it is needed behind
--- it, and has a field of so many bytes
+-- what is known of a value that crosses a suspend of a source, by what its coroutine was framed by: it is needed
+-- behind it, and has a field of so many bytes
 pub record IsFieldKept (m : Module) (x : Framing) (func : ℕ) (suspend : Point) (v size : ℕ) (k : KeptValue) : Type 0
   where
     pub needed : IsNeededBehind (function_at (edges_split (early_module m)) func) (kept_place m func suspend) v

@@ -72,8 +72,8 @@ pub record Steps (a : Anew) (l : Lowered) (low : IsLowered l) : Type 0 where
   pub paid : (r : Run) (n : ℕ) → IsEntryCall l.source r → IsFine (at (kept_run l a r) n).outcome
       → cost_at (kept_run l a r) (price_kept l a r (prices_of l low a)) n ≤ (4 * size_factor l.source) * n
 
--- waits for: the values that cross suspends and the distances, in the fields of instances that are suspended. Live frame
--- slots stand in frames (`frames_show_live_slots`)
+-- waits for: the values that cross suspends and the distances, in the fields of instances that are suspended. Live
+-- frame slots stand in frames (`frames_show_live_slots`)
 abbrev pub AreFramesShown : Anew → (l : Lowered) → IsLowered l → Type 0
 AreFramesShown a l low =
     (r : Run) (n : ℕ) (v u t : State) → IsKeptOf l.source (sizes_of l) r.answers (state_at (source_run l r) n) v

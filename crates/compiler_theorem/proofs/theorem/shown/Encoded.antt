@@ -35,7 +35,8 @@ number_digits (Byte.Number k ∷ bs) x fit e = on (number_of bs) refl e (λ n d.
         let is : k + 256 * n ≡ x = cc in
         let low = low_byte k n x fit.0 is in
         let high = high_bytes k n x fit.0 is in
-        (λ i. Byte.Number (low i) ∷ digits (length bs) (high i)) ∙ ap (λ (ds : List Byte). Byte.Number k ∷ ds) (again n d)
+        (λ i. Byte.Number (low i) ∷ digits (length bs) (high i))
+        ∙ ap (λ (ds : List Byte). Byte.Number k ∷ ds) (again n d)
 
 word_number : (w : ℕ) (o : Option ℕ) (x : Word) → integer_from w o ≡ Value.Int x → o ≡ Some x.bits
 word_number w None x e = absurd (cc)
@@ -78,7 +79,8 @@ parts_are p k (Byte.Part q j ∷ bs) e =
 pub decoded_encodes : (what : Access) (v : Value) (bs : List Byte) → fitting.AreBytes bs → decode what bs ≡ v
     → (v ≡ Value.Poison → ⊥) → encode (length bs) v ≡ bs
 decoded_encodes what Value.Poison bs fit e some = absurd (some refl)
-decoded_encodes (Access.Int w) (Value.Int x) bs fit e some = number_digits bs x.bits fit (word_number w (number_of bs) x e)
+decoded_encodes (Access.Int w) (Value.Int x) bs fit e some =
+    number_digits bs x.bits fit (word_number w (number_of bs) x e)
 decoded_encodes (Access.Int w) (Value.Ptr p) bs fit e some = absurd (no_pointer w (number_of bs) p e)
 decoded_encodes Access.Ptr v [] fit e some = absurd (some (sym e))
 decoded_encodes Access.Ptr v (Byte.Undefined ∷ bs) fit e some = absurd (some (sym e))

@@ -43,7 +43,8 @@ coroutine_was : (fs : List Function) (func : ℕ)
 coroutine_was fs func is = on (slice_get fs func) (ap (λ (o : Option Function). (unwrap_or o no_function).coroutine)
     (sym (slice_get-map early_function fs func)) ∙ is)
   where
-    at : (b : Bool) (f : Function) → f.coroutine ≡ b → (if b then early_named (with_begin_name f) else f).coroutine ≡ true → b ≡ true
+    at : (b : Bool) (f : Function) → f.coroutine ≡ b
+        → (if b then early_named (with_begin_name f) else f).coroutine ≡ true → b ≡ true
     at true f e h = refl
     at false f e h = sym e ∙ h
 
@@ -75,13 +76,15 @@ module _ (l : Lowered) (low : IsLowered l) (answers : List ℤ) (func : ℕ)
       func was (λ (h : Function). allocas_of h ≡ allocas_of f) each in
       stays.0 refl
     where
-      by : (h k : Function) → allocas_of k ≡ allocas_of h → (allocas_of h ≡ allocas_of f) ↔ (allocas_of k ≡ allocas_of f)
+      by : (h k : Function) → allocas_of k ≡ allocas_of h
+          → (allocas_of h ≡ allocas_of f) ↔ (allocas_of k ≡ allocas_of f)
       by h k e = ((λ d. e ∙ d), (λ d. sym e ∙ d))
 
       each : StaysUnderEach (λ (h : Function). allocas_of h ≡ allocas_of f)
       each = record {
         named = λ h n u. by h (with_begin_name h) (named_holds l.source l.source refl h n u).allocas;
-        renamed = λ h r ok plain. by h (renamed_coroutine r h) (renamed_holds l.source l.source refl h r ok plain).allocas;
+        renamed = λ h r ok plain. by h (renamed_coroutine r h)
+            (renamed_holds l.source l.source refl h r ok plain).allocas;
         saved = λ h n t. by h (saved_function h) (saved_holds l.source l.source refl h n t).allocas;
       }
 

@@ -49,7 +49,8 @@ module _ (b : Building) (u t : State) (h : AreBuiltOf b u t) where
   slot_placed i y e f slot own w there live free position offset position_is offset_is =
       let placed = (h.instances i y f.instance e f.there).slots slot own in
       let seen : (home_of h.homes slot.block).is_seen ≡ true = ap (λ (q : Home). q.is_seen) placed.home in
-      let x = whole_stands (frame_rights b.given t.instances) h.homes h.hides u.world.memory t.world.memory slot.block w
+      let x = whole_stands (frame_rights b.given t.instances) h.homes h.hides
+      u.world.memory t.world.memory slot.block w
       h.world.memory (shown_there slot.block seen) there live free in
       let at : slice_get t.world.memory f.instance.block ≡ Some x.block =
       ap (λ (q : Home). slice_get t.world.memory q.block) (sym placed.home) ∙ x.there in

@@ -44,7 +44,8 @@ module _ (l : Ledger) (Seated Owns : Slot → Type 0) (flags : ℕ → Bool) (se
     own = (0, omega arith, ap (λ (s : Slot). record { alloca = s.alloca; block = c }) e);
   }
   both_slot _ _ (Both alloca b c ss ts plain home none rest) slot (suc k, lt, e) off =
-      further l (record { alloca = alloca; block = c }) ts slot (both_slot ss ts rest slot (k, omega (arith, lt), e) off)
+      further l (record { alloca = alloca; block = c }) ts slot
+      (both_slot ss ts rest slot (k, omega (arith, lt), e) off)
   both_slot _ _ (First s ss ts own rest) slot (zero, lt, e) off =
       absurd (false≢true (sym off ∙ ap (λ (z : Slot). flags z.alloca) (sym e) ∙ seated s own))
   both_slot _ _ (First s ss ts own rest) slot (suc k, lt, e) off =

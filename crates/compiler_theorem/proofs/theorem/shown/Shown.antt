@@ -61,7 +61,8 @@ module _ (l : Lowered) (low : IsLowered l) (a : Anew) (r : Run) (s v u t : State
   distances_in i x e unfreed f p values n offset size at o is crosses field among address =
       let h = own i x e unfreed p values is in
       let k = has_field i x p values h f n offset size crosses field in
-      field_distance l low a r s v u t kept made built fit i x.coroutine p values h f n offset size k.value k.kept field
+      field_distance l low a r s v u t kept made built fit i x.coroutine p values h f
+      n offset size k.value k.kept field
       (k.distances among) at o address (small i x p values n at o e is address)
 
   pub fields_shown : AreFieldsShown l.source l.layouts.coroutines homes s t

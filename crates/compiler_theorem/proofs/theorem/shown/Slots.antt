@@ -73,7 +73,8 @@ slot_free s h i x e slot own y there =
     let one = contained_times x.slots slot own in
     let among = times_among slot.block s.instances i x e in
     let z = h.slotted.there slot.block (omega (arith, one, among)) in
-    ap (λ (w : MemoryBlock). w.owned) (same_there (slice_get s.world.memory slot.block) y z.block there z.there) ∙ z.free
+    ap (λ (w : MemoryBlock). w.owned)
+    (same_there (slice_get s.world.memory slot.block) y z.block there z.there) ∙ z.free
 
 -- ---- in a row
 

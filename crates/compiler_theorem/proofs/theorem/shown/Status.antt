@@ -41,7 +41,8 @@ module _ (m : Module) (flags : Flags) (roots : Roots) where
   beside_suspended s u b i c p values h =
       let r = instance_beside m flags roots b.ledger s.world.memory 0 s.instances u.instances b.instances i h.instance
       h.there in
-      let st = subst (λ (z : Status). IsStatusBeside m flags roots b.ledger s.world.memory h.instance z r.beside.status)
+      let st = subst (λ (z : Status). IsStatusBeside m flags roots
+      b.ledger s.world.memory h.instance z r.beside.status)
       h.status r.beside.statuses in
       record {
         others = st.0;

@@ -64,7 +64,8 @@ none_left (suc n) h = absurd (h (omega arith))
 module _ (m : Module) (flags : Flags) (roots : Roots) (s u : State) (b : IsBeside m flags roots s u) where
   -- ---- blocks
 
-  module _ (n c : ℕ) (x : MemoryBlock) (home : home_of b.ledger.homes n ≡ whole_home c) (none : b.ledger.seats n ≡ None)
+  module _ (n c : ℕ) (x : MemoryBlock) (home : home_of b.ledger.homes n ≡ whole_home c)
+      (none : b.ledger.seats n ≡ None)
       (there : slice_get s.world.memory n ≡ Some x) where
     same_block : (b.entered.mates n x none there).block ≡ c
     same_block = ap (λ (q : Home). q.block) (sym (b.entered.mates n x none there).home ∙ home)
@@ -78,7 +79,8 @@ module _ (m : Module) (flags : Flags) (roots : Roots) (s u : State) (b : IsBesid
     pub standing : is_live x.life ≡ true → x.owned ≡ None → HasStanding b.ledger.homes u.world.memory c x
     standing live free =
         let mate = b.entered.mates n x none there in
-        let w = whole_stands owner_rights b.ledger.homes b.ledger.hides s.world.memory u.world.memory n x b.world.memory
+        let w = whole_stands owner_rights b.ledger.homes b.ledger.hides s.world.memory
+        u.world.memory n x b.world.memory
         mate.shown there live free in
         let at : slice_get u.world.memory c ≡ Some w.block =
         ap (λ (q : Home). slice_get u.world.memory q.block) (sym home) ∙ w.there in

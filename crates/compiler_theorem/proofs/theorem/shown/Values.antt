@@ -67,7 +67,8 @@ distance_row : (values others last : Env) (v root : ℕ) (other slot d : Value) 
     → (value_in others v ≡ Value.Poison) ⊎ IsAddress (value_in others root) other (value_in others v) (value_in last v)
     → IsDistanceOf slot (value_in last v) d → d ≡ Value.Int (record { width = 64; bits = o.bits })
 unfolding offset_of
-distance_row values others last v root other slot d b o (inl e) is lt h k = absurd (no_poison b o (value_in values v) is e)
+distance_row values others last v root other slot d b o (inl e) is lt h k =
+    absurd (no_poison b o (value_in values v) is e)
 distance_row values others last v root other slot d b o (inr e) is lt (inl p) k =
     absurd (no_poison b o (value_in others v) (e ∙ is) p)
 distance_row values others last v root other slot d b o (inr e) is lt (inr a) (inl p) =

@@ -19,13 +19,16 @@ pub record IsWhole (homes : List Home) (n : List MemoryBlock) (b : ℕ) (x : Mem
   pub whole : length block.bytes ≡ block.size
   pub bytes : AreBytes homes x.bytes (take (length x.bytes) (drop (home_of homes b).offset block.bytes))
 
-whole_cut : (homes : List Home) (o size room : ℕ) (cs ds : List Byte) → length cs ≡ size → length ds ≡ room → o + size ≤ room
+whole_cut : (homes : List Home) (o size room : ℕ) (cs ds : List Byte)
+    → length cs ≡ size → length ds ≡ room → o + size ≤ room
     → ((i : ℕ) → i < size → IsByte homes (get_or cs i Byte.Undefined) (get_or ds (o + i) Byte.Undefined))
     → AreBytes homes cs (take (length cs) (drop o ds))
 whole_cut homes o size room cs ds full whole fits each =
-    subst (λ (bs : List Byte). AreBytes homes bs (take (length cs) (drop o ds))) (take_all (length cs) cs (omega arith))
+    subst (λ (bs : List Byte). AreBytes homes bs (take (length cs) (drop o ds)))
+    (take_all (length cs) cs (omega arith))
     (cut_stands homes cs ds 0 o (length cs) (omega arith) (omega (arith, full, whole, fits))
-    (λ i lt. subst (λ (k : ℕ). IsByte homes (get_or cs k Byte.Undefined) (get_or ds (o + i) Byte.Undefined)) (from_zero i)
+    (λ i lt. subst (λ (k : ℕ). IsByte homes (get_or cs k Byte.Undefined)
+    (get_or ds (o + i) Byte.Undefined)) (from_zero i)
     (each i (omega (arith, lt, full)))))
   where
     from_zero : (i : ℕ) → i ≡ 0 + i
