@@ -2,7 +2,6 @@
 
 ghost use Rattle.std.specs.Prelude.{◌≡◌, ◌⊎◌, ℕ, Bool, List, Some, false, true};
 ghost use Rattle.std.specs.List.{Contains};
-ghost use Rattle.ir_base.specs.declared.outcome.Outcome.{Outcome};
 ghost use Rattle.ir_base.specs.declared.outcome.Word.{Word};
 ghost use Rattle.ir_laws.specs.facts.sound_states.Named.{AreLocalsNamed, HasNamedLocals};
 ghost use Rattle.ir_model.specs.Names.{function_at};
