@@ -15,5 +15,6 @@ pub mod Roots
 pub mod Rows
 pub mod Slots
 pub mod Stack
+pub mod Stepping
 pub mod Whole
 pub mod shown

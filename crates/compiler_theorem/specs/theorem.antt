@@ -1,5 +1,6 @@
 pub mod Anew
 pub mod Asked
+pub mod Between
 pub mod Built
 pub mod Elision
 pub mod Entries

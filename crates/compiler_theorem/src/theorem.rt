@@ -3,19 +3,21 @@
 
 ghost use Rattle.run_source.specs.declared.state.State.{State};
 ghost use Rattle.compiler_theorem.specs.theorem.Anew.{Anew, IsAnewOf};
-ghost use Rattle.compiler_theorem.specs.theorem.Asked.{asking};
+ghost use Rattle.compiler_theorem.specs.theorem.Asked.{AreAllStepsLeft, asking};
 ghost use Rattle.compiler_theorem.specs.theorem.Built.{building};
-ghost use Rattle.compiler_theorem.specs.theorem.Entries.{Run, IsEntry};
+ghost use Rattle.compiler_theorem.specs.theorem.Entries.{IsEntry, IsEntryCall, Run};
 ghost use Rattle.compiler_theorem.specs.theorem.Lowered.{AreAllocasFirst, HasFewBytes, Lowered, IsLowered, early, edged, printed_from, sizes_of, source_run};
 ghost use Rattle.ir_model.specs.declared.module.Module.{Module};
 ghost use Rattle.frame_layout.specs.declared.layout.Layouts.{Layouts};
 ghost use Rattle.pass_frames.specs.Framed.{IsFramedForm};
 ghost use Rattle.std.specs.Prelude.{◌≡◌, ◌+◌, ◌<◌, ◌^◌, ℕ, ℤ, false, List, Some, length, slice_get, true};
 ghost use Rattle.run_types.specs.States.{AreArguments};
+ghost use Rattle.pass_frames_meaning.specs.Covered.{AreCoveredStepsFollowed};
 ghost use Rattle.pass_frames_meaning.specs.Setting.{KeepsAll};
 ghost use Rattle.pass_frames_proof.specs.Related.{AreBuilt, AreBuiltOf};
 ghost use Rattle.pass_frames_proof.specs.Stepping.{AreGiven};
-ghost use Rattle.compiler_theorem.specs.theorem.Theorem.{AreFramesShown, AreMadeAnew, KeepsMeaning, KeepsRuns, Steps, renewing};
+ghost use Rattle.compiler_theorem.specs.theorem.Between.{renewing, setting};
+ghost use Rattle.compiler_theorem.specs.theorem.Theorem.{AreFramesShown, AreMadeAnew, KeepsMeaning, KeepsRuns, Steps};
 ghost use Rattle.compiler_theorem.specs.theorem.Elision.{ElidedSteps, ElidesCalls};
 ghost use Rattle.compiler_theorem.specs.theorem.Rows.{joined};
 ghost use Rattle.compiler_theorem.specs.theorem.SharedBytes.{HasField, StandAt};
@@ -80,6 +82,13 @@ pub fn sources_give_frames()
 pub fn sources_keep_rules_of_frames()
     ensures { (l : Lowered) (low : IsLowered l) → HasFewBytes l → (a : Anew) → IsAnewOf (early l) a → (r : Run)
         → KeepsAll (asking l low a r) }
+{}
+
+/// Each step from a covered state of an accepted source is followed in its framed form, where what is left is known.
+pub fn steps_of_sources_are_followed()
+    ensures { (l : Lowered) (low : IsLowered l) → HasFewBytes l → (a : Anew) → IsAnewOf (early l) a → (r : Run)
+        → IsEntryCall l.source r → AreAllStepsLeft l low a r
+        → AreCoveredStepsFollowed (setting l a r) (building l low.is_framed r.answers) }
 {}
 
 /// Bytes and values that stand for others in a row of memories stand for them by the joined homes.

@@ -64,14 +64,8 @@ pub record KeepsAll (c : Setting) : Type 0 where
   pub laid : (func : ℕ) → is_coroutine c.b func ≡ true → IsPromiseLaid (c.b.framing func)
   pub frames : (func : ℕ) → frame_of c.b.given.given.sizes func ≡ frame_of c.g.given.sizes func
 
--- states of the two runs beside each other
-pub record AreOfRuns (c : Setting) (s t : State) (r : AreBuiltOf c.b s t) : Type 0 where
-  pub sound : IsSound c.g.given.code s
-  pub fitting : IsFittingState c.g.given.code s
-  pub called : IsCalledState c.g.given.code s
-  -- slots have blocks of allocas, and instances those of allocators
-  pub slots : IsSlottedState s
-  pub other_slots : IsSlottedState t
+-- what isn't derived yet of a state of the run that makes slots anew
+pub record MayStep (c : Setting) (s : State) : Type 0 where
   -- the name of an alloca has the address of its slot where a marker stands
   pub marked : is_coroutine c.b s.top.func ≡ false → (starts must_tail : Bool) (ty : Option Ty) (size : Arg) (u : Ty)
       (name : ℕ)
@@ -84,3 +78,13 @@ pub record AreOfRuns (c : Setting) (s t : State) (r : AreBuiltOf c.b s t) : Type
       → fetch (function_of c.g.given s) s.top.block s.top.at ≡ AtTerm (Terminator.Ret arg)
       → is_coroutine c.b a.func ≡ true
       → FitsResult (c.b.framing a.func) s.top.result (given_value c.g.given.code s.top.values arg)
+
+-- states of the two runs beside each other
+pub record AreOfRuns (c : Setting) (s t : State) (r : AreBuiltOf c.b s t) : Type 0 where
+  pub sound : IsSound c.g.given.code s
+  pub fitting : IsFittingState c.g.given.code s
+  pub called : IsCalledState c.g.given.code s
+  -- slots have blocks of allocas, and instances those of allocators
+  pub slots : IsSlottedState s
+  pub other_slots : IsSlottedState t
+  pub may : MayStep c s

@@ -11,7 +11,7 @@ use Rattle.compiler_theorem.specs.theorem.Anew.{Anew, IsAnewOf}
 use Rattle.compiler_theorem.specs.theorem.Built.{building}
 use Rattle.compiler_theorem.specs.theorem.Entries.{IsEntryCall, Run}
 use Rattle.compiler_theorem.specs.theorem.Lowered.{HasFewBytes, IsLowered, Lowered, early, edged, price_renewed, sizes_of}
-use Rattle.compiler_theorem.specs.theorem.Theorem.{renewing, setting}
+use Rattle.compiler_theorem.specs.theorem.Between.{renewing, setting}
 use Rattle.ir_base.specs.declared.name.Name.{Name}
 use Rattle.ir_laws.proofs.facts.Lists.{map_same}
 use Rattle.ir_laws.specs.facts.same_names.Same.{naming}

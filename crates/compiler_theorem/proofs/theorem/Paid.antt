@@ -8,7 +8,8 @@ use Rattle.compiler_theorem.specs.theorem.Anew.{Anew}
 use Rattle.compiler_theorem.specs.theorem.Built.{building}
 use Rattle.compiler_theorem.specs.theorem.Entries.{Run}
 use Rattle.compiler_theorem.specs.theorem.Lowered.{IsLowered, Lowered, price_renewed}
-use Rattle.compiler_theorem.specs.theorem.Theorem.{prices_of, renewing}
+use Rattle.compiler_theorem.specs.theorem.Between.{renewing}
+use Rattle.compiler_theorem.specs.theorem.Theorem.{prices_of}
 use Rattle.ir_model.specs.declared.module.Function.{Function}
 use Rattle.pass_edges.specs.EdgeBlocks.{with_edge_blocks}
 use Rattle.pass_frames_prices.proofs.priced.Paid.{pays}

@@ -7,7 +7,7 @@ use Rattle.compiler_theorem.proofs.theorem.Slots.{split_slots}
 use Rattle.compiler_theorem.specs.theorem.Anew.{Anew, IsAnewOf}
 use Rattle.compiler_theorem.specs.theorem.Entries.{IsEntryCall, Run}
 use Rattle.compiler_theorem.specs.theorem.Lowered.{HasFewBytes, IsLowered, Lowered, early, edged, sizes_of}
-use Rattle.compiler_theorem.specs.theorem.Theorem.{setting}
+use Rattle.compiler_theorem.specs.theorem.Between.{setting}
 use Rattle.ir_laws.specs.facts.sound_states.Named.{AreLocalsNamed}
 use Rattle.ir_model.specs.Names.{function_at, no_function}
 use Rattle.ir_model.specs.declared.module.Function.{Function}

@@ -19,6 +19,7 @@ use Rattle.compiler_theorem.specs.theorem.SharedBytes.{AreShown}
 use Rattle.compiler_theorem.specs.theorem.ShownSlots.{step_homes}
 use Rattle.compiler_theorem.specs.theorem.Theorem.{AreFramesShown, AreMadeAnew, IsSomewhereShown, Steps, prices_of}
 use Rattle.compiler_theorem.proofs.theorem.Paid.{frames_paid}
+use Rattle.compiler_theorem.proofs.theorem.Stepping.{covered_followed}
 use Rattle.pass_frames_proof.specs.Related.{AreBuiltOf, AreShownAlike}
 use Rattle.pass_renewed_meaning.specs.Followed.{AreAlike}
 use Rattle.pass_proofs.proofs.kept.sources.States.{split_corresponds}
@@ -54,7 +55,7 @@ module _ (a : Anew) (l : Lowered) (low : IsLowered l) (few : HasFewBytes l) (h :
   -- Kept to Framed
   pub to_framed : AgreesBy (Through (AreMadeAnew l a) Framed) (Through AreAlike NearlyFramed) (kept_run l a r)
       (price_kept l a r (prices_of l low a)) (framed_run l l.framed r) (λ t. 1)
-  to_framed = framing l low few a h.anew (prices_of l low a) r call (h.followed r call) (frames_paid l low a r)
+  to_framed = framing l low few a h.anew (prices_of l low a) r call (covered_followed l low few a h.anew r call (h.left r call)) (frames_paid l low a r)
 
   -- Source to Framed
   pub framed_within : AgreesWithin (4 * (4 * size_factor l.source)) (at (source_run l r))

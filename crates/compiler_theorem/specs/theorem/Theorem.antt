@@ -10,44 +10,25 @@ use Rattle.run_agreement.specs.Machines.{IsFine, at, state_at}
 use Rattle.text_canonical.specs.canonical.Items.{module_text}
 use Rattle.run_source.specs.declared.state.State.{State}
 use Rattle.compiler_theorem.specs.theorem.Anew.{Anew, IsAnewOf}
+use Rattle.compiler_theorem.specs.theorem.Asked.{AreAllStepsLeft}
 use Rattle.compiler_theorem.specs.theorem.Entries.{IsEntryCall, Run}
 use Rattle.compiler_theorem.specs.theorem.Built.{building}
 use Rattle.compiler_theorem.specs.theorem.Lowered.{IsLowered, Lowered, early, edged, framed_run, kept_run, lowered_from}
 use Rattle.compiler_theorem.specs.theorem.Lowered.{plain_run, price_kept, printed_from, sizes_of}
 use Rattle.compiler_theorem.specs.theorem.Lowered.{source_run}
-use Rattle.pass_frames_meaning.specs.Covered.{AreCoveredStepsFollowed}
 use Rattle.pass_frames_prices.specs.FramePrices.{frame_prices}
 use Rattle.pass_frames_proof.specs.Related.{AreBuiltOf}
 use Rattle.pass_renewed_proof.specs.Prices.{Prices}
-use Rattle.pass_renewed_proof.specs.Renewed.{RenewedGiven, renewed_given}
 use Rattle.compiler_theorem.specs.theorem.Rows.{joined}
 use Rattle.compiler_theorem.specs.theorem.SharedBytes.{AreShown}
 use Rattle.compiler_theorem.specs.theorem.ShownSlots.{AreFieldsShown, step_homes}
 use Rattle.text_grammar.specs.Text.{StandsFor}
 use Rattle.pass_proofs.specs.kept.sources.Beside.{IsKeptOf}
 use Rattle.pass_renewed_meaning.specs.Followed.{AreInStep}
-use Rattle.pass_renewed_meaning.specs.Rules.{Setting}
-
--- what is asked of a run in which slots are made anew
-abbrev pub setting : Lowered → Anew → Run → Setting
-setting l a r = record {
-  code = edged l;
-  keep = a.keep;
-  flags = a.flags;
-  roots = a.roots;
-  sizes = sizes_of l;
-  entry = r.entry;
-  args = r.args;
-  answers = r.answers;
-}
 
 -- states of the run that hands values on and of that which makes slots anew, at corresponding steps
 abbrev pub AreMadeAnew : Lowered → Anew → State → State → Type 0
 AreMadeAnew l a = AreInStep (edged l) a.flags a.roots
-
--- what frames are built for
-abbrev pub renewing : Lowered → Anew → Run → RenewedGiven
-renewing l a r = renewed_given (edged l) a.keep a.flags a.roots (sizes_of l) r.answers
 
 -- the prices of steps: 4 for each name and operand that the step factor counts, and 4
 abbrev pub prices_of : (l : Lowered) → IsLowered l → Anew → Prices
@@ -57,16 +38,15 @@ prices_of l low a =
 
 -- | Pass | from | to | costs | |
 -- | saves written out, edges with blocks, what is needed handed on | Source | Kept | 4 | stands |
--- | slots made anew and frames built, by prices that fit | Kept | Framed | 4 * (1 + p + q), on average | by `followed` |
+-- | slots made anew and frames built, by prices that fit | Kept | Framed | 4 * (1 + p + q), on average | by `left` |
 -- | functions split | Framed | Plain | 4 | stands |
 -- | calls of coro.id gone, then names in order | Plain | Plain | 1 | stands |
 pub record Steps (a : Anew) (l : Lowered) (low : IsLowered l) : Type 0 where
   -- such tables there are (`sources_have_tables`)
   pub anew : IsAnewOf (early l) a
-  -- waits for: the steps of the simulation of frames, from states of runs that are covered. By it the two runs agree
-  -- (`kept_runs_agree_with_framed_ones`)
-  pub followed : (r : Run) → IsEntryCall l.source r
-      → AreCoveredStepsFollowed (setting l a r) (building l low.is_framed r.answers)
+  -- waits for: what is left to know of states from which the simulation of frames follows steps. By it each step is
+  -- followed (`steps_of_sources_are_followed`), and the two runs agree (`kept_runs_agree_with_framed_ones`)
+  pub left : (r : Run) → IsEntryCall l.source r → AreAllStepsLeft l low a r
   -- waits for: a resume with the jump behind it, and a suspend with the one before it. By each step's price the run in
   -- which slots are made anew pays for the framed one (`prices_pay_for_frames`)
   pub paid : (r : Run) (n : ℕ) → IsEntryCall l.source r → IsFine (at (kept_run l a r) n).outcome

@@ -185,7 +185,7 @@ module _ (c : Setting) (all : KeepsAll c) (s t : State) (r : AreBuiltOf c.b s t)
 
   spared : AreFieldsSpared c.b s t r
   spared = fields_spared c.b s t r (listed_slots s k.slots) (slots_listed s k.slots) (slots_apart t k.other_slots)
-      (instances_placed s k.slots) k.fields (no_returns_below c all s k.called.below)
+      (instances_placed s k.slots) k.may.fields (no_returns_below c all s k.called.below)
 
   -- K1
   no_window : HasNoWindows c.b c.g s.top.func
@@ -487,7 +487,7 @@ module _ (c : Setting) (all : KeepsAll c) (s t : State) (r : AreBuiltOf c.b s t)
         let at : fetch (function_at c.g.given.code s.top.func) s.top.block s.top.at
         ≡ AtInstr (marking starts must_tail ty two.first two.second.ty m.slot) =
         there ∙ (λ j. AtInstr (Instr.Call (none j) must_tail ty (Callee.Intrinsic (marker starts)) (shaped j))) in
-        let whole = k.marked plain starts must_tail ty two.first two.second.ty m.slot at in
+        let whole = k.may.marked plain starts must_tail ty two.first two.second.ty m.slot at in
         other_marker_followed c.b c.g all.given s t r starts must_tail ty two.first two.second.ty m.slot (record {
           runs = runs;
           plain = plain;
@@ -664,7 +664,7 @@ module _ (c : Setting) (all : KeepsAll c) (s t : State) (r : AreBuiltOf c.b s t)
             below = d;
             goes = record {
               mode = waits a.mode calm.calm;
-              call = λ is. (behind_call c all a s.top.result is (room a more d) calm, k.stored a more arg d there is);
+              call = λ is. (behind_call c all a s.top.result is (room a more d) calm, k.may.stored a more arg d there is);
             };
           }) plain owned
 

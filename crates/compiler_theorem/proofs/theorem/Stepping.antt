@@ -1,0 +1,197 @@
+-- States of the two runs between which frames are built are what laws on steps ask, but for what is left.
+use Rattle.std.proofs.Common.{◌≡◌, ℕ, Bool, true, false, List, length, map, refl, sym, ap, ◌∙◌, subst}
+use Rattle.std.proofs.lemmas.Bool.{false≢true}
+use Rattle.std.specs.Prelude.{All, None, Option, Some, slice_get, unwrap_or, ◌==◌, ◌&&◌}
+use Rattle.compiler.proofs.whole.lowered_sources.Row.{is_ready}
+use Rattle.compiler.specs.cleanup.accepted.Ready.{IsReady}
+use Rattle.compiler_theorem.proofs.theorem.Asked.{asked_kept}
+use Rattle.compiler_theorem.proofs.theorem.Renewing.{all_kept}
+use Rattle.compiler_theorem.specs.theorem.Anew.{Anew, IsAnewOf}
+use Rattle.compiler_theorem.specs.theorem.Asked.{AreStepsLeft, asking}
+use Rattle.compiler_theorem.specs.theorem.Built.{building}
+use Rattle.compiler_theorem.specs.theorem.Entries.{IsEntryCall, Run}
+use Rattle.compiler_theorem.specs.theorem.Lowered.{HasFewBytes, IsLowered, Lowered, early, edged, sizes_of}
+use Rattle.compiler_theorem.specs.theorem.Between.{renewing, setting}
+use Rattle.ir_base.specs.declared.name.Name.{Name}
+use Rattle.ir_laws.proofs.facts.Truth.{and_first, and_second}
+use Rattle.ir_laws.proofs.facts.same_names.Lists.{what_is_found}
+use Rattle.ir_model.specs.Names.{function_at, no_function, noalloc_of, same_name}
+use Rattle.ir_model.specs.Ty.{Ty}
+use Rattle.ir_model.specs.declared.instr.Instr.{Instr}
+use Rattle.ir_model.specs.declared.module.Block.{Block}
+use Rattle.ir_model.specs.declared.module.Function.{Function}
+use Rattle.ir_model.specs.declared.operand.Arg.{Arg}
+use Rattle.ir_model.specs.declared.operand.Callee.{Callee}
+use Rattle.ir_paths.specs.Facts.{IsWindow}
+use Rattle.ir_paths.specs.Windows.{instr_at, instr_in}
+use Rattle.ir_paths.specs.declared.point.Window.{Window}
+use Rattle.ir_paths.specs.declared.point.Point.{Point}
+use Rattle.ir_tables.proofs.Tables.{same_name-same}
+use Rattle.pass_exits.specs.ExitBlocks.{with_exit_blocks}
+use Rattle.pass_frames_meaning.proofs.called.CalledHooks.{renewed_keeps_called, states_called}
+use Rattle.pass_frames_meaning.proofs.coroutines.Functions.{all_followed}
+use Rattle.pass_frames_meaning.proofs.led.SoundRuns.{runs_sound}
+use Rattle.pass_frames_meaning.specs.Called.{IsCalledState}
+use Rattle.pass_frames_meaning.specs.Covered.{AreCoveredStepsFollowed, IsCovered}
+use Rattle.pass_frames_meaning.specs.Setting.{AreOfRuns}
+use Rattle.pass_frames_proof.specs.Related.{AreBuiltOf}
+use Rattle.pass_proofs.proofs.exits.states.Points.{instr_moved, moved}
+use Rattle.pass_renewed_meaning.proofs.Tables.{same_windows}
+use Rattle.pass_renewed_proof.specs.Renewed.{RenewedGiven, renewed_step}
+use Rattle.pass_split_proof.proofs.ready.Callees.{callee_known}
+use Rattle.pass_split_proof.proofs.ready.Gives.{unknown_ramp}
+use Rattle.rule_laws.proofs.rules.sources.Places.{instr_there, point}
+use Rattle.rule_names.specs.Known.{knows_name}
+use Rattle.run_accepted.proofs.Accepted.{edged_places, edged_switches}
+use Rattle.run_framed.specs.Framed.{FramedGiven, framed_state_at, framed_step, given_ramp}
+use Rattle.run_hooks.proofs.Keeping.{renewed_keeps}
+use Rattle.run_hooks.proofs.PlacedKeeping.{renewed_keeps_placed}
+use Rattle.run_hooks.proofs.PlacedSteps.{states_placed}
+use Rattle.run_hooks.proofs.Steps.{framed_steps, renewed_steps, same_runs}
+use Rattle.run_hooks.specs.Away.{KeepsAllPlaceRules}
+use Rattle.run_hooks.specs.Hooks.{hooked_state_at, step_of}
+use Rattle.run_hooks.specs.Meanings.{framed_hooks, renewed_hooks}
+use Rattle.run_hooks.specs.Reached.{AllHaveSwitches}
+use Rattle.run_slots.proofs.Meanings.{framed_keeps_slots, renewed_keeps_slots}
+use Rattle.run_slots.proofs.Steps.{states_slotted}
+use Rattle.run_slots.specs.Slots.{GivesNoFrames, IsSlottedState}
+use Rattle.run_source.specs.Source.{first_state}
+use Rattle.run_source.specs.declared.state.State.{State}
+use Rattle.run_states.specs.sound_states.Sound.{IsSound}
+use Rattle.run_step.specs.Runs.{iterate}
+use Rattle.run_step.specs.Step.{AtInstr, fetch, fetch_in, fetch_or}
+use Rattle.run_types.proofs.Meanings.{renewed_keeps_fitting}
+use Rattle.run_types.proofs.Runs.{states_fit}
+use Rattle.run_types.specs.States.{IsFittingState}
+
+-- ---- no call of a framed form gives a frame
+
+fetched : (h : Function) (p : Point) (i : Instr) → instr_at h p ≡ Some i → fetch h p.block p.at ≡ AtInstr i
+fetched h p i e = on (slice_get h.blocks p.block) e
+  where
+    on : (o : Option Block) → instr_in o p.at ≡ Some i → fetch_in o p.at ≡ AtInstr i
+    on None d = absurd (cc)
+    on (Some b) d = ap (λ (o : Option Instr). fetch_or o (p.at == length b.instrs) b.term) d
+
+module _ (l : Lowered) (low : IsLowered l) where
+  ready : IsReady l.layouts l.framed
+  ready = is_ready l.text l.source low.source.stands low.source.accepted l.share l.layouts low.laid l.framed
+      low.is_framed
+
+  module _ (block at : ℕ) (result : Option ℕ) (must_tail : Bool) (ty : Option Ty) (n : Name) (args : List Arg) where
+    abbrev call : Instr
+    call = Instr.Call result must_tail ty (Callee.Named n) args
+
+    known_in : (k : ℕ) (g : Function) → slice_get l.framed.functions k ≡ Some g → fetch g block at ≡ AtInstr call
+        → knows_name l.framed n ≡ true
+    known_in k g there here = on g.coroutine refl
+      where
+        on : (c : Bool) → g.coroutine ≡ c → knows_name l.framed n ≡ true
+        on false c = callee_known l.framed k g (ready.plain k g there c).rules block at result must_tail ty args n here
+        on true c =
+            let p = moved g (point block at) in
+            callee_known l.framed k (with_exit_blocks g) (ready.coroutines k g there c).splittable.rules p.block p.at
+            result must_tail ty args n
+            (fetched (with_exit_blocks g) p call (instr_moved g (point block at) ∙ instr_there g block at call here))
+
+    known : (func : ℕ) → fetch (function_at l.framed func) block at ≡ AtInstr call → knows_name l.framed n ≡ true
+    known func here = on (slice_get l.framed.functions func) refl here
+      where
+        on : (o : Option Function) → slice_get l.framed.functions func ≡ o
+            → fetch (unwrap_or o no_function) block at ≡ AtInstr call → knows_name l.framed n ≡ true
+        on None e h = absurd (cc)
+        on (Some g) e h = known_in func g e h
+
+    none_given : knows_name l.framed n ≡ true → (o : Option ℕ) → given_ramp l.framed n ≡ o
+        → given_ramp l.framed n ≡ None
+    none_given is None d = d
+    none_given is (Some k) d =
+        let x = what_is_found (λ (f : Function). f.coroutine && same_name (noalloc_of f.name) n) l.framed.functions k d in
+        let same : noalloc_of x.element.name ≡ n
+        = same_name-same (noalloc_of x.element.name) n (and_second x.element.coroutine _ x.passes) in
+        absurd (false≢true (sym (unknown_ramp l.framed ready.items k x.element x.stands
+        (and_first x.element.coroutine _ x.passes)) ∙ ap (knows_name l.framed) same ∙ is))
+
+  pub gives_no_frames : GivesNoFrames l.framed
+  gives_no_frames func block at result must_tail ty n args here =
+      none_given block at result must_tail ty n args (known block at result must_tail ty n args func here)
+      (given_ramp l.framed n) refl
+
+  -- ---- the states of the two runs
+
+  module _ (few : HasFewBytes l) (a : Anew) (anew : IsAnewOf (early l) a) (r : Run) (entered : IsEntryCall l.source r)
+    where
+      abbrev g : RenewedGiven
+      g = renewing l a r
+
+      abbrev run : ℕ → State
+      run n = iterate (renewed_step g) n (first_state (edged l) r.entry r.args)
+
+      switches : AllHaveSwitches (edged l)
+      switches = edged_switches l.text l.source low.source.stands low.source.accepted
+
+      places : KeepsAllPlaceRules g.given
+      places =
+          let old = edged_places l.text l.source low.source.stands low.source.accepted (sizes_of l) r.answers in
+          record {
+            each = old.each;
+            saves = λ func. ap (map (λ w. (w.save, w.suspend))) (same_windows (edged l) a.flags func) ∙ old.saves func;
+            windows = λ func. subst (λ (ws : List Window). All (IsWindow (function_at (edged l) func)) ws)
+                (sym (same_windows (edged l) a.flags func)) (old.windows func);
+          }
+
+      same : (n : ℕ) → run n ≡ hooked_state_at (renewed_hooks g) r.entry r.args n
+      same n =
+          same_runs (renewed_step g) (step_of (renewed_hooks g)) (renewed_steps g) n
+          (first_state (edged l) r.entry r.args)
+
+      sound : (n : ℕ) → IsSound (edged l) (run n)
+      sound n =
+          let all = all_kept l low a anew r entered few in
+          runs_sound g r.entry r.args switches places all.types all.locals n
+
+      fitting : (n : ℕ) → IsFittingState (edged l) (run n)
+      fitting n =
+          let all = all_kept l low a anew r entered few in
+          subst (IsFittingState (edged l)) (sym (same n))
+          (states_fit (renewed_hooks g) switches (renewed_keeps g) all.types (renewed_keeps_fitting g all.types) r.entry
+          r.args n all.arguments)
+
+      called : (n : ℕ) → IsCalledState (edged l) (run n)
+      called n =
+          let all = all_kept l low a anew r entered few in
+          subst (IsCalledState (edged l)) (sym (same n))
+          (states_called (renewed_hooks g) (renewed_keeps_called g) all.types r.entry r.args
+          (λ k. states_placed (renewed_hooks g) switches (renewed_keeps g) places (renewed_keeps_placed g) r.entry r.args k)
+          n)
+
+      slots : (n : ℕ) → IsSlottedState (run n)
+      slots n =
+          subst IsSlottedState (sym (same n)) (states_slotted (renewed_hooks g) (renewed_keeps_slots g) r.entry r.args n)
+
+      abbrev h : FramedGiven
+      h = (building l low.is_framed r.answers).given
+
+      other_slots : (n : ℕ) → IsSlottedState (framed_state_at h r.entry r.args n)
+      other_slots n =
+          subst IsSlottedState
+          (sym (same_runs (framed_step h) (step_of (framed_hooks h)) (framed_steps h) n
+          (first_state l.framed r.entry r.args)))
+          (states_slotted (framed_hooks h) (framed_keeps_slots h gives_no_frames) r.entry r.args n)
+
+      pub covered_followed : ((n m : ℕ) → IsCovered (setting l a r) (run n)
+          → AreBuiltOf (building l low.is_framed r.answers) (run n) (framed_state_at h r.entry r.args m)
+          → AreStepsLeft (asking l low a r) (run n) (framed_state_at h r.entry r.args m))
+          → AreCoveredStepsFollowed (setting l a r) (building l low.is_framed r.answers)
+      covered_followed left n m covered built runs fine =
+          let x = left n m covered built in
+          let of_runs : AreOfRuns (asking l low a r) (run n) (framed_state_at h r.entry r.args m) built = record {
+            sound = sound n;
+            fitting = fitting n;
+            called = called n;
+            slots = slots n;
+            other_slots = other_slots m;
+            may = x.may;
+          } in
+          all_followed (asking l low a r) (asked_kept l low few a anew r) (run n) (framed_state_at h r.entry r.args m)
+          built of_runs runs fine x.enters x.coroutines
