@@ -1,4 +1,5 @@
 pub mod Asked
+pub mod Begins
 pub mod Built
 pub mod Elided
 pub mod Entries

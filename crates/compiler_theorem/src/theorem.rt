@@ -1,6 +1,9 @@
 //! What is lowered of a source agrees with it, within the source's step factor: the passes that are proved, in a row
 //! with those that are premises yet.
 
+ghost use Rattle.run_framed.specs.Framed.{begin_name};
+ghost use Rattle.pass_frames_meaning.specs.Led.{IsBegunOnce};
+ghost use Rattle.ir_laws.specs.facts.sound_states.Named.{HasNamedLocals};
 ghost use Rattle.run_source.specs.declared.state.State.{State};
 ghost use Rattle.compiler_theorem.specs.theorem.Anew.{Anew, IsAnewOf};
 ghost use Rattle.compiler_theorem.specs.theorem.Asked.{AreAllStepsLeft, asking};
@@ -40,6 +43,7 @@ ghost use Rattle.frame_contents.specs.Frames.{AreContents};
 ghost use Rattle.frame_contents.specs.declared.contents.Contents.{Contents};
 ghost use Rattle.ir_model.specs.Names.{function_at};
 ghost use Rattle.ir_model.specs.declared.module.Function.{Function};
+ghost use Rattle.rule_laws.specs.rules.function_rules.Kept.{KeepsFunctionRules};
 ghost use Rattle.run_laws.specs.memory.Pointers.{AreBytes, Home, IsValue};
 ghost use Rattle.run_memory.specs.declared.block.Byte.{Byte};
 ghost use Rattle.run_memory.specs.Memory.{Rights, decode, digits, encode};
@@ -82,6 +86,12 @@ pub fn sources_give_frames()
 pub fn sources_keep_rules_of_frames()
     ensures { (l : Lowered) (low : IsLowered l) → HasFewBytes l → (a : Anew) → IsAnewOf (early l) a → (r : Run)
         → KeepsAll (asking l low a r) }
+{}
+
+/// Begin alone gives its name, in a function that breaks no rule.
+pub fn begin_gives_its_name_once()
+    ensures { (m : Module) (k : ℕ) (f : Function) → KeepsFunctionRules m k f → HasNamedLocals f → (v : ℕ)
+        → begin_name f ≡ Some v → IsBegunOnce f v }
 {}
 
 /// Each step from a covered state of an accepted source is followed in its framed form, where what is left is known.

@@ -3,19 +3,16 @@
 ghost use Rattle.std.specs.Prelude.{◌≡◌, ◌⊎◌, ℕ, Bool, List, Some, false, true};
 ghost use Rattle.std.specs.List.{Contains};
 ghost use Rattle.ir_base.specs.declared.outcome.Word.{Word};
-ghost use Rattle.ir_laws.specs.facts.sound_states.Named.{AreLocalsNamed, HasNamedLocals};
+ghost use Rattle.ir_laws.specs.facts.sound_states.Named.{AreLocalsNamed};
 ghost use Rattle.ir_model.specs.Names.{function_at};
-ghost use Rattle.ir_model.specs.declared.module.Function.{Function};
-ghost use Rattle.ir_model.specs.declared.module.Module.{Module};
 ghost use Rattle.ir_model.specs.declared.operand.Intrinsic.{Intrinsic};
 ghost use Rattle.ir_paths.specs.declared.point.Point.{Point};
 ghost use Rattle.pass_frames_meaning.specs.Called.{IsCalledState};
-ghost use Rattle.pass_frames_meaning.specs.Led.{IsBegunOnce, IsLed, IsLedState, KeepAllNames};
+ghost use Rattle.pass_frames_meaning.specs.Led.{IsLed, IsLedState, KeepAllNames};
 ghost use Rattle.pass_frames_meaning.specs.Led.{KeepsLed, KeepsLedTables};
 ghost use Rattle.pass_kept_proof.specs.SuspendRules.{IsCallAt};
 ghost use Rattle.pass_renewed_proof.specs.Renewed.{RenewedGiven, renewed_step};
 ghost use Rattle.pass_renewed_proof.specs.SlotRules.{KeepsAllSlots};
-ghost use Rattle.rule_laws.specs.rules.function_rules.Kept.{KeepsFunctionRules};
 ghost use Rattle.run_framed.specs.Framed.{begin_name};
 ghost use Rattle.run_hooks.specs.Away.{KeepsAllPlaceRules};
 ghost use Rattle.run_hooks.specs.Hooks.{Hooks, step_of};
@@ -51,12 +48,6 @@ pub fn tables_of_slots_keep_names()
         → KeepAllNames g.given counts → ((func v : ℕ) → counts func v ≡ true → g.flags func v ≡ false)
         → ((func : ℕ) (u : Point) (v : ℕ) → IsCallAt Intrinsic.CoroSuspend (function_at g.given.code func) u
         → begin_name (function_at g.given.code func) ≡ Some v → g.keep func u v ≡ true) → KeepsLedTables g counts }
-{}
-
-/// Begin alone gives its name, in a function that breaks no rule.
-pub fn begin_gives_its_name_once()
-    ensures { (m : Module) (k : ℕ) (f : Function) → KeepsFunctionRules m k f → HasNamedLocals f → (v : ℕ)
-        → begin_name f ≡ Some v → IsBegunOnce f v }
 {}
 
 /// Such a run has sound states: each name of a function has a value or none, and instances are of their activations'

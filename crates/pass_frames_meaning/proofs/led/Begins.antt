@@ -1,25 +1,18 @@
--- Begin alone gives its name, in a function that breaks no rule.
-use Rattle.std.proofs.Common.{◌≡◌, ℕ, true, Option, Some, None, refl, sym, ap, ◌∙◌, subst}
-use Rattle.std.specs.Prelude.{length, option_and_then, slice_get}
-use Rattle.ir_laws.specs.facts.expanded.Tokens.{IsNamedResult}
-use Rattle.ir_laws.specs.facts.sound_states.Named.{HasNamedLocals}
+-- Where begin stands that gives the name.
+use Rattle.std.proofs.Common.{◌≡◌, ℕ, true, Option, Some, None, refl, sym, ap, ◌∙◌}
+use Rattle.std.specs.Prelude.{option_and_then, slice_get}
 use Rattle.ir_model.specs.declared.instr.Instr.{Instr}
 use Rattle.ir_model.specs.declared.module.Function.{Function}
-use Rattle.ir_model.specs.declared.module.Module.{Module}
 use Rattle.ir_model.specs.declared.operand.Callee.{Callee}
 use Rattle.ir_model.specs.declared.operand.Intrinsic.{Intrinsic}
 use Rattle.ir_paths.specs.Windows.{call_result, instr_at, is_call_of, points_where}
 use Rattle.ir_paths.specs.declared.point.Point.{Point}
-use Rattle.pass_frames_meaning.specs.Led.{IsBegin, IsBegunOnce}
+use Rattle.pass_frames_meaning.specs.Led.{IsBegin}
 use Rattle.pass_kept_proof.proofs.Rules.{where_is}
 use Rattle.pass_kept_proof.specs.Needed.{given_by}
 use Rattle.pass_renewed_proof.proofs.Left.{instr_there}
-use Rattle.pass_renewed_proof.specs.Steps.{given_at}
-use Rattle.rule_laws.specs.rules.function_rules.Kept.{KeepsFunctionRules}
-use Rattle.run_accepted.proofs.Once.{given_alone, gives_no_param, no_phi_gives}
 use Rattle.run_framed.specs.Framed.{begin_name}
 use Rattle.run_laws.specs.changed.Changed.{result_at, result_of}
-use Rattle.run_states.proofs.sound_states.Fits.{result_named}
 use Rattle.run_step.specs.Step.{AtInstr, fetch}
 
 -- where begin stands that gives the name
@@ -59,21 +52,3 @@ has_begin f v e = on (slice_get (points_where (is_call_of Intrinsic.CoroBegin) f
           named = b.2;
           given = b.3;
         }
-
-pub begun_once : (m : Module) (k : ℕ) (f : Function) → KeepsFunctionRules m k f → HasNamedLocals f → (v : ℕ)
-    → begin_name f ≡ Some v → IsBegunOnce f v
-begun_once m k f rules names v e = record {
-  low = subst (IsNamedResult (length f.names)) (ap result_at b.stands ∙ b.named)
-      (result_named f names.results b.point.block b.point.at);
-  alone = λ block at i stands g.
-      let same = given_alone m k f rules b.point b.instr v b.there b.gives block at (ap given_at stands ∙ g) in
-      let both : AtInstr b.instr ≡ AtInstr i =
-      sym b.stands ∙ sym (ap (λ (q : Point). fetch f q.block q.at) same) ∙ stands in
-      let one : b.instr ≡ i = cc in
-      subst IsBegin one b.begins;
-  no_phi = no_phi_gives m k f rules b.point b.instr v b.there b.gives;
-  no_param = gives_no_param m k f rules b.point b.instr v b.there b.gives;
-}
-  where
-    b : HasBegin f v
-    b = has_begin f v e
