@@ -65,7 +65,7 @@ pub fn early_slots_are_allocas()
 /// In front of the entry of a framed form stand no more allocas than those of the coroutine's entry, two for each kept
 /// value and each slot that is used before begin, and one for each distance and link.
 pub fn allocas_in_front_are_few()
-    ensures { (x : Framing) (at : ℕ) (i : Instr) → slice_get (instrs_at x 0) at ≡ Some i
+    ensures { (x : Framing) → slice_get (edged x).blocks 0 ≡ Some (block_at (edged x) 0)
         → allocas_before x None
         ≤ 2 * length (plan x).kept + distances_of (plan x).kept + (plan x).links + 2 * length (copies x).slots
         + allocas_of_instrs (instrs_at x 0) }
@@ -102,7 +102,7 @@ pub fn calls_are_short()
 /// By the names of a coroutine with blocks on edges: allocas in front of the entry, what a call of the ramp executes
 /// there, and the front of another block with what is fetched for phis at its end.
 pub fn costs_are_bounded_by_names()
-    ensures allocas { (x : Framing) → IsFraming x → (at : ℕ) (i : Instr) → slice_get (instrs_at x 0) at ≡ Some i
+    ensures allocas { (x : Framing) → IsFraming x → slice_get (edged x).blocks 0 ≡ Some (block_at (edged x) 0)
         → allocas_before x None ≤ 3 * names_of (edged x) }
     ensures call { (x : Framing) → IsFraming x → slice_get (edged x).blocks 0 ≡ Some (block_at (edged x) 0)
         → is_return x 0 ≡ false → call_cost x ≤ 4 * names_of (edged x) }
@@ -151,7 +151,7 @@ pub fn edges_have_no_names()
 /// The allocas before the first slot that is made anew, and what all these slots cost, are no more than all allocas in
 /// front of the entry.
 pub fn slots_are_paid_by_allocas()
-    ensures { (x : Framing) (at : ℕ) (i : Instr) → slice_get (instrs_at x 0) at ≡ Some i
+    ensures { (x : Framing) → slice_get (edged x).blocks 0 ≡ Some (block_at (edged x) 0)
         → (flags : ℕ → Bool) (b : Block)
         → allocas_before x (renewed_in flags (Some b) 0)
         + slots_in (λ k. slot_cost x k (renewed_in flags (Some b) (k + 1))) flags (Some b) ≤ allocas_before x None }

@@ -59,8 +59,8 @@ pub fn returns_lead_to_no_returns()
 
 /// A resume with all slots that it makes anew costs what an average step may, less a credit.
 pub fn resumes_leave_credit()
-    ensures { (x : Framing) → IsFraming x → (names operands : ℕ) → IsWithin names operands x → (at : ℕ) (i : Instr)
-        → slice_get (instrs_at x 0) at ≡ Some i → (code : Module) (func : ℕ) → function_at code func ≡ edged x
+    ensures { (x : Framing) → IsFraming x → (names operands : ℕ) → IsWithin names operands x
+        → (code : Module) (func : ℕ) → function_at code func ≡ edged x
         → (flags : Flags)
         → 3 + operands + allocas_before x (first_flagged flags code func 0)
         + slots_in (λ k. slot_cost x k (first_flagged flags code func (k + 1))) (flags func)

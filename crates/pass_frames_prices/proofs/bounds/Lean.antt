@@ -27,7 +27,7 @@ use Rattle.pass_fetch.specs.declared.fetch.Fetch.{Fetch}
 use Rattle.pass_frames.specs.Framed.{begin_of}
 use Rattle.pass_frames_prices.proofs.bounds.Allocas.{again_none, distance_none, fetches_none, many, many_append, none, one, one_same, params_none, phis_none, result_none, saved_none}
 use Rattle.pass_frames_proof.proofs.code.Left.{blocks_by}
-use Rattle.pass_frames_proof.proofs.entering.Stand.{all_before}
+use Rattle.pass_frames_proof.proofs.entering.Stand.{all_counted}
 use Rattle.pass_frames_proof.proofs.layers.Grown.{both_becomes}
 use Rattle.pass_frames_proof.specs.Costs.{allocas_before}
 use Rattle.pass_frames_proof.specs.Layers.{Layer, becomes, both, each, grown, only, passed, woven}
@@ -345,10 +345,10 @@ module _ (x : Framing) where
       let f = many_append w (grown P P.start is) (P.back (passed P P.start is)) in
       omega (arith, a, b, c, d, e, f)
 
-  pub allocas_few : (at : ℕ) (i : Instr) → slice_get (instrs_at x 0) at ≡ Some i
+  pub allocas_few : slice_get (edged x).blocks 0 ≡ Some (block_at (edged x) 0)
       → allocas_before x None ≤ few + allocas_of_instrs (instrs_at x 0)
-  allocas_few at i there =
-      let a = all_before x at i there in
+  allocas_few there =
+      let a = all_counted x there in
       let b = filtered (woven (placed_layer x 0) (instrs_at x 0)) in
       let c = woven_few in
       omega (arith, a, b, c)

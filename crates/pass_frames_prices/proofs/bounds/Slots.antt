@@ -5,10 +5,11 @@ use Rattle.std.specs.Prelude.{None, Option, Some, drop, if◌then◌else◌, opt
 use Rattle.ir_model.specs.Names.{first_where}
 use Rattle.ir_model.specs.declared.instr.Instr.{Instr}
 use Rattle.ir_model.specs.declared.module.Block.{Block}
-use Rattle.pass_frames_proof.proofs.entering.Stand.{all_before, between}
+use Rattle.pass_frames_proof.proofs.entering.Stand.{all_counted, parts_between}
 use Rattle.pass_frames_proof.specs.Costs.{allocas_before, slot_cost}
 use Rattle.pass_frames_proof.specs.Entering.{allocas_up_to, front_allocas}
-use Rattle.pass_frames_proof.specs.Places.{Framing, instrs_at}
+use Rattle.pass_frames_proof.specs.Passes.{block_at}
+use Rattle.pass_frames_proof.specs.Places.{Framing, edged}
 use Rattle.pass_renewed_proof.specs.Prices.{slots_from, slots_in}
 use Rattle.pass_renewed_proof.specs.Renewed.{is_renewed, renewed_in}
 
@@ -84,20 +85,20 @@ module _ (flags : ℕ → Bool) where
 
 -- ---- in a coroutine
 
-module _ (x : Framing) (at : ℕ) (i : Instr) (there : slice_get (instrs_at x 0) at ≡ Some i) where
+module _ (x : Framing) (there : slice_get (edged x).blocks 0 ≡ Some (block_at (edged x) 0)) where
   rises : (k n : ℕ) → k ≤ n → allocas_before x (Some k) ≤ allocas_before x (Some n)
   rises k n le =
-      let h = between x at i there k n le in
+      let h = parts_between x k n le in
       let a : length (allocas_up_to x n) ≡ length (allocas_up_to x k ++ h.line) = ap length h.next_is in
       let b = length-append (allocas_up_to x k) h.line in
       omega (arith, a, b)
 
   below : (k : ℕ) → allocas_before x (Some k) ≤ allocas_before x None
   below k =
-      let h = between x at i there k k (omega arith) in
+      let h = parts_between x k k (omega arith) in
       let a : length (front_allocas x) ≡ length (allocas_up_to x k ++ (h.line ++ h.behind)) = ap length h.is in
       let b = length-append (allocas_up_to x k) (h.line ++ h.behind) in
-      let c = all_before x at i there in
+      let c = all_counted x there in
       omega (arith, a, b, c)
 
   pub slots_paid : (flags : ℕ → Bool) (b : Block)

@@ -109,9 +109,9 @@ module _ (x : Framing) (is : IsFraming x) where
   pub phis_same : (k : ℕ) → length (block_at (fetched x) k).phis ≡ length (block_at (edged x) k).phis
   phis_same k = loaded_there (plan x) (edged x) k
 
-  pub allocas_total : (at : ℕ) (i : Instr) → slice_get (instrs_at x 0) at ≡ Some i → allocas_before x None ≤ 3 * M
-  allocas_total at i there =
-      let a = allocas_few x at i there in
+  pub allocas_total : slice_get (edged x).blocks 0 ≡ Some (block_at (edged x) 0) → allocas_before x None ≤ 3 * M
+  allocas_total there =
+      let a = allocas_few x there in
       let b = kept_few x is in
       let c = early_few x is in
       let d = distances_few x is in

@@ -100,9 +100,8 @@ sums : (operands names first slots all : ℕ) → first + slots ≤ all → all 
     → 3 + operands + first + slots ≤ full_price names operands - credit names
 sums operands names first slots all a c = omega (arith, a, c)
 
-module _ (x : Framing) (is : IsFraming x) (names operands : ℕ) (within : IsWithin names operands x) (at : ℕ)
-    (i : Instr) (stands : slice_get (instrs_at x 0) at ≡ Some i) (code : Module) (func : ℕ)
-    (same : function_at code func ≡ edged x) (flags : Flags) where
+module _ (x : Framing) (is : IsFraming x) (names operands : ℕ) (within : IsWithin names operands x) (code : Module)
+    (func : ℕ) (same : function_at code func ≡ edged x) (flags : Flags) where
   abbrev entry : Block
   entry = block_at (edged x) 0
 
@@ -131,7 +130,7 @@ module _ (x : Framing) (is : IsFraming x) (names operands : ℕ) (within : IsWit
 
   all_few : allocas_before x None ≤ 3 * names
   all_few =
-      let a = allocas_total x is at i stands in
+      let a = allocas_total x is (entry_there x is) in
       let c = within.few in
       omega (arith, a, c)
 
@@ -140,7 +139,7 @@ module _ (x : Framing) (is : IsFraming x) (names operands : ℕ) (within : IsWit
   both_few =
       subst (λ (n : ℕ). allocas_before x (first_flagged flags code func 0) + n ≤ allocas_before x None) (sym slots_are)
       (subst (λ (o : Option ℕ). allocas_before x o + slots_in slot_by (flags func) (Some entry)
-      ≤ allocas_before x None) (sym (first_at 0)) (slots_paid x at i stands (flags func) entry))
+      ≤ allocas_before x None) (sym (first_at 0)) (slots_paid x (entry_there x is) (flags func) entry))
 
   pub resume_leaves : 3 + operands + allocas_before x (first_flagged flags code func 0)
       + slots_in slot (flags func) (slice_get (function_at code func).blocks 0)

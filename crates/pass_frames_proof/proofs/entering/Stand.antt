@@ -68,10 +68,10 @@ drop_behind : {A : Type 0} (xs ys : List A) → drop (length xs) (xs ++ ys) ≡ 
 drop_behind [] ys = refl
 drop_behind (x ∷ xs) ys = drop_behind xs ys
 
-module _ (x : Framing) (at : ℕ) (i : Instr) (there : slice_get (instrs_at x 0) at ≡ Some i) where
+module _ (x : Framing) (there : slice_get (edged x).blocks 0 ≡ Some (block_at (edged x) 0)) where
   entry_block : (c : Block) × (slice_get (framed x).blocks 0 ≡ Some c)
       × IsMadeBy (entry_layer x) (block_at (edged x) 0) c
-  entry_block = entry_made x (block_at (edged x) 0) (block_there (edged x) 0 at i there)
+  entry_block = entry_made x (block_at (edged x) 0) there
 
   abbrev c : Block
   c = entry_block.0
@@ -100,11 +100,11 @@ module _ (x : Framing) (at : ℕ) (i : Instr) (there : slice_get (instrs_at x 0)
       led_grown s [] = refl
       led_grown s (j ∷ is) = ap (λ (js : List Instr). becomes M s j ++ js) (led_grown (M.after s j) is)
 
-  pub front_stands : StandAt (framed x) 0 0 (front_allocas x)
-  front_stands = part_stands (framed x) 0 c entry_block.1 [] (front_allocas x) (others_behind x) instrs_are
+  pub entry_stands : StandAt (framed x) 0 0 (front_allocas x)
+  entry_stands = part_stands (framed x) 0 c entry_block.1 [] (front_allocas x) (others_behind x) instrs_are
 
-  pub none_behind : alloca_from (framed x) (length (front_allocas x)) ≡ None
-  none_behind =
+  pub none_left : alloca_from (framed x) (length (front_allocas x)) ≡ None
+  none_left =
       ap (λ (o : Option Block). option_map (λ (k : ℕ). record { block = 0; at = k }) (alloca_of o
       (length (front_allocas x)))) entry_block.1
       ∙ ap (λ (is : List Instr). option_map (λ (k : ℕ). record { block = 0; at = k })
@@ -114,8 +114,8 @@ module _ (x : Framing) (at : ℕ) (i : Instr) (there : slice_get (instrs_at x 0)
       ∙ ap (option_map (λ (k : ℕ). record { block = 0; at = k }))
       (none_first (length (front_allocas x)) (others_behind x) (passed_all is_no_alloca (W x)))
 
-  pub all_before : allocas_before x None ≡ length (front_allocas x)
-  all_before =
+  pub all_counted : allocas_before x None ≡ length (front_allocas x)
+  all_counted =
       ap (λ (o : Option Block). length (filter is_alloca (unwrap_or o no_block).instrs)) entry_block.1
       ∙ ap (λ (is : List Instr). length (filter is_alloca is)) instrs_are
       ∙ ap length (filter-append is_alloca (front_allocas x) (others_behind x))
@@ -130,8 +130,9 @@ module _ (x : Framing) (at : ℕ) (i : Instr) (there : slice_get (instrs_at x 0)
           ap (λ (b : Bool). if b then k ∷ filter is_alloca is else filter is_alloca is) h.0
           ∙ ap (λ (ks : List Instr). k ∷ ks) (all_pass is h.1)
 
-  -- ---- between two of the coroutine's
+-- ---- between two of the coroutine's
 
+module _ (x : Framing) where
   take_part : (is : List Instr) (k n : ℕ) → k ≤ n → (js : List Instr) × (take n is ≡ take k is ++ js)
   take_part is zero n le = (take n is, refl)
   take_part [] (suc k) zero le = absurd (omega (arith, le))
@@ -176,8 +177,8 @@ module _ (x : Framing) (at : ℕ) (i : Instr) (there : slice_get (instrs_at x 0)
           let more : k + suc (length is) ≡ suc (k + length is) = omega arith in
           ap (λ (q : ℕ). take q (j ∷ is)) more ∙ ap (λ (js : List Instr). j ∷ js) (take_over is k)
 
-  pub between : (k n : ℕ) → k ≤ n → AreAllocasBetween x k n
-  between k n le =
+  pub parts_between : (k n : ℕ) → k ≤ n → AreAllocasBetween x k n
+  parts_between k n le =
       let part = up_to_more k n le in
       let whole = whole_more n in
       let first : allocas_up_to x n ≡ allocas_up_to x k ++ filter is_alloca part.0 =
@@ -192,3 +193,18 @@ module _ (x : Framing) (at : ℕ) (i : Instr) (there : slice_get (instrs_at x 0)
             ∙ append_assoc (allocas_up_to x k) (filter is_alloca part.0) (filter is_alloca whole.0);
         next_is = first;
       }
+
+-- ---- where the entry has an instruction
+
+module _ (x : Framing) (at : ℕ) (i : Instr) (there : slice_get (instrs_at x 0) at ≡ Some i) where
+  pub front_stands : StandAt (framed x) 0 0 (front_allocas x)
+  front_stands = entry_stands x (block_there (edged x) 0 at i there)
+
+  pub none_behind : alloca_from (framed x) (length (front_allocas x)) ≡ None
+  none_behind = none_left x (block_there (edged x) 0 at i there)
+
+  pub all_before : allocas_before x None ≡ length (front_allocas x)
+  all_before = all_counted x (block_there (edged x) 0 at i there)
+
+  pub between : (k n : ℕ) → k ≤ n → AreAllocasBetween x k n
+  between = parts_between x
