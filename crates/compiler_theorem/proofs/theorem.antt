@@ -8,6 +8,9 @@ pub mod Framing
 pub mod Fronts
 pub mod Needed
 pub mod Paid
+pub mod Paying
+pub mod Standing
+pub mod Affording
 pub mod Promises
 pub mod Renewing
 pub mod Tables

@@ -9,18 +9,18 @@ ghost use Rattle.compiler_theorem.specs.theorem.Anew.{Anew, IsAnewOf};
 ghost use Rattle.compiler_theorem.specs.theorem.Asked.{AreAllStepsLeft, asking};
 ghost use Rattle.compiler_theorem.specs.theorem.Built.{building};
 ghost use Rattle.compiler_theorem.specs.theorem.Entries.{IsEntry, IsEntryCall, Run};
-ghost use Rattle.compiler_theorem.specs.theorem.Lowered.{AreAllocasFirst, HasFewBytes, Lowered, IsLowered, early, edged, printed_from, sizes_of, source_run};
+ghost use Rattle.compiler_theorem.specs.theorem.Lowered.{AreAllocasFirst, HasFewBytes, Lowered, IsLowered, early, edged, kept_run, price_kept, printed_from, sizes_of, source_run};
 ghost use Rattle.ir_model.specs.declared.module.Module.{Module};
 ghost use Rattle.frame_layout.specs.declared.layout.Layouts.{Layouts};
 ghost use Rattle.pass_frames.specs.Framed.{IsFramedForm};
-ghost use Rattle.std.specs.Prelude.{◌≡◌, ◌+◌, ◌<◌, ◌^◌, ℕ, ℤ, false, List, Some, length, slice_get, true};
+ghost use Rattle.std.specs.Prelude.{◌≡◌, ◌+◌, ◌*◌, ◌<◌, ◌≤◌, ◌^◌, ℕ, ℤ, false, List, Some, length, slice_get, true};
 ghost use Rattle.run_types.specs.States.{AreArguments};
 ghost use Rattle.pass_frames_meaning.specs.Covered.{AreCoveredStepsFollowed};
 ghost use Rattle.pass_frames_meaning.specs.Setting.{KeepsAll};
 ghost use Rattle.pass_frames_proof.specs.Related.{AreBuilt, AreBuiltOf};
 ghost use Rattle.pass_frames_proof.specs.Stepping.{AreGiven};
 ghost use Rattle.compiler_theorem.specs.theorem.Between.{renewing, setting};
-ghost use Rattle.compiler_theorem.specs.theorem.Theorem.{AreFramesShown, AreMadeAnew, KeepsMeaning, KeepsRuns, Steps};
+ghost use Rattle.compiler_theorem.specs.theorem.Theorem.{AreFramesShown, AreMadeAnew, KeepsMeaning, KeepsRuns, Steps, prices_of};
 ghost use Rattle.compiler_theorem.specs.theorem.Elision.{ElidedSteps, ElidesCalls};
 ghost use Rattle.compiler_theorem.specs.theorem.Rows.{joined};
 ghost use Rattle.compiler_theorem.specs.theorem.SharedBytes.{HasField, StandAt};
@@ -36,7 +36,9 @@ ghost use Rattle.ir_model.specs.declared.module.Frame.{Frame};
 ghost use Rattle.ir_paths.specs.declared.point.Point.{Point};
 ghost use Rattle.pass_proofs.specs.kept.sources.Beside.{IsKeptOf};
 ghost use Rattle.run_step.specs.Values.{Env, value_in};
-ghost use Rattle.run_agreement.specs.Machines.{state_at};
+ghost use Rattle.run_agreement.specs.Costs.{cost_at};
+ghost use Rattle.run_agreement.specs.Factor.{size_factor};
+ghost use Rattle.run_agreement.specs.Machines.{IsFine, at, state_at};
 ghost use Rattle.frame_classes.specs.Classes.{IsOf};
 ghost use Rattle.frame_classes.specs.declared.class.SlotClass.{SlotClass};
 ghost use Rattle.frame_contents.specs.Frames.{AreContents};
@@ -99,6 +101,14 @@ pub fn steps_of_sources_are_followed()
     ensures { (l : Lowered) (low : IsLowered l) → HasFewBytes l → (a : Anew) → IsAnewOf (early l) a → (r : Run)
         → IsEntryCall l.source r → AreAllStepsLeft l low a r
         → AreCoveredStepsFollowed (setting l a r) (building l low.is_framed r.answers) }
+{}
+
+/// The prices of a run of an accepted source, in which a resume hands on values, are at most 4 times the size factor for
+/// each step.
+pub fn runs_of_sources_are_paid()
+    ensures { (l : Lowered) (low : IsLowered l) → HasFewBytes l → (a : Anew) → IsAnewOf (early l) a → (r : Run)
+        → IsEntryCall l.source r → (n : ℕ) → IsFine (at (kept_run l a r) n).outcome
+        → cost_at (kept_run l a r) (price_kept l a r (prices_of l low a)) n ≤ (4 * size_factor l.source) * n }
 {}
 
 /// Bytes and values that stand for others in a row of memories stand for them by the joined homes.

@@ -1,5 +1,5 @@
 -- Getelementptrs of an accepted source lead through structures of fewer fields than 2^31, and so do those of its forms.
-use Rattle.std.proofs.Common.{◌≡◌, ◌^◌, ℕ, Bool, true, false, List, length, refl, sym, ◌∙◌, subst}
+use Rattle.std.proofs.Common.{◌≡◌, ℕ, Bool, true, false, List, length, refl, sym, ◌∙◌, subst}
 use Rattle.std.proofs.lemmas.Option.{slice_get-map}
 use Rattle.std.specs.Prelude.{None, Option, Some, option_map, slice_get, unwrap_or, if◌then◌else◌}
 use Rattle.compiler.proofs.whole.lowered_sources.Sources.{comes_from}

@@ -115,7 +115,7 @@ module _ (l : Lowered) (low : IsLowered l) where
         (λ g. record { full = length-encode (access_bytes (access_of g.ty)) _ })) contents.small contents.known
 
     module _ (anew : IsAnewOf (early l) a) (call : IsEntryCall l.source r) where
-      plain : (function_at e r.entry).coroutine ≡ false
+      pub plain : (function_at e r.entry).coroutine ≡ false
       plain =
           ap (λ (o : Option Function). (unwrap_or o no_function).coroutine) (early_entry l low a anew r call)
           ∙ call.callable.plain

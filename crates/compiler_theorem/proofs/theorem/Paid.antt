@@ -21,7 +21,7 @@ use Rattle.run_accepted.proofs.Sources.{source_rules}
 use Rattle.run_agreement.specs.Factor.{most_operands_of_functions, most_phis_of_functions, names_of_functions}
 
 module _ (l : Lowered) (low : IsLowered l) (a : Anew) (r : Run) where
-  numbers : AreWithin (building l low.is_framed r.answers) (names_of_functions l.source.functions)
+  pub numbers : AreWithin (building l low.is_framed r.answers) (names_of_functions l.source.functions)
       (most_operands_of_functions l.source.functions + most_phis_of_functions l.source.functions)
   numbers =
       within (building l low.is_framed r.answers) l.source (sources_built l low r.answers) refl

@@ -18,6 +18,7 @@ use Rattle.compiler_theorem.specs.theorem.Rows.{joined}
 use Rattle.compiler_theorem.specs.theorem.SharedBytes.{AreShown}
 use Rattle.compiler_theorem.specs.theorem.ShownSlots.{step_homes}
 use Rattle.compiler_theorem.specs.theorem.Theorem.{AreFramesShown, AreMadeAnew, IsSomewhereShown, Steps, prices_of}
+use Rattle.compiler_theorem.proofs.theorem.Paying.{runs_paid}
 use Rattle.compiler_theorem.proofs.theorem.Paid.{frames_paid}
 use Rattle.compiler_theorem.proofs.theorem.Stepping.{covered_followed}
 use Rattle.pass_frames_proof.specs.Related.{AreBuiltOf, AreShownAlike}
@@ -67,7 +68,7 @@ module _ (a : Anew) (l : Lowered) (low : IsLowered l) (few : HasFewBytes l) (h :
       (λ s. omega arith) (λ t. omega arith) to_kept)
       (agrees_within (Through (AreMadeAnew l a) Framed) (Through AreAlike NearlyFramed) (kept_run l a r) (price_kept l a r (prices_of l low a))
       (framed_run l l.framed r) (λ t. 1) (4 * size_factor l.source)
-      (λ n fine. h.paid r n call fine) (at_least (framed_run l l.framed r)) to_framed)
+      (runs_paid l low few a h.anew r call) (at_least (framed_run l l.framed r)) to_framed)
 
   -- slots and fields
   both_shown : AreFramesShown a l low → (n : ℕ) (v u t : State) → Handed (state_at (source_run l r) n) v

@@ -1,11 +1,10 @@
 -- What is lowered of a source agrees with it: one row for each pass. Those that stand are cited in the proof, the
 -- others are premises here.
-use Rattle.std.specs.Prelude.{ℕ, ◌+◌, ◌*◌, ◌≤◌, []}
+use Rattle.std.specs.Prelude.{ℕ, ◌+◌, []}
 use Rattle.run_hooks.specs.alive.Apart.{LiveAreApart}
 use Rattle.run_agreement.specs.Agreements.{Agrees, AgreesWithin}
-use Rattle.run_agreement.specs.Costs.{cost_at}
 use Rattle.run_agreement.specs.Factor.{most_operands_of_functions, most_phis_of_functions, names_of_functions}
-use Rattle.run_agreement.specs.Factor.{size_factor, step_factor}
+use Rattle.run_agreement.specs.Factor.{step_factor}
 use Rattle.run_agreement.specs.Machines.{IsFine, at, state_at}
 use Rattle.text_canonical.specs.canonical.Items.{module_text}
 use Rattle.run_source.specs.declared.state.State.{State}
@@ -13,8 +12,8 @@ use Rattle.compiler_theorem.specs.theorem.Anew.{Anew, IsAnewOf}
 use Rattle.compiler_theorem.specs.theorem.Asked.{AreAllStepsLeft}
 use Rattle.compiler_theorem.specs.theorem.Entries.{IsEntryCall, Run}
 use Rattle.compiler_theorem.specs.theorem.Built.{building}
-use Rattle.compiler_theorem.specs.theorem.Lowered.{IsLowered, Lowered, early, edged, framed_run, kept_run, lowered_from}
-use Rattle.compiler_theorem.specs.theorem.Lowered.{plain_run, price_kept, printed_from, sizes_of}
+use Rattle.compiler_theorem.specs.theorem.Lowered.{IsLowered, Lowered, early, edged, framed_run, lowered_from}
+use Rattle.compiler_theorem.specs.theorem.Lowered.{plain_run, printed_from, sizes_of}
 use Rattle.compiler_theorem.specs.theorem.Lowered.{source_run}
 use Rattle.pass_frames_prices.specs.FramePrices.{frame_prices}
 use Rattle.pass_frames_proof.specs.Related.{AreBuiltOf}
@@ -47,10 +46,6 @@ pub record Steps (a : Anew) (l : Lowered) (low : IsLowered l) : Type 0 where
   -- waits for: what is left to know of states from which the simulation of frames follows steps. By it each step is
   -- followed (`steps_of_sources_are_followed`), and the two runs agree (`kept_runs_agree_with_framed_ones`)
   pub left : (r : Run) → IsEntryCall l.source r → AreAllStepsLeft l low a r
-  -- waits for: a resume with the jump behind it, and a suspend with the one before it. By each step's price the run in
-  -- which slots are made anew pays for the framed one (`prices_pay_for_frames`)
-  pub paid : (r : Run) (n : ℕ) → IsEntryCall l.source r → IsFine (at (kept_run l a r) n).outcome
-      → cost_at (kept_run l a r) (price_kept l a r (prices_of l low a)) n ≤ (4 * size_factor l.source) * n
 
 -- waits for: the values that cross suspends and the distances, in the fields of instances that are suspended. Live
 -- frame slots stand in frames (`frames_show_live_slots`)
