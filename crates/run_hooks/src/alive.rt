@@ -15,7 +15,9 @@ ghost use Rattle.ir_base.specs.declared.outcome.Word.{Word};
 ghost use Rattle.ir_model.specs.Names.{function_at};
 ghost use Rattle.ir_model.specs.declared.module.Function.{Function};
 ghost use Rattle.ir_model.specs.declared.module.Module.{Module};
+ghost use Rattle.ir_model.specs.declared.operand.Intrinsic.{Intrinsic};
 ghost use Rattle.ir_paths.specs.declared.point.Point.{Point};
+ghost use Rattle.pass_kept_proof.specs.SuspendRules.{IsCallAt};
 ghost use Rattle.run_hooks.specs.Away.{IsPlacedState, KeepsAllPlaceRules};
 ghost use Rattle.run_hooks.specs.Hooks.{step_of};
 ghost use Rattle.run_hooks.specs.Left.{IsLastState};
@@ -57,7 +59,8 @@ pub fn live_slots_may_be_alive()
         → KeepsAllAliveRules g → KeepsAllPlaceRules g → AllHaveSwitches g.code
         → IsAliveState g.code counts (state_at g entry args n) }
     ensures kept { (g : Given) (keep : Keep) (counts : ℕ → ℕ → Bool)
-        → ((func : ℕ) (u : Point) (v : ℕ) → counts func v ≡ true → keep func u v ≡ true)
+        → ((func : ℕ) (u : Point) (v : ℕ) → IsCallAt Intrinsic.CoroSuspend (function_at g.code func) u
+        → counts func v ≡ true → keep func u v ≡ true)
         → (entry : ℕ) (args : List Word) (n : ℕ)
         → KeepsAllAliveRules g → KeepsAllPlaceRules g → AllHaveSwitches g.code
         → IsAliveState g.code counts

@@ -76,7 +76,7 @@ module _ {g : Given} {counts : ℕ → ℕ → Bool} {hand : ℕ → Point → E
             (subst (BranchesTo label) (sym w.stands) (branches w)) (hand x.coroutine u values)
             (λ v b made e. start.hands.kept x.coroutine u values v b e)
             (λ slot own counted e.
-            ap block_of (start.hands.handed x.coroutine u values slot.alloca own.made counted) ∙ e)
+            ap block_of (start.hands.handed x.coroutine u values slot.alloca sound.1 own.made counted) ∙ e)
             (label_of (slice_get (function_at m x.coroutine).blocks u.block))
 
         pub sleeping : (v : Value) (goes : Sleeper → Result State Cause)

@@ -184,11 +184,12 @@ KeepsAllAliveRules g =
 
 -- ---- what it asks of a way to go on
 
--- of the values that were kept a resume hands on no others, and the addresses of the slots that count
+-- of the values that were kept a resume behind a suspend hands on no others, and the addresses of the slots that count
 pub record HandsOver (m : Module) (counts : ℕ → ℕ → Bool) (hand : ℕ → Point → Env → Env) : Type 0 where
   pub kept : (func : ℕ) (u : Point) (values : Env) (v b : ℕ)
       → block_of (value_in (hand func u values) v) ≡ Some b → block_of (value_in values v) ≡ Some b
-  pub handed : (func : ℕ) (u : Point) (values : Env) (v : ℕ) → IsMadeOnce (function_at m func) v
+  pub handed : (func : ℕ) (u : Point) (values : Env) (v : ℕ)
+      → IsCallAt Intrinsic.CoroSuspend (function_at m func) u → IsMadeOnce (function_at m func) v
       → counts func v ≡ true → value_in (hand func u values) v ≡ value_in values v
 
 -- a source's hooks, but that a resume hands on what is told
