@@ -30,6 +30,8 @@ use Rattle.pass_kept_proof.specs.Needed.{phis_read, reads, reads_at, reads_intri
 use Rattle.pass_kept_proof.specs.SuspendRules.{IsCallAt}
 use Rattle.pass_renewed_proof.proofs.Ahead.{branch_edge, leads_more, next_edge}
 use Rattle.pass_renewed_proof.proofs.Ordinary.{own_address}
+use Rattle.pass_renewed_proof.proofs.Stands.{end_at_first}
+use Rattle.pass_renewed_proof.specs.Way.{IsResumedAt}
 use Rattle.rule_laws.proofs.rules.sources.Places.{instr_there, point, term_there}
 use Rattle.run_step.specs.Step.{AtInstr, AtTerm, Fetched, Nowhere, fetch, incoming_from, phis_of}
 
@@ -300,3 +302,13 @@ module _ (f : Function) (names : HasPlainNames f) (a : ℕ) (ramp : IsRampSlot f
           (or_right (same_point (entry_point f (destroy_label f s)) (entry_point f (resume_label f s))) _
           (or_left (same_point (entry_point f (destroy_label f s)) (entry_point f (destroy_label f s))) false
           (same_point-itself (entry_point f (destroy_label f s)))))) h
+
+  -- nor is it read where a resumed activation stands
+  pub ramp_unread : (block at : ℕ) → IsResumedAt f (point block at) → reads_at a (fetch f block at) ≡ true → ⊥
+  ramp_unread block at r h =
+      no_read block at (λ is. end_at_first f (point block at) r is) (record {
+        first = r.came.edge;
+        is_first = among f r.suspend (points_where (is_call_of Intrinsic.CoroSuspend) f) r.came.is_suspend r.came.edge
+            r.came.own;
+        path = r.came.comes;
+      }) (fetch f block at) refl h
