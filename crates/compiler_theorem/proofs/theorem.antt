@@ -14,11 +14,13 @@ pub mod Affording
 pub mod Promises
 pub mod Renewing
 pub mod Tables
+pub mod Texts
 pub mod Numbered
 pub mod Roots
 pub mod Rows
 pub mod Slots
 pub mod Stack
 pub mod Stepping
+pub mod Steps
 pub mod Whole
 pub mod shown

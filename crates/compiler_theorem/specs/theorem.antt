@@ -6,9 +6,12 @@ pub mod Elision
 pub mod Entries
 pub mod GoodLayouts
 pub mod KeptFields
+pub mod Left
 pub mod Lowered
 pub mod Rows
 pub mod SharedBytes
 pub mod ShownSlots
 pub mod Suspended
+pub mod Texts
 pub mod Theorem
+pub mod Started

@@ -1,12 +1,20 @@
 //! What is lowered of a source agrees with it, within the source's step factor: the passes that are proved, in a row
 //! with those that are premises yet.
 
+ghost use Rattle.compiler.specs.Lowering.{IsLowering};
+ghost use Rattle.compiler.specs.Printed.{AllFew};
+ghost use Rattle.compiler.specs.declared.lowered.Lowered.{Lowered as TheLowered};
+ghost use Rattle.compiler.specs.declared.lowered.Lowering.{Lowering as TheLowering};
+ghost use Rattle.compiler_theorem.specs.theorem.Texts.{KeepsTexts};
+ghost use Rattle.ir_base.specs.declared.status.Options.{Options as TheOptions};
+ghost use Rattle.text_canonical.specs.grammar.Bytes.{AreBytes as IsOfBytes};
 ghost use Rattle.run_framed.specs.Framed.{begin_name};
 ghost use Rattle.pass_frames_meaning.specs.Led.{IsBegunOnce};
 ghost use Rattle.ir_laws.specs.facts.sound_states.Named.{HasNamedLocals};
 ghost use Rattle.run_source.specs.declared.state.State.{State};
 ghost use Rattle.compiler_theorem.specs.theorem.Anew.{Anew, IsAnewOf};
-ghost use Rattle.compiler_theorem.specs.theorem.Asked.{AreAllStepsLeft, asking};
+ghost use Rattle.compiler_theorem.specs.theorem.Asked.{asking};
+ghost use Rattle.compiler_theorem.specs.theorem.Left.{AreAllStepsLeft};
 ghost use Rattle.compiler_theorem.specs.theorem.Built.{building};
 ghost use Rattle.compiler_theorem.specs.theorem.Entries.{IsEntry, IsEntryCall, Run};
 ghost use Rattle.compiler_theorem.specs.theorem.Lowered.{AreAllocasFirst, HasFewBytes, Lowered, IsLowered, early, edged, kept_run, price_kept, printed_from, sizes_of, source_run};
@@ -220,6 +228,13 @@ pub fn lowered_runs_agree()
     ensures { (a : Anew) (l : Lowered) (low : IsLowered l) → HasFewBytes l → Steps a l low
         → (r : Run) (other : ℕ) → IsEntry l.source (printed_from l l.framed) r.entry other
         → AreArguments l.source r.entry r.args → KeepsRuns l r other }
+{}
+
+/// In terms of the call `lower`: the text that it gives stands for a module whose runs agree with those of the module
+/// for which the source's text stands.
+pub fn texts_keep_their_meaning()
+    ensures { (options : TheOptions) (text : List ℕ) → IsOfBytes text → length text < 2 ^ 31 → (l : TheLowered)
+        → IsLowering options text (TheLowering.Done l) → AllFew l.«module».functions → KeepsTexts text l }
 {}
 
 /// And where frames show the slots and values that stand in them, they stand where they lie by the layouts.

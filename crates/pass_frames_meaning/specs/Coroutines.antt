@@ -78,24 +78,25 @@ pub record MaySuspend (c : Setting) (s : State) (result : Option ℕ) (args : Li
 
 -- The slot of a marker of a coroutine: the name of an alloca has its slot's address, or poison (the run's invariant).
 -- A slot that is made anew has no marker left.
-pub data IsMarkedHere (c : Setting) (s t : State) (r : AreBuiltOf c.b s t) (i : Instr) (slot : ℕ) : Type 0 where
-  Anew : IsUnmarked c.b s i → c.g.flags s.top.func slot ≡ true → IsMarkedHere c s t r i slot
+pub data IsMarkedHere (c : Setting) (s t : State) (r : AreBuiltOf c.b s t) (starts : Bool) (i : Instr) (slot : ℕ)
+    : Type 0 where
+  Anew : IsUnmarked c.b s i → c.g.flags s.top.func slot ≡ true → IsMarkedHere c s t r starts i slot
   Unmade : IsUnmarked c.b s i → c.g.flags s.top.func slot ≡ false → value_in s.top.values slot ≡ Value.Poison
-      → IsMarkedHere c s t r i slot
+      → IsMarkedHere c s t r starts i slot
   Before : IsUnmarked c.b s i → c.g.flags s.top.func slot ≡ false → IsBeforeBegin c.b s slot
-      → IsMarkedHere c s t r i slot
+      → IsMarkedHere c s t r starts i slot
   Early : IsUnmarked c.b s i → c.g.flags s.top.func slot ≡ false → IsEarlyMarked c.b s t r slot
-      → IsMarkedHere c s t r i slot
-  Behind : IsUnmarked c.b s i → c.g.flags s.top.func slot ≡ false → IsBehindBegin c.b s slot
-      → IsMarkedHere c s t r i slot
+      → IsMarkedHere c s t r starts i slot
+  Behind : IsUnmarked c.b s i → c.g.flags s.top.func slot ≡ false → IsBehindBegin c.b s slot starts
+      → IsMarkedHere c s t r starts i slot
   Whole : IsKeptMarker c.b s i slot → c.g.flags s.top.func slot ≡ false → (z : Slot) → IsWholeMarked c.b s slot z
-      → IsMarkedHere c s t r i slot
+      → IsMarkedHere c s t r starts i slot
 
 -- What isn't derived yet where a marker stands at the place.
 pub record MayMark (c : Setting) (s t : State) (r : AreBuiltOf c.b s t) (starts : Bool) : Type 0 where
   pub each : (must_tail : Bool) (ty : Option Ty) (size : Arg) (u : Ty) (slot : ℕ)
       → fetch (function_of c.g.given s) s.top.block s.top.at ≡ AtInstr (marking starts must_tail ty size u slot)
-      → IsMarkedHere c s t r (marking starts must_tail ty size u slot) slot
+      → IsMarkedHere c s t r starts (marking starts must_tail ty size u slot) slot
   -- no alloca is a value that crosses (`AreCellsFor`)
   pub unkept : (must_tail : Bool) (ty : Option Ty) (size : Arg) (u : Ty) (slot : ℕ)
       → fetch (function_of c.g.given s) s.top.block s.top.at ≡ AtInstr (marking starts must_tail ty size u slot)

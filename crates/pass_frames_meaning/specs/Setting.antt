@@ -15,7 +15,7 @@ use Rattle.pass_frames_proof.specs.Marking.{IsWholeMarked, marking}
 use Rattle.pass_frames_proof.specs.Places.{edged}
 use Rattle.pass_frames_proof.specs.Related.{AreBuiltOf, Building, is_coroutine}
 use Rattle.pass_frames_proof.specs.Returning.{FitsResult, given_value}
-use Rattle.pass_frames_proof.specs.Stepping.{AreGiven, HasFieldIndices}
+use Rattle.pass_frames_proof.specs.Stepping.{AreGiven, HasFieldIndices, IsNotEntering}
 use Rattle.pass_renewed_meaning.specs.Rules.{KeepsStepRules}
 use Rattle.pass_renewed_proof.specs.Renewed.{RenewedGiven}
 use Rattle.rule_laws.specs.frames.rows.Returns.{HaveOwnReturns}
@@ -71,8 +71,8 @@ pub record MayStep (c : Setting) (s : State) : Type 0 where
       (name : ℕ)
       → fetch (function_of c.g.given s) s.top.block s.top.at ≡ AtInstr (marking starts must_tail ty size u name)
       → (slot : Slot) × IsWholeMarked c.b s name slot
-  -- live slots lie in no field of what crosses where an instance is suspended
-  pub fields : AreFieldsApart c.b s
+  -- where no slot is being made anew, live slots lie in no field of what crosses where an instance is suspended
+  pub fields : IsNotEntering s.top.mode → AreFieldsApart c.b s
   -- what a coroutine below is given may be stored
   pub stored : (a : Activation) (more : List Activation) (arg : Option Arg) → s.below ≡ a ∷ more
       → fetch (function_of c.g.given s) s.top.block s.top.at ≡ AtTerm (Terminator.Ret arg)

@@ -8,6 +8,7 @@ pub mod Edges
 pub mod Ends
 pub mod Entry
 pub mod Jumps
+pub mod Weights
 pub mod Lean
 pub mod Lengths
 pub mod Links

@@ -47,8 +47,8 @@ pub record IsAtAnew (b : Building) (g : RenewedGiven) (s : State) (name : ℕ) (
   pub returns : entry (plan (b.framing s.top.func)).returns label ≡ Some order
   pub fronts : AreFrontsGood (b.framing s.top.func)
 
--- Another one follows. Of allocas in between, which aren't made anew, nothing is handed on. Names are each that of one
--- alloca (N1).
+-- Another one follows. Of allocas in between, which aren't made anew, nothing is handed on but addresses of slots that
+-- lie in the frame. Names are each that of one alloca (N1).
 pub record HasNextAnew (b : Building) (g : RenewedGiven) (s : State) (name : ℕ) : Type 0 where
   pub next : ℕ
   pub other : ℕ
@@ -61,6 +61,7 @@ pub record HasNextAnew (b : Building) (g : RenewedGiven) (s : State) (name : ℕ
   pub outside : lies_in_frame (offsets (b.framing s.top.func)) other ≡ false
   pub apart : other ≢ name
   pub handed : (v : ℕ) → IsListed v (allocas_in (take next (instrs_at (b.framing s.top.func) 0)))
+      → lies_in_frame (offsets (b.framing s.top.func)) v ≡ false
       → IsListed v (allocas_in (take s.top.at (instrs_at (b.framing s.top.func) 0)))
       ⊎ ((v ≡ name) ⊎ (value_in s.top.values v ≡ Value.Poison))
   pub between : (v : ℕ) → IsListed v (allocas_in (allocas_up_to (b.framing s.top.func) next))

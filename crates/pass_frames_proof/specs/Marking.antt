@@ -75,12 +75,12 @@ pub record IsBeforeBegin (b : Building) (s : State) (name : ℕ) : Type 0 where
   pub late : (e : EarlySlot) → Contains (copies (b.framing s.top.func)).slots e → e.slot ≢ name
 
 -- or that of a slot of its instance
-pub record IsBehindBegin (b : Building) (s : State) (name : ℕ) : Type 0 where
+pub record IsBehindBegin (b : Building) (s : State) (name : ℕ) (starts : Bool) : Type 0 where
   pub slot : Slot
   pub number : ℕ
   pub instance : Instance
   pub address : value_in s.top.values name ≡ pointer_to slot.block
-  pub placed : IsSlotInFrame b s number instance slot
+  pub placed : IsSlotInFrame b s number instance slot starts
 
 -- ---- markers that both runs execute
 

@@ -1,6 +1,6 @@
 -- Slots of all activations of a run, and slots in frames.
 use Rattle.std.specs.List.{Contains}
-use Rattle.std.specs.Prelude.{◌≡◌, ◌≢◌, ◌+◌, ◌<◌, ◌≤◌, ◌%◌, ◌∷◌, Some, false, length, slice_get, true, ℕ}
+use Rattle.std.specs.Prelude.{◌≡◌, ◌≢◌, ◌+◌, ◌<◌, ◌≤◌, ◌%◌, ◌∷◌, Some, false, length, slice_get, true, ℕ, Bool}
 use Rattle.flow_solver.specs.Paths.{IsListed}
 use Rattle.frame_contents.specs.Held.{position_of}
 use Rattle.frame_layout.specs.declared.layout.Layout.{Layout}
@@ -73,10 +73,12 @@ pub record HasFrameThere (b : Building) (s : State) (x : Instance) : Type 0 wher
 abbrev pub AreRangesApart : (o m p n : ℕ) → Type 0
 AreRangesApart o m p n = (i j : ℕ) → i < m → j < n → o + i ≢ p + j
 
--- What is known of a slot of an instance where it may start to live. The offset of its field is that of its place among
--- what is held. Its instance isn't freed if it wasn't killed. It conflicts with each slot that lives
--- (`LiveAreApart` of the state in which it does), so that fields lie apart (`IsGoodLayout`).
-pub record IsSlotInFrame (b : Building) (s : State) (number : ℕ) (x : Instance) (slot : Slot) : Type 0 where
+-- What is known of a slot of an instance where a marker starts or ends it. The offset of its field is that of its place
+-- among what is held. Its instance isn't freed if it wasn't killed. Where it starts to live it conflicts with each slot
+-- that lives (`LiveAreApart` of the state in which it does), so that fields lie apart (`IsGoodLayout`). A slot that is
+-- dead may be ended again while another one lives on its bytes.
+pub record IsSlotInFrame (b : Building) (s : State) (number : ℕ) (x : Instance) (slot : Slot) (starts : Bool)
+    : Type 0 where
   pub own : Contains x.slots slot
   pub alone : HasOwnFrame s number x
   pub field : (position : ℕ) → position_of (b.framing x.coroutine).contents.held slot.alloca ≡ Some position
@@ -85,7 +87,7 @@ pub record IsSlotInFrame (b : Building) (s : State) (number : ℕ) (x : Instance
       y.align
   pub frame : (y : MemoryBlock) → slice_get s.world.memory slot.block ≡ Some y → is_killed y.life ≡ false
       → HasFrameThere b s x
-  pub apart : (other : Slot) → Contains x.slots other → other.block ≢ slot.block → (z y : MemoryBlock)
+  pub apart : starts ≡ true → (other : Slot) → Contains x.slots other → other.block ≢ slot.block → (z y : MemoryBlock)
       → slice_get s.world.memory other.block ≡ Some z → slice_get s.world.memory slot.block ≡ Some y
       → is_live z.life ≡ true → (p q : ℕ)
       → position_of (b.framing x.coroutine).contents.held other.alloca ≡ Some p

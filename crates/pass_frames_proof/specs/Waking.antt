@@ -108,7 +108,7 @@ pub record StandsInFront (x : Framing) (at name : ℕ) (ty : Ty) (align : ℕ) :
   pub is : front_allocas x ≡ allocas_up_to x at ++ (Instr.Alloca name ty align ∷ rest)
 
 -- The first of its allocas that is made anew. Those of the framed form have alignments that there are, and begin's name
--- is that of none.
+-- is that of none. Of allocas before it nothing is handed on but addresses of slots that lie in the frame.
 pub record HasFirstAnew (b : Building) (g : RenewedGiven) (func : ℕ) (env : Env) : Type 0 where
   pub first : ℕ
   pub name : ℕ
@@ -122,7 +122,7 @@ pub record HasFirstAnew (b : Building) (g : RenewedGiven) (func : ℕ) (env : En
   pub good : Each IsGoodAlloca (front_allocas (b.framing func))
   pub no_begin : IsListed (begin_of (b.framing func).function) (allocas_in (front_allocas (b.framing func))) → ⊥
   pub unhanded : (v : ℕ) → IsListed v (allocas_in (take first (instrs_at (b.framing func) 0)))
-      → value_in env v ≡ Value.Poison
+      → lies_in_frame (offsets (b.framing func)) v ≡ false → value_in env v ≡ Value.Poison
 
 -- Both runs wake it. The framed run first fetches what the call takes, and then stands at the call itself. Behind the
 -- call its caller goes on. No call is in a block on a resume or destroy edge. Slots of activations have blocks.
@@ -224,19 +224,14 @@ pub record HasEdgeBlock (b : Building) (func label order : ℕ) : Type 0 where
       → IsCellMade (b.framing func) cell (int 64)
   pub wheres : (s : EarlySlot) → Contains (copies (b.framing func)).slots s → IsCellMade (b.framing func) s.cell ptr
 
--- No alloca is made anew, and so no address is moved, nor is the distance of one kept. Of names that are kept nowhere
--- but begin's nothing is handed on.
+-- No alloca is made anew, and so no address is moved, nor is the distance of one kept. Of names that are kept in no
+-- cell and lie in no frame but begin's nothing is handed on. The framed form may have no allocas, or some.
 pub record HasNoneAnew (b : Building) (g : RenewedGiven) (func : ℕ) (env : Env) (label order : ℕ) : Type 0 where
   pub none : renewed_from (g.flags func) (function_at g.given.code func) 0 ≡ None
   pub unrooted : (v : ℕ) → g.roots func v ≡ None
-  pub at : ℕ
-  pub instr : Instr
-  pub there : slice_get (instrs_at (b.framing func) 0) at ≡ Some instr
-  pub line : List Instr
-  pub last : Instr
-  pub stands : front_allocas (b.framing func) ≡ line ++ (last ∷ [])
   pub fronts : AreFrontsGood (b.framing func)
   pub unhanded : (v : ℕ) → entry (plan (b.framing func)).places v ≡ None
+      → lies_in_frame (offsets (b.framing func)) v ≡ false
       → (v ≡ begin_of (b.framing func).function) ⊎ (value_in env v ≡ Value.Poison)
   pub unslotted : (v : ℕ) (k : KeptValue) → IsKeptValue (b.framing func) v k → k.slot ≡ None
   pub edge : HasEdgeBlock b func label order

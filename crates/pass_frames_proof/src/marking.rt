@@ -47,7 +47,7 @@ pub fn markers_of_slots_are_followed()
     ensures behind { (b : Building) (g : RenewedGiven) → AreGiven b g → (s t : State) → AreBuiltOf b s t
         → (starts must_tail : Bool) (ty : Option Ty) (size : Arg) (u : Ty) (slot : ℕ)
         → IsAtMarker b s starts must_tail ty size u slot → IsUnmarked b s (marking starts must_tail ty size u slot)
-        → g.flags s.top.func slot ≡ false → HasListedSlots s → HasSlotsApart t → IsBehindBegin b s slot
+        → g.flags s.top.func slot ≡ false → HasListedSlots s → HasSlotsApart t → IsBehindBegin b s slot starts
         → IsFollowed b g s t }
 {}
 

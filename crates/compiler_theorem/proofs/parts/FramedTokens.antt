@@ -38,56 +38,57 @@ module _ (l : Lowered) (low : IsLowered l) where
   e = early l
 
   module _ (k : ℕ) (f : Function) (there : slice_get (early l).functions k ≡ Some f) (coroutine : f.coroutine ≡ true)
-      (lay : Layout) (given : IsGiven l.layouts.coroutines lay) where
-    rules : KeepsFunctionRules e k f
-    rules = early_rules l.text l.source low.source.stands low.source.accepted k f there
+    where
+      rules : KeepsFunctionRules e k f
+      rules = early_rules l.text l.source low.source.stands low.source.accepted k f there
 
-    shape : KeepsShape k f
-    shape = (early_others l.text l.source low.source.stands low.source.accepted).shape k f there
+      shape : KeepsShape k f
+      shape = (early_others l.text l.source low.source.stands low.source.accepted).shape k f there
 
-    paths : KeepsPaths k f
-    paths = (early_others l.text l.source low.source.stands low.source.accepted).paths k f there
+      paths : KeepsPaths k f
+      paths = (early_others l.text l.source low.source.stands low.source.accepted).paths k f there
 
-    named : HasBeginName f
-    named = early_named l.text l.source low.source.stands low.source.accepted k f there coroutine
+      named : HasBeginName f
+      named = early_named l.text l.source low.source.stands low.source.accepted k f there coroutine
 
-    begun : HasTokens k f
-    begun =
-        let x = map_was early_function l.source.functions k f there in
-        let s : Function = x.0 in
-        let own : (early_function s).coroutine ≡ true = ap (λ (g : Function). g.coroutine) (sym x.1.1) ∙ coroutine in
-        subst (HasTokens k) (sym x.1.1) (early_tokens k s (sym (early_kind s) ∙ own) own
-        (subst (λ (g : Function). KeepsPaths k g) x.1.1 paths).window)
+      pub begun : HasTokens k f
+      begun =
+          let x = map_was early_function l.source.functions k f there in
+          let s : Function = x.0 in
+          let own : (early_function s).coroutine ≡ true = ap (λ (g : Function). g.coroutine) (sym x.1.1) ∙ coroutine in
+          subst (HasTokens k) (sym x.1.1) (early_tokens k s (sym (early_kind s) ∙ own) own
+          (subst (λ (g : Function). KeepsPaths k g) x.1.1 paths).window)
 
-    module _ (g : Function) (h : IsFramedCoroutine (early l) lay f g) where
-      buildable : IsBuildable e k lay f h.contents h.before named.begin
-      buildable = record {
-        rules = rules;
-        coroutine = coroutine;
-        calls = shape.calls;
-        switches = shape.switches;
-        outside = paths.outside;
-        window = paths.window;
-        named = named.named;
-        contents = h.contents_are;
-        widths = early_wide l.text l.source low.source.stands low.source.accepted k f there;
-        before_are = h.before_are;
-        near = all_near l.source l.share l.layouts low.laid lay given;
-        uses = blocks_behind e k lay f h.contents named.begin
-            (length (copied f h.contents (celled e f h.contents) h.before).names) rules coroutine shape.calls
-            paths.early_address named.named h.contents_are;
-      }
+      module _ (lay : Layout) (given : IsGiven l.layouts.coroutines lay) (g : Function)
+          (h : IsFramedCoroutine (early l) lay f g) where
+        buildable : IsBuildable e k lay f h.contents h.before named.begin
+        buildable = record {
+          rules = rules;
+          coroutine = coroutine;
+          calls = shape.calls;
+          switches = shape.switches;
+          outside = paths.outside;
+          window = paths.window;
+          named = named.named;
+          contents = h.contents_are;
+          widths = early_wide l.text l.source low.source.stands low.source.accepted k f there;
+          before_are = h.before_are;
+          near = all_near l.source l.share l.layouts low.laid lay given;
+          uses = blocks_behind e k lay f h.contents named.begin
+              (length (copied f h.contents (celled e f h.contents) h.before).names) rules coroutine shape.calls
+              paths.early_address named.named h.contents_are;
+        }
 
-      fit : PassesFit e k lay f h.contents h.before
-      fit = passes_fit e k lay f h.contents h.before named.begin buildable
+        fit : PassesFit e k lay f h.contents h.before
+        fit = passes_fit e k lay f h.contents h.before named.begin buildable
 
-      pub built : HasTokens k g
-      built = subst (HasTokens k) (sym h.is) (front_tokens k
-          (placed lay f h.contents (copied f h.contents (celled e f h.contents) h.before))
-          (framed_tokens e k lay f h.contents h.before named.begin rules coroutine shape.calls shape.switches paths.outside
-          paths.window named.named h.contents_are.crossing_are fit begun))
+        pub built : HasTokens k g
+        built = subst (HasTokens k) (sym h.is) (front_tokens k
+            (placed lay f h.contents (copied f h.contents (celled e f h.contents) h.before))
+            (framed_tokens e k lay f h.contents h.before named.begin rules coroutine shape.calls shape.switches paths.outside
+            paths.window named.named h.contents_are.crossing_are fit begun))
 
-  in_form : (k : ℕ) (f g : Function) → slice_get (early l).functions k ≡ Some f
+  pub in_form : (k : ℕ) (f g : Function) → slice_get (early l).functions k ≡ Some f
       → Becomes (early l) l.layouts.coroutines f g → g.coroutine ≡ true → HasTokens k g
   in_form k f _ there (Unchanged plain) c = absurd (not_both f.coroutine plain c)
   in_form k f g there (FramedBy taken _ marked framed) c =

@@ -37,7 +37,7 @@ use Rattle.std.specs.List.{list_all}
 
 -- ---- an instruction
 
-abbrev is_saved : Instr → Bool
+abbrev pub is_saved : Instr → Bool
 is_saved (Instr.Call r must_tail ty (Callee.Intrinsic Intrinsic.CoroSuspend) args) = is_some (save_of args)
 is_saved _ = true
 
@@ -94,7 +94,7 @@ module _ (p : SuspendPoint) where
 -- ---- of a function whose suspends have tokens
 
 module _ (m : Module) (k : ℕ) (f : Function) (rules : KeepsFunctionRules m k f) (tokens : HasTokens k f) where
-  each_saved : (b : Block) → IsListed b f.blocks → (i : Instr) → IsListed i b.instrs → is_saved i ≡ true
+  pub each_saved : (b : Block) → IsListed b f.blocks → (i : Instr) → IsListed i b.instrs → is_saved i ≡ true
   each_saved b l i s =
       let at = place_of f.blocks b l in
       let j = place_of b.instrs i s in

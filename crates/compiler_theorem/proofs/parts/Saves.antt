@@ -9,8 +9,9 @@ use Rattle.compiler.specs.cleanup.accepted.Ready.{IsReady}
 use Rattle.compiler_theorem.proofs.parts.Apart.{edged_is}
 use Rattle.compiler_theorem.proofs.parts.Chain.{StaysCalled}
 use Rattle.compiler_theorem.proofs.parts.Followable.{comes, same_kind}
-use Rattle.compiler_theorem.proofs.parts.FramedTokens.{framed_have_tokens}
+use Rattle.compiler_theorem.proofs.parts.FramedTokens.{framed_have_tokens, in_form}
 use Rattle.compiler_theorem.proofs.parts.Returned.{called}
+use Rattle.compiler_theorem.proofs.parts.Saved.{tokens_named}
 use Rattle.compiler_theorem.proofs.parts.Taken.{first_same, front_ones, has_one, no_alloca_passes, one_passes, passed, passes, same_ones, save_told, suspend_told}
 use Rattle.compiler_theorem.proofs.parts.Ways.{Edge, More, Reaches, blocks_on, path_on, reaches_same, way_of, within}
 use Rattle.compiler_theorem.specs.theorem.Lowered.{IsLowered, Lowered, early}
@@ -329,6 +330,38 @@ module _ (l : Lowered) (low : IsLowered l) where
   by_form k f g there (FramedBy taken _ marked framed) c =
       blocks_lead (with_edge_blocks f) g (same_tokens k f there marked taken g framed)
       (edged_keeps k f there marked)
+
+  -- so a path leads from each save of a coroutine of the form to its suspend
+  pub form_leads : (k : ℕ) (g : Function) → slice_get l.framed.functions k ≡ Some g → g.coroutine ≡ true
+      → (p s : Point) → IsCallAt Intrinsic.CoroSave g p → suspend_of g p ≡ Some s → Leads g [] p s
+  form_leads k g there marked p s c pair =
+      on (call_result c.instr) refl
+      (tokens_named l.framed k g kept.rules (in_form l low k form.source g form.stands form.becomes marked) p.block p.at
+      c.instr c.stands c.is)
+    where
+      kept : KeepsExits l.framed k g
+      kept = exits_kept l.text l.source low.source.stands low.source.accepted l.share l.layouts low.laid l.framed
+          low.is_framed k g there marked
+
+      form : StandsAs (early l) l.layouts.coroutines (early l).functions k g
+      form = stands_as (early l) l.layouts.coroutines low.is_framed.functions.count (early l).functions
+          l.framed.functions low.is_framed.functions.framed k g there
+
+      here : instr_at g p ≡ Some c.instr
+      here = instr_there g p.block p.at c.instr c.stands
+
+      block_in : StandsIn g p c.instr
+      block_in = stands_in g p c.instr here
+
+      token : (v : ℕ) → call_result c.instr ≡ Some v → gives_token v c.instr ≡ true
+      token v result = (λ j. c.is j && is_token v (result j)) ∙ eq_itself v
+
+      on : (o : Option ℕ) → call_result c.instr ≡ o → is_some (call_result c.instr) ≡ true → Leads g [] p s
+      on None e some = let no : false ≡ true = sym (ap is_some e) ∙ some in absurd (cc)
+      on (Some v) e some =
+          points_lead k g marked kept.switches p s c (suspend_is_suspend g p s pair)
+          (by_form k form.source g form.stands form.becomes marked p s block_in.block c.instr v block_in.got
+          block_in.stands (token v e) (sym (suspend_by g p c.instr v here e) ∙ pair))
 
   module _ (ready : IsReady l.layouts l.framed) where
     exited_leads : (k : ℕ) (g : Function) → slice_get l.framed.functions k ≡ Some g → g.coroutine ≡ true

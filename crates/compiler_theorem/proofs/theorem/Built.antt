@@ -4,6 +4,8 @@ use Rattle.std.proofs.lemmas.Bool.{cases_lt, false≢true}
 use Rattle.std.proofs.lemmas.List.{length-map}
 use Rattle.std.proofs.lemmas.Option.{slice_get_within}
 use Rattle.std.specs.Prelude.{ℤ, None, Option, Some, if◌then◌else◌, slice_get, unwrap_or, ◌==◌}
+use Rattle.compiler.proofs.whole.lowered_sources.Coroutines.{framed_well}
+use Rattle.compiler_theorem.proofs.kinds.Unmarked.{form_unmarked}
 use Rattle.compiler_theorem.proofs.parts.Found.{found_in_order}
 use Rattle.compiler_theorem.proofs.parts.Returned.{buildable, named}
 use Rattle.compiler_theorem.proofs.theorem.Facts.{good_layouts}
@@ -16,6 +18,8 @@ use Rattle.ir_laws.specs.facts.same_names.Same.{naming}
 use Rattle.ir_model.specs.Names.{function_at, no_function}
 use Rattle.ir_model.specs.declared.module.Function.{Function}
 use Rattle.ir_model.specs.declared.module.Module.{Module}
+use Rattle.pass_edges.specs.EdgeBlocks.{with_edge_blocks}
+use Rattle.run_step.specs.Step.{has_markers}
 use Rattle.pass_frames.specs.Framed.{AreFramed, Coroutine, IsFramedCoroutine, NoneYet, Other, layout_at}
 use Rattle.pass_frames_proof.proofs.framings.Built.{framing_there}
 use Rattle.pass_frames_proof.specs.Framings.{IsFraming}
@@ -24,9 +28,13 @@ use Rattle.pass_frames_proof.specs.Related.{AreBuilt, Building, IsBuiltBy}
 use Rattle.pass_proofs.proofs.frames.headings.Headings.{framed_names}
 use Rattle.pass_proofs.proofs.frames.numbers.Numbers.{number_given}
 use Rattle.pass_proofs.proofs.frames.unnamed.Positions.{Becomes, FramedBy, Unchanged, stands_as}
+use Rattle.ir_laws.specs.paths.woven_rules.Pairs.{AreDifferent}
+use Rattle.pass_proofs.proofs.edges.calls.Edges.{edges_shaped}
+use Rattle.rule_laws.specs.frames.replaced.Splittable.{tokens_taken}
 use Rattle.pass_split.specs.Parts.{first_layout, layouts_after, other_layouts}
 use Rattle.pass_split_proof.proofs.ready.Layouts.{layouts_found}
 use Rattle.pass_split_proof.specs.code.Positions.{layouts_from}
+use Rattle.rule_laws.specs.rules.function_rules.Kept.{KeepsFunctionRules}
 
 -- ---- layouts that are left
 
@@ -84,13 +92,13 @@ module _ (m : Module) (ls : List Layout) where
       one_longer gs g ∙ ap suc (lengths c fs gs rest) ∙ sym (one_longer fs f)
 
   -- the framed form of the coroutine at a position
-  record IsFramedAt (fs gs : List Function) (k : ℕ) (f : Function) (x : Framing) : Type 0 where
-    other : Function
-    there : slice_get gs k ≡ Some other
-    taken : ℕ
-    is : IsFramedCoroutine m (layout_at ls taken) f other
-    same : x ≡ framing_of m (layout_at ls taken) f other is
-    layout : layout_at ls taken ≡ first_layout (layouts_from ls fs k)
+  pub record IsFramedAt (fs gs : List Function) (k : ℕ) (f : Function) (x : Framing) : Type 0 where
+    pub other : Function
+    pub there : slice_get gs k ≡ Some other
+    pub taken : ℕ
+    pub is : IsFramedCoroutine m (layout_at ls taken) f other
+    pub same : x ≡ framing_of m (layout_at ls taken) f other is
+    pub layout : layout_at ls taken ≡ first_layout (layouts_from ls fs k)
 
   -- before the last one, or the last one
   data IsAt (fs : List Function) (f : Function) (k : ℕ) (g : Function) : Type 0 where
@@ -187,7 +195,7 @@ module _ (l : Lowered) (low : IsLowered l) (answers : List ℤ) where
   abbrev pub built : Building
   built = building l low.is_framed answers
 
-  framed_there : (func : ℕ) → (function_at e func).coroutine ≡ true
+  pub framed_there : (func : ℕ) → (function_at e func).coroutine ≡ true
       → IsFramedAt e ls e.functions l.framed.functions func (function_at e func) (built.framing func)
   framed_there func c =
       framed_at e ls low.is_framed.functions.count e.functions l.framed.functions low.is_framed.functions.framed func
@@ -256,6 +264,52 @@ module _ (l : Lowered) (low : IsLowered l) (answers : List ℤ) where
       (framing_there e func lay (function_at e func) x.is.contents x.is.before
       (named l low func (function_at e func) (coroutine_there func c) c lay (number_given ls x.taken)).begin
       (buildable l low func (function_at e func) (coroutine_there func c) c lay (number_given ls x.taken) x.other x.is))
+
+  -- the framed forms break no rule of functions
+  pub framed_rules : (func : ℕ) → (function_at e func).coroutine ≡ true
+      → KeepsFunctionRules e func (framed (built.framing func))
+  framed_rules func c =
+      let x = framed_there func c in
+      subst (KeepsFunctionRules e func) (x.is.is ∙ ap framed (sym x.same))
+      (framed_well l.text l.source low.source.stands low.source.accepted l.share l.layouts low.laid func
+      (function_at e func) (coroutine_there func c) c (layout_at ls x.taken) (number_given ls x.taken) x.other
+      x.is).kept.rules
+
+  -- each token is taken by one suspend, before and behind
+  pub edged_tokens : (func : ℕ) → (function_at e func).coroutine ≡ true
+      → AreDifferent (tokens_taken (with_edge_blocks (built.framing func).function))
+  edged_tokens func c =
+      let x = framed_there func c in
+      let lay : Layout = layout_at ls x.taken in
+      let begin = (named l low func (function_at e func) (coroutine_there func c) c lay (number_given ls x.taken)).begin in
+      let b = buildable l low func (function_at e func) (coroutine_there func c) c lay (number_given ls x.taken) x.other
+      x.is in
+      subst (λ (y : Framing). AreDifferent (tokens_taken (with_edge_blocks y.function))) (sym x.same)
+      (edges_shaped e func (function_at e func) begin b.rules b.coroutine b.calls b.switches b.outside b.window
+      b.named).tokens
+
+  pub framed_tokens : (func : ℕ) → (function_at e func).coroutine ≡ true
+      → AreDifferent (tokens_taken (framed (built.framing func)))
+  framed_tokens func c =
+      let x = framed_there func c in
+      subst (λ (g : Function). AreDifferent (tokens_taken g)) (x.is.is ∙ ap framed (sym x.same))
+      (framed_well l.text l.source low.source.stands low.source.accepted l.share l.layouts low.laid func
+      (function_at e func) (coroutine_there func c) c (layout_at ls x.taken) (number_given ls x.taken) x.other
+      x.is).kept.shape.tokens
+
+  -- and have no marker of a name that had none
+  pub framed_unmarked : (v func : ℕ) → (function_at e func).coroutine ≡ true
+      → has_markers (with_edge_blocks (built.framing func).function) v ≡ false
+      → has_markers (framed (built.framing func)) v ≡ false
+  framed_unmarked v func c none =
+      let x = framed_there func c in
+      let lay : Layout = layout_at ls x.taken in
+      subst (λ (y : Framing). has_markers (with_edge_blocks y.function) v ≡ false → has_markers (framed y) v ≡ false)
+      (sym x.same)
+      (form_unmarked v e func lay (function_at e func) x.is.contents x.is.before
+      (named l low func (function_at e func) (coroutine_there func c) c lay (number_given ls x.taken)).begin
+      (buildable l low func (function_at e func) (coroutine_there func c) c lay (number_given ls x.taken) x.other x.is))
+      none
 
   pub sources_built : AreBuilt (building l low.is_framed answers)
   sources_built = record { coroutines = coroutines; others = others }

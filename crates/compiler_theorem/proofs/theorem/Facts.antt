@@ -9,6 +9,7 @@ use Rattle.compiler_theorem.specs.theorem.Entries.{Run}
 use Rattle.compiler_theorem.specs.theorem.GoodLayouts.{AreGoodLayouts}
 use Rattle.compiler_theorem.specs.theorem.Lowered.{IsAccepted, IsLowered, Lowered, early, sizes_of, source_run}
 use Rattle.frame_good.proofs.Frames.{layouts_good}
+use Rattle.frame_good.specs.Frames.{HasFitFields}
 use Rattle.ir_model.specs.declared.module.Function.{Function}
 use Rattle.pass_early.specs.Early.{early_function}
 use Rattle.pass_proofs.proofs.early.path_rules.RenamedOperands.{map_was}
@@ -30,11 +31,14 @@ early_width l a k f e =
     subst (λ (g : Function). first_other_width k g ≡ None) (sym x.1.1)
     (early_widths k x.0 (text_wide l.text l.source a.stands k x.0 x.1.0))
 
-pub good_layouts : (l : Lowered) → IsLowered l → AreGoodLayouts (early l) l.layouts.coroutines
-good_layouts l low = layouts_good (early l) l.share l.layouts
-    (λ k f there is.
+pub fit_fields : (l : Lowered) → IsLowered l → (k : ℕ) (f : Function) → slice_get (early l).functions k ≡ Some f
+    → HasFitFields (early l) f
+fit_fields l low k f there =
     let rules = early_rules l.text l.source low.source.stands low.source.accepted k f there in
-    fields_fit (early l) k f (early_width l low.source k f there) rules.local.extents rules.definitions)
+    fields_fit (early l) k f (early_width l low.source k f there) rules.local.extents rules.definitions
+
+pub good_layouts : (l : Lowered) → IsLowered l → AreGoodLayouts (early l) l.layouts.coroutines
+good_layouts l low = layouts_good (early l) l.share l.layouts (λ k f there is. fit_fields l low k f there)
     ((accepted_laid l.text l.source low.source.stands low.source.accepted l.share (Ok l.layouts)).0 low.laid)
 
 -- what its coroutines' frames hold takes bytes

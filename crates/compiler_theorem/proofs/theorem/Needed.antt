@@ -120,7 +120,8 @@ module _ (l : Lowered) (low : IsLowered l) (a : Anew) (anew : IsAnewOf (early l)
       is_of = is;
     })
 
-    memory : (v : ℕ) → IsMadeOnce h v → (IsRampSlot h v → ⊥) → IsMemorySlot f v
+    pub memory : (v : ℕ) → IsMadeOnce (with_edge_blocks f) v → (IsRampSlot (with_edge_blocks f) v → ⊥)
+        → IsMemorySlot f v
     memory v made apart =
         let at = stands_at v (allocas_of f) (alloca v made) in
         let good = (layouts_found (early l) l.layouts.coroutines k f (good_layouts l low) there coroutine).is_good in

@@ -47,7 +47,7 @@ use Rattle.run_laws.specs.changed.Changed.{Each}
 
 -- ---- what is held at a position
 
-held_at : (k : ℕ) (hs : List Holding) (a position : ℕ) → position_from k hs a ≡ Some position
+pub held_at : (k : ℕ) (hs : List Holding) (a position : ℕ) → position_from k hs a ≡ Some position
     → (n : ℕ) × (position ≡ k + n) × (h : Holding) × (slice_get hs n ≡ Some h) × (h.value ≡ a)
 held_at k [] a position e = absurd (cc)
 held_at k (h ∷ hs) a position e = on (h.value == a) refl (held_at (k + 1) hs a position) e
@@ -64,13 +64,13 @@ held_at k (h ∷ hs) a position e = on (h.value == a) refl (held_at (k + 1) hs a
         let is : position ≡ k + 1 + x.0 = x.1 in
         (suc x.0, omega (arith, is), x.2, x.3, x.4)
 
-each_there : (P : Holding → Type 0) (hs : List Holding) (n : ℕ) (h : Holding) → Each P hs → slice_get hs n ≡ Some h
+pub each_there : (P : Holding → Type 0) (hs : List Holding) (n : ℕ) (h : Holding) → Each P hs → slice_get hs n ≡ Some h
     → P h
 each_there P [] n h all e = absurd (cc)
 each_there P (x ∷ hs) zero h all e = let same : x ≡ h = cc in subst P same all.0
 each_there P (x ∷ hs) (suc n) h all e = each_there P hs n h all.1 e
 
-field_there : (f : Function) (hs : List Holding) (n : ℕ) (h : Holding) → slice_get hs n ≡ Some h
+pub field_there : (f : Function) (hs : List Holding) (n : ℕ) (h : Holding) → slice_get hs n ≡ Some h
     → slice_get (map (field_of f) hs ++ index_field f ∷ []) n ≡ Some (field_of f h)
 field_there f [] n h e = absurd (cc)
 field_there f (x ∷ hs) zero h e = let same : x ≡ h = cc in ap (λ (y : Holding). Some (field_of f y)) same
@@ -172,16 +172,16 @@ module _ (l : Lowered) (low : IsLowered l) (r : Run) where
     function : x.function ≡ f
     function = ((sources_built l low r.answers).coroutines func coroutine).function
 
-    layout : x.layout ≡ layout_of ls func
+    pub layout : x.layout ≡ layout_of ls func
     layout = ((sources_built l low r.answers).coroutines func coroutine).layout
 
-    contents : AreContents e f x.contents
+    pub contents : AreContents e f x.contents
     contents =
         subst (λ (m : Module). AreContents m f x.contents) code
         (subst (λ (g : Function). AreContents x.code g x.contents) function
         (framings l low r.answers func coroutine).frameable.contents)
 
-    good : IsGoodLayout func (fields_of f x.contents.held) (AreInConflict f x.contents) (layout_of ls func)
+    pub good : IsGoodLayout func (fields_of f x.contents.held) (AreInConflict f x.contents) (layout_of ls func)
     good =
         let y = layouts_found e ls func f (good_layouts l low) there_now coroutine in
         subst (IsGoodLayout func (fields_of f x.contents.held) (AreInConflict f x.contents))

@@ -21,16 +21,16 @@ use Rattle.rule_laws.specs.rules.function_rules.Kept.{KeepsFunctionRules}
 use Rattle.run_accepted.proofs.Slots.{part_of}
 
 -- a getelementptr of such a base gives a name
-record IsGepOf (f : Function) (is_base : ℕ → Bool) (v : ℕ) : Type 0 where
-  place : Point
-  inbounds : Bool
-  ty : Ty
-  base : ℕ
-  indices : List Arg
-  there : instr_at f place ≡ Some (Instr.Gep v inbounds ty (Operand.Local base) indices)
-  of_base : is_base base ≡ true
+pub record IsGepOf (f : Function) (is_base : ℕ → Bool) (v : ℕ) : Type 0 where
+  pub place : Point
+  pub inbounds : Bool
+  pub ty : Ty
+  pub base : ℕ
+  pub indices : List Arg
+  pub there : instr_at f place ≡ Some (Instr.Gep v inbounds ty (Operand.Local base) indices)
+  pub of_base : is_base base ≡ true
 
-gep_of : (f : Function) (is_base : ℕ → Bool) (v : ℕ)
+pub gep_of : (f : Function) (is_base : ℕ → Bool) (v : ℕ)
     → IsListed v (flat_map (λ b. geps_from is_base b.instrs) f.blocks) → IsGepOf f is_base v
 gep_of f is_base v l =
     let x = part_of is_base f.blocks v (named_in v (flat_map (λ b. geps_from is_base b.instrs) f.blocks) l) in
@@ -46,7 +46,7 @@ gep_of f is_base v l =
 
 module _ (m : Module) (k : ℕ) (g : Function) (rules : KeepsFunctionRules m k g) where
   -- one instruction gives a name
-  no_gep : (a : ℕ) → HasAlloca g a → (is_base : ℕ → Bool) → IsGepOf g is_base a → ⊥
+  pub no_gep : (a : ℕ) → HasAlloca g a → (is_base : ℕ → Bool) → IsGepOf g is_base a → ⊥
   no_gep a x is_base y =
       let i : Instr = Instr.Alloca a x.ty x.align in
       let j : Instr = Instr.Gep a y.inbounds y.ty (Operand.Local y.base) y.indices in
@@ -54,7 +54,7 @@ module _ (m : Module) (k : ℕ) (g : Function) (rules : KeepsFunctionRules m k g
       let both : Some i ≡ Some j = sym x.stands ∙ ap (instr_at g) place ∙ y.there in
       absurd (cc)
 
-  same_base : (v : ℕ) (p q : ℕ → Bool) (x : IsGepOf g p v) (y : IsGepOf g q v) → x.base ≡ y.base
+  pub same_base : (v : ℕ) (p q : ℕ → Bool) (x : IsGepOf g p v) (y : IsGepOf g q v) → x.base ≡ y.base
   same_base v p q x y =
       let i : Instr = Instr.Gep v x.inbounds x.ty (Operand.Local x.base) x.indices in
       let j : Instr = Instr.Gep v y.inbounds y.ty (Operand.Local y.base) y.indices in

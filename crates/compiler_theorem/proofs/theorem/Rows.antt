@@ -20,7 +20,7 @@ use Rattle.compiler_theorem.specs.theorem.ShownSlots.{step_homes}
 use Rattle.compiler_theorem.specs.theorem.Theorem.{AreFramesShown, AreMadeAnew, IsSomewhereShown, Steps, prices_of}
 use Rattle.compiler_theorem.proofs.theorem.Paying.{runs_paid}
 use Rattle.compiler_theorem.proofs.theorem.Paid.{frames_paid}
-use Rattle.compiler_theorem.proofs.theorem.Stepping.{covered_followed}
+use Rattle.compiler_theorem.proofs.theorem.Steps.{covered_followed}
 use Rattle.pass_frames_proof.specs.Related.{AreBuiltOf, AreShownAlike}
 use Rattle.pass_renewed_meaning.specs.Followed.{AreAlike}
 use Rattle.pass_proofs.proofs.kept.sources.States.{split_corresponds}

@@ -1,17 +1,15 @@
--- States of the two runs between which frames are built are what laws on steps ask, but for what is left.
+-- States of the two runs between which frames are built are what laws on steps ask.
 use Rattle.std.proofs.Common.{◌≡◌, ℕ, Bool, true, false, List, length, map, refl, sym, ap, ◌∙◌, subst}
 use Rattle.std.proofs.lemmas.Bool.{false≢true}
 use Rattle.std.specs.Prelude.{All, None, Option, Some, slice_get, unwrap_or, ◌==◌, ◌&&◌}
 use Rattle.compiler.proofs.whole.lowered_sources.Row.{is_ready}
 use Rattle.compiler.specs.cleanup.accepted.Ready.{IsReady}
-use Rattle.compiler_theorem.proofs.theorem.Asked.{asked_kept}
 use Rattle.compiler_theorem.proofs.theorem.Renewing.{all_kept}
 use Rattle.compiler_theorem.specs.theorem.Anew.{Anew, IsAnewOf}
-use Rattle.compiler_theorem.specs.theorem.Asked.{AreStepsLeft, asking}
 use Rattle.compiler_theorem.specs.theorem.Built.{building}
 use Rattle.compiler_theorem.specs.theorem.Entries.{IsEntryCall, Run}
 use Rattle.compiler_theorem.specs.theorem.Lowered.{HasFewBytes, IsLowered, Lowered, early, edged, sizes_of}
-use Rattle.compiler_theorem.specs.theorem.Between.{renewing, setting}
+use Rattle.compiler_theorem.specs.theorem.Between.{renewing}
 use Rattle.ir_base.specs.declared.name.Name.{Name}
 use Rattle.ir_laws.proofs.facts.Truth.{and_first, and_second}
 use Rattle.ir_laws.proofs.facts.same_names.Lists.{what_is_found}
@@ -29,12 +27,8 @@ use Rattle.ir_paths.specs.declared.point.Point.{Point}
 use Rattle.ir_tables.proofs.Tables.{same_name-same}
 use Rattle.pass_exits.specs.ExitBlocks.{with_exit_blocks}
 use Rattle.pass_frames_meaning.proofs.called.CalledHooks.{renewed_keeps_called, states_called}
-use Rattle.pass_frames_meaning.proofs.coroutines.Functions.{all_followed}
 use Rattle.pass_frames_meaning.proofs.led.SoundRuns.{runs_sound}
 use Rattle.pass_frames_meaning.specs.Called.{IsCalledState}
-use Rattle.pass_frames_meaning.specs.Covered.{AreCoveredStepsFollowed, IsCovered}
-use Rattle.pass_frames_meaning.specs.Setting.{AreOfRuns}
-use Rattle.pass_frames_proof.specs.Related.{AreBuiltOf}
 use Rattle.pass_proofs.proofs.exits.states.Points.{instr_moved, moved}
 use Rattle.pass_renewed_meaning.proofs.Tables.{same_windows}
 use Rattle.pass_renewed_proof.specs.Renewed.{RenewedGiven, renewed_step}
@@ -121,16 +115,16 @@ module _ (l : Lowered) (low : IsLowered l) where
 
   module _ (few : HasFewBytes l) (a : Anew) (anew : IsAnewOf (early l) a) (r : Run) (entered : IsEntryCall l.source r)
     where
-      abbrev g : RenewedGiven
+      abbrev pub g : RenewedGiven
       g = renewing l a r
 
-      abbrev run : ℕ → State
+      abbrev pub run : ℕ → State
       run n = iterate (renewed_step g) n (first_state (edged l) r.entry r.args)
 
-      switches : AllHaveSwitches (edged l)
+      pub switches : AllHaveSwitches (edged l)
       switches = edged_switches l.text l.source low.source.stands low.source.accepted
 
-      places : KeepsAllPlaceRules g.given
+      pub places : KeepsAllPlaceRules g.given
       places =
           let old = edged_places l.text l.source low.source.stands low.source.accepted (sizes_of l) r.answers in
           record {
@@ -140,24 +134,24 @@ module _ (l : Lowered) (low : IsLowered l) where
                 (sym (same_windows (edged l) a.flags func)) (old.windows func);
           }
 
-      same : (n : ℕ) → run n ≡ hooked_state_at (renewed_hooks g) r.entry r.args n
+      pub same : (n : ℕ) → run n ≡ hooked_state_at (renewed_hooks g) r.entry r.args n
       same n =
           same_runs (renewed_step g) (step_of (renewed_hooks g)) (renewed_steps g) n
           (first_state (edged l) r.entry r.args)
 
-      sound : (n : ℕ) → IsSound (edged l) (run n)
+      pub sound : (n : ℕ) → IsSound (edged l) (run n)
       sound n =
           let all = all_kept l low a anew r entered few in
           runs_sound g r.entry r.args switches places all.types all.locals n
 
-      fitting : (n : ℕ) → IsFittingState (edged l) (run n)
+      pub fitting : (n : ℕ) → IsFittingState (edged l) (run n)
       fitting n =
           let all = all_kept l low a anew r entered few in
           subst (IsFittingState (edged l)) (sym (same n))
           (states_fit (renewed_hooks g) switches (renewed_keeps g) all.types (renewed_keeps_fitting g all.types) r.entry
           r.args n all.arguments)
 
-      called : (n : ℕ) → IsCalledState (edged l) (run n)
+      pub called : (n : ℕ) → IsCalledState (edged l) (run n)
       called n =
           let all = all_kept l low a anew r entered few in
           subst (IsCalledState (edged l)) (sym (same n))
@@ -165,33 +159,16 @@ module _ (l : Lowered) (low : IsLowered l) where
           (λ k. states_placed (renewed_hooks g) switches (renewed_keeps g) places (renewed_keeps_placed g) r.entry r.args k)
           n)
 
-      slots : (n : ℕ) → IsSlottedState (run n)
+      pub slots : (n : ℕ) → IsSlottedState (run n)
       slots n =
           subst IsSlottedState (sym (same n)) (states_slotted (renewed_hooks g) (renewed_keeps_slots g) r.entry r.args n)
 
       abbrev h : FramedGiven
       h = (building l low.is_framed r.answers).given
 
-      other_slots : (n : ℕ) → IsSlottedState (framed_state_at h r.entry r.args n)
+      pub other_slots : (n : ℕ) → IsSlottedState (framed_state_at h r.entry r.args n)
       other_slots n =
           subst IsSlottedState
           (sym (same_runs (framed_step h) (step_of (framed_hooks h)) (framed_steps h) n
           (first_state l.framed r.entry r.args)))
           (states_slotted (framed_hooks h) (framed_keeps_slots h gives_no_frames) r.entry r.args n)
-
-      pub covered_followed : ((n m : ℕ) → IsCovered (setting l a r) (run n)
-          → AreBuiltOf (building l low.is_framed r.answers) (run n) (framed_state_at h r.entry r.args m)
-          → AreStepsLeft (asking l low a r) (run n) (framed_state_at h r.entry r.args m))
-          → AreCoveredStepsFollowed (setting l a r) (building l low.is_framed r.answers)
-      covered_followed left n m covered built runs fine =
-          let x = left n m covered built in
-          let of_runs : AreOfRuns (asking l low a r) (run n) (framed_state_at h r.entry r.args m) built = record {
-            sound = sound n;
-            fitting = fitting n;
-            called = called n;
-            slots = slots n;
-            other_slots = other_slots m;
-            may = x.may;
-          } in
-          all_followed (asking l low a r) (asked_kept l low few a anew r) (run n) (framed_state_at h r.entry r.args m)
-          built of_runs runs fine x.enters x.coroutines

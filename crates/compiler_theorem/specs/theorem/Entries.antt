@@ -1,8 +1,11 @@
 -- Calls that a run begins with, in a source and in what is lowered of it.
+use Rattle.std.specs.List.{AllByRecursion}
 use Rattle.std.specs.Prelude.{◌≡◌, ℕ, ℤ, false, List, Some, slice_get}
 use Rattle.ir_base.specs.declared.outcome.Word.{Word}
+use Rattle.ir_model.specs.Ty.{int}
 use Rattle.ir_model.specs.declared.module.Function.{Function}
 use Rattle.ir_model.specs.declared.module.Module.{Module}
+use Rattle.ir_model.specs.declared.module.Param.{Param}
 use Rattle.run_types.specs.States.{AreArguments}
 
 -- the function at a position, its arguments, and the answers to the calls that the run observes
@@ -11,11 +14,16 @@ pub record Run : Type 0 where
   pub args : List Word
   pub answers : List ℤ
 
--- the entry is a function that is no coroutine
+-- of the type of integers of some width
+abbrev pub IsIntegerParam : Param → Type 0
+IsIntegerParam p = (w : ℕ) × (p.ty ≡ int w)
+
+-- the entry is a function that is no coroutine, and its parameters are integers
 pub record IsCallable (m : Module) (entry : ℕ) : Type 0 where
   pub function : Function
   pub there : slice_get m.functions entry ≡ Some function
   pub plain : function.coroutine ≡ false
+  pub integers : AllByRecursion IsIntegerParam function.params
 
 -- a call that a run may begin with: its arguments are words of its parameters' widths
 pub record IsEntryCall (m : Module) (r : Run) : Type 0 where

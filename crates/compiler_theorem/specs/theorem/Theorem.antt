@@ -9,7 +9,7 @@ use Rattle.run_agreement.specs.Machines.{IsFine, at, state_at}
 use Rattle.text_canonical.specs.canonical.Items.{module_text}
 use Rattle.run_source.specs.declared.state.State.{State}
 use Rattle.compiler_theorem.specs.theorem.Anew.{Anew, IsAnewOf}
-use Rattle.compiler_theorem.specs.theorem.Asked.{AreAllStepsLeft}
+use Rattle.compiler_theorem.specs.theorem.Left.{AreAllStepsLeft}
 use Rattle.compiler_theorem.specs.theorem.Entries.{IsEntryCall, Run}
 use Rattle.compiler_theorem.specs.theorem.Built.{building}
 use Rattle.compiler_theorem.specs.theorem.Lowered.{IsLowered, Lowered, early, edged, framed_run, lowered_from}

@@ -64,7 +64,7 @@ module _ (c : Setting) (all : KeepsAll c) (s t : State) (r : AreBuiltOf c.b s t)
       unkept = may.unkept must_tail ty size u slot there;
     }
 
-    marked : IsMarkedHere c s t r (marking starts must_tail ty size u slot) slot → IsFollowed c.b c.g s t
+    marked : IsMarkedHere c s t r starts (marking starts must_tail ty size u slot) slot → IsFollowed c.b c.g s t
     marked (Anew gone flag) =
         idle_followed c.b c.g all.given s t r starts must_tail ty size u slot at_marker gone flag
     marked (Unmade gone off none) =

@@ -90,7 +90,7 @@ module _ (c : Setting) (all : KeepsAll c) (s t : State) (r : AreBuiltOf c.b s t)
 
   pub spared : AreFieldsSpared c.b s t r
   spared = fields_spared c.b s t r (listed_slots s k.slots) (slots_listed s k.slots) (slots_apart t k.other_slots)
-      (instances_placed s k.slots) k.may.fields (no_returns_below c all s k.called.below)
+      (instances_placed s k.slots) (k.may.fields mode) (no_returns_below c all s k.called.below)
 
   -- ---- the step
 

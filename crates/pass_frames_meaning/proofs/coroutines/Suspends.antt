@@ -54,7 +54,7 @@ flag_unfetched t Operand.Null e = refl
 flag_unfetched t Operand.None e = refl
 flag_unfetched t Operand.Poison e = refl
 
-token_is : (ty : Ty) → is_token ty ≡ true → ty ≡ token
+pub token_is : (ty : Ty) → is_token ty ≡ true → ty ≡ token
 token_is token e = refl
 token_is (int n) e = absurd (false≢true e)
 token_is ptr e = absurd (false≢true e)
@@ -62,7 +62,7 @@ token_is (array n ty) e = absurd (false≢true e)
 token_is (structure ts) e = absurd (false≢true e)
 token_is (named n) e = absurd (false≢true e)
 
-fits_there : (kinds : ℕ → Option Kind) (a : Arg) (v : ℕ) → a.value ≡ Operand.Local v → a.ty ≡ token
+pub fits_there : (kinds : ℕ → Option Kind) (a : Arg) (v : ℕ) → a.value ≡ Operand.Local v → a.ty ≡ token
     → fits_arg kinds a ≡ true → fits_kind (kinds v) token ≡ true
 fits_there kinds a v value ty e =
     ap (λ (u : Ty). fits_kind (kinds v) u) (sym ty)

@@ -337,7 +337,7 @@ finish_led m counts s h =
 
 -- ---- values that are handed on
 
-kept_value : (keep : ℕ → Bool) (env : Env) (v : ℕ)
+pub kept_value : (keep : ℕ → Bool) (env : Env) (v : ℕ)
     → (value_in (kept keep env) v ≡ value_in env v) ⊎ (value_in (kept keep env) v ≡ Value.Poison)
 kept_value keep [] v = inl refl
 kept_value keep (o ∷ env) zero = on (keep 0)

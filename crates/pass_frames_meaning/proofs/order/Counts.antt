@@ -74,7 +74,7 @@ module _ (t : List (Option Fetch)) where
       (instrs_up (next_after_instr t n y) is)
   at_one n (y ∷ is) (suc at) i e = at_one (next_after_instr t n y) is at i e
 
-  blocks_to : (n : ℕ) (bs : List Block) (k : ℕ) (b : Block) → slice_get bs k ≡ Some b
+  pub blocks_to : (n : ℕ) (bs : List Block) (k : ℕ) (b : Block) → slice_get bs k ≡ Some b
       → next_after_block t (next_after_blocks t n (take k bs)) b ≤ next_after_blocks t n bs
   blocks_to n [] k b e = absurd (cc)
   blocks_to n (c ∷ bs) zero b e =
@@ -92,7 +92,7 @@ module _ (t : List (Option Fetch)) where
     abbrev last : ℕ
     last = next_after_blocks t second f.blocks
 
-    up_to_second : length f.names ≤ second
+    pub up_to_second : length f.names ≤ second
     up_to_second = by_phis_rise 0 t (length f.names) f.blocks
 
     pub names_count : length (with_fetches f t word).names ≡ last

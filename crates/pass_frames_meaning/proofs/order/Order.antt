@@ -54,16 +54,16 @@ module _ (x : Framing) (is : IsFraming x) (k : ℕ) where
 
   -- ---- loads
 
-  loads_passed : (s : Placed) (js : List Instr)
+  pub loads_passed : (s : Placed) (js : List Instr)
       → load_name (passed (placed_layer x k) s js) ≡ next_after_instrs T (load_name s) js
   loads_passed s [] = refl
   loads_passed s (j ∷ js) = loads_passed ((placed_layer x k).after s j) js
 
-  load_is : (at : ℕ)
+  pub load_is : (at : ℕ)
       → load_name (state_in x k at) ≡ next_after_instrs T (fetched_first (named x) T k) (take at (instrs_at x k))
   load_is at = loads_passed (placed_layer x k).start (take at (instrs_at x k))
 
-  low : (at : ℕ) → length (named x).names ≤ load_name (state_in x k at)
+  pub low : (at : ℕ) → length (named x).names ≤ load_name (state_in x k at)
   low at =
       let a : length (named x).names ≤ fetched_first (named x) T k = first_low T (named x) (codes "$c.use.") k in
       let b : fetched_first (named x) T k
@@ -72,7 +72,7 @@ module _ (x : Framing) (is : IsFraming x) (k : ℕ) where
       let c = load_is at in
       omega (arith, a, b, c)
 
-  fetched_names : length (fetched x).names ≡ length (with_fetches (named x) T (codes "$c.use.")).names
+  pub fetched_names : length (fetched x).names ≡ length (with_fetches (named x) T (codes "$c.use.")).names
   unfolding fetched_function
   fetched_names = refl
 
@@ -93,7 +93,7 @@ module _ (x : Framing) (is : IsFraming x) (k : ℕ) where
       (first_fetched (written x) (copies x)) (written x) k)
       (edged x) (written x) (with_copies x) k cells_are (copies_made (written x) (before_labels x) (copies x) k)
 
-  unmarked_are : IsBlockMade (unmarked_layer x k) (edged x) (unmarked x) k
+  pub unmarked_are : IsBlockMade (unmarked_layer x k) (edged x) (unmarked x) k
   unmarked_are =
       rows (copied_layer x k) (unmarked_at (marked x)) (edged x) (with_copies x) (unmarked x) k copies_are
       (unmarked_made (with_copies x) (marked x) k)
@@ -105,10 +105,10 @@ module _ (x : Framing) (is : IsFraming x) (k : ℕ) where
   addresses_passed s [] = refl
   addresses_passed s (j ∷ js) = addresses_passed ((addressing_layer x k).after s j) js
 
-  abbrev A0 : ℕ
+  abbrev pub A0 : ℕ
   A0 = fetched_first (unmarked x) S k
 
-  abbrev before : ℕ → List Instr
+  abbrev pub before : ℕ → List Instr
   before at =
       (unmarked_layer x k).front ++ grown (unmarked_layer x k) (unmarked_layer x k).start (take at (instrs_at x k))
 
@@ -124,12 +124,12 @@ module _ (x : Framing) (is : IsFraming x) (k : ℕ) where
       (sym (passed_append (addressing_layer x k) (addressing_layer x k).start (unmarked_layer x k).front
       (grown (unmarked_layer x k) (unmarked_layer x k).start (take at (instrs_at x k)))))
 
-  address_is : (at : ℕ) → (address_state (state_in x k at)).0 ≡ next_after_instrs S A0 (before at)
+  pub address_is : (at : ℕ) → (address_state (state_in x k at)).0 ≡ next_after_instrs S A0 (before at)
   address_is at =
       ap (λ (s : Placed). s.1.0) (states at)
       ∙ addresses_passed (addressing_layer x k).start (before at)
 
-  copied_names : length (written x).names + 2 * length (copies x).slots ≤ length (with_copies x).names
+  pub copied_names : length (written x).names + 2 * length (copies x).slots ≤ length (with_copies x).names
   copied_names =
       let count : ℕ = length (copies x).slots in
       let a : length (slot_names count) ≡ 2 * count = doubled count in
@@ -139,7 +139,7 @@ module _ (x : Framing) (is : IsFraming x) (k : ℕ) where
       longer ((written x).names ++ slot_names count) _ in
       omega (arith, a, b, c)
 
-  addresses_up : (at : ℕ) → length (with_copies x).names ≤ (address_state (state_in x k at)).0
+  pub addresses_up : (at : ℕ) → length (with_copies x).names ≤ (address_state (state_in x k at)).0
   addresses_up at =
       let a : length (unmarked x).names ≤ A0 = first_low S (unmarked x) (codes "$c.at.") k in
       let b : A0 ≤ next_after_instrs S A0 (before at) = instrs_up S A0 (before at) in
@@ -155,9 +155,9 @@ module _ (x : Framing) (is : IsFraming x) (k : ℕ) where
       (used_before (written x) (class_flags x.function x.contents.classes SlotClass.Frame) (before_labels x))
       (sizes_by_name x.function x.contents.held) (length (written x).names) (entry_instrs (written x).blocks)
 
-  slot_below : (at : ℕ) (s : EarlySlot) → Contains (copies x).slots s
-      → (s.temporary < (address_state (state_in x k at)).0) × (s.cell < (address_state (state_in x k at)).0)
-  slot_below at s c =
+  pub early_below : (s : EarlySlot) → Contains (copies x).slots s
+      → (s.temporary < length (with_copies x).names) × (s.cell < length (with_copies x).names)
+  early_below s c =
       let l = contained (copies x).slots s c in
       let t : s.temporary < length (written x).names + 2 * length (copies x).slots =
       (front_range (length (written x).names) s.temporary (copies x).slots slot_rows
@@ -165,8 +165,16 @@ module _ (x : Framing) (is : IsFraming x) (k : ℕ) where
       let u : s.cell < length (written x).names + 2 * length (copies x).slots =
       (front_range (length (written x).names) s.cell (copies x).slots slot_rows (cell_named (copies x).slots s l)).1 in
       let a = copied_names in
+      (omega (arith, t, a), omega (arith, u, a))
+
+  slot_below : (at : ℕ) (s : EarlySlot) → Contains (copies x).slots s
+      → (s.temporary < (address_state (state_in x k at)).0) × (s.cell < (address_state (state_in x k at)).0)
+  slot_below at s c =
+      let e = early_below s c in
+      let t : s.temporary < length (with_copies x).names = e.0 in
+      let u : s.cell < length (with_copies x).names = e.1 in
       let b = addresses_up at in
-      (omega (arith, t, a, b), omega (arith, u, a, b))
+      (omega (arith, t, b), omega (arith, u, b))
 
   -- ---- an instruction
 
@@ -294,6 +302,39 @@ module _ (x : Framing) (is : IsFraming x) (k : ℕ) where
           ap (λ (m : ℕ). next_after_all S m (instr_operands j)) (address_is at) in
           let l = framed_names in
           omega (arith, to, sum, one, e, l)
+
+      -- so much of what is put in front has its address fetched
+      pub front_room : (more : ℕ) → ((m : ℕ) → m + more ≤ next_after_instrs S m (saved x n i))
+          → (address_state n).0 + more ≤ length (framed x).names
+      front_room more takes =
+          let b = block_there in
+          let c = unmarked_are b.0 b.1 in
+          let first : ℕ = next_after_instrs S A0 (before at) in
+          let to : next_after_instrs S A0 c.0.instrs ≤ length (with_fetches (unmarked x) S (codes "$c.at.")).names =
+          instrs_to S (unmarked x) (codes "$c.at.") k c.0 c.1 in
+          let shape : c.0.instrs ≡ before at ++ (front ++ j ∷ (rest ++ later)) =
+          c.2.instrs ∙ ap (λ (ys : List Instr). woven (unmarked_layer x k) ys) b.2 ∙ block_is in
+          let sum : next_after_instrs S A0 c.0.instrs
+          ≡ next_after_instrs S (next_after_instrs S first front) (j ∷ (rest ++ later)) =
+          ap (λ (ys : List Instr). next_after_instrs S A0 ys) shape
+          ∙ joined S A0 (before at) (front ++ j ∷ (rest ++ later))
+          ∙ joined S first front (j ∷ (rest ++ later)) in
+          let up : next_after_instrs S first front
+          ≤ next_after_instrs S (next_after_instrs S first front) (j ∷ (rest ++ later)) =
+          instrs_up S (next_after_instrs S first front) (j ∷ (rest ++ later)) in
+          let loads_first : ℕ = next_after_instrs S first (loads_of x n i) in
+          let parts : next_after_instrs S first front
+          ≡ next_after_instrs S (next_after_instrs S loads_first (saved x n i)) (wheres x n i) =
+          joined S first (loads_of x n i ++ saved x n i) (wheres x n i)
+          ∙ ap (λ (q : ℕ). next_after_instrs S q (wheres x n i)) (joined S first (loads_of x n i) (saved x n i)) in
+          let one : first ≤ loads_first = instrs_up S first (loads_of x n i) in
+          let two : loads_first + more ≤ next_after_instrs S loads_first (saved x n i) = takes loads_first in
+          let three : next_after_instrs S loads_first (saved x n i)
+          ≤ next_after_instrs S (next_after_instrs S loads_first (saved x n i)) (wheres x n i) =
+          instrs_up S (next_after_instrs S loads_first (saved x n i)) (wheres x n i) in
+          let e = address_is at in
+          let l = framed_names in
+          omega (arith, to, sum, up, parts, one, two, three, e, l)
 
       written_up : length (written x).names ≤ (address_state n).0
       written_up = let a = copied_names in let b = addresses_up at in omega (arith, a, b)

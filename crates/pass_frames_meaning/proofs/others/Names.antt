@@ -60,7 +60,7 @@ root_based : (bases : List (Option ℕ)) (v s : ℕ) → entry (roots_of bases) 
 unfolding roots_of
 root_based bases v s e = chain_based 64 bases v s e
 
-slot_based : (local : List Bool) (bases : List (Option ℕ)) (v s : ℕ) → entry (slots_of local bases) v ≡ Some s
+pub slot_based : (local : List Bool) (bases : List (Option ℕ)) (v s : ℕ) → entry (slots_of local bases) v ≡ Some s
     → (u : ℕ) × (entry bases v ≡ Some u)
 slot_based local bases v s e =
     on (slice_get (roots_of bases) v) refl (sym (ap joined (slice_get-map (slot_by local) (roots_of bases) v)) ∙ e)
@@ -73,12 +73,12 @@ slot_based local bases v s e =
 
 -- ---- what has a base is a getelementptr's result
 
-record IsGepOf (v : ℕ) (i : Instr) : Type 0 where
-  inbounds : Bool
-  ty : Ty
-  base : Operand
-  indices : List Arg
-  is : i ≡ Instr.Gep v inbounds ty base indices
+pub record IsGepOf (v : ℕ) (i : Instr) : Type 0 where
+  pub inbounds : Bool
+  pub ty : Ty
+  pub base : Operand
+  pub indices : List Arg
+  pub is : i ≡ Instr.Gep v inbounds ty base indices
 
 set_entry : (t : List (Option ℕ)) (r b v u : ℕ) → entry (slice_set t r (Some b)) v ≡ Some u
     → (entry t v ≡ Some u) ⊎ (v ≡ r)
@@ -100,11 +100,11 @@ one_base t (Instr.Gep r inbounds ty (Operand.Local b) indices) v u e =
     })) (set_entry t r b v u e)
 one_base t _ v u e = inl e
 
-record HasGep (is : List Instr) (v : ℕ) : Type 0 where
-  at : ℕ
-  instr : Instr
-  there : slice_get is at ≡ Some instr
-  gep : IsGepOf v instr
+pub record HasGep (is : List Instr) (v : ℕ) : Type 0 where
+  pub at : ℕ
+  pub instr : Instr
+  pub there : slice_get is at ≡ Some instr
+  pub gep : IsGepOf v instr
 
 instrs_based : (t : List (Option ℕ)) (is : List Instr) (v u : ℕ) → entry (with_bases_in t is) v ≡ Some u
     → (entry t v ≡ Some u) ⊎ HasGep is v
@@ -114,11 +114,11 @@ instrs_based t (i ∷ is) v u e = ⊎_elim
     (λ g. inr (record { at = suc g.at; instr = g.instr; there = g.there; gep = g.gep }))
     (instrs_based (with_base t i) is v u e)
 
-record HasGepIn (bs : List Block) (v : ℕ) : Type 0 where
-  block : ℕ
-  one : Block
-  found : slice_get bs block ≡ Some one
-  has : HasGep one.instrs v
+pub record HasGepIn (bs : List Block) (v : ℕ) : Type 0 where
+  pub block : ℕ
+  pub one : Block
+  pub found : slice_get bs block ≡ Some one
+  pub has : HasGep one.instrs v
 
 blocks_based : (t : List (Option ℕ)) (bs : List Block) (v u : ℕ) → entry (with_bases_by t bs) v ≡ Some u
     → (entry t v ≡ Some u) ⊎ HasGepIn bs v
@@ -134,7 +134,7 @@ none_yet zero v u e = cc
 none_yet (suc n) zero u e = cc
 none_yet (suc n) (suc v) u e = none_yet n v u e
 
-base_made : (f : Function) (v u : ℕ) → entry (bases_of f) v ≡ Some u → HasGepIn f.blocks v
+pub base_made : (f : Function) (v u : ℕ) → entry (bases_of f) v ≡ Some u → HasGepIn f.blocks v
 base_made f v u e = ⊎_elim (λ h. absurd (none_yet (length f.names) v u h)) (λ g. g)
     (blocks_based (replicate (length f.names) None) f.blocks v u e)
 
@@ -178,7 +178,7 @@ module _ (x : Framing) (is : IsFraming x) where
       (sym (result_spelt i) ∙ a) (sym (result_spelt j) ∙ b)
 
   -- a root of distances is an alloca's
-  root_alloca : (u slot : ℕ) → root_of x u ≡ Some slot
+  pub root_alloca : (u slot : ℕ) → root_of x u ≡ Some slot
       → Rattle.rule_laws.proofs.rules.source_rules.Slots.HasAlloca (edged x) slot
   root_alloca u slot e = alloca_of (edged x) slot
       (subst (IsListed slot) (sym (same_allocas x.function))
@@ -198,7 +198,7 @@ module _ (x : Framing) (is : IsFraming x) where
           (once (record { block = k; at = at }) (record { block = l; at = m }) i (Instr.Alloca r ty align) r
           (point_there k at i there) (point_there l m (Instr.Alloca r ty align) e) given refl)
 
-      no_root : IsNoRoot x r
+      pub no_root : IsNoRoot x r
       no_root u slot root same =
           let a = root_alloca u slot root in
           not_alloca slot a.align a.ty

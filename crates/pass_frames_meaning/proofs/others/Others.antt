@@ -177,7 +177,7 @@ module _ (c : Setting) (all : KeepsAll c) (s t : State) (r : AreBuiltOf c.b s t)
   calm_by (Mode.GivenRamp frame) h = absurd h
   calm_by (Mode.Entering from label) h = absurd (false≢true (sym h))
 
-  mode : IsNotEntering s.top.mode
+  pub mode : IsNotEntering s.top.mode
   mode = (calm_by s.top.mode fits).0
 
   no_gift : allocates s.top.mode ≡ true
@@ -185,7 +185,7 @@ module _ (c : Setting) (all : KeepsAll c) (s t : State) (r : AreBuiltOf c.b s t)
 
   spared : AreFieldsSpared c.b s t r
   spared = fields_spared c.b s t r (listed_slots s k.slots) (slots_listed s k.slots) (slots_apart t k.other_slots)
-      (instances_placed s k.slots) k.may.fields (no_returns_below c all s k.called.below)
+      (instances_placed s k.slots) (k.may.fields mode) (no_returns_below c all s k.called.below)
 
   -- K1
   no_window : HasNoWindows c.b c.g s.top.func

@@ -49,7 +49,7 @@ resumed_stays flags (s ∷ ss) l lt e =
     resumed_stays (slice_set one s.destroy true) ss l (omega (arith, lt, a, b))
     (flag_stays one s.destroy l (omega (arith, lt, a)) (flag_stays flags s.resume l lt e))
 
-resumed_flagged : (flags : List Bool) (ss : List SuspendPoint) (l : ℕ) → l < length flags
+pub resumed_flagged : (flags : List Bool) (ss : List SuspendPoint) (l : ℕ) → l < length flags
     → IsListed l (return_labels ss) → flag_at (set_resumed flags ss) l ≡ true
 resumed_flagged flags [] l lt m = absurd m
 resumed_flagged flags (s ∷ ss) l lt m =
@@ -76,7 +76,7 @@ resumed_flagged flags (s ∷ ss) l lt m =
         (flag_set (slice_set flags s.resume true) l mid))
     on (inr (inr n)) long mid rest = rest n
 
-flags_long : (n : ℕ) → length (replicate n false) ≡ n
+pub flags_long : (n : ℕ) → length (replicate n false) ≡ n
 flags_long zero = refl
 flags_long (suc n) = ap suc (flags_long n)
 

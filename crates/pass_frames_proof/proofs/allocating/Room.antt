@@ -211,7 +211,7 @@ module _ (b : Building) (g : RenewedGiven) (given : AreGiven b g) (s t : State) 
 -- ---- of a slot that the instance has
 
 module _ (b : Building) (g : RenewedGiven) (given : AreGiven b g) (s t : State) (r : AreBuiltOf b s t) (number : ℕ)
-    (x : Instance) (slot : Slot) (z : IsSlotInFrame b s number x slot) where
+    (x : Instance) (slot : Slot) (starts : Bool) (z : IsSlotInFrame b s number x slot starts) where
   pub placed : IsPlacedSlot (b.framing x.coroutine) r.homes (y b g given s t r number x z.alone) slot
   placed = (i b g given s t r number x z.alone).slots slot z.own
 
@@ -237,13 +237,13 @@ module _ (b : Building) (g : RenewedGiven) (given : AreGiven b g) (s t : State) 
         (offset_at (b.framing x.coroutine).layout placed.position) w.size w.align
         (z.field placed.position placed.position_is w w_there) slot.block v sized even)
 
-    pub apart_there : HasListedSlots s → HasSlotsApart t → (v : MemoryBlock) → v.size ≡ w.size
+    pub apart_there : starts ≡ true → HasListedSlots s → HasSlotsApart t → (v : MemoryBlock) → v.size ≡ w.size
         → IsApartFrom owner_rights r.homes (muted r.hides s.world.memory) (home_of r.homes slot.block) slot.block v
-    apart_there listed others v sized =
+    apart_there begins listed others v sized =
         subst (λ (h : Home). IsApartFrom owner_rights r.homes (muted r.hides s.world.memory) h slot.block v)
         (sym placed.home)
         (apart_from b g given s t r number x z.alone (z.frame w w_there unkilled)
         (offset_at (b.framing x.coroutine).layout placed.position) w.size w.align
         (z.field placed.position placed.position_is w w_there) listed others slot.block
         (λ other own ne u there live p p_is.
-        z.apart other own ne u w there w_there live p placed.position p_is placed.position_is) v sized)
+        z.apart begins other own ne u w there w_there live p placed.position p_is placed.position_is) v sized)

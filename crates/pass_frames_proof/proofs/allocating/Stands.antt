@@ -1,5 +1,5 @@
 -- An alloca whose slot lies in no frame stands in front of the entry, behind what comes of those before it.
-use Rattle.std.proofs.Common.{◌≡◌, ◌∙◌, ◌∷◌, ◌++◌, [], List, None, Some, ap, append_assoc, false, refl, suc, take, true, ℕ, Bool, if◌then◌else◌}
+use Rattle.std.proofs.Common.{◌≡◌, ◌∙◌, ◌+◌, ◌∷◌, ◌++◌, [], List, None, Some, ap, append_assoc, false, refl, suc, take, true, ℕ, Bool, if◌then◌else◌}
 use Rattle.std.proofs.lemmas.List.Elements.{filter-append}
 use Rattle.std.specs.Prelude.{drop, filter, not, option_to_list, slice_get}
 use Rattle.ir_model.specs.Ty.{Ty}
@@ -8,7 +8,8 @@ use Rattle.pass_addresses.specs.Placing.{lies_outside}
 use Rattle.pass_cells.specs.Kept.{entry}
 use Rattle.pass_frames_proof.proofs.allocating.Lined.{code_is}
 use Rattle.pass_frames_proof.proofs.layers.Grown.{grown_append}
-use Rattle.pass_frames_proof.proofs.layers.Standing.{split_at}
+use Rattle.pass_frames_proof.proofs.layers.Standing.{split_at, up_to_next}
+use Rattle.pass_frames_proof.specs.Entering.{allocas_up_to}
 use Rattle.pass_frames_proof.specs.Framings.{IsFraming}
 use Rattle.pass_frames_proof.specs.Layers.{Layer, becomes, grown, passed, state_at, up_to, woven}
 use Rattle.pass_frames_proof.specs.Places.{Framing, instrs_at, offsets, placed_layer, plan}
@@ -59,3 +60,11 @@ module _ (x : Framing) (is : IsFraming x) (at name align : ℕ) (ty : Ty)
         ∙ ap (λ (js : List Instr). up_to (placed_layer x 0) (instrs_at x 0) at ++ (js ++ behind (placed_layer x 0) (instrs_at x 0) at i there)) alone)
         ∙ filter-append is_alloca (up_to (placed_layer x 0) (instrs_at x 0) at) (i ∷ behind (placed_layer x 0) (instrs_at x 0) at i there);
   }
+
+  -- so up to the next place it is one more
+  pub one_further : allocas_up_to x (at + 1) ≡ allocas_up_to x at ++ (i ∷ [])
+  one_further =
+      ap (filter is_alloca)
+      (up_to_next (placed_layer x 0) (instrs_at x 0) at i there
+      ∙ ap (λ (js : List Instr). up_to (placed_layer x 0) (instrs_at x 0) at ++ js) alone)
+      ∙ filter-append is_alloca (up_to (placed_layer x 0) (instrs_at x 0) at) (i ∷ [])

@@ -257,7 +257,7 @@ module _ (b : Building) (g : RenewedGiven) (given : AreGiven b g) (s t : State) 
       asked {m} ne unkept outside (inl begin) = inl (made.stood_there b g l m unkept outside (inl begin))
       asked {m} ne unkept outside (inr listed) = ⊎_elim
           (λ before. inl (made.stood_there b g l m unkept outside (inr before)))
-          (λ other. ⊎_elim (λ same. absurd (ne (sym same))) (λ none. inr none) other) (q.handed m listed)
+          (λ other. ⊎_elim (λ same. absurd (ne (sym same))) (λ none. inr none) other) (q.handed m listed outside)
 
   place_is : point_of c' ≡ top_place b a'
   place_is =

@@ -311,7 +311,7 @@ module _ (x : Framing) (is : IsFraming x) (k : ℕ) where
       ∙ ap (λ (js : List Instr). (copying_layer x k).front ++ js)
       (all_stay (copying_layer x k) (writing_layer x k).front front_copied (copying_layer x k).start)
 
-  unmarked_front : (unmarked_layer x k).front ≡ front_moves x k
+  pub unmarked_front : (unmarked_layer x k).front ≡ front_moves x k
   unmarked_front =
       ap (grown (unmarked_at (marked x)) (tt, tt)) both_front
       ∙ all_stay (unmarked_at (marked x)) (front_moves x k) front_unmarked (tt, tt)

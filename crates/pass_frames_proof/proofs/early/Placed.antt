@@ -38,11 +38,11 @@ use Rattle.run_laws.specs.changed.Changed.{Each}
 -- ---- slots that are held
 
 -- a slot of the name is held
-record IsHeld (hs : List Holding) (v : ℕ) : Type 0 where
-  held : Holding
-  listed : IsListed held hs
-  slot : is_slot_kind held.kind ≡ true
-  value : held.value ≡ v
+pub record IsHeld (hs : List Holding) (v : ℕ) : Type 0 where
+  pub held : Holding
+  pub listed : IsListed held hs
+  pub slot : is_slot_kind held.kind ≡ true
+  pub value : held.value ≡ v
 
 wider : (xs ys : List Holding) (v : ℕ) → IsHeld ys v → IsHeld (xs ++ ys) v
 wider xs ys v h =
@@ -225,7 +225,7 @@ module _ (x : Framing) (is : IsFraming x) where
       let two : length (own ++ slots_too) ≤ names = longer (own ++ slots_too) _ in
       omega (arith, one, two)
 
-  names_more : First x is ≤ names
+  pub names_more : First x is ≤ names
   names_more =
       let one : First x is ≤ length (named x).names = edged_named x in
       let two : length (named x).names ≤ length (written x).names = named_written x in
@@ -235,16 +235,17 @@ module _ (x : Framing) (is : IsFraming x) where
   abbrev Held_is : List Holding
   Held_is = x.contents.held
 
-  slot_held_there : (s : EarlySlot) → Class s.slot → IsHeld Held_is s.slot
-  slot_held_there s c =
+  pub held_there : (v : ℕ) → IsOfClass SlotClass.Frame x.contents.classes 0 (allocas_of x.function) v
+      → IsHeld x.contents.held v
+  held_there v c =
       let is_value : ℕ → Bool = has_name (crossing_values x.contents.crossing) in
       let is_slot : ℕ → Bool = has_name (frame_slots x.function x.contents.classes) in
-      subst (λ (hs : List Holding). IsHeld hs s.slot) (sym is.frameable.contents.held_are)
+      subst (λ (hs : List Holding). IsHeld hs v) (sym is.frameable.contents.held_are)
       (wider (held_params is_value x.function.params)
-      (held_blocks x.code (promise_of x.function) is_value is_slot x.function.blocks) s.slot
-      (in_blocks x.code (promise_of x.function) is_value is_slot x.function.blocks s.slot
-      (get_listed (allocas_of x.function) c.number s.slot c.slot)
-      (frame_named x.contents.classes 0 (allocas_of x.function) s.slot c.number c.slot c.class_is)))
+      (held_blocks x.code (promise_of x.function) is_value is_slot x.function.blocks) v
+      (in_blocks x.code (promise_of x.function) is_value is_slot x.function.blocks v
+      (get_listed (allocas_of x.function) c.number v c.slot)
+      (frame_named x.contents.classes 0 (allocas_of x.function) v c.number c.slot c.class_is)))
 
   unplaced : (v : ℕ) → length (written x).names ≤ v → fetch_of (slot_table x) (Operand.Local v) ≡ None
   unplaced v high =
@@ -257,7 +258,7 @@ module _ (x : Framing) (is : IsFraming x) where
     one_early : (s : EarlySlot) → IsListed s (copies x).slots → IsEarlyInFrame x start s
     one_early s l =
         let c = frame_class s l in
-        let h = slot_held_there s c in
+        let h = held_there s.slot c in
         let p = first_of 0 Held_is s.slot h.held h.listed h.value in
         let q = place_of Held_is h.held h.listed in
         let same_place : q.0 ≡ p.number = once.each q.0 p.number h.held p.held q.1 p.there (h.value ∙ sym p.value) in

@@ -97,7 +97,7 @@ cell_of_slot (z ∷ ss) cell (inl e) = (z, inl refl, e)
 cell_of_slot (z ∷ ss) cell (inr l) = let q = cell_of_slot ss cell l in (q.0, inr q.1, q.2)
 
 -- a kept name has a kept value
-kept_there : (x : Framing) → IsFraming x → (v at : ℕ) → entry (plan x).places v ≡ Some at
+pub kept_there : (x : Framing) → IsFraming x → (v at : ℕ) → entry (plan x).places v ≡ Some at
     → (k : KeptValue) × IsKeptValue x v k
 kept_there x is v at told =
     let slots : List (Option ℕ) = slots_of (local x is) (bases_of (edged x)) in

@@ -102,7 +102,7 @@ module _ {S : Type 0} (L : Layer S) where
       → state_at L is (at + 1) ≡ L.after (state_at L is at) i
   state_next is at i e = ap (passed L L.start) (take_one is at i e) ∙ passed_append L L.start (take at is) (i ∷ [])
 
-  up_to_next : (is : List Instr) (at : ℕ) (i : Instr) → slice_get is at ≡ Some i
+  pub up_to_next : (is : List Instr) (at : ℕ) (i : Instr) → slice_get is at ≡ Some i
       → up_to L is (at + 1) ≡ up_to L is at ++ becomes L (state_at L is at) i
   up_to_next is at i e =
       ap (λ (js : List Instr). L.front ++ grown L L.start js) (take_one is at i e)

@@ -242,7 +242,8 @@ module _ (b : Building) (g : RenewedGiven) (given : AreGiven b g) (s t : State) 
       by_slot (inr k) = absurd (z.late k.0 k.2 (k.3 ∙ z.alloca))
 
   -- behind begin a slot stands in the frame
-  pub behind_followed : g.flags s.top.func slot ≡ false → HasListedSlots s → HasSlotsApart t → IsBehindBegin b s slot
+  pub behind_followed : g.flags s.top.func slot ≡ false → HasListedSlots s → HasSlotsApart t
+      → IsBehindBegin b s slot starts
       → IsFollowed b g s t
   behind_followed off listed others z =
       changed_followed off
@@ -263,16 +264,16 @@ module _ (b : Building) (g : RenewedGiven) (given : AreGiven b g) (s t : State) 
 
       home : IsPlacedSlot (b.framing z.instance.coroutine) r.homes
           (y b g given s t r z.number z.instance z.placed.alone) z.slot
-      home = placed b g given s t r z.number z.instance z.slot z.placed
+      home = placed b g given s t r z.number z.instance z.slot starts z.placed
 
       seen : (home_of r.homes n).is_seen ≡ true
       seen = ap (λ (q : Home). q.is_seen) home.home
 
       shown : r.hides n ≡ false
-      shown = slot_shown b g given s t r z.number z.instance z.slot z.placed
+      shown = slot_shown b g given s t r z.number z.instance z.slot starts z.placed
 
       known : n < length r.homes
-      known = slot_known b g given s t r z.number z.instance z.slot z.placed
+      known = slot_known b g given s t r z.number z.instance z.slot starts z.placed
 
       no_home : (q : ℕ) → home_of r.homes n ≡ whole_home q → ⊥
       no_home q e =
@@ -290,10 +291,10 @@ module _ (b : Building) (g : RenewedGiven) (given : AreGiven b g) (s t : State) 
           start_stands owner_rights R r.homes r.hides s.world.memory memory t.world.memory n (even true e) shown known
           (frames_compare b.given t.instances)
           (λ w there lives. (
-            room b g given s t r z.number z.instance z.slot z.placed w there (start_unkilled w lives)
+            room b g given s t r z.number z.instance z.slot starts z.placed w there (start_unkilled w lives)
                 (mark true w) (mark_is true w).size (mark_is true w).align,
-            apart_there b g given s t r z.number z.instance z.slot z.placed w there (start_unkilled w lives) listed
-                others (mark true w) (mark_is true w).size,
+            apart_there b g given s t r z.number z.instance z.slot starts z.placed w there (start_unkilled w lives) e
+                listed others (mark true w) (mark_is true w).size,
           )) stands_now
       by false e =
           end_stands owner_rights R r.homes r.hides s.world.memory memory t.world.memory n (even false e) shown

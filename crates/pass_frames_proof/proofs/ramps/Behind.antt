@@ -76,12 +76,12 @@ pub record AreEntryAllocas (m : Module) (x : Framing) : Type 0 where
 -- ---- cells
 
 -- a cell's type has a size, which no structure changes
-cell_size : (m : Module) (ty : Ty) → is_cell_type ty ≡ true → size_of m ty ≡ value_bytes ty
+pub cell_size : (m : Module) (ty : Ty) → is_cell_type ty ≡ true → size_of m ty ≡ value_bytes ty
 cell_size m (int w) h = width_cases (λ n. size_of m (int n) ≡ value_bytes (int n)) refl refl refl refl refl w h
 cell_size m ptr h = refl
 cell_size m _ h = absurd (cc)
 
-cell_in : (ss : List EarlySlot) (s : EarlySlot) → IsListed s ss → IsListed s.cell (cells_of ss)
+pub cell_in : (ss : List EarlySlot) (s : EarlySlot) → IsListed s ss → IsListed s.cell (cells_of ss)
 cell_in [] s l = absurd l
 cell_in (u ∷ ss) s (inl e) = inl (ap (λ (z : EarlySlot). z.cell) e)
 cell_in (u ∷ ss) s (inr l) = inr (cell_in ss s l)

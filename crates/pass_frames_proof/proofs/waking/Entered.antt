@@ -3,16 +3,13 @@ use Rattle.std.proofs.Common.{◌≡◌, ◌+◌, ◌-◌, ◌<◌, ◌≤◌, �
 use Rattle.std.proofs.lemmas.List.{length-replicate}
 use Rattle.std.specs.List.{Contains}
 use Rattle.std.specs.Prelude.{option_map, slice_get, slice_set}
-use Rattle.flow_solver.specs.Paths.{IsListed}
 use Rattle.ir_laws.proofs.facts.Lists.{get_within, set_here, set_length}
-use Rattle.ir_laws.specs.paths.woven_rules.Pairs.{AreDifferent}
 use Rattle.ir_model.specs.Layout.{size_of}
 use Rattle.ir_model.specs.Names.{function_at, position_of}
 use Rattle.ir_model.specs.Ty.{Ty, int, ptr}
 use Rattle.ir_model.specs.declared.instr.Instr.{Instr}
 use Rattle.ir_model.specs.declared.module.Function.{Function}
 use Rattle.ir_model.specs.declared.module.Module.{Module}
-use Rattle.ir_paths.specs.Slots.{allocas_in}
 use Rattle.ir_paths.specs.declared.point.Point.{Point}
 use Rattle.pass_cells.specs.Kept.{entry}
 use Rattle.pass_cells.specs.declared.plan.KeptValue.{KeptValue}
@@ -23,8 +20,9 @@ use Rattle.pass_frames_proof.proofs.entering.Allocas.{alloca_there, to_the_last,
 use Rattle.pass_frames_proof.proofs.entering.Behind.{AreBehind, are_behind}
 use Rattle.pass_frames_proof.proofs.entering.Edge.{edge_is, edge_too, no_phis, no_phis_too}
 use Rattle.pass_frames_proof.proofs.entering.Into.{enters, last_behind}
-use Rattle.pass_frames_proof.proofs.entering.Stand.{front_stands, none_behind, all_before}
+use Rattle.pass_frames_proof.proofs.entering.Stand.{all_counted, entry_stands, none_left}
 use Rattle.pass_frames_proof.proofs.followed.Assembly.{events_same}
+use Rattle.pass_frames_proof.proofs.ramps.Plain.{entry_there}
 use Rattle.pass_frames_proof.proofs.moved.Rest.{activation_on, ahead_on, below_on, free_on}
 use Rattle.pass_frames_proof.proofs.saving.Sets.{set_instances, set_places}
 use Rattle.pass_frames_proof.proofs.stepping.Rest.{got}
@@ -73,7 +71,7 @@ use Rattle.pass_frames_proof.specs.Places.{place_by as place_by_flag}
 use Rattle.pass_frames_proof.proofs.calling.Passed.{ahead_passed, caller_passed, passed_on}
 use Rattle.pass_frames_proof.proofs.returning.Turned.{placed_at}
 use Rattle.pass_frames_proof.proofs.stepping.Onward.{EndsUp, onward_followed}
-use Rattle.pass_frames_proof.specs.Costs.{resume_cost}
+use Rattle.pass_frames_proof.specs.Costs.{allocas_before, resume_cost}
 
 module _ (b : Building) (g : RenewedGiven) (given : AreGiven b g) (s t0 : State) (label : ℕ)
     (z : IsSleeping b g s label) (k : AreWoken b g s t0 label z)
@@ -177,75 +175,11 @@ module _ (b : Building) (g : RenewedGiven) (given : AreGiven b g) (s t0 : State)
 
   -- ---- the allocas
 
-  abbrev line : List Instr
-  line = anew.line
-
-  abbrev next : Instr
-  next = anew.last
-
   framed_is : function_at b.given.given.code func ≡ framed x
   framed_is = ap (λ (m : Module). function_at m func) given.code ∙ (given.built.coroutines func h.is_coroutine).is
 
   own_framed : function_of b.given.given u0 ≡ framed x
   own_framed = ap (function_at b.given.given.code) h.coroutine ∙ framed_is
-
-  all_stand : StandAt (framed x) 0 0 (line ++ (next ∷ []))
-  all_stand =
-      subst (StandAt (framed x) 0 0) anew.stands (front_stands x anew.at anew.instr anew.there)
-
-  good : Each IsGoodAlloca (line ++ (next ∷ []))
-  good = subst (Each IsGoodAlloca) anew.stands anew.fronts.good
-
-  line_good : (ks js : List Instr) → Each IsGoodAlloca (ks ++ js) → Each IsGoodAlloca ks × Each IsGoodAlloca js
-  line_good [] js e = (tt, e)
-  line_good (i ∷ ks) js e = let m = line_good ks js e.1 in ((e.0, m.0), m.1)
-
-  stand_next : (f : Function) (at : ℕ) (ks js : List Instr) → StandAt f 0 at (ks ++ (next ∷ js))
-      → StandAt f 0 at (ks ++ (next ∷ []))
-  stand_next f at [] js e = (e.0, tt)
-  stand_next f at (i ∷ ks) js e = (e.0, stand_next f (at + 1) ks js e.1)
-
-  stand : StandAt (function_of b.given.given u0) 0 0 (line ++ (next ∷ []))
-  stand = subst (λ (f : Function). StandAt f 0 0 (line ++ (next ∷ []))) (sym own_framed)
-      (stand_next (framed x) 0 line [] all_stand)
-
-  makes : IsMaking u0 suspend'.block label
-  makes = record { runs = r.outcome ∙ k.runs; mode = refl; entry_block = refl }
-
-  target_is : framed_step b.given k.last ≡ u0
-  target_is =
-      k.target
-      ∙ ap (enter_after b.given (push (with_status at_call z.number y Status.Running)
-      (resumed z.number y suspend' (reentry_values (function_at b.given.given.code y.coroutine) (frame_address_of y))))
-      suspend'.block label) first_is
-      ∙ ap (λ (f : Function). record u0 {
-        top = record u0.top {
-          values = reentry_values f (frame_address_of y);
-        };
-        below = record at_call.top { at = at_call.top.at + 1 } ∷ t.below;
-      }) (own_framed ∙ ap (λ (n : ℕ). framed (b.framing n)) (sym h.coroutine))
-      ∙ ap (λ (p : Point). record u0 { below = placed_at t.top p ∷ t.below }) k.behind
-    where
-      head : (ks js : List Instr) → StandAt (framed x) 0 0 (ks ++ (next ∷ js))
-          → Each IsGoodAlloca (ks ++ (next ∷ js))
-          → (i : Instr) × (IsGoodAlloca i × (fetch (framed x) 0 0 ≡ AtInstr i))
-      head [] js e q = (next, (q.0, e.0))
-      head (i ∷ ks) js e q = (i, (q.0, e.0))
-
-      first_is : alloca_from (function_at b.given.given.code y.coroutine) 0 ≡ Some (record { block = 0; at = 0 })
-      first_is =
-          let i = head line [] all_stand good in
-          ap (λ (f : Function). alloca_from f 0) own_framed
-          ∙ ap (option_map (λ (n : ℕ). record { block = 0; at = n }))
-          (alloca_there (slice_get (framed x).blocks 0) 0 i.0 i.1.0 i.1.1)
-
-  reached : (n : ℕ) → n ≤ length line → iterate (framed_step b.given) n u0 ≡ behind_allocas b.given u0 (take n line)
-  reached n le =
-      up_to_next b.given suspend'.block label u0 makes line next
-      (line_good line (next ∷ []) good).0 refl' stand n le
-    where
-      refl' : IsGoodAlloca next
-      refl' = (line_good line (next ∷ []) good).1.0
 
   -- ---- instances and memory, when some are made
 
@@ -295,55 +229,13 @@ module _ (b : Building) (g : RenewedGiven) (given : AreGiven b g) (s t0 : State)
     many : length ys ≡ length xs
     many = set_length t.instances z.number y' ∙ r.count ∙ sym (set_length s.instances z.number p')
 
-  -- ---- what is shown on the way
-
-  part_good : (js : List Instr) (q : ℕ) → Each IsGoodAlloca js → Each IsGoodAlloca (take q js)
-  part_good js zero e = tt
-  part_good [] (suc q) e = tt
-  part_good (i ∷ js) (suc q) e = (e.0, part_good js q e.1)
-
-  module _ (n : ℕ) (le : n ≤ length line) where
-    abbrev w' : State
-    w' = behind_allocas b.given u0 (take n line)
-
-    m : AreBehind b.given u0 w' (take n line)
-    m = are_behind b.given u0 (take n line) (part_good line n (line_good line (next ∷ []) good).0)
-
-    abbrev news : List MemoryBlock
-    news = made_blocks b.given.given.code (function_of b.given.given u0) (take n line)
-
-    abbrev top' : Activation
-    top' = record u0.top { at = w'.top.at; values = w'.top.values; slots = w'.top.slots }
-
-    beside_now : (j : ℕ) (v w : Instance) → slice_get xs j ≡ Some v → slice_get ys j ≡ Some w
-        → AreInstances b r.homes (record u0 {
-          world = record u0.world { memory = w'.world.memory };
-          top = top';
-        }) v w
-    beside_now j v w e e' =
-        subst (λ (mem : List MemoryBlock). AreInstances b r.homes (record u0 {
-          world = record u0.world { memory = mem };
-          top = top';
-        }) v w) (sym m.memory) (instances_beside news top' (caller' ∷ t.below) j v w e e')
-
-    shown : IsOn b s' w'
-    shown = subst (IsOn b s') (sym m.state) (record {
-      running = r.outcome ∙ k.runs;
-      shown = record {
-        homes = r.homes;
-        events = events_same b s t r;
-        outcome = r.outcome;
-        instances = λ j v e suspended.
-            let lt : j < length xs = get_within xs j v e in
-            let same : length ys ≡ length xs = many news in
-            let w = got ys j (omega (arith, lt, same)) in (w.0, w.1, beside_now j v w.0 e w.1);
-      };
-    })
-
   -- ---- the relation in the block on the edge
 
   abbrev all : List Instr
-  all = line ++ (next ∷ [])
+  all = front_allocas x
+
+  good : Each IsGoodAlloca all
+  good = anew.fronts.good
 
   all_behind : AreBehind b.given u0 (behind_allocas b.given u0 all) all
   all_behind = are_behind b.given u0 all good
@@ -371,18 +263,10 @@ module _ (b : Building) (g : RenewedGiven) (given : AreGiven b g) (s t0 : State)
     top = record w.top { block = suspend'.block; at = 0; mode = Mode.Resumed };
   }) label
 
-  last_none : alloca_from (function_of b.given.given u0) (0 + length line + 1) ≡ None
-  last_none =
-      let same : length (front_allocas x) ≡ length line + 1 =
-      ap length anew.stands ∙ length-append line (next ∷ []) in
-      let at : 0 + length line + 1 ≡ length (front_allocas x) = omega (arith, same) in
-      (λ j. alloca_from (own_framed j) (at j)) ∙ none_behind x anew.at anew.instr anew.there
-
-  entered_is : iterate (framed_step b.given) (suc (length line)) u0 ≡ t'
-  entered_is =
-      to_the_last b.given suspend'.block label u0 makes line next (line_good line (next ∷ []) good).0
-      (line_good line (next ∷ []) good).1.0 stand last_none
-      ∙ ap entering (last_behind b.given u0 line next ∙ all_behind.state ∙ ap (λ (mem : List MemoryBlock). record u0 {
+  -- behind all of them the label is entered
+  entered_there : entering (behind_allocas b.given u0 all) ≡ t'
+  entered_there =
+      ap entering (all_behind.state ∙ ap (λ (mem : List MemoryBlock). record u0 {
         world = record u0.world { memory = mem };
         top = record u0.top { at = v.top.at; values = v.top.values; slots = v.top.slots };
       }) all_behind.memory)
@@ -419,8 +303,7 @@ module _ (b : Building) (g : RenewedGiven) (given : AreGiven b g) (s t0 : State)
   begin_value : value_in c'.values (begin_of x.function) ≡ frame_address_of y
   begin_value =
       all_behind.others (begin_of x.function)
-      (λ l. anew.fronts.no_begin (subst (λ (ks : List Instr). IsListed (begin_of x.function) (allocas_in ks))
-      (sym anew.stands) l))
+      anew.fronts.no_begin
       ∙ start_values
 
   address_stands : IsValue r.homes (frame_address_of p) (frame_address_of y)
@@ -457,7 +340,7 @@ module _ (b : Building) (g : RenewedGiven) (given : AreGiven b g) (s t0 : State)
         (λ none. subst (λ (w : Value). IsValue r.homes w (frame_address_of y)) (sym none) tt)
         (λ same. subst (λ (w : Value). IsValue r.homes w (frame_address_of y)) (sym same) address_stands) z.begun)))
         (λ none. subst (λ (w : Value). IsValue r.homes w (value_in c'.values n)) (sym none) tt)
-        (anew.unhanded n unkept);
+        (anew.unhanded n unkept outside);
     room = all_behind.room ∙ start_room;
   }
 
@@ -508,11 +391,9 @@ module _ (b : Building) (g : RenewedGiven) (given : AreGiven b g) (s t0 : State)
   cell_now : (cell : ℕ) (ty : Ty) → size_of b.framed_code ty ≡ value_bytes ty → IsCellMade x cell ty
       → IsCell Q t'.world.memory c' cell ty Anything
   cell_now cell ty sized made =
-      let c = cells_made b.given u0 all good
-      (subst (λ (ks : List Instr). AreDifferent (allocas_in ks)) anew.stands anew.fronts.different)
-      (λ n l. subst (λ (q : ℕ). n < q) (sym start_room) (anew.fronts.low n (subst
-      (λ (ks : List Instr). IsListed n (allocas_in ks)) (sym anew.stands) l))) frames_low made.position cell made.align
-      ty (ap (λ (ks : List Instr). slice_get ks made.position) (sym anew.stands) ∙ made.there)
+      let c = cells_made b.given u0 all good anew.fronts.different
+      (λ n l. subst (λ (q : ℕ). n < q) (sym start_room) (anew.fronts.low n l)) frames_low made.position cell
+      made.align ty made.there
       (ap (λ (f : Function). has_markers f cell) own_framed ∙ made.unmarked)
       (ap (λ (m : Module). size_of m ty) given.code ∙ sized) made.aligned in
       record {
@@ -637,31 +518,213 @@ module _ (b : Building) (g : RenewedGiven) (given : AreGiven b g) (s t0 : State)
       free_grown : (e : ℕ) → length t.world.memory ≤ e → IsFreeOf r.homes r.hides s.world.memory e
       free_grown = free_new b s t r given.framings ys rights_are places_are all_news
 
-  -- ---- the account
+  -- ---- the step at the call
 
-  ends : EndsUp b
-  ends = record {
-    source = s';
-    target = u0;
-    steps = suc (length line);
-    shown = λ n lt.
-        subst (IsOn b s') (sym (reached n (omega (arith, lt)))) (shown n (omega (arith, lt)));
-    related = subst (AreBuiltOf b s') (sym entered_is) related;
+  own_given : function_at b.given.given.code y.coroutine ≡ framed (b.framing y.coroutine)
+  own_given = own_framed ∙ ap (λ (n : ℕ). framed (b.framing n)) (sym h.coroutine)
+
+  abbrev pushed : State
+  pushed =
+      push (with_status at_call z.number y Status.Running)
+      (resumed z.number y suspend' (reentry_values (function_at b.given.given.code y.coroutine) (frame_address_of y)))
+
+  abbrev began : Function → State
+  began f = record u0 {
+    top = record u0.top { values = reentry_values f (frame_address_of y) };
+    below = record at_call.top { at = at_call.top.at + 1 } ∷ t.below;
   }
 
-  pub entered_followed : IsFollowed b g s t0
-  unfolding ends
-  entered_followed =
-      onward_followed b g s t0 ends k.fetches k.last k.leads k.shown k.last_shown target_is source_is price
-    where
-      enough : (n m : ℕ) → n + 1 + (1 + (m + 1) - 1) ≡ n + 1 + suc m
-      enough n m = omega arith
+  abbrev came : Point → State
+  came q = record u0 { below = placed_at t.top q ∷ t.below }
 
-      price : step_cost b g s s.top.mode ≡ k.fetches + 1 + suc (length line)
-      price =
-          k.cost
-          ∙ ap (λ (o : Option Point). k.fetches + 1 + (resume_cost x (option_map (λ (p : Point). p.at) o) - 1))
-          anew.none
-          ∙ ap (λ (n : ℕ). k.fetches + 1 + (1 + n - 1))
-          (all_before x anew.at anew.instr anew.there ∙ ap length anew.stands ∙ length-append line (next ∷ []))
-          ∙ enough k.fetches (length line)
+  counted : allocas_before x None ≡ length (front_allocas x)
+  counted = all_counted x (entry_there x is)
+
+  price_is : (n : ℕ) → length (front_allocas x) ≡ n → step_cost b g s s.top.mode ≡ k.fetches + 1 + (1 + n - 1)
+  price_is n many =
+      k.cost
+      ∙ ap (λ (o : Option Point). k.fetches + 1 + (resume_cost x (option_map (λ (p : Point). p.at) o) - 1))
+      anew.none
+      ∙ ap (λ (m : ℕ). k.fetches + 1 + (1 + m - 1)) (counted ∙ many)
+
+  -- ---- the framed form has no allocas
+
+  module _ (bare : front_allocas x ≡ []) where
+    none_is : alloca_from (function_at b.given.given.code y.coroutine) 0 ≡ None
+    none_is =
+        ap (λ (f : Function). alloca_from f 0) own_framed
+        ∙ ap (alloca_from (framed x)) (sym (ap length bare))
+        ∙ none_left x (entry_there x is)
+
+    at_once : framed_step b.given k.last ≡ t'
+    at_once =
+        k.target
+        ∙ ap (enter_after b.given pushed suspend'.block label) none_is
+        ∙ ap (λ (f : Function). entering (began f)) own_given
+        ∙ ap (λ (q : Point). entering (came q)) k.behind
+        ∙ ap (λ (is : List Instr). entering (behind_allocas b.given u0 is)) (sym bare)
+        ∙ entered_there
+
+    at_once_ends : EndsUp b
+    at_once_ends = record {
+      source = s';
+      target = t';
+      steps = 0;
+      shown = λ n lt. absurd (omega (arith, lt));
+      related = related;
+    }
+
+    at_once_followed : IsFollowed b g s t0
+    unfolding at_once_ends
+    at_once_followed =
+        onward_followed b g s t0 at_once_ends k.fetches k.last k.leads k.shown k.last_shown at_once source_is
+        (price_is 0 (ap length bare))
+
+  -- ---- it has some
+
+  module _ (line : List Instr) (next : Instr) (stands : front_allocas x ≡ line ++ (next ∷ [])) where
+    all_stand : StandAt (framed x) 0 0 (line ++ (next ∷ []))
+    all_stand = subst (StandAt (framed x) 0 0) stands (entry_stands x (entry_there x is))
+
+    parts_good : Each IsGoodAlloca (line ++ (next ∷ []))
+    parts_good = subst (Each IsGoodAlloca) stands good
+
+    line_good : (ks js : List Instr) → Each IsGoodAlloca (ks ++ js) → Each IsGoodAlloca ks × Each IsGoodAlloca js
+    line_good [] js e = (tt, e)
+    line_good (i ∷ ks) js e = let m = line_good ks js e.1 in ((e.0, m.0), m.1)
+
+    stand_next : (f : Function) (at : ℕ) (ks js : List Instr) → StandAt f 0 at (ks ++ (next ∷ js))
+        → StandAt f 0 at (ks ++ (next ∷ []))
+    stand_next f at [] js e = (e.0, tt)
+    stand_next f at (i ∷ ks) js e = (e.0, stand_next f (at + 1) ks js e.1)
+
+    stand : StandAt (function_of b.given.given u0) 0 0 (line ++ (next ∷ []))
+    stand = subst (λ (f : Function). StandAt f 0 0 (line ++ (next ∷ []))) (sym own_framed)
+        (stand_next (framed x) 0 line [] all_stand)
+
+    makes : IsMaking u0 suspend'.block label
+    makes = record { runs = r.outcome ∙ k.runs; mode = refl; entry_block = refl }
+
+    target_is : framed_step b.given k.last ≡ u0
+    target_is =
+        k.target
+        ∙ ap (enter_after b.given pushed suspend'.block label) first_is
+        ∙ ap began own_given
+        ∙ ap came k.behind
+      where
+        head : (ks js : List Instr) → StandAt (framed x) 0 0 (ks ++ (next ∷ js))
+            → Each IsGoodAlloca (ks ++ (next ∷ js))
+            → (i : Instr) × (IsGoodAlloca i × (fetch (framed x) 0 0 ≡ AtInstr i))
+        head [] js e q = (next, (q.0, e.0))
+        head (i ∷ ks) js e q = (i, (q.0, e.0))
+
+        first_is : alloca_from (function_at b.given.given.code y.coroutine) 0 ≡ Some (record { block = 0; at = 0 })
+        first_is =
+            let i = head line [] all_stand parts_good in
+            ap (λ (f : Function). alloca_from f 0) own_framed
+            ∙ ap (option_map (λ (n : ℕ). record { block = 0; at = n }))
+            (alloca_there (slice_get (framed x).blocks 0) 0 i.0 i.1.0 i.1.1)
+
+    reached : (n : ℕ) → n ≤ length line → iterate (framed_step b.given) n u0 ≡ behind_allocas b.given u0 (take n line)
+    reached n le =
+        up_to_next b.given suspend'.block label u0 makes line next
+        (line_good line (next ∷ []) parts_good).0 refl' stand n le
+      where
+        refl' : IsGoodAlloca next
+        refl' = (line_good line (next ∷ []) parts_good).1.0
+
+    -- ---- what is shown on the way
+
+    part_good : (js : List Instr) (q : ℕ) → Each IsGoodAlloca js → Each IsGoodAlloca (take q js)
+    part_good js zero e = tt
+    part_good [] (suc q) e = tt
+    part_good (i ∷ js) (suc q) e = (e.0, part_good js q e.1)
+
+    module _ (n : ℕ) (le : n ≤ length line) where
+      abbrev w' : State
+      w' = behind_allocas b.given u0 (take n line)
+
+      m : AreBehind b.given u0 w' (take n line)
+      m = are_behind b.given u0 (take n line) (part_good line n (line_good line (next ∷ []) parts_good).0)
+
+      abbrev news : List MemoryBlock
+      news = made_blocks b.given.given.code (function_of b.given.given u0) (take n line)
+
+      abbrev top' : Activation
+      top' = record u0.top { at = w'.top.at; values = w'.top.values; slots = w'.top.slots }
+
+      beside_now : (j : ℕ) (v w : Instance) → slice_get xs j ≡ Some v → slice_get ys j ≡ Some w
+          → AreInstances b r.homes (record u0 {
+            world = record u0.world { memory = w'.world.memory };
+            top = top';
+          }) v w
+      beside_now j v w e e' =
+          subst (λ (mem : List MemoryBlock). AreInstances b r.homes (record u0 {
+            world = record u0.world { memory = mem };
+            top = top';
+          }) v w) (sym m.memory) (instances_beside news top' (caller' ∷ t.below) j v w e e')
+
+      shown : IsOn b s' w'
+      shown = subst (IsOn b s') (sym m.state) (record {
+        running = r.outcome ∙ k.runs;
+        shown = record {
+          homes = r.homes;
+          events = events_same b s t r;
+          outcome = r.outcome;
+          instances = λ j v e suspended.
+              let lt : j < length xs = get_within xs j v e in
+              let same : length ys ≡ length xs = many news in
+              let w = got ys j (omega (arith, lt, same)) in (w.0, w.1, beside_now j v w.0 e w.1);
+        };
+      })
+
+    last_none : alloca_from (function_of b.given.given u0) (0 + length line + 1) ≡ None
+    last_none =
+        let same : length (front_allocas x) ≡ length line + 1 =
+        ap length stands ∙ length-append line (next ∷ []) in
+        let at : 0 + length line + 1 ≡ length (front_allocas x) = omega (arith, same) in
+        (λ j. alloca_from (own_framed j) (at j)) ∙ none_left x (entry_there x is)
+
+    entered_is : iterate (framed_step b.given) (suc (length line)) u0 ≡ t'
+    entered_is =
+        to_the_last b.given suspend'.block label u0 makes line next (line_good line (next ∷ []) parts_good).0
+        (line_good line (next ∷ []) parts_good).1.0 stand last_none
+        ∙ ap entering (last_behind b.given u0 line next ∙ ap (behind_allocas b.given u0) (sym stands))
+        ∙ entered_there
+
+    -- ---- the account
+
+    ends : EndsUp b
+    ends = record {
+      source = s';
+      target = u0;
+      steps = suc (length line);
+      shown = λ n lt.
+          subst (IsOn b s') (sym (reached n (omega (arith, lt)))) (shown n (omega (arith, lt)));
+      related = subst (AreBuiltOf b s') (sym entered_is) related;
+    }
+
+    some_followed : IsFollowed b g s t0
+    unfolding ends
+    some_followed =
+        onward_followed b g s t0 ends k.fetches k.last k.leads k.shown k.last_shown target_is source_is price
+      where
+        enough : (n m : ℕ) → n + 1 + (1 + (m + 1) - 1) ≡ n + 1 + suc m
+        enough n m = omega arith
+
+        price : step_cost b g s s.top.mode ≡ k.fetches + 1 + suc (length line)
+        price =
+            price_is (length line + 1) (ap length stands ∙ length-append line (next ∷ []))
+            ∙ enough k.fetches (length line)
+
+  pub entered_followed : IsFollowed b g s t0
+  entered_followed = on (front_allocas x) refl
+    where
+      last_of : (i : Instr) (is : List Instr) → (ks : List Instr) × (k : Instr) × (i ∷ is ≡ ks ++ (k ∷ []))
+      last_of i [] = ([], i, refl)
+      last_of i (j ∷ is) =
+          let more = last_of j is in (i ∷ more.0, more.1, ap (λ (ks : List Instr). i ∷ ks) more.2)
+
+      on : (js : List Instr) → front_allocas x ≡ js → IsFollowed b g s t0
+      on [] e = at_once_followed e
+      on (i ∷ is) e = let parts = last_of i is in some_followed parts.0 parts.1 (e ∙ parts.2)

@@ -396,7 +396,8 @@ module _ (b : Building) (g : RenewedGiven) (given : AreGiven b g) (s t0 : State)
         (⊎_elim
         (λ none. subst (λ (w : Value). IsValue r.homes w (frame_address_of y)) (sym none) tt)
         (λ same. subst (λ (w : Value). IsValue r.homes w (frame_address_of y)) (sym same) address_stands) z.begun)))
-        (λ l. subst (λ (w : Value). IsValue r.homes w (value_in c'.values n)) (sym (anew.unhanded n l)) tt) asks;
+        (λ l. subst (λ (w : Value). IsValue r.homes w (value_in c'.values n))
+        (sym (anew.unhanded n l outside)) tt) asks;
     room = all_behind.room ∙ start_room;
   }
     where

@@ -1,4 +1,4 @@
-use Rattle.compiler_theorem.proofs.theorem.Stepping.{covered_followed}
+use Rattle.compiler_theorem.proofs.theorem.Steps.{covered_followed}
 use Rattle.compiler_theorem.proofs.theorem.steps_of_sources_are_followed.Goals as goal
 
 pub returns : goal.returns

@@ -1,0 +1,12 @@
+pub mod Layouts
+pub mod Tables
+pub mod Kept
+pub mod Facts
+pub mod Beside
+pub mod Fields
+pub mod Whole
+pub mod Conflicts
+pub mod Made
+pub mod Started
+pub mod Saved
+pub mod Behind

@@ -1,0 +1,9 @@
+pub mod Asked
+pub mod Begins
+pub mod EdgeBlocks
+pub mod EdgeLocals
+pub mod EdgeNames
+pub mod EdgeOrders
+pub mod EdgeRows
+pub mod Runs
+pub mod Suspends

@@ -1,0 +1,17 @@
+pub mod Begins
+pub mod Classes
+pub mod Behind
+pub mod Fields
+pub mod InFrames
+pub mod Layers
+pub mod Left
+pub mod Made
+pub mod Names
+pub mod Plain
+pub mod Resumed
+pub mod Runs
+pub mod Slots
+pub mod Sources
+pub mod Unused
+pub mod Used
+pub mod Framed

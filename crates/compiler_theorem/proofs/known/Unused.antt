@@ -1,0 +1,138 @@
+-- An accepted source uses slots in a frame behind begin (rule K9).
+use Rattle.std.proofs.Common.{◌≡◌, ℕ, zero, suc, true, List, [], ◌∷◌, Option, Some, None, refl, sym, ap, ◌∙◌, subst}
+use Rattle.std.specs.Prelude.{slice_get, take, unwrap_or}
+use Rattle.compiler_theorem.proofs.known.Behind.{unused}
+use Rattle.compiler_theorem.proofs.known.Left.{left_positions, left_rules, left_uses}
+use Rattle.compiler_theorem.proofs.known.Names.{framed, framed_function}
+use Rattle.compiler_theorem.proofs.known.Slots.{in_frame}
+use Rattle.compiler_theorem.proofs.known.Used.{named_here}
+use Rattle.compiler_theorem.proofs.parts.Returned.{buildable, named}
+use Rattle.compiler_theorem.proofs.theorem.Built.{IsFramedAt, coroutine_there, framed_there}
+use Rattle.compiler_theorem.specs.theorem.Anew.{Anew, IsAnewOf}
+use Rattle.compiler_theorem.specs.theorem.Asked.{asking}
+use Rattle.compiler_theorem.specs.theorem.Entries.{IsEntryCall, Run}
+use Rattle.compiler_theorem.specs.theorem.Lowered.{HasFewBytes, IsLowered, Lowered, early, edged}
+use Rattle.ir_laws.proofs.paths.renamed.Uses.{stands_in}
+use Rattle.ir_model.specs.Names.{function_at, position_of}
+use Rattle.ir_model.specs.declared.module.Block.{Block}
+use Rattle.ir_model.specs.declared.module.Function.{Function}
+use Rattle.ir_model.specs.declared.operand.Operand.{Operand}
+use Rattle.pass_addresses.specs.Placing.{slot_fetches}
+use Rattle.pass_cells.specs.Cells.{fetches_of}
+use Rattle.pass_cells.specs.Kept.{entry}
+use Rattle.pass_fetch.specs.Fetching.{fetch_of}
+use Rattle.pass_fetch.specs.declared.fetch.Fetch.{Fetch}
+use Rattle.pass_frames.specs.Framed.{begin_of, layout_at}
+use Rattle.pass_frames_meaning.specs.Known.{AreSlotsBehind}
+use Rattle.pass_frames_meaning.specs.Unbegun.{IsBefore}
+use Rattle.pass_frames_proof.proofs.code.Left.{fetch_found}
+use Rattle.pass_frames_proof.proofs.code.Names.{kept_left}
+use Rattle.pass_frames_proof.proofs.code.Passes.{block_is}
+use Rattle.pass_frames_proof.proofs.layers.Grown.{both_passed}
+use Rattle.pass_frames_proof.specs.Framings.{IsFraming}
+use Rattle.pass_frames_proof.specs.Layers.{passed, state_at}
+use Rattle.pass_frames_proof.specs.Places.{Framing, Placed, Unmarked, addressing_layer, instrs_at, offsets, plan}
+use Rattle.pass_frames_proof.specs.Places.{unmarked, unmarked_layer}
+use Rattle.pass_frames_proof.specs.Places as place
+use Rattle.pass_frames_proof.specs.Stepping.{state_in}
+use Rattle.pass_proofs.proofs.frames.numbers.Numbers.{number_given}
+use Rattle.pass_proofs.specs.addresses.rules.Addresses.{HasBegin, lies_in_frame}
+use Rattle.rule_laws.proofs.rules.sources.Places.{instr_there, point}
+use Rattle.rule_laws.specs.rules.function_rules.Kept.{KeepsFunctionRules}
+use Rattle.rule_uses.specs.Uses.{uses_of}
+use Rattle.run_laws.specs.changed.Changed.{Each}
+use Rattle.run_step.specs.Step.{fetch}
+
+-- a slot in the frame is kept in no cell
+has_place : (begin : ℕ) (t : List (Option ℕ)) (v d : ℕ) → entry t v ≡ Some d
+    → fetch_of (slot_fetches begin t) (Operand.Local v) ≡ None → ⊥
+has_place begin [] v d e none = absurd (cc)
+has_place begin (None ∷ t) zero d e none = absurd (cc)
+has_place begin (Some n ∷ t) zero d e none = absurd (cc)
+has_place begin (o ∷ t) (suc v) d e none = has_place begin t v d e none
+
+unfetched : (x : Framing) → IsFraming x → (v d : ℕ) → entry (offsets x) v ≡ Some d
+    → fetch_of (fetches_of (plan x)) (Operand.Local v) ≡ None
+unfetched x is v d offset = on (fetch_of (fetches_of (plan x)) (Operand.Local v)) refl
+  where
+    on : (o : Option Fetch) → fetch_of (fetches_of (plan x)) (Operand.Local v) ≡ o
+        → fetch_of (fetches_of (plan x)) (Operand.Local v) ≡ None
+    on None e = e
+    on (Some f) e =
+        let k = fetch_found x is v f e in
+        absurd (has_place (begin_of x.function) (offsets x) v d offset (kept_left x is v k.at k.told).0)
+
+-- the state of all passes but the last one
+state_there : (x : Framing) (k at : ℕ) (b : Block) → slice_get (place.edged x).blocks k ≡ Some b
+    → (state_in x k at).0 ≡ state_at (unmarked_layer x k) b.instrs at
+state_there x k at b got =
+    ap (λ (p : Placed). p.0) (both_passed (unmarked_layer x k) (addressing_layer x k) (unmarked_layer x k).start
+    (passed (addressing_layer x k) (addressing_layer x k).start (unmarked_layer x k).front) (take at (instrs_at x k)))
+    ∙ ap (λ (c : Block). state_at (unmarked_layer x k) c.instrs at) (block_is (place.edged x) k b got)
+
+module _ (l : Lowered) (low : IsLowered l) (few : HasFewBytes l) (a : Anew) (anew : IsAnewOf (early l) a) (r : Run)
+    (entered : IsEntryCall l.source r) where
+  module _ (func : ℕ) (coroutine : (function_at (early l) func).coroutine ≡ true) where
+    x : Framing
+    x = (asking l low a r).b.framing func
+
+    is : IsFraming ((asking l low a r).b.framing func)
+    is = framed l low few a anew r entered func coroutine
+
+    there : slice_get (early l).functions func ≡ Some (function_at (early l) func)
+    there = coroutine_there l low r.answers func coroutine
+
+    at : IsFramedAt (early l) l.layouts.coroutines (early l).functions l.framed.functions func
+        (function_at (early l) func)
+        ((asking l low a r).b.framing func)
+    at = framed_there l low r.answers func coroutine
+
+    left : KeepsFunctionRules ((asking l low a r).b.framing func).code func
+        (unmarked ((asking l low a r).b.framing func))
+    left = subst (λ (z : Framing). KeepsFunctionRules z.code func (unmarked z)) (sym at.same)
+        (left_rules (early l) func (layout_at l.layouts.coroutines at.taken) (function_at (early l) func) at.is.contents
+        at.is.before (named l low func (function_at (early l) func) there coroutine
+        (layout_at l.layouts.coroutines at.taken) (number_given l.layouts.coroutines at.taken)).begin
+        (buildable l low func (function_at (early l) func) there coroutine (layout_at l.layouts.coroutines at.taken)
+        (number_given l.layouts.coroutines at.taken) at.other at.is))
+
+    positions : (label : ℕ) → position_of (unmarked ((asking l low a r).b.framing func)) label
+        ≡ position_of (place.edged ((asking l low a r).b.framing func)) label
+    positions = subst (λ (z : Framing). (label : ℕ)
+        → position_of (unmarked z) label ≡ position_of (place.edged z) label)
+        (sym at.same)
+        (left_positions (early l) func (layout_at l.layouts.coroutines at.taken) (function_at (early l) func)
+        at.is.contents at.is.before (named l low func (function_at (early l) func) there coroutine
+        (layout_at l.layouts.coroutines at.taken) (number_given l.layouts.coroutines at.taken)).begin
+        (buildable l low func (function_at (early l) func) there coroutine (layout_at l.layouts.coroutines at.taken)
+        (number_given l.layouts.coroutines at.taken) at.other at.is))
+
+    uses : Each (HasBegin (unmarked ((asking l low a r).b.framing func))
+        (begin_of ((asking l low a r).b.framing func).function) (offsets ((asking l low a r).b.framing func)))
+        (uses_of func (unmarked ((asking l low a r).b.framing func)))
+    uses = subst (λ (z : Framing). Each (HasBegin (unmarked z) (begin_of z.function) (offsets z))
+        (uses_of func (unmarked z))) (sym at.same)
+        (left_uses (early l) func (layout_at l.layouts.coroutines at.taken) (function_at (early l) func)
+        at.is.contents at.is.before (named l low func (function_at (early l) func) there coroutine
+        (layout_at l.layouts.coroutines at.taken) (number_given l.layouts.coroutines at.taken)).begin
+        (buildable l low func (function_at (early l) func) there coroutine (layout_at l.layouts.coroutines at.taken)
+        (number_given l.layouts.coroutines at.taken) at.other at.is))
+
+    begin_same : begin_of ((asking l low a r).b.framing func).function ≡ is.begin
+    begin_same = ap (λ (o : Option ℕ). unwrap_or o 0) is.frameable.begins
+
+  pub slots_behind : AreSlotsBehind (asking l low a r)
+  slots_behind func block at i coroutine there staying unlocated v d listed low_name offset before =
+      let x : Framing = (asking l low a r).b.framing func in
+      let same : function_at (edged l) func ≡ place.edged x =
+      framed_function l low few a anew r entered func coroutine in
+      let lies : lies_in_frame (offsets x) v ≡ true = in_frame (offsets x) v d offset in
+      let b = stands_in (place.edged x) (point block at) i (instr_there (place.edged x) block at i
+      (ap (λ (f : Function). fetch f block at) (sym same) ∙ there)) in
+      let n = named_here x block (state_in x block at) i staying unlocated v listed
+      (unfetched x (is func coroutine) v d offset) in
+      unused x (is func coroutine) func (left func coroutine) (positions func coroutine)
+      (subst (λ (w : ℕ). Each (HasBegin (unmarked x) w (offsets x)) (uses_of func (unmarked x)))
+      (begin_same func coroutine) (uses func coroutine)) block at b.block i n.instr b.got b.stands
+      (subst (λ (u : Unmarked). (unmarked_layer x block).here u i ≡ Some n.instr) (state_there x block at b.block b.got)
+      n.here) v n.names lies (subst (λ (f : Function). IsBefore f block at) same before)

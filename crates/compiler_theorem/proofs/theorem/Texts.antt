@@ -1,0 +1,53 @@
+-- The text that lowering gives stands for a module whose runs agree with the source's.
+use Rattle.std.proofs.Common.{◌≡◌, ℕ, zero, suc, Bool, List, [], ◌∷◌, ◌<◌, Some, Ok, sym, subst}
+use Rattle.std.specs.Prelude.{◌^◌, slice_get}
+use Rattle.compiler.proofs.Done.{IsAccepted, lowering_holds}
+use Rattle.compiler.proofs.Printed.{lowering_is_read}
+use Rattle.compiler.specs.Lowering.{IsDone, IsLowering, lowered_by}
+use Rattle.compiler.specs.Printed.{AllFew}
+use Rattle.compiler.specs.declared.lowered.Lowered.{Lowered as Given}
+use Rattle.compiler.specs.declared.lowered.Lowering.{Lowering}
+use Rattle.compiler.specs.whole.Passed.{AreFew}
+use Rattle.compiler_theorem.proofs.theorem.Whole.{keeps_runs}
+use Rattle.compiler_theorem.specs.theorem.Texts.{KeepsTexts, lowering_of}
+use Rattle.frame_layout.specs.declared.layout.Layouts.{Layouts}
+use Rattle.ir_base.specs.declared.status.Options.{Options}
+use Rattle.ir_model.specs.declared.module.Function.{Function}
+use Rattle.ir_model.specs.declared.module.Module.{Module}
+use Rattle.text_canonical.specs.grammar.Bytes.{AreBytes}
+use Rattle.text_canonical.specs.order.Order.{module_order}
+use Rattle.text_grammar.specs.Text.{StandsFor}
+use Rattle.std.specs.Prelude.{length}
+
+few_in : (fs : List Function) → AllFew fs → (k : ℕ) (f : Function) → slice_get fs k ≡ Some f → AreFew f.names
+few_in [] few k f e = absurd (cc)
+few_in (g ∷ fs) few zero f e = let same : g ≡ f = cc in subst (λ (h : Function). AreFew h.names) same few.0
+few_in (g ∷ fs) few (suc k) f e = few_in fs few.1 k f e
+
+module _ (text : List ℕ) (bytes : AreBytes text) (short : length text < 2 ^ 31) (m : Module) (stands : StandsFor text m)
+    (share : Bool) (layouts : Layouts) (accepted : IsAccepted m share layouts) where
+  -- by its parts
+  by_parts : (l : Given) (d : IsDone m layouts l) (x : Given) → lowered_by m layouts d.framed ≡ x
+      → StandsFor x.text (module_order x.«module») → AllFew x.«module».functions → KeepsTexts text x
+  by_parts l d x same printed few =
+      subst (λ (y : Given). StandsFor y.text (module_order y.«module») → AllFew y.«module».functions
+      → KeepsTexts text y) same
+      (λ p f. record {
+        stands = stands;
+        printed = p;
+        runs = λ h r other entry fits.
+            (keeps_runs h.anew (lowering_of text h.share (lowered_by m layouts d.framed)) h.low short h.steps r other entry
+            fits).agrees;
+      }) printed few
+
+  pub text_kept : (l : Given) → IsDone m layouts l → StandsFor l.text (module_order l.«module»)
+      → AllFew l.«module».functions → KeepsTexts text l
+  text_kept l d = by_parts l d l (sym d.is)
+
+pub texts_kept : (options : Options) (text : List ℕ) → AreBytes text → length text < 2 ^ 31 → (l : Given)
+    → IsLowering options text (Lowering.Done l) → AllFew l.«module».functions → KeepsTexts text l
+texts_kept options text bytes short l h few =
+    (lowering_holds {E = Unit {0}} (λ x. StandsFor x.text (module_order x.«module») → AllFew x.«module».functions
+    → KeepsTexts text x) options text
+    (λ m stands share layouts x accepted d. text_kept text bytes short m stands share layouts accepted x d) (Ok (Lowering.Done l)) h)
+    (lowering_is_read {E = Unit {0}} options text bytes (Ok (Lowering.Done l)) h few).stands few

@@ -1,0 +1,14 @@
+pub mod Crossings
+pub mod Forms
+pub mod FrameSlots
+pub mod Fronts
+pub mod Handed
+pub mod Keeping
+pub mod FramedRuns
+pub mod States
+pub mod Entered
+pub mod Doubling
+pub mod Rooted
+pub mod Marks
+pub mod Paths
+pub mod FewNames

@@ -1,0 +1,44 @@
+-- What lowering keeps of a text, in terms of what the call `lower` gives: its text stands for a module whose runs agree
+-- with those of the module that the source's text stands for.
+use Rattle.std.specs.Prelude.{ℕ, Bool, List, map}
+use Rattle.compiler.specs.declared.lowered.Lowered.{Lowered as Given}
+use Rattle.compiler_theorem.specs.theorem.Anew.{Anew}
+use Rattle.compiler_theorem.specs.theorem.Entries.{IsEntry, Run}
+use Rattle.compiler_theorem.specs.theorem.Lowered.{IsLowered, Lowered}
+use Rattle.compiler_theorem.specs.theorem.Theorem.{Steps}
+use Rattle.ir_model.specs.declared.module.Module.{Module}
+use Rattle.pass_cleanup.specs.Cleaned.{plain_machine}
+use Rattle.pass_kept_proof.specs.Machines.{source_machine}
+use Rattle.run_agreement.specs.Agreements.{AgreesWithin}
+use Rattle.run_agreement.specs.Factor.{step_factor}
+use Rattle.run_agreement.specs.Machines.{at}
+use Rattle.run_framed.specs.Framed.{frame_of_layout}
+use Rattle.run_types.specs.States.{AreArguments}
+use Rattle.text_canonical.specs.order.Order.{module_order}
+use Rattle.text_grammar.specs.Text.{StandsFor}
+
+-- what the text that is given stands for
+abbrev pub printed_of : Given → Module
+printed_of l = module_order l.«module»
+
+-- a text with what was given for it
+abbrev pub lowering_of : List ℕ → Bool → Given → Lowered
+lowering_of text share l =
+    record { text = text; source = l.source; share = share; layouts = l.layouts; framed = l.framed }
+
+-- what is left to prove of it
+pub record HasSteps (text : List ℕ) (l : Given) : Type 0 where
+  pub share : Bool
+  pub anew : Anew
+  pub low : IsLowered (lowering_of text share l)
+  pub steps : Steps anew (lowering_of text share l) low
+
+-- Of each call of an entry, with each list of answers, both runs agree within the source's step factor. The source is
+-- given the sizes of frames that are printed.
+pub record KeepsTexts (text : List ℕ) (l : Given) : Type 0 where
+  pub stands : StandsFor text l.source
+  pub printed : StandsFor l.text (printed_of l)
+  pub runs : HasSteps text l → (r : Run) (other : ℕ) → IsEntry l.source (printed_of l) r.entry other
+      → AreArguments l.source r.entry r.args → AgreesWithin (step_factor l.source 0)
+      (at (source_machine l.source (map frame_of_layout l.layouts.coroutines) r.entry r.args r.answers))
+      (at (plain_machine (printed_of l) other r.args r.answers))

@@ -1,0 +1,38 @@
+use Rattle.std.proofs.Common.{◌≡◌, ℕ, subst, sym}
+use Rattle.pass_frames_meaning.proofs.anew.Anew.{states_anew, step_anew}
+use Rattle.pass_frames_meaning.proofs.anew.Renewed.{renewed_keeps_anew}
+use Rattle.pass_frames_meaning.proofs.anew.slots_made_anew_have_addresses.Goals as goal
+use Rattle.pass_frames_meaning.proofs.called.CalledHooks.{renewed_keeps_called, states_called}
+use Rattle.pass_frames_meaning.proofs.led.SoundRuns.{runs_sound}
+use Rattle.pass_frames_meaning.specs.Anew.{IsAnewState}
+use Rattle.pass_renewed_proof.specs.Renewed.{renewed_step}
+use Rattle.run_hooks.proofs.Keeping.{renewed_keeps}
+use Rattle.run_hooks.proofs.PlacedKeeping.{renewed_keeps_placed}
+use Rattle.run_hooks.proofs.PlacedSteps.{states_placed}
+use Rattle.run_hooks.proofs.Steps.{renewed_steps, same_runs}
+use Rattle.run_hooks.specs.Hooks.{step_of}
+use Rattle.run_hooks.specs.Meanings.{renewed_hooks}
+use Rattle.run_source.specs.Source.{first_state}
+use Rattle.run_source.specs.declared.state.State.{State}
+use Rattle.run_step.specs.Runs.{iterate}
+use Rattle.run_states.specs.sound_states.Sound.{HasValues}
+
+pub returns-clause-step : goal.returns-clause-step
+returns-clause-step c = step_anew
+
+pub returns-clause-hooks : goal.returns-clause-hooks
+returns-clause-hooks c = renewed_keeps_anew
+
+pub returns-clause-renewed : goal.returns-clause-renewed
+returns-clause-renewed c =
+    λ g entry args ok rules types names free n.
+    let e : (k : ℕ) → iterate (renewed_step g) k (first_state g.given.code entry args)
+    ≡ iterate (step_of (renewed_hooks g)) k (first_state g.given.code entry args) =
+    λ k. same_runs (renewed_step g) (step_of (renewed_hooks g)) (renewed_steps g) k
+    (first_state g.given.code entry args) in
+    subst (IsAnewState g.given.code g.flags) (sym (e n))
+    (states_anew (renewed_hooks g) g.flags (renewed_keeps_anew g) names free types entry args
+    (λ k. states_called (renewed_hooks g) (renewed_keeps_called g) types entry args
+    (λ j. states_placed (renewed_hooks g) ok (renewed_keeps g) rules (renewed_keeps_placed g) entry args j) k)
+    (λ k. subst (λ (s : State). HasValues g.given.code s.top.func s.top.values) (e k)
+    (runs_sound g entry args ok rules types names k).top.values) n)

@@ -1,0 +1,17 @@
+pub mod Unkept
+pub mod Going
+pub mod Ids
+pub mod Chains
+pub mod Marks
+pub mod Bases
+pub mod Entry
+pub mod Before
+pub mod Ways
+pub mod Writing
+pub mod Distanced
+pub mod SaveNames
+pub mod Fields
+pub mod Saves
+pub mod Allocas
+pub mod Begins
+pub mod Whole

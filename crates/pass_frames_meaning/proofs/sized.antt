@@ -1,0 +1,5 @@
+pub mod Hooks
+pub mod Memory
+pub mod Renewed
+pub mod Sized
+pub mod Slotwise

@@ -1,0 +1,2 @@
+pub mod Unbegun
+pub mod Renewed

@@ -1,0 +1,29 @@
+//! The block of a slot is as large and as aligned as its alloca says, in each state of a run by hooks.
+
+ghost use Rattle.std.specs.Prelude.{ℕ, List};
+ghost use Rattle.ir_base.specs.declared.outcome.Word.{Word};
+ghost use Rattle.pass_frames_meaning.specs.Sized.{IsLonger, IsSizedAt, IsSizedState, KeepsSizes, KeepsSlotwise};
+ghost use Rattle.pass_frames_meaning.specs.Sized.{sizes_of};
+ghost use Rattle.pass_renewed_proof.specs.Renewed.{RenewedGiven, renewed_step};
+ghost use Rattle.run_hooks.specs.Hooks.{Hooks, step_of};
+ghost use Rattle.run_hooks.specs.Meanings.{renewed_hooks};
+ghost use Rattle.run_hooks.specs.Reached.{AllHaveSwitches, IsReachedState};
+ghost use Rattle.run_source.specs.Source.{first_state};
+ghost use Rattle.run_source.specs.declared.state.State.{State as TheState};
+ghost use Rattle.run_step.specs.Runs.{iterate};
+
+/// A step makes new blocks behind the others, and leaves the size and the alignment of each. So slots keep theirs,
+/// where
+/// hooks place, keep and give up slots of activations and instances of the same functions.
+pub fn sizes_of_slots_stay()
+    ensures blocks { (h : Hooks) → KeepsSizes h → (s : TheState)
+        → IsLonger (sizes_of s.world.memory) (sizes_of (step_of h s).world.memory) }
+    ensures step { (h : Hooks) → KeepsSizes h
+        → ((sizes : List (ℕ × ℕ)) → KeepsSlotwise (IsSizedAt h.given.code sizes) h) → (s : TheState)
+        → IsReachedState h.given s → IsSizedState h.given.code s → IsSizedState h.given.code (step_of h s) }
+    ensures sizes { (g : RenewedGiven) → KeepsSizes (renewed_hooks g) }
+    ensures slots { (g : RenewedGiven) (sizes : List (ℕ × ℕ))
+        → KeepsSlotwise (IsSizedAt g.given.code sizes) (renewed_hooks g) }
+    ensures renewed { (g : RenewedGiven) (entry : ℕ) (args : List Word) (n : ℕ) → AllHaveSwitches g.given.code
+        → IsSizedState g.given.code (iterate (renewed_step g) n (first_state g.given.code entry args)) }
+{}
