@@ -31,6 +31,7 @@ use Rattle.text_parser.specs.Parse.{read_module}
 use Rattle.text_parser.specs.declared.text.Parsed.{Parsed}
 use Rattle.text_printer.specs.Items.{module_text}
 use Rattle.compiler.specs.Lowering.{IsLowering}
+use Rattle.compiler.specs.Printed.{HasFewNames}
 use Rattle.compiler.specs.declared.lowered.Lowered.{Lowered}
 use Rattle.compiler.specs.declared.lowered.Lowering.{Lowering}
 use Rattle.rule_all.specs.Refused.{IsRefused}
@@ -283,10 +284,11 @@ IsCheckAnswer false (Parsed.Module m) a = IsMadeOfRefusal m (check_answer m) a
 abbrev pub options_of : Bool → Options
 options_of plain = record { share = not plain; elide = not plain; transfer = not plain }
 
--- what is made of the lowering of the bytes
+-- what is made of the lowering of the bytes, whose functions have fewer than 2^64 names
 pub record IsMadeOf (plain : Bool) (bytes : List ℕ) (make : Lowering → Answer) (a : Answer) : Type 0 where
   pub lowering : Lowering
   pub lowered : IsLowering (options_of plain) bytes lowering
+  pub few : HasFewNames lowering
   pub is : a ≡ make lowering
 
 abbrev pub IsRunAnswer : Form → List ℕ → RunWords → Answer → Type 0

@@ -1,11 +1,12 @@
 -- How a run of the program may end.
-use Rattle.std.specs.Prelude.{◌≡◌, ◌≢◌, ◌⊎◌, ℕ, Bool, true, false, List, [], Option}
+use Rattle.std.specs.Prelude.{◌≡◌, ◌≢◌, ◌≤◌, ◌⊎◌, ℕ, Bool, true, false, List, [], Option, length}
 use Rattle.std.specs.List.{list_any}
 use Rattle.std.specs.Io.KnownBytes.{Appends, Consumes, IsAtEnd, Keeps}
 use Rattle.ir_base.specs.declared.status.Status.{Status}
 use Rattle.cli_drive.specs.Answers.{IsAnswer, verdict_status}
 use Rattle.cli_drive.specs.declared.verdict.Answer.{Answer}
 use Rattle.cli_words.specs.Asked.{asks_help}
+use Rattle.text_canonical.specs.grammar.Bytes.{AreBytes}
 use Rattle.cli_words.specs.declared.words.Words.{Words}
 
 -- what is left of the input and what the outputs hold, before and after, where that is told
@@ -30,9 +31,11 @@ pub record Gives (w : Words) (bytes : List ℕ) (out-old out-new err-old err-new
   pub out : Appends out-old out-new answer.out
   pub err : Appends err-old err-new answer.err
 
--- the input was read to its end, and the outputs got the answer to it
+-- the input, of at most 2^24 bytes, was read to its end, and the outputs got the answer to it
 pub record Reads (w : Words) (s : Sides) (status : Status) : Type 0 where
   pub bytes : List ℕ
+  pub are : AreBytes bytes
+  pub few : length bytes ≤ 16777216
   pub read : Consumes s.left s.left-new bytes
   pub at_end : IsAtEnd s.left-new
   pub gives : Gives w bytes s.out s.out-new s.err s.err-new status

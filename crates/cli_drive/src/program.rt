@@ -18,6 +18,7 @@ use cli_report::bad_list_text;
 use cli_words::{Taken, Words, take_words};
 use ir_base::Status;
 use std::alloc::Global;
+use text_canonical::grammar::text_is_bytes;
 
 /// The most bytes that an input may have.
 const LIMIT: usize = 16777216;
@@ -101,7 +102,10 @@ fn drive_input<S: Source, O: Sink, E: Sink>(
     ensures write_fault { result ≡ Status.WriteFault → Rose (O.faults out.old) (O.faults out.new) ⊎ Rose (E.faults err.old) (E.faults err.new) }
 {
     match read_all(alloc, input, LIMIT) {
-        Ok(bytes) => drive_bytes(alloc, words, &bytes, out, err),
+        Ok(bytes) => {
+            text_is_bytes(&bytes);
+            drive_bytes(alloc, words, &bytes, out, err)
+        }
         Err(ReadAllError::OutOfMemory) => told(err, b"out of memory\n", Status::OutOfMemory),
         Err(ReadAllError::ReadFault) => told(err, b"read fault\n", Status::ReadFault),
         Err(ReadAllError::TooLong) => {

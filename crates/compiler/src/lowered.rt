@@ -160,6 +160,7 @@ pub fn lower(alloc: Global, text: &[u8], options: Options) -> Result<Lowering, A
     ensures plain { IfOk result (λ l. LeavesNoCoroutine l) }
     ensures accepted { IfOk result (λ l. BreaksNoRule l) }
     ensures framed { IfOk result (λ l. IsFramed l) }
+    ensures few { IfOk result (λ l. HasFewNames l) }
     ensures printed { IfOk result (λ l. IsReadPlain l) }
 {
     text_is_bytes(text);
